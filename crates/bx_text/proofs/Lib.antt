@@ -1,0 +1,5 @@
+pub mod FieldLemmas
+pub mod KnownLemmas
+pub mod FixedLemmas
+pub mod PartsLemmas
+pub mod PiecesLemmas

@@ -1,0 +1,24 @@
+//! Bytes and words that the crates of `bx` hand to one another, texts of known form, and bytes read and written in full.
+#![tactic(auto)]
+
+mod bytes;
+mod fast;
+mod fault;
+mod field;
+mod fold;
+mod line;
+mod pieces;
+mod stream;
+mod tables;
+mod words;
+
+pub use bytes::Bytes;
+pub use fast::{full_line, put_address, put_full_line, put_pairs, put_text};
+pub use fault::{IoFault, NoMemory};
+pub use field::{Field, Radix, ShortText, hex_digit, hex_field};
+pub use fold::{Fold, Show};
+pub use line::{Layout, LineText, blank, push_text, put_hex, put_line, text_byte, xxd_line};
+pub use pieces::{Piece, Pieces};
+pub use stream::{Meter, Source, State, emit, emit_after};
+pub use tables::digits_of;
+pub use words::{Name, Words};
