@@ -1,0 +1,76 @@
+// Changes to images.
+ghost use Rattle.std.specs.Prelude.{◌≡◌, ◌↔◌, ◌+◌, ◌<◌, ◌≤◌, [], List, ℕ, length, IfOk, IsOk, OnOk, OnErr, is_err};
+ghost use Rattle.bx_image.specs.Change.{effect, Fits, KeepsUntouched};
+ghost use Rattle.bx_image.specs.Device.{GoesOn};
+ghost use Rattle.bx_image.specs.Image.{end_of};
+ghost use Rattle.bx_image.specs.Record.{saved, restore};
+ghost use Rattle.bx_image.specs.declared.change.Change.{Change};
+
+use crate::{Device, DeviceFailed, TooLarge};
+use bx_text::{Piece, Pieces};
+use std::alloc::{Allocator, Global};
+
+/// The greatest length of an image.
+pub const MAX_LEN: u64 = 281_474_976_710_655;
+
+/// With a base the image is first cut or lengthened to it. Then the writes are placed in order.
+#[derive(Drop)]
+pub struct Change<A: Allocator = Global> {
+    pub base: Option<u64>,
+    pub writes: Pieces<A>,
+}
+
+/// The length of an image of this length after the change.
+pub fn check<A: Allocator>(change: &Change<A>, len: u64) -> Result<u64, TooLarge>
+    ensures exact { IsOk result ↔ Fits change.now len MAX_LEN }
+    ensures len { (x : List ℕ) → length x ≡ len → IfOk result (λ n. n ≡ length (effect change.now x)) }
+    ensures reach { IfOk result (λ n. length (effect change.now []) ≤ n) }
+{
+    let mut longest = change.base.unwrap_or(len);
+    if len > MAX_LEN || longest > MAX_LEN {
+        return Err(TooLarge);
+    }
+    for write in change.writes.as_slice() {
+        longest = longest.max(end_of_write(write)?);
+    }
+    Ok(longest)
+}
+
+#[tactic(auto, using(crate::proofs::Images::end_of_some, crate::proofs::Images::end_of_none))]
+fn end_of_write<A: Allocator>(write: &Piece<A>) -> Result<u64, TooLarge>
+    ensures exact { IsOk result ↔ (end_of write.now.at write.now.bytes ≤ MAX_LEN) }
+    ensures end { IfOk result (λ n. n ≡ end_of write.now.at write.now.bytes) }
+{
+    let count = write.bytes.as_slice().len() as u64;
+    if count == 0 {
+        return Ok(0);
+    }
+    if count > MAX_LEN || write.at > MAX_LEN - count {
+        return Err(TooLarge);
+    }
+    Ok(write.at + count)
+}
+
+/// Changes the image on a device.
+#[tactic(auto, using(crate::proofs::Devices::GoesOn_then))]
+pub fn apply<D: Device, A: Allocator>(
+    device: &mut D,
+    change: &Change<A>,
+) -> Result<(), DeviceFailed>
+    requires countable { D.failures device.old < u64.MAX }
+    requires room { length (effect change.now []) ≤ D.room device.old }
+    ensures ok { D.honest device.old → OnOk result (D.image device.new ≡ effect change.now (D.image device.old)) }
+    ensures failed { D.honest device.old → OnErr result (KeepsUntouched change.now (D.image device.old) (D.image device.new)) }
+    ensures goes_on { GoesOn D.honest D.room D.failures (is_err result) device.old device.new }
+{
+    if let Some(n) = change.base {
+        device.set_len(n)?;
+    }
+    for write in change.writes.as_slice() {
+        let bytes = write.bytes.as_slice();
+        if !bytes.is_empty() {
+            device.write_at(write.at, bytes)?;
+        }
+    }
+    Ok(())
+}

@@ -1,0 +1,22 @@
+//! Images of bytes on devices, and changes to them that can be taken back.
+#![tactic(auto)]
+
+mod change;
+mod device;
+mod file;
+mod fuse;
+mod laws;
+mod memory;
+mod record;
+
+pub use change::{Change, MAX_LEN, apply, check};
+pub use bx_text::NoMemory;
+pub use device::{Device, DeviceFailed, ImageFault, TooLarge};
+pub use file::FileImage;
+pub use fuse::{FuseImage, Part};
+pub use laws::{law_place, law_restore};
+pub use memory::MemImage;
+pub use record::{Saved, save};
+
+#[cfg(test)]
+mod tests;
