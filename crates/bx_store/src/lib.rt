@@ -1,0 +1,15 @@
+//! Texts that grow and are cut at their end, on stores that may fail.
+#![tactic(auto)]
+
+mod fault;
+mod memory;
+mod store;
+
+pub use bx_image::DeviceFailed;
+pub use bx_text::NoMemory;
+pub use fault::TextFault;
+pub use memory::MemText;
+pub use store::TextStore;
+
+#[cfg(test)]
+mod tests;
