@@ -14,7 +14,7 @@ pub use change::{Change, MAX_LEN, apply, check};
 pub use device::{Device, DeviceFailed, ImageFault, TooLarge};
 pub use file::FileImage;
 pub use fuse::{Fuse, FuseImage, Part};
-pub use laws::{law_place, law_restore};
+pub use laws::{law_place, law_restore, law_runs};
 pub use memory::MemImage;
 pub use record::{Saved, save};
 

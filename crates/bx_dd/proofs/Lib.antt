@@ -1,0 +1,5 @@
+pub mod BlockLemmas
+pub mod RecordsLemmas
+pub mod ConvertLemmas
+mod Rows
+mod MoreRows

@@ -1,0 +1,4 @@
+pub mod Output
+pub mod Counting
+pub mod Standing
+pub mod Plan

@@ -1,0 +1,9 @@
+pub mod DigitsLemmas
+pub mod PairsLemmas
+pub mod GrammarLemmas
+pub mod PieceLemmas
+pub mod DecodeLemmas
+pub mod PackedLemmas
+pub mod AddressLemmas
+pub mod LineLemmas
+pub mod WrittenLemmas
