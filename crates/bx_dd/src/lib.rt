@@ -3,6 +3,7 @@
 
 mod block;
 mod convert;
+mod copying;
 mod counts;
 mod fault;
 mod form;
@@ -10,6 +11,7 @@ mod plan;
 mod records;
 
 pub use convert::Convert;
+pub use copying::transfer;
 pub use counts::{Counts, Transfer};
 pub use fault::DdFault;
 pub use form::{Form, Letters, Shape};
