@@ -1,5 +1,5 @@
 -- Calls that fail on purpose.
-use Rattle.std.specs.Prelude.{ℕ, zero, suc, Bool, true, false, ◌==◌, ◌/◌, ◌-◌}
+use Rattle.std.specs.Prelude.{ℕ, zero, suc, Bool, false, ◌==◌, ◌/◌, ◌-◌}
 use Rattle.bx_image.specs.declared.fuse.Part.{Part}
 use Rattle.bx_image.specs.declared.fuse.Part.TheVariants.{Nothing, Half, All}
 use Rattle.bx_image.specs.declared.fuse.Fuse.{Fuse}
