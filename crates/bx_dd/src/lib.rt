@@ -12,7 +12,7 @@ mod records;
 
 pub use convert::Convert;
 pub use copying::transfer;
-pub use counts::{Counts, Transfer};
+pub use counts::{Counts, Transfer, report};
 pub use fault::DdFault;
 pub use form::{Form, Letters, Shape};
 pub use plan::Plan;

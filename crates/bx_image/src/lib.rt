@@ -8,6 +8,7 @@ mod fuse;
 mod laws;
 mod memory;
 mod record;
+mod spans;
 
 pub use bx_text::NoMemory;
 pub use change::{Change, MAX_LEN, apply, check};
