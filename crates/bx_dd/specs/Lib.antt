@@ -2,3 +2,4 @@ pub mod Output
 pub mod Counting
 pub mod Standing
 pub mod Plan
+pub mod Transfer

@@ -3,6 +3,7 @@
 
 mod block;
 mod convert;
+mod copying;
 mod counts;
 mod fault;
 mod form;
@@ -10,7 +11,8 @@ mod plan;
 mod records;
 
 pub use convert::Convert;
-pub use counts::{Counts, Transfer};
+pub use copying::transfer;
+pub use counts::{Counts, Transfer, report};
 pub use fault::DdFault;
 pub use form::{Form, Letters, Shape};
 pub use plan::Plan;

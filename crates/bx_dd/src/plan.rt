@@ -1,11 +1,13 @@
 //! What dd's operands ask for.
-ghost use Rattle.std.specs.Prelude.{◌≡◌, ◌≢◌, ◌*◌, ◌^◌, ◌<◌, ◌≤◌};
+ghost use Rattle.std.specs.Prelude.{◌≡◌, ◌≢◌, ◌↔◌, ◌*◌, ◌^◌, ◌<◌, ◌≤◌, IfOk, IsErr, IsOkUnless};
 ghost use Rattle.std.specs.Option.{ForSome};
 ghost use Rattle.bx_dd.specs.declared.form.Shape.TheVariants.{Flat};
 
+use crate::fault::DdFault;
 use crate::form::{Form, Letters, Shape};
-use bx_text::Name;
-use std::alloc::{Allocator, Global};
+use bx_image::Change;
+use bx_text::{Bytes, Name, Piece, Pieces};
+use std::alloc::{AllocError, Allocator, Global};
 
 /// What is read, how it is converted, and where it goes. Sizes are in bytes; `skip` and `count` are input blocks, and `seek` is output blocks.
 #[derive(Drop)]
@@ -38,7 +40,7 @@ pub struct Plan<A: Allocator = Global> {
 }
 
 impl<A: Allocator> Plan<A> {
-    ghost use Rattle.bx_dd.specs.Plan.{form_of};
+    ghost use Rattle.bx_dd.specs.Plan.{form_of, change_of};
 
     /// The sizes and conversions.
     pub fn form(&self) -> Form
@@ -53,5 +55,30 @@ impl<A: Allocator> Plan<A> {
             letters: self.letters,
             shape: self.shape,
         }
+    }
+
+    /// Whether the output can go to a stream: it has no place to seek to.
+    pub fn for_stream(&self) -> Result<(), DdFault>
+        ensures refused { IsErr result ↔ (0 < self.now.seek) }
+        ensures fault { IsOkUnless result DdFault.SeekWithoutOutput }
+    {
+        if self.seek > 0 {
+            return Err(DdFault::SeekWithoutOutput);
+        }
+        Ok(())
+    }
+
+    /// The change that puts the output in its place. The image ends there first, unless `conv=notrunc` was given. The one fault is want of memory, and the bytes are then given up.
+    pub fn change<B: Allocator>(&self, alloc: B, bytes: Bytes<B>) -> Result<Change<B>, DdFault>
+        ensures change { IfOk result (λ c. c ≡ change_of self.now bytes) }
+        ensures fault { IsOkUnless result DdFault.NoMemory }
+    {
+        let at = self.seek * self.obs;
+        let mut writes = Vec::new(alloc);
+        writes.push(Piece { at, bytes }).map_err(AllocError::from)?;
+        Ok(Change {
+            base: if self.notrunc { None } else { Some(at) },
+            writes: Pieces::from_vec(writes),
+        })
     }
 }
