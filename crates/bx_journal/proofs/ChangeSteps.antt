@@ -47,7 +47,7 @@ pub change_moves : (s : Kept) (text x y : List ℕ) (stack : List (List ℕ)) �
 change_moves s text x y stack o good = open_moves Second (in_rows s) text x y stack o (good_in_rows s x y good)
 
 pub ends_of : {A : Type 0} → (c : Change A) (text new x y : List ℕ) (stack : List (List ℕ)) (head line : List ℕ) → WritesEntry c text x stack head line → IsOpen Second (in_rows (kept_of (saved c x))) new y stack → y ≡ effect c x
-  → EndsEntry new y stack (in_rows (kept_of (saved c x))) line
+    → EndsEntry new y stack (in_rows (kept_of (saved c x))) line
 ends_of c text new x y stack head line writes o is = record {
   unfinished = o;
   fits = subst (λ n. length n ≤ MAX_LEN) (sym is) writes.fits;

@@ -31,17 +31,18 @@ pub record Leaves (Q : Reading → Type 0) (new : List ℕ) : Type 0 where
   pub has : Q reading
 
 pub halves : (text : List ℕ) (n : ℕ) (r q : Reading) → IsMark text n r → IsRead text q
-  → IsWhole (take n text) r × ((split (drop n text)).rest ≡ []) × (after_lines r (split (drop n text)).lines ≡ Some q) × (list_all is_short (split (drop n text)).lines ≡ true)
+    → IsWhole (take n text) r × ((split (drop n text)).rest ≡ []) × (after_lines r (split (drop n text)).lines ≡ Some q) × (list_all is_short (split (drop n text)).lines ≡ true)
 halves text n r q mark read =
     let parts : split text ≡ record { lines = (split (take n text)).lines ++ (split (drop n text)).lines; rest = (split (drop n text)).rest } =
-      ap split (sym (take-append-drop n text)) ∙ split-append (take n text) (drop n text) mark.whole in
+    ap split (sym (take-append-drop n text)) ∙ split-append (take n text) (drop n text) mark.whole in
     let shorts : (list_all is_short (split (take n text)).lines ≡ true) × (list_all is_short (split (drop n text)).lines ≡ true) =
-      and_true (list_all is_short (split (take n text)).lines) (list_all is_short (split (drop n text)).lines)
-        (sym (list_all-append is_short (split (take n text)).lines (split (drop n text)).lines) ∙ sym (ap (λ (s : Split). list_all is_short s.lines) parts) ∙ read.short) in
-    (record { lines = mark.lines; whole = mark.whole; short = shorts.0 },
+    and_true (list_all is_short (split (take n text)).lines) (list_all is_short (split (drop n text)).lines)
+    (sym (list_all-append is_short (split (take n text)).lines (split (drop n text)).lines) ∙ sym (ap (λ (s : Split). list_all is_short s.lines) parts) ∙ read.short) in (
+      record { lines = mark.lines; whole = mark.whole; short = shorts.0 },
       sym (ap (λ (s : Split). s.rest) parts) ∙ read.whole,
       sym (after_lines-append start r (split (take n text)).lines (split (drop n text)).lines mark.lines) ∙ sym (ap (λ (s : Split). after_lines start s.lines) parts) ∙ read.lines,
-      shorts.1)
+      shorts.1,
+    )
 
 pub cut_front : (text new : List ℕ) (n : ℕ) → n ≤ length new → new ≡ take (length new) text → new ≡ take n text ++ take (length new - n) (drop n text)
 cut_front text new n long is =
@@ -82,17 +83,17 @@ unfolding stack_of
 fine_before text x below es e n = record { covers = tt; finished = (n.covers, n.finished); lengths = n.lengths; stack_is = ap (λ s. x ∷ s) n.stack_is }
 
 pub cut_end_fault : (text new x : List ℕ) (below : List (List ℕ)) (es : List Entry) (e : Entry) (v : Version) (n : ℕ)
-  → Newest text x below es e → IsMark text n (record { entries = es; stage = Ending v e.saved }) → IsPartlyCut n text new → RecoversEither new x (x ∷ below) below
+    → Newest text x below es e → IsMark text n (record { entries = es; stage = Ending v e.saved }) → IsPartlyCut n text new → RecoversEither new x (x ∷ below) below
 cut_end_fault text new x below es e v n newest mark part =
     let l = cut_leaves (FineUndo x below) text new n (record { entries = es; stage = Ending v e.saved }) (record { entries = e ∷ es; stage = Between }) mark newest.read
-      (way_in_end (FineUndo x below) es e v e.saved (inr (fine_ending text x below es e v newest)) (inl (fine_before text x below es e newest))) part in
+    (way_in_end (FineUndo x below) es e v e.saved (inr (fine_ending text x below es e v newest)) (inl (fine_before text x below es e newest))) part in
     elim (l.has) [ inl f ↦ inl (recovers_of new x (x ∷ below) l.reading l.reads f) | inr f ↦ inr (recovers_of new x below l.reading l.reads f) ]
   where
     recovers_of : (new x : List ℕ) (stack : List (List ℕ)) (q : Reading) → ReadsShort new q → Fine x stack q → Recovers new x stack
     recovers_of new x stack q r f = record { reading = q; reads = record { lines = r.lines; rest = r.rest }; sound = record { short = r.short; unfinished = f.covers; finished = f.finished }; lengths = f.lengths; stack_is = f.stack_is }
 
 unfoldable pub cut_end_ok : (text x : List ℕ) (below : List (List ℕ)) (es : List Entry) (e : Entry) (v : Version) (n : ℕ)
-  → Newest text x below es e → IsMark text n (record { entries = es; stage = Ending v e.saved }) → IsOpen v e.saved (take n text) x below
+    → Newest text x below es e → IsMark text n (record { entries = es; stage = Ending v e.saved }) → IsOpen v e.saved (take n text) x below
 cut_end_ok text x below es e v n newest mark =
     let h = halves text n (record { entries = es; stage = Ending v e.saved }) (record { entries = e ∷ es; stage = Between }) mark newest.read in
     record {
@@ -106,13 +107,13 @@ cut_end_ok text x below es e v n newest mark =
 
 -- undo, last step: the image is restored, and the rest of the entry is cut off
 pub cut_entry_fault : (text new y : List ℕ) (below : List (List ℕ)) (v : Version) (s : Kept) (n : ℕ) (open_ : IsOpen v s text y below) → restore s y ≡ y
-  → IsMark text n (record { entries = open_.entries; stage = Between }) → IsPartlyCut n text new → Recovers new y below
+    → IsMark text n (record { entries = open_.entries; stage = Between }) → IsPartlyCut n text new → Recovers new y below
 cut_entry_fault text new y below v s n o same mark part =
     let es : List Entry = o.entries in
     let read : IsRead text (record { entries = es; stage = Ending v s }) = record { lines = o.reads.lines; whole = o.whole; short = o.sound.short } in
     let early : (stage : Stage) → IsEarly stage → Fine y below (record { entries = es; stage = stage }) = early_fine o.entries (subst (AllCover es) same o.sound.finished) (subst (HaveLengths es) same o.lengths) (ap (stack_of es) (sym same) ∙ sym o.stack_is) in
     let l = cut_leaves (Fine y below) text new n (record { entries = es; stage = Between }) (record { entries = es; stage = Ending v s }) mark read
-      (way_in_head (Fine y below) es v s early (record { covers = o.sound.unfinished; finished = o.sound.finished; lengths = o.lengths; stack_is = sym o.stack_is })) part in
+    (way_in_head (Fine y below) es v s early (record { covers = o.sound.unfinished; finished = o.sound.finished; lengths = o.lengths; stack_is = sym o.stack_is })) part in
     record { reading = l.reading; reads = record { lines = l.reads.lines; rest = l.reads.rest }; sound = record { short = l.reads.short; unfinished = l.has.covers; finished = l.has.finished }; lengths = l.has.lengths; stack_is = l.has.stack_is }
   where
     early_fine : (es : List Entry) → AllCover es y → HaveLengths es y → stack_of es y ≡ below → (stage : Stage) → IsEarly stage → Fine y below (record { entries = es; stage = stage })
@@ -121,7 +122,7 @@ cut_entry_fault text new y below v s n o same mark part =
     early_fine es finished lengths is (Ending w t) h = absurd h
 
 pub cut_entry_ok : (text y : List ℕ) (below : List (List ℕ)) (v : Version) (s : Kept) (n : ℕ) (open_ : IsOpen v s text y below) → restore s y ≡ y
-  → IsMark text n (record { entries = open_.entries; stage = Between }) → IsAtRest (take n text) y below
+    → IsMark text n (record { entries = open_.entries; stage = Between }) → IsAtRest (take n text) y below
 cut_entry_ok text y below v s n o same mark =
     let es : List Entry = o.entries in
     let read : IsRead text (record { entries = es; stage = Ending v s }) = record { lines = o.reads.lines; whole = o.whole; short = o.sound.short } in

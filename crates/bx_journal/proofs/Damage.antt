@@ -63,20 +63,21 @@ damaged_line text a b l r is e none =
     let stops : after_lines start (take (suc (length a)) (split text).lines) ≡ None = ap (after_lines start) upto ∙ after_lines-append start r a (l ∷ []) e ∙ rw none refl in
     record {
       damaged = λ acc.
-        let parts : split (joined (take (suc (length a)) (split text).lines)) ≡ record { lines = take (suc (length a)) (split text).lines; rest = [] } = split_joined (take (suc (length a)) (split text).lines) (take_plain (suc (length a)) (split text).lines (lines_plain text)) in
-        let moved : IsAccepted (joined (take (suc (length a)) (split text).lines)) = subst IsAccepted (first_few (suc (length a)) text (omega (arith, total))) acc in
-        let read : after_lines start (take (suc (length a)) (split text).lines) ≡ Some moved.0 = ap (λ (s : Split). after_lines start s.lines) (sym parts) ∙ moved.1.lines in
-        let clash : None ≡ Some moved.0 = sym stops ∙ read in
-        cc;
+          let parts : split (joined (take (suc (length a)) (split text).lines)) ≡ record { lines = take (suc (length a)) (split text).lines; rest = [] } = split_joined (take (suc (length a)) (split text).lines) (take_plain (suc (length a)) (split text).lines (lines_plain text)) in
+          let moved : IsAccepted (joined (take (suc (length a)) (split text).lines)) = subst IsAccepted (first_few (suc (length a)) text (omega (arith, total))) acc in
+          let read : after_lines start (take (suc (length a)) (split text).lines) ≡ Some moved.0 = ap (λ (s : Split). after_lines start s.lines) (sym parts) ∙ moved.1.lines in
+          let clash : None ≡ Some moved.0 = sym stops ∙ read in
+          cc;
       least = λ k below.
-        let f = front_read k a start r e in
-        let same : take k (split text).lines ≡ take k a = ap (take k) is ∙ take_in k a (l ∷ b) (omega (arith, below)) in
-        accepts k text f.0 (omega (arith, total, below)) (ap (after_lines start) same ∙ f.1);
+          let f = front_read k a start r e in
+          let same : take k (split text).lines ≡ take k a = ap (take k) is ∙ take_in k a (l ∷ b) (omega (arith, below)) in
+          accepts k text f.0 (omega (arith, total, below)) (ap (after_lines start) same ∙ f.1);
     }
   where
     take_one : (a b : List (List ℕ)) (l : List ℕ) → take (suc (length a)) (a ++ l ∷ b) ≡ a ++ l ∷ []
     take_one [] b l = refl
     take_one (x ∷ a) b l = ap (λ s. x ∷ s) (take_one a b l)
+
     take_in : (k : ℕ) (a b : List (List ℕ)) → k ≤ length a → take k (a ++ b) ≡ take k a
     take_in zero a b h = refl
     take_in (suc k) [] b h = absurd (omega (arith, h))
@@ -87,9 +88,9 @@ pub damaged_rest : (text : List ℕ) (r : Reading) → after_lines start (split 
 damaged_rest text r e apart =
     record {
       damaged = λ acc.
-        let moved : IsAccepted text = subst IsAccepted (first_all (suc (length (split text).lines)) text (omega arith)) acc in
-        let same : r ≡ moved.0 = one_reading (sym e ∙ moved.1.lines) in
-        apart (subst (λ (q : Reading). IsRest q.entries q.stage (split text).rest) (sym same) moved.1.rest);
+          let moved : IsAccepted text = subst IsAccepted (first_all (suc (length (split text).lines)) text (omega arith)) acc in
+          let same : r ≡ moved.0 = one_reading (sym e ∙ moved.1.lines) in
+          apart (subst (λ (q : Reading). IsRest q.entries q.stage (split text).rest) (sym same) moved.1.rest);
       least = λ k below. let f = front_read k (split text).lines start r e in accepts k text f.0 (omega (arith, below)) f.1;
     }
   where
@@ -98,7 +99,7 @@ damaged_rest text r e apart =
 
 -- the text at a mark, with one more line
 pub lines_at : (text line behind : List ℕ) (at : ℕ) (r : Reading) → IsMark text at r → IsLine (drop at text) line behind
-  → split (take (at + length line + 1) text) ≡ record { lines = (split (take at text)).lines ++ line ∷ []; rest = [] }
+    → split (take (at + length line + 1) text) ≡ record { lines = (split (take at text)).lines ++ line ∷ []; rest = [] }
 unfolding split
 lines_at text line behind at r mark l =
     let count : at + length line + 1 ≡ at + suc (length line) = omega arith in
@@ -110,6 +111,7 @@ lines_at text line behind at r mark l =
     take_line : (line behind : List ℕ) → take (suc (length line)) (line ++ 10 ∷ behind) ≡ line ++ 10 ∷ []
     take_line [] behind = refl
     take_line (x ∷ line) behind = ap (λ s. x ∷ s) (take_line line behind)
+
     one_line : (line : List ℕ) → HasNoNewline line → split (line ++ 10 ∷ []) ≡ record { lines = line ∷ []; rest = [] }
     one_line line plain = split-ended line [] plain
 
@@ -126,7 +128,7 @@ mark_on text line behind at r q mark l e =
     }
 
 pub counted_on : (text line behind : List ℕ) (at : ℕ) (r : Reading) → IsMark text at r → IsLine (drop at text) line behind
-  → length (split (take (at + length line + 1) text)).lines ≡ suc (length (split (take at text)).lines)
+    → length (split (take (at + length line + 1) text)).lines ≡ suc (length (split (take at text)).lines)
 counted_on text line behind at r mark l =
     ap (λ (s : Split). length s.lines) (lines_at text line behind at r mark l) ∙ length-append (split (take at text)).lines (line ∷ []) ∙ omega arith
 
@@ -138,7 +140,7 @@ pub stops_at : (text line behind : List ℕ) (at : ℕ) (r : Reading) → IsMark
 stops_at text line behind at r mark l none =
     let parts : split (drop at text) ≡ record { lines = line ∷ (split behind).lines; rest = (split behind).rest } = ap split l.is ∙ split-ended line behind l.plain in
     let all : (split text).lines ≡ (split (take at text)).lines ++ line ∷ (split behind).lines =
-      ap (λ (s : Split). s.lines) (split_at_mark text at r mark) ∙ ap (λ (s : Split). (split (take at text)).lines ++ s.lines) parts in
+    ap (λ (s : Split). s.lines) (split_at_mark text at r mark) ∙ ap (λ (s : Split). (split (take at text)).lines ++ s.lines) parts in
     damaged_line text (split (take at text)).lines (split behind).lines line r all mark.lines none
 
 -- at the last newline

@@ -73,17 +73,27 @@ saved_reads len line p is few within = rw is (fits (nat_le (length p.bytes) 16) 
 
 -- the saved lines and the save line, behind rows that were read before
 saving_run : (Q E : Reading → Type 0) (es : List Entry) (v : Version) (len : ℕ) → len ≤ MAX_LEN → ((runs : List Run) → Q (saving es v len runs))
-  → (more : List (List ℕ)) (ps done : List Run) → AreRows len ps → SafeRun Q E (ending es v len (done ++ ps)) more
-  → SafeRun Q E (saving es v len done) (map (λ p. dump_line p.at p.bytes) ps ++ save_line (suc (length es)) ∷ more)
-saving_run Q E es v len most q more [] done are run =
-    (q done, save_rest es v (record { len = len; runs = done }), plain_save (suc (length es)), short_save (suc (length es)),
-      (ending es v len done, next_save es v (record { len = len; runs = done }), rw append-nil at run))
+    → (more : List (List ℕ)) (ps done : List Run) → AreRows len ps → SafeRun Q E (ending es v len (done ++ ps)) more
+    → SafeRun Q E (saving es v len done) (map (λ p. dump_line p.at p.bytes) ps ++ save_line (suc (length es)) ∷ more)
+saving_run Q E es v len most q more [] done are run = (
+  q done,
+  save_rest es v (record { len = len; runs = done }),
+  plain_save (suc (length es)),
+  short_save (suc (length es)),
+  (ending es v len done, next_save es v (record { len = len; runs = done }), rw append-nil at run),
+)
 saving_run Q E es v len most q more (p ∷ ps) done are run =
-    let line : IsSavedLine (dump_line p.at p.bytes) p = saved_line p are.3 are.0 are.1 (omega (arith, are.2)) in
-    (q done, (λ t front. inr (line.front t front, short_front t front.0 (dump_line p.at p.bytes) front.1 line.short)), line.plain, line.short,
-      (saving es v len (done ++ p ∷ []),
+    let line : IsSavedLine (dump_line p.at p.bytes) p = saved_line p are.3 are.0 are.1 (omega (arith, are.2)) in (
+      q done,
+      (λ t front. inr (line.front t front, short_front t front.0 (dump_line p.at p.bytes) front.1 line.short)),
+      line.plain,
+      line.short,
+      (
+        saving es v len (done ++ p ∷ []),
         next_saved es v len done (dump_line p.at p.bytes) p (line.front (dump_line p.at p.bytes) ([], sym (append-nil (dump_line p.at p.bytes)))) (saved_reads len (dump_line p.at p.bytes) p line.reads are.1 are.2),
-        saving_run Q E es v len most q more ps (done ++ p ∷ []) are.4 (rw append_assoc run)))
+        saving_run Q E es v len most q more ps (done ++ p ∷ []) are.4 (rw append_assoc run),
+      ),
+    )
 
 begins_second : (es : List Entry) (len : ℕ) → len ≤ MAX_LEN → may_begin es len ≡ true → begins es Second (start_line Second (suc (length es)) len) ≡ Some (Saving Second (record { len = len; runs = [] }))
 begins_second es len most may = rw (start_reads Second (suc (length es)) len most (omega arith), may) refl
@@ -96,19 +106,30 @@ next_start es len room most may =
 
 -- an entry up to its save line, and what follows
 pub head_run : (Q E : Reading → Type 0) (es : List Entry) (s : Kept) → length es < 65535 → s.len ≤ MAX_LEN → may_begin es s.len ≡ true → AreRows s.len (flat_map rows s.runs)
-  → Q (between es) → ((runs : List Run) → Q (saving es Second s.len runs)) → (more : List (List ℕ)) → SafeRun Q E (ending es Second s.len (flat_map rows s.runs)) more
-  → SafeRun Q E (between es) (head_lines (suc (length es)) s ++ more)
+    → Q (between es) → ((runs : List Run) → Q (saving es Second s.len runs)) → (more : List (List ℕ)) → SafeRun Q E (ending es Second s.len (flat_map rows s.runs)) more
+    → SafeRun Q E (between es) (head_lines (suc (length es)) s ++ more)
 unfolding head_lines
-head_run Q E es s room most may are at_rest q more run =
-    (at_rest, (λ t front. inr (Second, s.len, room, most, omega arith, may, front)), plain_start (suc (length es)) s.len, short_start (suc (length es)) s.len,
-      (saving es Second s.len [], next_start es s.len room most may,
-        subst (SafeRun Q E (saving es Second s.len [])) (sym (append_assoc (map (λ p. dump_line p.at p.bytes) (flat_map rows s.runs)) (save_line (suc (length es)) ∷ []) more))
-          (saving_run Q E es Second s.len most q more (flat_map rows s.runs) [] are run)))
+head_run Q E es s room most may are at_rest q more run = (
+  at_rest,
+  (λ t front. inr (Second, s.len, room, most, omega arith, may, front)),
+  plain_start (suc (length es)) s.len,
+  short_start (suc (length es)) s.len,
+  (
+    saving es Second s.len [],
+    next_start es s.len room most may,
+    subst (SafeRun Q E (saving es Second s.len [])) (sym (append_assoc (map (λ p. dump_line p.at p.bytes) (flat_map rows s.runs)) (save_line (suc (length es)) ∷ []) more))
+        (saving_run Q E es Second s.len most q more (flat_map rows s.runs) [] are run),
+  ),
+)
 
 -- the line that ends an entry
 pub end_run : (Q E : Reading → Type 0) (es : List Entry) (s : Kept) (after : ℕ) → after ≤ MAX_LEN
-  → Q (ending es Second s.len s.runs) → Q (between (record { saved = s; after = Some after } ∷ es)) → E (between (record { saved = s; after = Some after } ∷ es)) → SafeRun Q E (ending es Second s.len s.runs) (end_line Second (suc (length es)) after ∷ [])
+    → Q (ending es Second s.len s.runs) → Q (between (record { saved = s; after = Some after } ∷ es)) → E (between (record { saved = s; after = Some after } ∷ es)) → SafeRun Q E (ending es Second s.len s.runs) (end_line Second (suc (length es)) after ∷ [])
 unfolding next_at
-end_run Q E es s after most before behind ends =
-    (before, (λ t front. (after, most, front)), plain_end (suc (length es)) after, short_end (suc (length es)) after,
-      (between (record { saved = s; after = Some after } ∷ es), rw (end_reads (suc (length es)) after most) refl, (behind, ends)))
+end_run Q E es s after most before behind ends = (
+  before,
+  (λ t front. (after, most, front)),
+  plain_end (suc (length es)) after,
+  short_end (suc (length es)) after,
+  (between (record { saved = s; after = Some after } ∷ es), rw (end_reads (suc (length es)) after most) refl, (behind, ends)),
+)

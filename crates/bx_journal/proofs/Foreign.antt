@@ -52,7 +52,7 @@ joined_lines [] e = refl
 joined_lines (b ∷ text) e = by_test (eqb b 10) refl (joined_lines text) e
   where
     by_test : (is : Bool) → eqb b 10 ≡ is → ((split text).rest ≡ [] → joined (split text).lines ≡ text) → (cond is (record { lines = [] ∷ (split text).lines; rest = (split text).rest }) (with_front b (split text))).rest ≡ []
-      → joined (cond is (record { lines = [] ∷ (split text).lines; rest = (split text).rest }) (with_front b (split text))).lines ≡ b ∷ text
+        → joined (cond is (record { lines = [] ∷ (split text).lines; rest = (split text).rest }) (with_front b (split text))).lines ≡ b ∷ text
     by_test true is ih e =
         let same : 10 ≡ b = newline b is in
         rw same (ap (λ s. b ∷ s) (ih e))
@@ -100,14 +100,18 @@ abbrev pub OnTheWay : (Reading → Type 0) → Reading → Reading → Type 0
 OnTheWay Q r q = (p : Reading) (a b : List (List ℕ)) → after_lines r a ≡ Some p → after_lines p b ≡ Some q → Q p
 
 pub foreign_run : (Q : Reading → Type 0) (q : Reading) (ls : List (List ℕ)) (r : Reading) → after_lines r ls ≡ Some q → AllPlain ls → list_all is_short ls ≡ true → OnTheWay Q r q
-  → SafeRun Q (λ p. p ≡ q) r ls
+    → SafeRun Q (λ p. p ≡ q) r ls
 unfolding after_lines
 foreign_run Q q [] r e plain short each = let same : r ≡ q = cc in (each r [] [] refl e, same)
 foreign_run Q q (l ∷ ls) r e plain short each =
     let b = bind_some (λ p. after_lines p ls) (next r l) q e in
-    let tests = and_true (is_short l) (list_all is_short ls) short in
-    (each r [] (l ∷ ls) refl e, rest_of_next r.entries r.stage l b.0 b.1 tests.0, plain.0, tests.0,
-      (b.0, b.1, foreign_run Q q ls b.0 b.2 plain.1 tests.1 (λ p a c first last. each p (l ∷ a) c (rw (b.1) first) last)))
+    let tests = and_true (is_short l) (list_all is_short ls) short in (
+      each r [] (l ∷ ls) refl e,
+      rest_of_next r.entries r.stage l b.0 b.1 tests.0,
+      plain.0,
+      tests.0,
+      (b.0, b.1, foreign_run Q q ls b.0 b.2 plain.1 tests.1 (λ p a c first last. each p (l ∷ a) c (rw (b.1) first) last)),
+    )
 
 too_far : (l : List ℕ) (es : List Entry) (v : Version) (s : Kept) (p q : Reading) → next_at es (Ending v s) l ≡ Some p → weight p ≤ weight q → length q.entries ≤ length es → ⊥
 unfolding weight weight_of
@@ -133,7 +137,6 @@ same_entries (l ∷ ls) r q e long =
         sym same ∙ ih (ap length same ∙ long)
     by_stage es (Ending v s) p e grows ih long = absurd (too_far l es v s p q e grows (omega arith))
 
-
 ending_last : (b : List (List ℕ)) (es : List Entry) (v : Version) (s : Kept) (q : Reading) → after_lines (record { entries = es; stage = Ending v s }) b ≡ Some q → length q.entries ≤ length es → record { entries = es; stage = Ending v s } ≡ q
 unfolding after_lines
 ending_last [] es v s q e long = cc
@@ -148,7 +151,7 @@ IsEarly (Ending v s) = ⊥
 
 -- from the start of an entry to its save line
 pub way_in_head : (Q : Reading → Type 0) (es : List Entry) (v : Version) (s : Kept) → ((stage : Stage) → IsEarly stage → Q (record { entries = es; stage = stage })) → Q (record { entries = es; stage = Ending v s })
-  → OnTheWay Q (record { entries = es; stage = Between }) (record { entries = es; stage = Ending v s })
+    → OnTheWay Q (record { entries = es; stage = Between }) (record { entries = es; stage = Ending v s })
 unfolding weight weight_of
 way_in_head Q es v s early last p a b first rest =
     let up = lines_grow a (record { entries = es; stage = Between }) p first in
@@ -175,7 +178,7 @@ between_of p e = by_stage p.stage e
 
 -- from the save line of an entry to its end
 pub way_in_end : (Q : Reading → Type 0) (es : List Entry) (e : Entry) (v : Version) (s : Kept) → Q (record { entries = es; stage = Ending v s }) → Q (record { entries = e ∷ es; stage = Between })
-  → OnTheWay Q (record { entries = es; stage = Ending v s }) (record { entries = e ∷ es; stage = Between })
+    → OnTheWay Q (record { entries = es; stage = Ending v s }) (record { entries = e ∷ es; stage = Between })
 unfolding weight weight_of after_lines
 way_in_end Q es e v s first last p [] b at_first rest = let same : record { entries = es; stage = Ending v s } ≡ p = cc in subst Q same first
 way_in_end Q es e v s first last p (l ∷ a) b up rest =
@@ -192,7 +195,7 @@ way_in_end Q es e v s first last p (l ∷ a) b up rest =
 
 -- from the start of an entry on
 pub way_in_tail : (Q : Reading → Type 0) (es : List Entry) (last : Stage) → ((stage : Stage) → IsEarly stage → Q (record { entries = es; stage = stage })) → Q (record { entries = es; stage = last })
-  → OnTheWay Q (record { entries = es; stage = Between }) (record { entries = es; stage = last })
+    → OnTheWay Q (record { entries = es; stage = Between }) (record { entries = es; stage = last })
 unfolding weight weight_of
 way_in_tail Q es last early at_last p a b first rest =
     let up = lines_grow a (record { entries = es; stage = Between }) p first in
@@ -207,4 +210,3 @@ way_in_tail Q es last early at_last p a b first rest =
     by_stage (Ending w t) entries same rest =
         let is = ending_last b entries w t (record { entries = es; stage = last }) rest (omega (arith, ap length same)) in
         subst Q (sym is) at_last
-

@@ -21,7 +21,7 @@ number_after-append a [] ys b e = let same : a ≡ b = cc in ap (λ k. number_af
 number_after-append a (c ∷ xs) ys b e = step (hex_value c) (λ k. number_after-append k xs ys b) e
   where
     step : (o : Option ℕ) → ((k : ℕ) → number_after k xs ≡ Some b → number_after k (xs ++ ys) ≡ number_after b ys)
-      → option_and_then (λ d. number_after (16 * a + d) xs) o ≡ Some b → option_and_then (λ d. number_after (16 * a + d) (xs ++ ys)) o ≡ number_after b ys
+        → option_and_then (λ d. number_after (16 * a + d) xs) o ≡ Some b → option_and_then (λ d. number_after (16 * a + d) (xs ++ ys)) o ≡ number_after b ys
     step None ih e = cc
     step (Some d) ih e = ih (16 * a + d) e
 

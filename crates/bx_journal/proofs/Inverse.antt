@@ -36,6 +36,7 @@ digit_of c d e = (small c d e, shown c d e)
   where
     small : (c d : ℕ) → hex_value c ≡ Some d → d < 16
     small c d e = grind (arith, common_steps)
+
     shown : (c d : ℕ) → hex_value c ≡ Some d → hex_digit d ≡ c
     shown c d e = grind (arith, common_steps)
 
@@ -73,6 +74,7 @@ test_length k w o m e = (equal k w o m e, given k w o m e)
   where
     equal : (k w : ℕ) (o : Option ℕ) (m : ℕ) → (if k == w then o else None) ≡ Some m → k ≡ w
     equal k w o m e = grind (arith, common_steps)
+
     given : (k w : ℕ) (o : Option ℕ) (m : ℕ) → (if k == w then o else None) ≡ Some m → o ≡ Some m
     given k w o m e = grind (arith, common_steps)
 
@@ -112,7 +114,7 @@ start_back v n line len e =
     (behind_back (start_head v n) line found.0 found.1 ∙ ap (λ s. start_head v n ++ s) digits.0, most.1, digits.1)
 
 second_back : (n : ℕ) (line : List ℕ) (told : Option ℕ) → option_map Some (at_most MAX_LEN (option_and_then (number_of 16) (behind (end_head Second n) line))) ≡ Some told
-  → (after : ℕ) × (after ≤ MAX_LEN) × (line ≡ end_line Second n after)
+    → (after : ℕ) × (after ≤ MAX_LEN) × (line ≡ end_line Second n after)
 unfolding end_line
 second_back n line told e =
     let some = map_some Some (at_most MAX_LEN (option_and_then (number_of 16) (behind (end_head Second n) line))) told e in
@@ -141,7 +143,7 @@ piece_apart (b ∷ bytes) p e = apart (eqb b 115) refl
 -- the stage that a line that begins an entry leads to
 abbrev Begun : List Entry → List ℕ → Stage → Type 0
 Begun es line stage = (v : Version) × (len : ℕ) × (length es < 65535) × (len ≤ MAX_LEN) × (len < 16 ^ digits_of v) × (may_begin es len ≡ true)
-  × (line ≡ start_line v (suc (length es)) len) × (stage ≡ Saving v (record { len = len; runs = [] }))
+    × (line ≡ start_line v (suc (length es)) len) × (stage ≡ Saving v (record { len = len; runs = [] }))
 
 begins_back : (es : List Entry) (v : Version) (line : List ℕ) (stage : Stage) → length es < 65535 → begins es v line ≡ Some stage → Begun es line stage
 begins_back es v line stage room e =
@@ -163,7 +165,7 @@ unfolding next_at
 next_between es line q e = by_room (nat_lt (length es) 65535) (option_map (λ (s : Stage). (record { entries = es; stage = s })) (option_or (begins es First line) (begins es Second line))) refl refl e
   where
     by_room : (b : Bool) (o : Option Reading) → nat_lt (length es) 65535 ≡ b → o ≡ option_map (λ (s : Stage). (record { entries = es; stage = s })) (option_or (begins es First line) (begins es Second line)) → (if b then o else None) ≡ Some q
-      → (stage : Stage) × Begun es line stage × (q ≡ record { entries = es; stage = stage })
+        → (stage : Stage) × Begun es line stage × (q ≡ record { entries = es; stage = stage })
     by_room false o is same e = absurd (cc)
     by_room true o is same e =
         let room : length es < 65535 = grind (arith, common_steps) in
@@ -172,7 +174,7 @@ next_between es line q e = by_room (nat_lt (length es) 65535) (option_map (λ (s
 
 abbrev Continues : List Entry → Version → Kept → List ℕ → Reading → Type 0
 Continues es v s line q = ((line ≡ save_line (suc (length es))) × (q ≡ record { entries = es; stage = Ending v s }))
-  ⊎ ((begins_with_s line ≡ false) × (piece : Run) × (q ≡ record { entries = es; stage = Saving v (record { len = s.len; runs = s.runs ++ piece ∷ [] }) }))
+    ⊎ ((begins_with_s line ≡ false) × (piece : Run) × (q ≡ record { entries = es; stage = Saving v (record { len = s.len; runs = s.runs ++ piece ∷ [] }) }))
 
 saved_apart : (len : ℕ) (line : List ℕ) (p : Run) → saved_in len line ≡ Some p → begins_with_s line ≡ false
 unfolding saved_in
@@ -185,15 +187,15 @@ unfolding next_at
 next_saving es v s line q e = by_test (bytes_eq line (save_line (suc (length es)))) refl e
   where
     by_test : (b : Bool) → bytes_eq line (save_line (suc (length es))) ≡ b
-      → (if b then Some (record { entries = es; stage = Ending v s }) else option_map (λ (piece : Run). (record { entries = es; stage = Saving v (record { len = s.len; runs = s.runs ++ piece ∷ [] }) })) (saved_in s.len line)) ≡ Some q
-      → Continues es v s line q
+        → (if b then Some (record { entries = es; stage = Ending v s }) else option_map (λ (piece : Run). (record { entries = es; stage = Saving v (record { len = s.len; runs = s.runs ++ piece ∷ [] }) })) (saved_in s.len line)) ≡ Some q
+        → Continues es v s line q
     by_test true is e = inl (same_bytes line (save_line (suc (length es))) is, cc)
     by_test false is e =
         let some = map_some (λ (piece : Run). (record { entries = es; stage = Saving v (record { len = s.len; runs = s.runs ++ piece ∷ [] }) })) (saved_in s.len line) q e in
         inr (saved_apart s.len line some.0 some.1, some.0, sym some.2)
 
 pub next_ending : (es : List Entry) (v : Version) (s : Kept) (line : List ℕ) (q : Reading) → next_at es (Ending v s) line ≡ Some q
-  → (told : Option ℕ) × (q ≡ record { entries = record { saved = s; after = told } ∷ es; stage = Between }) × ((after : ℕ) × (after ≤ MAX_LEN) × (line ≡ end_line v (suc (length es)) after))
+    → (told : Option ℕ) × (q ≡ record { entries = record { saved = s; after = told } ∷ es; stage = Between }) × ((after : ℕ) × (after ≤ MAX_LEN) × (line ≡ end_line v (suc (length es)) after))
 unfolding next_at
 next_ending es v s line q e =
     let some = map_some (λ (after : Option ℕ). (record { entries = record { saved = s; after = after } ∷ es; stage = Between })) (after_in v (suc (length es)) line) q e in
@@ -213,8 +215,9 @@ rest_of_next es Between line q e short t front =
     inr (b.1.0, b.1.1, b.1.2, b.1.3, b.1.4, b.1.5, front_moves t line (start_line b.1.0 (suc (length es)) b.1.1) b.1.6 front)
 rest_of_next es (Saving v s) line q e short t front =
     elim (next_saving es v s line q e) [
-      inl is ↦ save_rest es v s t (front_moves t line (save_line (suc (length es))) is.0 front)
-    | inr is ↦ inr (plain_start_front t line is.0 front, short_front t front.0 line front.1 short) ]
+      | inl is ↦ save_rest es v s t (front_moves t line (save_line (suc (length es))) is.0 front)
+      | inr is ↦ inr (plain_start_front t line is.0 front, short_front t front.0 line front.1 short)
+    ]
 rest_of_next es (Ending v s) line q e short t front =
     let n = next_ending es v s line q e in
     (n.2.0, n.2.1, front_moves t line (end_line v (suc (length es)) n.2.0) n.2.2 front)

@@ -11,10 +11,11 @@ use Rattle.bx_journal.proofs.Damage.{front_read, accepts, first_all}
 pub undamaged : (text : List ℕ) (m : ℕ) → IsAccepted text → IsDamagedAt text m → ⊥
 undamaged text m read damage =
     elim (cases_lt (length (split text).lines) m) [
-      inl behind ↦ damage.damaged (subst IsAccepted (sym (first_all m text behind)) read)
-    | inr within ↦
-        let f = front_read m (split text).lines start read.0 read.1.lines in
-        damage.damaged (accepts m text f.0 within f.1) ]
+      | inl behind ↦ damage.damaged (subst IsAccepted (sym (first_all m text behind)) read)
+      | inr within ↦
+          let f = front_read m (split text).lines start read.0 read.1.lines in
+          damage.damaged (accepts m text f.0 within f.1)
+    ]
 
 -- a fault of reading is one of opening
 pub read_fault_opens : (text bytes x : List ℕ) (r : Reading) (e : SessionFault) → text ≡ bytes → Reads text r → ReadFault bytes e → OpenFault r x e

@@ -21,7 +21,7 @@ map_same f g (x ∷ xs) h = rw (h x) (ap (λ ys. g x ∷ ys) (map_same f g xs h)
 pub same_restore : {A : Type 0} → (s : Saved A) (y : List ℕ) → restore (kept_of s) y ≡ restore s y
 unfolding restore image_of
 same_restore s y = map_same (λ i. unwrap_or (byte_in (map run_of s.runs) i) (slice_index y i)) (λ i. unwrap_or (byte_in s.runs i) (slice_index y i)) (range_with_len 0 s.len)
-  (λ i. ap (λ o. unwrap_or o (slice_index y i)) (same_byte s.runs i))
+    (λ i. ap (λ o. unwrap_or o (slice_index y i)) (same_byte s.runs i))
 
 pub covers_in : {A : Type 0} → (s : Saved A) (y : List ℕ) → Covers s y → Covers (kept_of s) y
 covers_in s y covers i below none = covers i below (sym (same_byte s.runs i) ∙ none)

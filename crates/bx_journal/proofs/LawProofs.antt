@@ -28,7 +28,7 @@ written_is_read text es s after reads whole room most after_most within bytes ma
     let n : ℕ = suc (length es) in
     let lines : List (List ℕ) = head_lines n s ++ end_line Second n after ∷ [] in
     let run : SafeRun Any E (between es) lines = head_run Any E es s room most may (all_rows_are s.len s.runs within bytes) tt (λ runs. tt) (end_line Second n after ∷ [])
-      (end_run Any E es (in_rows s) after after_most tt tt refl) in
+    (end_run Any E es (in_rows s) after after_most tt tt refl) in
     let g : GoesAllBy Any E (between es) (split (joined lines)) = safe_all Any E (between es) lines run in
     let is : joined lines ≡ entry_text n s after = joined-append (head_lines n s) (end_line Second n after ∷ []) in
     let all : Reads (text ++ joined lines) (between (e ∷ es)) = record {
@@ -48,5 +48,6 @@ stands_for_one text x s t a b =
 pub damaged_at_one : DamagedAtOne
 damaged_at_one text m n a b =
     elim (cases_lt m n) [
-      inl less ↦ absurd (a.damaged (b.least m less))
-    | inr most ↦ elim (cases_lt n m) [ inl less ↦ absurd (b.damaged (a.least n less)) | inr least ↦ omega arith ] ]
+      | inl less ↦ absurd (a.damaged (b.least m less))
+      | inr most ↦ elim (cases_lt n m) [ inl less ↦ absurd (b.damaged (a.least n less)) | inr least ↦ omega arith ]
+    ]

@@ -48,7 +48,7 @@ plain_word word n w h = plain-append word (hex_digits w n) h (plain-hex_digits w
 pub plain_start : (n len : ℕ) → HasNoNewline (start_line Second n len)
 unfolding start_line start_head
 plain_start n len = plain_word (codes "change2 " ++ hex_digits 8 n ++ codes " ") len 16
-  (plain-append (codes "change2 " ++ hex_digits 8 n) (codes " ") (plain_word (codes "change2 ") n 8 (search rules)) (search rules))
+    (plain-append (codes "change2 " ++ hex_digits 8 n) (codes " ") (plain_word (codes "change2 ") n 8 (search rules)) (search rules))
 
 pub plain_save : (n : ℕ) → HasNoNewline (save_line n)
 unfolding save_line
@@ -57,7 +57,7 @@ plain_save n = plain_word (codes "save ") n 8 (search rules)
 pub plain_end : (n after : ℕ) → HasNoNewline (end_line Second n after)
 unfolding end_line end_head
 plain_end n after = plain_word (codes "done2 " ++ hex_digits 8 n ++ codes " ") after 16
-  (plain-append (codes "done2 " ++ hex_digits 8 n) (codes " ") (plain_word (codes "done2 ") n 8 (search rules)) (search rules))
+    (plain-append (codes "done2 " ++ hex_digits 8 n) (codes " ") (plain_word (codes "done2 ") n 8 (search rules)) (search rules))
 
 -- a text of these bytes that print and are few
 short_of : (line : List ℕ) → length line ≤ 75 → list_all is_printable line ≡ true → is_short line ≡ true
@@ -72,17 +72,17 @@ words_len a n w b = omega (arith, length-append (a ++ hex_digits w n) b, length-
 pub short_start : (n len : ℕ) → is_short (start_line Second n len) ≡ true
 unfolding start_line start_head
 short_start n len = short_of (codes "change2 " ++ hex_digits 8 n ++ codes " " ++ hex_digits 16 len)
-  (omega (arith, words_len (codes "change2 ") n 8 (codes " "), length-append (codes "change2 " ++ hex_digits 8 n ++ codes " ") (hex_digits 16 len), length-hex_digits 16 len))
-  (rw (list_all-append is_printable (codes "change2 " ++ hex_digits 8 n ++ codes " ") (hex_digits 16 len), words_print (codes "change2 ") n 8 (codes " ") refl refl, printable-hex_digits 16 len) refl)
+    (omega (arith, words_len (codes "change2 ") n 8 (codes " "), length-append (codes "change2 " ++ hex_digits 8 n ++ codes " ") (hex_digits 16 len), length-hex_digits 16 len))
+    (rw (list_all-append is_printable (codes "change2 " ++ hex_digits 8 n ++ codes " ") (hex_digits 16 len), words_print (codes "change2 ") n 8 (codes " ") refl refl, printable-hex_digits 16 len) refl)
 
 pub short_end : (n after : ℕ) → is_short (end_line Second n after) ≡ true
 unfolding end_line end_head
 short_end n after = short_of (codes "done2 " ++ hex_digits 8 n ++ codes " " ++ hex_digits 16 after)
-  (omega (arith, words_len (codes "done2 ") n 8 (codes " "), length-append (codes "done2 " ++ hex_digits 8 n ++ codes " ") (hex_digits 16 after), length-hex_digits 16 after))
-  (rw (list_all-append is_printable (codes "done2 " ++ hex_digits 8 n ++ codes " ") (hex_digits 16 after), words_print (codes "done2 ") n 8 (codes " ") refl refl, printable-hex_digits 16 after) refl)
+    (omega (arith, words_len (codes "done2 ") n 8 (codes " "), length-append (codes "done2 " ++ hex_digits 8 n ++ codes " ") (hex_digits 16 after), length-hex_digits 16 after))
+    (rw (list_all-append is_printable (codes "done2 " ++ hex_digits 8 n ++ codes " ") (hex_digits 16 after), words_print (codes "done2 ") n 8 (codes " ") refl refl, printable-hex_digits 16 after) refl)
 
 pub short_save : (n : ℕ) → is_short (save_line n) ≡ true
 unfolding save_line
 short_save n = short_of (codes "save " ++ hex_digits 8 n)
-  (omega (arith, length-append (codes "save ") (hex_digits 8 n), length-hex_digits 8 n))
-  (rw (list_all-append is_printable (codes "save ") (hex_digits 8 n), printable-hex_digits 8 n) refl)
+    (omega (arith, length-append (codes "save ") (hex_digits 8 n), length-hex_digits 8 n))
+    (rw (list_all-append is_printable (codes "save ") (hex_digits 8 n), printable-hex_digits 8 n) refl)

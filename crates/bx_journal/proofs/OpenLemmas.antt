@@ -53,7 +53,7 @@ lengths_early bytes x y j read is told =
     subst (HaveLengths (entries_of j.entries.items)) (sym is) (have_lengths (entries_of j.entries.items) x sane.0 (begins_told (entries_of j.entries.items) (length x) told))
 
 pub lengths_ending : {A : Type 0} → (bytes x : List ℕ) (j : JournalRead A) (v : Version) (kept : Saved A) (begins saved : ℕ) → HasRead bytes j → j.stage ≡ EndingRead v kept begins saved
-  → HaveLengths (entries_of j.entries.items) (image_at (stage_of j.stage) x)
+    → HaveLengths (entries_of j.entries.items) (image_at (stage_of j.stage) x)
 lengths_ending bytes x j v kept begins saved read is =
     let es : List Entry = entries_of j.entries.items in
     let sane : IsSane (reading_of j.entries.items (EndingRead v kept begins saved)) = subst (λ s. IsSane (reading_of j.entries.items s)) is (sane_of bytes j read) in
@@ -85,8 +85,8 @@ how_dropped es text n rest within short = by_rest (split text).rest rest
 
 -- what is left where the text is cut at the place at which what is unfinished begins
 pub opened_at : {A : Type 0} → (text bytes x new y : List ℕ) (j : JournalRead A) (how : How) (changes : ℕ) → HasRead bytes j → text ≡ bytes → HaveLengths (entries_of j.entries.items) (image_at (stage_of j.stage) x)
-  → y ≡ image_at (stage_of j.stage) x → new ≡ take (begins_at j.stage j.whole) text → changes ≡ length j.entries.items → how ≡ how_of (reading_of j.entries.items j.stage) (split bytes).rest
-  → IsOpened text x (reading_of j.entries.items j.stage) new y how changes
+    → y ≡ image_at (stage_of j.stage) x → new ≡ take (begins_at j.stage j.whole) text → changes ≡ length j.entries.items → how ≡ how_of (reading_of j.entries.items j.stage) (split bytes).rest
+    → IsOpened text x (reading_of j.entries.items j.stage) new y how changes
 opened_at text bytes x new y j how changes read same lengths image cut counted is =
     let es : List Entry = entries_of j.entries.items in
     let mark : IsMark bytes (begins_at j.stage j.whole) (record { entries = es; stage = Between }) = begin_mark bytes j.entries.items j.stage j.whole read.places.mark read.places.marked in
@@ -105,14 +105,14 @@ opened_at text bytes x new y j how changes read same lengths image cut counted i
     }
 
 pub opened_clean : {A : Type 0} → (text bytes x : List ℕ) (j : JournalRead A) (changes : ℕ) → HasRead bytes j → j.stage ≡ BetweenRead → text ≡ bytes → j.whole ≡ length bytes
-  → HaveLengths (entries_of j.entries.items) (image_at (stage_of j.stage) x) → changes ≡ length j.entries.items
-  → IsOpened text x (reading_of j.entries.items j.stage) text x Clean changes
+    → HaveLengths (entries_of j.entries.items) (image_at (stage_of j.stage) x) → changes ≡ length j.entries.items
+    → IsOpened text x (reading_of j.entries.items j.stage) text x Clean changes
 opened_clean text bytes x j changes read is same all lengths counted =
     let image : x ≡ image_at (stage_of j.stage) x = sym (ap (λ s. image_at (stage_of s) x) is) in
     let place : begins_at j.stage j.whole ≡ length text = ap (λ s. begins_at s j.whole) is ∙ all ∙ sym (ap length same) in
     let cut : text ≡ take (begins_at j.stage j.whole) text = sym (ap (λ k. take k text) place ∙ take_all text) in
     let how : Clean ≡ how_of (reading_of j.entries.items j.stage) (split bytes).rest =
-      how_clean (entries_of j.entries.items) bytes j.whole read.places.rest all ∙ ap (λ s. how_of (reading_of j.entries.items s) (split bytes).rest) (sym is) in
+    how_clean (entries_of j.entries.items) bytes j.whole read.places.rest all ∙ ap (λ s. how_of (reading_of j.entries.items s) (split bytes).rest) (sym is) in
     opened_at text bytes x text x j Clean changes read same lengths image cut counted how
   where
     take_all : (t : List ℕ) → take (length t) t ≡ t
@@ -120,18 +120,18 @@ opened_clean text bytes x j changes read is same all lengths counted =
     take_all (b ∷ t) = ap (λ s. b ∷ s) (take_all t)
 
 pub opened_dropped : {A : Type 0} → (text bytes x new : List ℕ) (j : JournalRead A) (changes : ℕ) → HasRead bytes j → j.stage ≡ BetweenRead → text ≡ bytes → (j.whole ≡ length bytes → ⊥)
-  → HaveLengths (entries_of j.entries.items) (image_at (stage_of j.stage) x) → new ≡ take j.whole text → changes ≡ length j.entries.items
-  → IsOpened text x (reading_of j.entries.items j.stage) new x Dropped changes
+    → HaveLengths (entries_of j.entries.items) (image_at (stage_of j.stage) x) → new ≡ take j.whole text → changes ≡ length j.entries.items
+    → IsOpened text x (reading_of j.entries.items j.stage) new x Dropped changes
 opened_dropped text bytes x new j changes read is same short lengths cut counted =
     let image : x ≡ image_at (stage_of j.stage) x = sym (ap (λ s. image_at (stage_of s) x) is) in
     let place : j.whole ≡ begins_at j.stage j.whole = sym (ap (λ s. begins_at s j.whole) is) in
     let how : Dropped ≡ how_of (reading_of j.entries.items j.stage) (split bytes).rest =
-      how_dropped (entries_of j.entries.items) bytes j.whole read.places.rest read.places.mark.within short ∙ ap (λ s. how_of (reading_of j.entries.items s) (split bytes).rest) (sym is) in
+    how_dropped (entries_of j.entries.items) bytes j.whole read.places.rest read.places.mark.within short ∙ ap (λ s. how_of (reading_of j.entries.items s) (split bytes).rest) (sym is) in
     opened_at text bytes x new x j Dropped changes read same lengths image (cut ∙ ap (λ k. take k text) place) counted how
 
 pub opened_saving : {A : Type 0} → (text bytes x new : List ℕ) (j : JournalRead A) (changes : ℕ) (v : Version) (len : ℕ) (runs : _) (begins : ℕ) → HasRead bytes j → j.stage ≡ SavingRead v len runs begins → text ≡ bytes
-  → HaveLengths (entries_of j.entries.items) (image_at (stage_of j.stage) x) → new ≡ take begins text → changes ≡ length j.entries.items
-  → IsOpened text x (reading_of j.entries.items j.stage) new x Dropped changes
+    → HaveLengths (entries_of j.entries.items) (image_at (stage_of j.stage) x) → new ≡ take begins text → changes ≡ length j.entries.items
+    → IsOpened text x (reading_of j.entries.items j.stage) new x Dropped changes
 opened_saving text bytes x new j changes v len runs begins read is same lengths cut counted =
     let image : x ≡ image_at (stage_of j.stage) x = sym (ap (λ s. image_at (stage_of s) x) is) in
     let place : begins ≡ begins_at j.stage j.whole = sym (ap (λ s. begins_at s j.whole) is) in
@@ -139,14 +139,14 @@ opened_saving text bytes x new j changes v len runs begins read is same lengths 
     opened_at text bytes x new x j Dropped changes read same lengths image (cut ∙ ap (λ k. take k text) place) counted how
 
 pub opened_ending : {A : Type 0} → (text bytes x new y : List ℕ) (j : JournalRead A) (changes : ℕ) (v : Version) (kept : Saved A) (begins saved : ℕ) → HasRead bytes j → j.stage ≡ EndingRead v kept begins saved → text ≡ bytes
-  → HaveLengths (entries_of j.entries.items) (image_at (stage_of j.stage) x) → y ≡ restore (kept_of kept) x → new ≡ take begins text → changes ≡ length j.entries.items
-  → IsOpened text x (reading_of j.entries.items j.stage) new y (Restored (changes + 1)) changes
+    → HaveLengths (entries_of j.entries.items) (image_at (stage_of j.stage) x) → y ≡ restore (kept_of kept) x → new ≡ take begins text → changes ≡ length j.entries.items
+    → IsOpened text x (reading_of j.entries.items j.stage) new y (Restored (changes + 1)) changes
 opened_ending text bytes x new y j changes v kept begins saved read is same lengths restored cut counted =
     let image : y ≡ image_at (stage_of j.stage) x = restored ∙ sym (ap (λ s. image_at (stage_of s) x) is) in
     let place : begins ≡ begins_at j.stage j.whole = sym (ap (λ s. begins_at s j.whole) is) in
     let number : changes + 1 ≡ suc (length (entries_of j.entries.items)) = omega (arith, counted, length-entries_of j.entries.items) in
     let how : Restored (changes + 1) ≡ how_of (reading_of j.entries.items j.stage) (split bytes).rest =
-      ap Restored number ∙ ap (λ s. how_of (reading_of j.entries.items s) (split bytes).rest) (sym is) in
+    ap Restored number ∙ ap (λ s. how_of (reading_of j.entries.items s) (split bytes).rest) (sym is) in
     opened_at text bytes x new y j (Restored (changes + 1)) changes read same lengths image (cut ∙ ap (λ k. take k text) place) counted how
 
 pub counted_of : {A : Type 0} → (text bytes x : List ℕ) (stack : List (List ℕ)) (j : JournalRead A) → HasRead bytes j → text ≡ bytes → Recovers text x stack → length stack ≡ suc (length j.entries.items)

@@ -110,28 +110,30 @@ IsHead es s r = r ≡ ending es Second s.len (flat_map rows s.runs)
 
 -- the readings along the head of an entry that keeps what the image has
 head_fine : (text x : List ℕ) (stack : List (List ℕ)) (s : Kept) (rest : IsAtRest text x stack) → IsOf s x → s.len ≤ MAX_LEN → length stack ≤ 65535
-  → SafeRun (Fine x stack) (IsHead rest.stands.entries s) (between rest.stands.entries) (head_lines (length stack) s)
+    → SafeRun (Fine x stack) (IsHead rest.stands.entries s) (between rest.stands.entries) (head_lines (length stack) s)
 head_fine text x stack s rest is most room =
     let es : List Entry = rest.stands.entries in
     let count : length stack ≡ suc (length es) = ap length rest.stands.stack_is ∙ length-stack_of es x in
     let back : restore (in_rows s) x ≡ x = restore_same s.len (flat_map rows s.runs) s.runs x (all_rows_byte s.runs) ∙ is.back in
     let run : SafeRun (Fine x stack) (IsHead es s) (between es) (head_lines (suc (length es)) s ++ []) =
-      head_run (Fine x stack) (IsHead es s) es s (omega arith) most (may_begin_of es x s.len rest.stands.lengths is.len) (all_rows_are s.len s.runs is.within is.bytes)
-        (record { covers = tt; finished = rest.sound.finished; lengths = rest.stands.lengths; stack_is = sym rest.stands.stack_is })
-        (λ runs. record { covers = tt; finished = rest.sound.finished; lengths = rest.stands.lengths; stack_is = sym rest.stands.stack_is })
-        []
-        (record {
-          covers = covers_same s.len (flat_map rows s.runs) s.runs x (all_rows_byte s.runs) is.covers;
-          finished = subst (AllCover es) (sym back) rest.sound.finished;
-          lengths = subst (HaveLengths es) (sym back) rest.stands.lengths;
-          stack_is = ap (stack_of es) back ∙ sym rest.stands.stack_is;
-        }, refl) in
+    head_run (Fine x stack) (IsHead es s) es s (omega arith) most (may_begin_of es x s.len rest.stands.lengths is.len) (all_rows_are s.len s.runs is.within is.bytes)
+    (record { covers = tt; finished = rest.sound.finished; lengths = rest.stands.lengths; stack_is = sym rest.stands.stack_is })
+    (λ runs. record { covers = tt; finished = rest.sound.finished; lengths = rest.stands.lengths; stack_is = sym rest.stands.stack_is })
+    [] (
+      record {
+        covers = covers_same s.len (flat_map rows s.runs) s.runs x (all_rows_byte s.runs) is.covers;
+        finished = subst (AllCover es) (sym back) rest.sound.finished;
+        lengths = subst (HaveLengths es) (sym back) rest.stands.lengths;
+        stack_is = ap (stack_of es) back ∙ sym rest.stands.stack_is;
+      },
+      refl,
+    ) in
     let run_plain : SafeRun (Fine x stack) (IsHead es s) (between es) (head_lines (suc (length es)) s) = subst (SafeRun (Fine x stack) (IsHead es s) (between es)) (append-nil (head_lines (suc (length es)) s)) run in
     subst (λ n. SafeRun (Fine x stack) (IsHead es s) (between es) (head_lines n s)) (sym count) run_plain
 
 -- any front of the head of the next entry leaves the stack
 pub head_recovers : (text x : List ℕ) (stack : List (List ℕ)) (s : Kept) (p : List ℕ) → IsAtRest text x stack → IsOf s x → s.len ≤ MAX_LEN → length stack ≤ 65535
-  → IsPrefix p (head_text (length stack) s) → Recovers (text ++ p) x stack
+    → IsPrefix p (head_text (length stack) s) → Recovers (text ++ p) x stack
 head_recovers text x stack s p rest is most room front =
     let es : List Entry = rest.stands.entries in
     let run = head_fine text x stack s rest is most room in
@@ -159,7 +161,7 @@ open_by v s es text x stack q is e w f =
 
 -- the whole head opens the entry
 pub head_opens : (text x : List ℕ) (stack : List (List ℕ)) (s : Kept) → IsAtRest text x stack → IsOf s x → s.len ≤ MAX_LEN → length stack ≤ 65535
-  → IsOpen Second (in_rows s) (text ++ head_text (length stack) s) x stack
+    → IsOpen Second (in_rows s) (text ++ head_text (length stack) s) x stack
 unfolding whole_goes
 head_opens text x stack s rest is most room =
     let es : List Entry = rest.stands.entries in
@@ -174,7 +176,7 @@ abbrev FineEither : List ℕ → List (List ℕ) → Reading → Type 0
 FineEither x stack r = Fine x stack r ⊎ Fine x (x ∷ stack) r
 
 end_fine : (text x : List ℕ) (stack : List (List ℕ)) (s : Kept) (open_ : IsOpen Second s text x stack) (after : ℕ) → length x ≡ after → after ≤ MAX_LEN
-  → SafeRun (FineEither x stack) (λ r. IsEnd open_.entries s after r × Fine x (x ∷ stack) r) (record { entries = open_.entries; stage = Ending Second s }) (end_line Second (length stack) after ∷ [])
+    → SafeRun (FineEither x stack) (λ r. IsEnd open_.entries s after r × Fine x (x ∷ stack) r) (record { entries = open_.entries; stage = Ending Second s }) (end_line Second (length stack) after ∷ [])
 unfolding stack_of
 end_fine text x stack s o after told most =
     let es : List Entry = o.entries in
@@ -187,22 +189,23 @@ end_fine text x stack s o after told most =
     } in
     let E : Reading → Type 0 = λ r. IsEnd es s after r × Fine x (x ∷ stack) r in
     let run : SafeRun (FineEither x stack) E (ending es Second s.len s.runs) (end_line Second (suc (length es)) after ∷ []) =
-      end_run (FineEither x stack) E es s after most
-        (inl (record { covers = o.sound.unfinished; finished = o.sound.finished; lengths = o.lengths; stack_is = sym o.stack_is }))
-        (inr new) (refl, new) in
+    end_run (FineEither x stack) E es s after most
+    (inl (record { covers = o.sound.unfinished; finished = o.sound.finished; lengths = o.lengths; stack_is = sym o.stack_is }))
+    (inr new) (refl, new) in
     subst (λ n. SafeRun (FineEither x stack) E (ending es Second s.len s.runs) (end_line Second n after ∷ [])) (sym count) run
 
 -- any front of the line that ends the entry leaves the old stack or the new one
 pub end_recovers : (text x : List ℕ) (stack : List (List ℕ)) (s : Kept) (after : ℕ) (p : List ℕ) → IsOpen Second s text x stack → length x ≡ after → after ≤ MAX_LEN
-  → IsPrefix p (end_text (length stack) after) → RecoversEither (text ++ p) x stack (x ∷ stack)
+    → IsPrefix p (end_text (length stack) after) → RecoversEither (text ++ p) x stack (x ∷ stack)
 end_recovers text x stack s after p o told most front =
     let r : Reading = record { entries = o.entries; stage = Ending Second s } in
     let E : Reading → Type 0 = λ q. IsEnd o.entries s after q × Fine x (x ∷ stack) q in
     let g : Goes (FineEither x stack) r p = safe_prefix (FineEither x stack) E r (end_line Second (length stack) after ∷ []) (end_fine text x stack s o after told most) p front in
     let e : ReadsShort (text ++ p) g.reading = extends (FineEither x stack) text p r (open_is_whole Second s text x stack o) g in
     elim (g.has) [
-      inl f ↦ inl (recovers_by text p x stack g.reading e f)
-    | inr f ↦ inr (recovers_by text p x (x ∷ stack) g.reading e f) ]
+      | inl f ↦ inl (recovers_by text p x stack g.reading e f)
+      | inr f ↦ inr (recovers_by text p x (x ∷ stack) g.reading e f)
+    ]
 
 pub rest_by : (es : List Entry) (text x : List ℕ) (stack : List (List ℕ)) (q : Reading) → q ≡ between es → ReadsShort text q → (split text).rest ≡ [] → Fine x stack q → IsAtRest text x stack
 rest_by es text x stack q is e w f =
@@ -215,7 +218,7 @@ rest_by es text x stack q is e w f =
 
 -- the whole line ends the entry, and the image stands on the stack
 pub end_rests : (text x : List ℕ) (stack : List (List ℕ)) (s : Kept) (after : ℕ) → IsOpen Second s text x stack → length x ≡ after → after ≤ MAX_LEN
-  → IsAtRest (text ++ end_text (length stack) after) x (x ∷ stack)
+    → IsAtRest (text ++ end_text (length stack) after) x (x ∷ stack)
 unfolding whole_goes
 end_rests text x stack s after o told most =
     let r : Reading = record { entries = o.entries; stage = Ending Second s } in

@@ -23,14 +23,14 @@ pub length-entries_of : {A : Type 0} → (es : List (EntryRead A)) → length (e
 length-entries_of es = length-onto [] es ∙ omega arith
 
 pub marked-push : {A : Type 0} → (text : List ℕ) (done : List Entry) (from to after : ℕ) (es : List (EntryRead A)) (e : EntryRead A)
-  → AreMarked text done from es e.begins → HasMarks text (entries_onto done es) e.version (entry_of e) e.begins e.saved → e.saved ≤ after
-  → AreMarked text done from (es ++ e ∷ []) after
+    → AreMarked text done from es e.begins → HasMarks text (entries_onto done es) e.version (entry_of e) e.begins e.saved → e.saved ≤ after
+    → AreMarked text done from (es ++ e ∷ []) after
 marked-push text done from to after [] e are marks le = (are, marks, le)
 marked-push text done from to after (f ∷ es) e are marks le = (are.0, are.1, marked-push text (entry_of f ∷ done) f.saved to after es e are.2 marks le)
 
 -- the newest of them, and the others
 pub marked-pop : {A : Type 0} → (text : List ℕ) (done : List Entry) (from to : ℕ) (es : List (EntryRead A)) (e : EntryRead A) → AreMarked text done from (es ++ e ∷ []) to
-  → AreMarked text done from es e.begins × HasMarks text (entries_onto done es) e.version (entry_of e) e.begins e.saved × (e.saved ≤ to)
+    → AreMarked text done from es e.begins × HasMarks text (entries_onto done es) e.version (entry_of e) e.begins e.saved × (e.saved ≤ to)
 marked-pop text done from to [] e are = are
 marked-pop text done from to (f ∷ es) e are =
     let more = marked-pop text (entry_of f ∷ done) f.saved to es e are.2 in
@@ -42,24 +42,25 @@ marked-below text done from to more (e ∷ es) are le = (are.0, are.1, marked-be
 
 -- the line that ends an entry
 pub entry_ends : {A : Type 0} → (es : List (EntryRead A)) (e : EntryRead A) (n : ℕ) (line : List ℕ) → suc (length es) ≡ n → after_in e.version n line ≡ Some e.after
-  → next (reading_of es (EndingRead e.version e.kept e.begins e.saved)) line ≡ Some (reading_of (es ++ e ∷ []) BetweenRead)
+    → next (reading_of es (EndingRead e.version e.kept e.begins e.saved)) line ≡ Some (reading_of (es ++ e ∷ []) BetweenRead)
 unfolding next_at
 entry_ends es e n line counted is =
     let number : suc (length (entries_of es)) ≡ n = ap suc (length-entries_of es) ∙ counted in
     rw (number, is) (ap (λ fs. Some (record { entries = fs; stage = Between })) (sym (onto-push [] es e)))
 
 pub entry_stops : {A : Type 0} → (es : List (EntryRead A)) (v : Version) (kept : Saved A) (begins saved n : ℕ) (line : List ℕ) → suc (length es) ≡ n → after_in v n line ≡ None
-  → next (reading_of es (EndingRead v kept begins saved)) line ≡ None
+    → next (reading_of es (EndingRead v kept begins saved)) line ≡ None
 unfolding next_at
 entry_stops es v kept begins saved n line counted none =
     let number : suc (length (entries_of es)) ≡ n = ap suc (length-entries_of es) ∙ counted in
     rw (number, none) refl
 
 pub entry_marked : {A : Type 0} → (text : List ℕ) (es : List (EntryRead A)) (e : EntryRead A) (at after : ℕ) → IsMarked text es (EndingRead e.version e.kept e.begins e.saved) at → at ≤ after
-  → IsMarked text (es ++ e ∷ []) BetweenRead after
-entry_marked text es e at after m le =
-    (marked-push text [] 0 at after es e m.0 (record { beginning = m.1; saving = m.2; order = m.3 }) (omega (arith, m.4, le)),
-      omega (arith, m.5, length-append es (e ∷ [])))
+    → IsMarked text (es ++ e ∷ []) BetweenRead after
+entry_marked text es e at after m le = (
+  marked-push text [] 0 at after es e m.0 (record { beginning = m.1; saving = m.2; order = m.3 }) (omega (arith, m.4, le)),
+  omega (arith, m.5, length-append es (e ∷ [])),
+)
 
 -- the last of them tells the length
 pub told-push : {A : Type 0} → (done : List Entry) (es : List (EntryRead A)) (e : EntryRead A) → told_by (entries_onto done (es ++ e ∷ [])) ≡ e.after

@@ -43,23 +43,23 @@ long_of : (rest : List ℕ) (i : ℕ) → IsFound rest i → length (take i rest
 long_of rest i f = omega (arith, length-take i rest, f.below)
 
 pub read_on : {A : Type 0} → (text rest : List ℕ) (es new : List (EntryRead A)) (stage s : StageRead A) (at line i : ℕ) → IsReadTo text es stage at line → rest ≡ drop at text → IsFound rest i
-  → Leads (reading_of es stage) (take i rest) (entries_of new) (Some s) → KeepsMarks text new (at + i + 1) (Some s) → IsReadTo text new s (at + i + 1) (line + 1)
+    → Leads (reading_of es stage) (take i rest) (entries_of new) (Some s) → KeepsMarks text new (at + i + 1) (Some s) → IsReadTo text new s (at + i + 1) (line + 1)
 read_on text rest es new stage s at line i read left f leads keeps =
     let l : IsLine (drop at text) (take i rest) (drop (i + 1) rest) = line_of text rest at i left f in
     let place : at + length (take i rest) + 1 ≡ at + i + 1 = omega (arith, long_of rest i f) in
     let mark : IsMark text (at + i + 1) (record { entries = entries_of new; stage = stage_of s }) =
-      subst (λ n. IsMark text n (record { entries = entries_of new; stage = stage_of s })) place (mark_on text (take i rest) (drop (i + 1) rest) at (reading_of es stage) (reading_of new s) read.mark l leads) in
+    subst (λ n. IsMark text n (record { entries = entries_of new; stage = stage_of s })) place (mark_on text (take i rest) (drop (i + 1) rest) at (reading_of es stage) (reading_of new s) read.mark l leads) in
     let more : length (split (take (at + i + 1) text)).lines ≡ suc (length (split (take at text)).lines) =
-      subst (λ n. length (split (take n text)).lines ≡ suc (length (split (take at text)).lines)) place (counted_on text (take i rest) (drop (i + 1) rest) at (reading_of es stage) read.mark l) in
+    subst (λ n. length (split (take n text)).lines ≡ suc (length (split (take at text)).lines)) place (counted_on text (take i rest) (drop (i + 1) rest) at (reading_of es stage) read.mark l) in
     record { mark = mark; marked = keeps mark; counted = omega (arith, read.counted, more) }
 
 pub read_stops : {A : Type 0} → (text rest : List ℕ) (es : List (EntryRead A)) (new : List (EntryRead A)) (stage : StageRead A) (at line i : ℕ) → IsReadTo text es stage at line → rest ≡ drop at text → IsFound rest i
-  → Leads (reading_of es stage) (take i rest) (entries_of new) (let none : Option (StageRead A) = None in none) → IsDamagedAt text line
+    → Leads (reading_of es stage) (take i rest) (entries_of new) (let none : Option (StageRead A) = None in none) → IsDamagedAt text line
 read_stops {A = A} text rest es new stage at line i read left f leads =
     subst (IsDamagedAt text) (sym read.counted) (stops_at text (take i rest) (drop (i + 1) rest) at (reading_of es stage) read.mark (line_of text rest at i left f) leads)
 
 pub read_ends : {A : Type 0} → (text rest : List ℕ) (es : List (EntryRead A)) (stage : StageRead A) (at line : ℕ) → IsReadTo text es stage at line → rest ≡ drop at text → HasNoNewline rest
-  → IsRest (entries_of es) (stage_of stage) rest → Reads text (reading_of es stage)
+    → IsRest (entries_of es) (stage_of stage) rest → Reads text (reading_of es stage)
 read_ends text rest es stage at line read left plain fits =
     reads_at text at (reading_of es stage) read.mark (subst HasNoNewline left plain) (subst (IsRest (entries_of es) (stage_of stage)) left fits)
 
@@ -67,10 +67,10 @@ pub rest_at_end : {A : Type 0} → (text rest : List ℕ) (es : List (EntryRead 
 rest_at_end text rest es stage at line read left plain = sym (ap (λ (s : Split). s.rest) (lines_done text at (reading_of es stage) read.mark (subst HasNoNewline left plain)))
 
 pub read_fails : {A : Type 0} → (text rest : List ℕ) (es : List (EntryRead A)) (stage : StageRead A) (at line : ℕ) → IsReadTo text es stage at line → rest ≡ drop at text → HasNoNewline rest
-  → (IsRest (entries_of es) (stage_of stage) rest → ⊥) → IsDamagedAt text line
+    → (IsRest (entries_of es) (stage_of stage) rest → ⊥) → IsDamagedAt text line
 read_fails text rest es stage at line read left plain apart =
     subst (IsDamagedAt text) (sym read.counted)
-      (rest_stops text at (reading_of es stage) read.mark (subst HasNoNewline left plain) (λ h. apart (subst (IsRest (entries_of es) (stage_of stage)) (sym left) h)))
+    (rest_stops text at (reading_of es stage) read.mark (subst HasNoNewline left plain) (λ h. apart (subst (IsRest (entries_of es) (stage_of stage)) (sym left) h)))
 
 -- no newline among the first bytes
 pub plain_to : (text : List ℕ) (k : ℕ) → ((i : ℕ) → i < k → i < length text → slice_index text i == 10 ≡ true → ⊥) → HasNoNewline (take k text)

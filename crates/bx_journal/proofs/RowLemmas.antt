@@ -28,7 +28,7 @@ abbrev part : Run → ℕ → ℕ → ℕ → Option ℕ
 part p from to i = if nat_le (p.at + from) i && nat_lt i (p.at + to) then Some (slice_index p.bytes (i - p.at)) else None
 
 either : (A : Type 0) (a b c d e f : ℕ) (i : ℕ) (v w : A) → c ≡ b → e ≡ a → f ≡ d → a ≤ b → (b ≤ d) → ((a ≤ i → i < b → w ≡ v))
-  → option_or (if nat_le c i && nat_lt i d then Some v else None) (if nat_le a i && nat_lt i b then Some w else None) ≡ (if nat_le e i && nat_lt i f then Some v else None)
+    → option_or (if nat_le c i && nat_lt i d then Some v else None) (if nat_le a i && nat_lt i b then Some w else None) ≡ (if nat_le e i && nat_lt i f then Some v else None)
 either A a b c d e f i v w = grind (arith, common_steps)
 
 row_at : (bytes : List ℕ) (k i : ℕ) → i < 16 → get_or (take 16 (drop k bytes)) i 0 ≡ get_or bytes (k + i) 0
@@ -38,16 +38,16 @@ row_len : (bytes : List ℕ) (k : ℕ) → length (take 16 (drop k bytes)) ≡ m
 row_len bytes k = length-take 16 (drop k bytes) ∙ ap (min 16) (length-drop k bytes)
 
 test_at : (A : Type 0) (a b c d i : ℕ) (v w : A) → a ≡ c → ((a ≤ i) → i < b → i < d) → ((a ≤ i) → i < d → i < b) → (a ≤ i → i < b → v ≡ w)
-  → (if nat_le a i && nat_lt i b then Some v else None) ≡ (if nat_le c i && nat_lt i d then Some w else None)
+    → (if nat_le a i && nat_lt i b then Some v else None) ≡ (if nat_le c i && nat_lt i d then Some w else None)
 test_at A a b c d i v w = grind (arith, common_steps)
 
 row_byte : (p : Run) (j i : ℕ) → byte_of (row p j) i ≡ part p (16 * j) (min (16 * (j + 1)) (length p.bytes)) i
 row_byte p j i =
     let len : length (take 16 (drop (16 * j) p.bytes)) ≡ min 16 (length p.bytes - 16 * j) = row_len p.bytes (16 * j) in
     test_at ℕ (p.at + 16 * j) (p.at + 16 * j + length (take 16 (drop (16 * j) p.bytes))) (p.at + 16 * j) (p.at + min (16 * (j + 1)) (length p.bytes)) i
-      (slice_index (take 16 (drop (16 * j) p.bytes)) (i - (p.at + 16 * j))) (slice_index p.bytes (i - p.at)) refl
-      (λ below above. omega arith) (λ below above. omega arith)
-      (λ below above. row_at p.bytes (16 * j) (i - (p.at + 16 * j)) (omega arith) ∙ ap (λ k. get_or p.bytes k 0) (omega arith))
+    (slice_index (take 16 (drop (16 * j) p.bytes)) (i - (p.at + 16 * j))) (slice_index p.bytes (i - p.at)) refl
+    (λ below above. omega arith) (λ below above. omega arith)
+    (λ below above. row_at p.bytes (16 * j) (i - (p.at + 16 * j)) (omega arith) ∙ ap (λ k. get_or p.bytes k 0) (omega arith))
 
 rows_byte_from : (p : Run) (k j i : ℕ) → 16 * j ≤ length p.bytes → 16 * (j + k) < length p.bytes + 16 → byte_in (map (row p) (range_with_len j k)) i ≡ part p (16 * j) (min (16 * (j + k)) (length p.bytes)) i
 unfolding byte_in
@@ -58,14 +58,14 @@ rows_byte_from p zero j i h last = nothing (p.at + 16 * j) (p.at + min (16 * (j 
 rows_byte_from p (suc zero) j i h last = row_byte p j i
 rows_byte_from p (suc (suc k)) j i h last =
     rw (rows_byte_from p (suc k) (j + 1) i (omega arith) (omega arith), row_byte p j i)
-      (either ℕ (p.at + 16 * j) (p.at + min (16 * (j + 1)) (length p.bytes)) (p.at + 16 * (j + 1)) (p.at + min (16 * (j + 1 + suc k)) (length p.bytes)) (p.at + 16 * j) (p.at + min (16 * (j + suc (suc k))) (length p.bytes)) i
-        (slice_index p.bytes (i - p.at)) (slice_index p.bytes (i - p.at)) (omega arith) refl (omega arith) (omega arith) (omega arith) (λ below above. refl))
+    (either ℕ (p.at + 16 * j) (p.at + min (16 * (j + 1)) (length p.bytes)) (p.at + 16 * (j + 1)) (p.at + min (16 * (j + 1 + suc k)) (length p.bytes)) (p.at + 16 * j) (p.at + min (16 * (j + suc (suc k))) (length p.bytes)) i
+    (slice_index p.bytes (i - p.at)) (slice_index p.bytes (i - p.at)) (omega arith) refl (omega arith) (omega arith) (omega arith) (λ below above. refl))
 
 pub rows_byte : (p : Run) (i : ℕ) → byte_in (rows p) i ≡ byte_of p i
 unfolding rows
 rows_byte p i = rows_byte_from p ((length p.bytes + 15) / 16) 0 i (omega arith) (omega arith)
-  ∙ test_at ℕ (p.at + 16 * 0) (p.at + min (16 * (0 + (length p.bytes + 15) / 16)) (length p.bytes)) p.at (p.at + length p.bytes) i
-      (slice_index p.bytes (i - p.at)) (slice_index p.bytes (i - p.at)) (omega arith) (λ below above. omega arith) (λ below above. omega arith) (λ below above. refl)
+    ∙ test_at ℕ (p.at + 16 * 0) (p.at + min (16 * (0 + (length p.bytes + 15) / 16)) (length p.bytes)) p.at (p.at + length p.bytes) i
+    (slice_index p.bytes (i - p.at)) (slice_index p.bytes (i - p.at)) (omega arith) (λ below above. omega arith) (λ below above. omega arith) (λ below above. refl)
 
 pub all_rows_byte : (runs : List Run) (i : ℕ) → byte_in (flat_map rows runs) i ≡ byte_in runs i
 unfolding byte_in

@@ -12,7 +12,7 @@ after_lines-append r q [] b e = let same : r ≡ q = cc in ap (λ s. after_lines
 after_lines-append r q (l ∷ a) b e = step (next r l) q a b (λ s. after_lines-append s q a b) e
   where
     step : (o : Option Reading) (q : Reading) (a b : List (List ℕ)) → ((s : Reading) → after_lines s a ≡ Some q → after_lines s (a ++ b) ≡ after_lines q b)
-      → option_and_then (λ s. after_lines s a) o ≡ Some q → option_and_then (λ s. after_lines s (a ++ b)) o ≡ after_lines q b
+        → option_and_then (λ s. after_lines s a) o ≡ Some q → option_and_then (λ s. after_lines s (a ++ b)) o ≡ after_lines q b
     step None q a b ih e = cc
     step (Some s) q a b ih e = ih s e
 
@@ -26,7 +26,7 @@ empty_rest entries (Ending v s) = (0, omega arith, (_, refl))
 abbrev pub SafeRun : (Reading → Type 0) → (Reading → Type 0) → Reading → List (List ℕ) → Type 0
 SafeRun Q E r [] = Q r × E r
 SafeRun Q E r (l ∷ ls) = Q r × ((t : List ℕ) → IsPrefix t l → IsRest r.entries r.stage t) × HasNoNewline l × (is_short l ≡ true)
-  × ((q : Reading) × (next r l ≡ Some q) × SafeRun Q E q ls)
+    × ((q : Reading) × (next r l ≡ Some q) × SafeRun Q E q ls)
 
 -- lines and a rest that go on from a reading
 pub record GoesBy (Q : Reading → Type 0) (r : Reading) (s : Split) : Type 0 where
@@ -78,8 +78,9 @@ safe_prefix Q E r [] run (b ∷ p) front = absurd (let e : [] ≡ b ∷ (p ++ fr
 safe_prefix Q E r (l ∷ ls) run p front =
     let whole : l ++ 10 ∷ joined ls ≡ p ++ front.0 = rw append_assoc at front.1 in
     elim (front_cases l (joined ls) p front.0 whole) [
-      inl h ↦ safe_front Q r l p run.0 run.1 run.2 h
-    | inr h ↦ rw (h.1) (goes_on Q r run.4.0 l h.0 run.2 run.3 run.4.1 (safe_prefix Q E run.4.0 ls run.4.2 h.0 (front.0, h.2))) ]
+      | inl h ↦ safe_front Q r l p run.0 run.1 run.2 h
+      | inr h ↦ rw (h.1) (goes_on Q r run.4.0 l h.0 run.2 run.3 run.4.1 (safe_prefix Q E run.4.0 ls run.4.2 h.0 (front.0, h.2)))
+    ]
 
 pub safe_all : (Q E : Reading → Type 0) (r : Reading) (ls : List (List ℕ)) → SafeRun Q E r ls → GoesAllBy Q E r (split (joined ls))
 unfolding after_lines split
@@ -87,4 +88,3 @@ safe_all Q E r [] run = record { reading = r; lines = refl; whole = refl; has = 
 safe_all Q E r (l ∷ ls) run =
     let g : GoesAllBy Q E run.4.0 (split (joined ls)) = safe_all Q E run.4.0 ls run.4.2 in
     all_on Q E r run.4.0 l ls run.2 run.3 run.4.1 g
-

@@ -61,8 +61,8 @@ next_sane es (Saving v s) line q e all at = saving_sane es v s line q e all at
     saving_sane es v s line q e all at = by_test es v s line q (bytes_eq line (save_line (suc (length es)))) e all at
       where
         by_test : (es : List Entry) (v : Version) (s : Kept) (line : List ℕ) (q : Reading) (b : Bool)
-          → (if b then Some (record { entries = es; stage = Ending v s }) else option_map (λ (piece : Run). (record { entries = es; stage = Saving v (record { len = s.len; runs = s.runs ++ piece ∷ [] }) })) (saved_in s.len line)) ≡ Some q
-          → AreSane es → IsSaneAt es (Saving v s) → IsSane q
+            → (if b then Some (record { entries = es; stage = Ending v s }) else option_map (λ (piece : Run). (record { entries = es; stage = Saving v (record { len = s.len; runs = s.runs ++ piece ∷ [] }) })) (saved_in s.len line)) ≡ Some q
+            → AreSane es → IsSaneAt es (Saving v s) → IsSane q
         by_test es v s line q true e all at = let is : record { entries = es; stage = Ending v s } ≡ q = cc in subst IsSane is (all, at)
         by_test es v s line q false e all at =
             let some = map_some (λ (piece : Run). (record { entries = es; stage = Saving v (record { len = s.len; runs = s.runs ++ piece ∷ [] }) })) (saved_in s.len line) q e in

@@ -34,8 +34,9 @@ front_cases (b ∷ l) rest (c ∷ p) more e =
     let tails : l ++ 10 ∷ rest ≡ p ++ more = cc in
     let heads : b ≡ c = cc in
     elim (front_cases l rest p more tails) [
-      inl h ↦ inl (h.0, cc)
-    | inr h ↦ inr (h.0, cc, h.2) ]
+      | inl h ↦ inl (h.0, cc)
+      | inr h ↦ inr (h.0, cc, h.2)
+    ]
 
 split_front : (b : ℕ) (lines : List (List ℕ)) (rest : List ℕ) (t : Split) → (with_front b (record { lines = lines; rest = rest })).rest ≡ []
     → with_front b (record { lines = lines ++ t.lines; rest = t.rest }) ≡ record { lines = (with_front b (record { lines = lines; rest = rest })).lines ++ t.lines; rest = t.rest }
@@ -53,8 +54,8 @@ split-append [] b e = refl
 split-append (x ∷ a) b e = append_cons x a b (eqb x 10) (split-append a b) e
   where
     append_cons : (x : ℕ) (a b : List ℕ) (is : Bool) → ((split a).rest ≡ [] → split (a ++ b) ≡ record { lines = (split a).lines ++ (split b).lines; rest = (split b).rest })
-      → (cond is (record { lines = [] ∷ (split a).lines; rest = (split a).rest }) (with_front x (split a))).rest ≡ []
-      → cond is (record { lines = [] ∷ (split (a ++ b)).lines; rest = (split (a ++ b)).rest }) (with_front x (split (a ++ b)))
+        → (cond is (record { lines = [] ∷ (split a).lines; rest = (split a).rest }) (with_front x (split a))).rest ≡ []
+        → cond is (record { lines = [] ∷ (split (a ++ b)).lines; rest = (split (a ++ b)).rest }) (with_front x (split (a ++ b)))
         ≡ record { lines = (cond is (record { lines = [] ∷ (split a).lines; rest = (split a).rest }) (with_front x (split a))).lines ++ (split b).lines; rest = (split b).rest }
     append_cons x a b true ih e = ap (λ (s : Split). record { lines = [] ∷ s.lines; rest = s.rest }) (ih e)
     append_cons x a b false ih e = ap (with_front x) (ih (front_rest_empty x (split a).lines (split a).rest e)) ∙ split_front x (split a).lines (split a).rest (split b) e

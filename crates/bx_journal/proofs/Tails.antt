@@ -34,8 +34,9 @@ prefix_of t a b p q = (p.0 ++ q.0, q.1 ∙ ap (λ s. s ++ q.0) p.1 ∙ append_as
 pub rest_front : (es : List Entry) (stage : Stage) (rest t : List ℕ) → IsRest es stage rest → IsPrefix t rest → IsRest es stage t
 rest_front es Between rest t r front =
     elim r [
-      inl none ↦ inl (empty_front t rest none front)
-    | inr is ↦ inr (is.0, is.1, is.2, is.3, is.4, is.5, prefix_of t rest _ front is.6) ]
+      | inl none ↦ inl (empty_front t rest none front)
+      | inr is ↦ inr (is.0, is.1, is.2, is.3, is.4, is.5, prefix_of t rest _ front is.6)
+    ]
   where
     empty_front : (t rest : List ℕ) → rest ≡ [] → IsPrefix t rest → t ≡ []
     empty_front [] rest none front = refl
@@ -44,8 +45,9 @@ rest_front es (Saving v s) rest [] r front = inr (refl, refl)
 rest_front es (Saving v s) rest (b ∷ t) r front =
     let same : begins_with_s rest ≡ begins_with_s (b ∷ t) = ap begins_with_s front.1 in
     elim r [
-      inl is ↦ inl (sym same ∙ is.0, prefix_of (b ∷ t) rest _ front is.1)
-    | inr is ↦ inr (sym same ∙ is.0, short_front (b ∷ t) front.0 rest front.1 is.1) ]
+      | inl is ↦ inl (sym same ∙ is.0, prefix_of (b ∷ t) rest _ front is.1)
+      | inr is ↦ inr (sym same ∙ is.0, short_front (b ∷ t) front.0 rest front.1 is.1)
+    ]
 rest_front es (Ending v s) rest t r front = (r.0, r.1, prefix_of t rest _ front r.2)
 
 -- lines and what follows them are all of the text
@@ -65,7 +67,7 @@ joined_rest [] = refl
 joined_rest (b ∷ text) = by_test (eqb b 10) refl (joined_rest text)
   where
     by_test : (is : Bool) → eqb b 10 ≡ is → joined (split text).lines ++ (split text).rest ≡ text
-      → joined (cond is (record { lines = [] ∷ (split text).lines; rest = (split text).rest }) (with_front b (split text))).lines ++ (cond is (record { lines = [] ∷ (split text).lines; rest = (split text).rest }) (with_front b (split text))).rest ≡ b ∷ text
+        → joined (cond is (record { lines = [] ∷ (split text).lines; rest = (split text).rest }) (with_front b (split text))).lines ++ (cond is (record { lines = [] ∷ (split text).lines; rest = (split text).rest }) (with_front b (split text))).rest ≡ b ∷ text
     by_test true is ih =
         let same : 10 ≡ b = newline b is in
         rw same (ap (λ s. b ∷ s) ih)
@@ -91,24 +93,25 @@ rest_plain (b ∷ text) = by_test (eqb b 10) refl (rest_plain text)
 goes_in : (Q : Reading → Type 0) (r q : Reading) (ls : List (List ℕ)) (R : List ℕ) (j : ℕ) → SafeRun Q (λ s. s ≡ q) r ls → HasNoNewline R → IsRest q.entries q.stage R → Goes Q r (take j (joined ls ++ R))
 goes_in Q r q ls R j run plain rest =
     elim (cases_lt j (length (joined ls))) [
-      inl less ↦
-        let same : take j (joined ls ++ R) ≡ take j (joined ls) = take-append-le j (joined ls) R (omega (arith, less)) in
-        subst (Goes Q r) (sym same) (safe_prefix Q (λ s. s ≡ q) r ls run (take j (joined ls)) (drop j (joined ls), sym (take-append-drop j (joined ls))))
-    | inr more ↦
-        let k : ℕ = j - length (joined ls) in
-        let count : j ≡ length (joined ls) + k = omega (arith, more) in
-        let same : take j (joined ls ++ R) ≡ joined ls ++ take k R = ap (λ n. take n (joined ls ++ R)) count ∙ take-append-add (joined ls) R k in
-        subst (Goes Q r) (sym same) (behind k) ]
+      | inl less ↦
+          let same : take j (joined ls ++ R) ≡ take j (joined ls) = take-append-le j (joined ls) R (omega (arith, less)) in
+          subst (Goes Q r) (sym same) (safe_prefix Q (λ s. s ≡ q) r ls run (take j (joined ls)) (drop j (joined ls), sym (take-append-drop j (joined ls))))
+      | inr more ↦
+          let k : ℕ = j - length (joined ls) in
+          let count : j ≡ length (joined ls) + k = omega (arith, more) in
+          let same : take j (joined ls ++ R) ≡ joined ls ++ take k R = ap (λ n. take n (joined ls ++ R)) count ∙ take-append-add (joined ls) R k in
+          subst (Goes Q r) (sym same) (behind k)
+    ]
   where
     behind : (k : ℕ) → Goes Q r (joined ls ++ take k R)
     behind k =
         let g : GoesAllBy Q (λ s. s ≡ q) r (split (joined ls)) = safe_all Q (λ s. s ≡ q) r ls run in
         let plain_k : HasNoNewline (take k R) = plain_front (take k R) (drop k R) (subst HasNoNewline (sym (take-append-drop k R)) plain) in
         let parts : split (joined ls ++ take k R) ≡ record { lines = (split (joined ls)).lines; rest = take k R } =
-          split-append (joined ls) (take k R) g.whole ∙ ap (λ (s : Split). record { lines = (split (joined ls)).lines ++ s.lines; rest = s.rest }) (split-plain (take k R) plain_k)
-          ∙ ap (λ ms. record { lines = ms; rest = take k R }) (append-nil (split (joined ls)).lines) in
+        split-append (joined ls) (take k R) g.whole ∙ ap (λ (s : Split). record { lines = (split (joined ls)).lines ++ s.lines; rest = s.rest }) (split-plain (take k R) plain_k)
+        ∙ ap (λ ms. record { lines = ms; rest = take k R }) (append-nil (split (joined ls)).lines) in
         let fits : IsRest g.reading.entries g.reading.stage (take k R) =
-          subst (λ (s : Reading). IsRest s.entries s.stage (take k R)) (sym g.ends) (rest_front q.entries q.stage R (take k R) rest (drop k R, sym (take-append-drop k R))) in
+        subst (λ (s : Reading). IsRest s.entries s.stage (take k R)) (sym g.ends) (rest_front q.entries q.stage R (take k R) rest (drop k R, sym (take-append-drop k R))) in
         let goes : GoesBy Q r (record { lines = (split (joined ls)).lines; rest = take k R }) = record { reading = g.reading; lines = g.lines; rest = fits; has = g.has; short = g.short } in
         subst (GoesBy Q r) (sym parts) goes
 
@@ -119,15 +122,15 @@ tail_leaves Q text new n r q mark read each part =
     let ls : List (List ℕ) = (split (drop n text)).lines in
     let R : List ℕ = (split (drop n text)).rest in
     let shorts : (list_all is_short (split (take n text)).lines ≡ true) × (list_all is_short (split (drop n text)).lines ≡ true) =
-      and_true (list_all is_short (split (take n text)).lines) (list_all is_short (split (drop n text)).lines)
-        (sym (list_all-append is_short (split (take n text)).lines (split (drop n text)).lines) ∙ sym (ap (λ (s : Split). list_all is_short s.lines) parts) ∙ read.short) in
+    and_true (list_all is_short (split (take n text)).lines) (list_all is_short (split (drop n text)).lines)
+    (sym (list_all-append is_short (split (take n text)).lines (split (drop n text)).lines) ∙ sym (ap (λ (s : Split). list_all is_short s.lines) parts) ∙ read.short) in
     let front : IsWhole (take n text) r = record { lines = mark.lines; whole = mark.whole; short = shorts.0 } in
     let lines : after_lines r (split (drop n text)).lines ≡ Some q =
-      sym (after_lines-append start r (split (take n text)).lines (split (drop n text)).lines mark.lines) ∙ sym (ap (λ (s : Split). after_lines start s.lines) parts) ∙ read.lines in
+    sym (after_lines-append start r (split (take n text)).lines (split (drop n text)).lines mark.lines) ∙ sym (ap (λ (s : Split). after_lines start s.lines) parts) ∙ read.lines in
     let rest : IsRest q.entries q.stage (split (drop n text)).rest = subst (λ (s : Split). IsRest q.entries q.stage s.rest) parts read.rest in
     let run : SafeRun Q (λ s. s ≡ q) r (split (drop n text)).lines = foreign_run Q q (split (drop n text)).lines r lines (lines_plain (drop n text)) shorts.1 each in
     let g0 : Goes Q r (take (length new - n) (joined (split (drop n text)).lines ++ (split (drop n text)).rest)) =
-      goes_in Q r q (split (drop n text)).lines (split (drop n text)).rest (length new - n) run (rest_plain (drop n text)) rest in
+    goes_in Q r q (split (drop n text)).lines (split (drop n text)).rest (length new - n) run (rest_plain (drop n text)) rest in
     let g : Goes Q r (take (length new - n) (drop n text)) = subst (λ t. Goes Q r (take (length new - n) t)) (joined_rest (drop n text)) g0 in
     let is : take n text ++ take (length new - n) (drop n text) ≡ new = sym (cut_front text new n part.no_shorter part.front) in
     record { reading = g.reading; reads = subst (λ t. ReadsShort t g.reading) is (extends Q (take n text) (take (length new - n) (drop n text)) r front g); has = g.has }
@@ -153,8 +156,8 @@ pub tail_ok : (text new x y : List ℕ) (stack : List (List ℕ)) (es : List Ent
 tail_ok text new x y stack es stage n t is cut =
     let parts = split_at_mark text n (record { entries = es; stage = Between }) t.mark in
     let shorts : (list_all is_short (split (take n text)).lines ≡ true) × (list_all is_short (split (drop n text)).lines ≡ true) =
-      and_true (list_all is_short (split (take n text)).lines) (list_all is_short (split (drop n text)).lines)
-        (sym (list_all-append is_short (split (take n text)).lines (split (drop n text)).lines) ∙ sym (ap (λ (s : Split). list_all is_short s.lines) parts) ∙ t.sound.short) in
+    and_true (list_all is_short (split (take n text)).lines) (list_all is_short (split (drop n text)).lines)
+    (sym (list_all-append is_short (split (take n text)).lines (split (drop n text)).lines) ∙ sym (ap (λ (s : Split). list_all is_short s.lines) parts) ∙ t.sound.short) in
     let rest : IsAtRest (take n text) (image_at stage x) stack = record {
       stands = record { entries = es; reads = record { lines = t.mark.lines; rest = subst (IsRest es Between) (sym t.mark.whole) (inl refl) }; whole = t.mark.whole; lengths = t.lengths; stack_is = sym t.stack_is };
       sound = record { short = shorts.0; unfinished = tt; finished = t.sound.finished };
@@ -176,7 +179,7 @@ one_reading e = cc
 
 -- the tail of a pair that recovers, by what was read
 pub tail_of : (text x : List ℕ) (stack : List (List ℕ)) (es : List Entry) (stage : Stage) (n : ℕ) → Recovers text x stack → Reads text (record { entries = es; stage = stage })
-  → IsMark text n (record { entries = es; stage = Between }) → HasTail text x stack es stage n
+    → IsMark text n (record { entries = es; stage = Between }) → HasTail text x stack es stage n
 tail_of text x stack es stage n r reads mark =
     let same : r.reading ≡ record { entries = es; stage = stage } = one_reading (sym r.reads.lines ∙ reads.lines) in
     let P : Reading → Type 0 = λ q. IsSound text x q × HaveLengths q.entries (image_at q.stage x) × (recovered q x ≡ stack) in

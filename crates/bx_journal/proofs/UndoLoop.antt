@@ -33,10 +33,10 @@ unfolding stack_of
 top_is es e x stack is = is ∙ ap (λ s. x ∷ drop 1 s) (sym is)
 
 entries_same : {A : Type 0} → (bytes text x : List ℕ) (stack : List (List ℕ)) (es : List (EntryRead A)) (e : EntryRead A) (to : ℕ) → IsUndone bytes (es ++ e ∷ []) to → text ≡ take to bytes → (rest : IsAtRest text x stack)
-  → rest.stands.entries ≡ entry_of e ∷ entries_of es
+    → rest.stands.entries ≡ entry_of e ∷ entries_of es
 entries_same bytes text x stack es e to u is rest =
     let same : record { entries = rest.stands.entries; stage = Between } ≡ record { entries = entries_of (es ++ e ∷ []); stage = Between } =
-      one_reading (sym rest.stands.reads.lines ∙ ap (λ t. after_lines start (split t).lines) is ∙ u.mark.lines) in
+    one_reading (sym rest.stands.reads.lines ∙ ap (λ t. after_lines start (split t).lines) is ∙ u.mark.lines) in
     ap (λ (r : Reading). r.entries) same ∙ onto-push [] es e
 
 pub shape_of : {A : Type 0} → (bytes text x : List ℕ) (stack : List (List ℕ)) (es : List (EntryRead A)) (e : EntryRead A) (to : ℕ) → IsUndone bytes (es ++ e ∷ []) to → text ≡ take to bytes → IsAtRest text x stack → stack ≡ x ∷ drop 1 stack
@@ -44,7 +44,7 @@ shape_of bytes text x stack es e to u is rest =
     top_is (entries_of es) (entry_of e) x stack (rest.stands.stack_is ∙ ap (λ fs. stack_of fs x) (entries_same bytes text x stack es e to u is rest))
 
 pub takes_back : {A : Type 0} → (bytes text x : List ℕ) (stack : List (List ℕ)) (es : List (EntryRead A)) (e : EntryRead A) (to : ℕ) → IsUndone bytes (es ++ e ∷ []) to → text ≡ take to bytes → IsAtRest text x stack
-  → TakesBack text x (drop 1 stack) e.version (entry_of e) e.begins e.saved
+    → TakesBack text x (drop 1 stack) e.version (entry_of e) e.begins e.saved
 takes_back bytes text x stack es e to u is rest =
     let p = popped bytes es e to u in
     let shape : stack ≡ x ∷ drop 1 stack = shape_of bytes text x stack es e to u is rest in

@@ -40,15 +40,16 @@ row_more run k =
 row_slice : (bytes : List ℕ) (k to : ℕ) → to ≡ min (16 * k + 16) (length bytes) → take (to - 16 * k) (drop (16 * k) bytes) ≡ take 16 (drop (16 * k) bytes)
 row_slice bytes k to is =
     elim (cases_lt (length bytes) (16 * k + 16)) [
-      inl less ↦
-        let short : length (drop (16 * k) bytes) ≤ 16 = omega (arith, length-drop (16 * k) bytes, less) in
-        let all : length (drop (16 * k) bytes) ≤ to - 16 * k = omega (arith, length-drop (16 * k) bytes, less, is) in
-        take_all (to - 16 * k) (drop (16 * k) bytes) all ∙ sym (take_all 16 (drop (16 * k) bytes) short)
-    | inr more ↦ ap (λ n. take n (drop (16 * k) bytes)) (let count : to - 16 * k ≡ 16 = omega (arith, is, more) in count) ]
+      | inl less ↦
+          let short : length (drop (16 * k) bytes) ≤ 16 = omega (arith, length-drop (16 * k) bytes, less) in
+          let all : length (drop (16 * k) bytes) ≤ to - 16 * k = omega (arith, length-drop (16 * k) bytes, less, is) in
+          take_all (to - 16 * k) (drop (16 * k) bytes) all ∙ sym (take_all 16 (drop (16 * k) bytes) short)
+      | inr more ↦ ap (λ n. take n (drop (16 * k) bytes)) (let count : to - 16 * k ≡ 16 = omega (arith, is, more) in count)
+    ]
 
 pub row_written : (text old new bytes : List ℕ) (run : Run) (k to : ℕ) → bytes ≡ run.bytes → to ≡ min (16 * k + 16) (length bytes)
-  → new ≡ old ++ ended (dump_line (run.at + 16 * k) (take (to - 16 * k) (drop (16 * k) bytes))) → old ≡ text ++ joined (lines_of (map (row run) (range_with_len 0 k)))
-  → new ≡ text ++ joined (lines_of (map (row run) (range_with_len 0 (k + 1))))
+    → new ≡ old ++ ended (dump_line (run.at + 16 * k) (take (to - 16 * k) (drop (16 * k) bytes))) → old ≡ text ++ joined (lines_of (map (row run) (range_with_len 0 k)))
+    → new ≡ text ++ joined (lines_of (map (row run) (range_with_len 0 (k + 1))))
 row_written text old new bytes run k to same is added before =
     let slice : take (to - 16 * k) (drop (16 * k) bytes) ≡ (row run k).bytes = row_slice bytes k to is ∙ ap (λ b. take 16 (drop (16 * k) b)) same in
     added ∙ ap (λ b. old ++ ended (dump_line (run.at + 16 * k) b)) slice ∙ ap (λ t. t ++ ended (dump_line (run.at + 16 * k) (row run k).bytes)) before
@@ -71,13 +72,13 @@ within_at len (r ∷ runs) run (suc k) all inside is = within_at len runs run k 
 
 -- the lines of the first runs, and of one more
 pub runs_more : {A : Type 0} → (text old new : List ℕ) (runs : List (Piece A)) (run : Piece A) (k : ℕ) → k < length runs → run ≡ get_or runs k run
-  → new ≡ old ++ joined (lines_of (rows (run_of run))) → old ≡ text ++ joined (lines_of (flat_map rows (map run_of (take k runs))))
-  → new ≡ text ++ joined (lines_of (flat_map rows (map run_of (take (k + 1) runs))))
+    → new ≡ old ++ joined (lines_of (rows (run_of run))) → old ≡ text ++ joined (lines_of (flat_map rows (map run_of (take k runs))))
+    → new ≡ text ++ joined (lines_of (flat_map rows (map run_of (take (k + 1) runs))))
 runs_more text old new runs run k inside is added before =
     let one : take (k + 1) runs ≡ take k runs ++ run ∷ [] = take_one runs run k inside is in
     let all : flat_map rows (map run_of (take (k + 1) runs)) ≡ flat_map rows (map run_of (take k runs)) ++ rows (run_of run) =
-      ap (λ rs. flat_map rows (map run_of rs)) one ∙ ap (flat_map rows) (map-append run_of (take k runs) (run ∷ []))
-      ∙ flat_map-append rows (map run_of (take k runs)) (run_of run ∷ []) ∙ ap (λ ps. flat_map rows (map run_of (take k runs)) ++ ps) (append-nil (rows (run_of run))) in
+    ap (λ rs. flat_map rows (map run_of rs)) one ∙ ap (flat_map rows) (map-append run_of (take k runs) (run ∷ []))
+    ∙ flat_map-append rows (map run_of (take k runs)) (run_of run ∷ []) ∙ ap (λ ps. flat_map rows (map run_of (take k runs)) ++ ps) (append-nil (rows (run_of run))) in
     added ∙ ap (λ t. t ++ joined (lines_of (rows (run_of run)))) before ∙ append_assoc text (joined (lines_of (flat_map rows (map run_of (take k runs))))) (joined (lines_of (rows (run_of run))))
     ∙ ap (λ t. text ++ t) (sym (lines_more (flat_map rows (map run_of (take k runs))) (rows (run_of run))) ∙ ap (λ ps. joined (lines_of ps)) (sym all))
   where

@@ -16,9 +16,9 @@ pub record HasBytes (e : Entry) (s : Kept) (after : ℕ) : Type 0 where
 -- behind n - 1 entries, the written entry n is read, and gives back what it was made of
 abbrev pub WrittenIsRead : Type 0
 WrittenIsRead = (text : List ℕ) (entries : List Entry) (s : Kept) (after : ℕ)
-  → Reads text (record { entries = entries; stage = Between }) → (split text).rest ≡ [] → length entries < 65535
-  → s.len ≤ MAX_LEN → after ≤ MAX_LEN → AllWithin s.len s.runs → HaveBytes s.runs → IsTrue (may_begin entries s.len)
-  → (e : Entry) × HasBytes e s after
+    → Reads text (record { entries = entries; stage = Between }) → (split text).rest ≡ [] → length entries < 65535
+    → s.len ≤ MAX_LEN → after ≤ MAX_LEN → AllWithin s.len s.runs → HaveBytes s.runs → IsTrue (may_begin entries s.len)
+    → (e : Entry) × HasBytes e s after
     × Reads (text ++ entry_text (suc (length entries)) s after) (record { entries = e ∷ entries; stage = Between })
 
 -- a text and an image stand for one stack

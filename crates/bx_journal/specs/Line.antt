@@ -54,5 +54,5 @@ after_in Second n line =
 -- what a saved line gives in an entry of an image of this length
 unfoldable pub saved_in : ℕ → List ℕ → Option Run
 saved_in len line = option_and_then
-  (λ piece. if nat_le (length piece.bytes) 16 && nat_le (piece.at + length piece.bytes) len then Some piece else None)
-  (piece_of line)
+    (λ piece. if nat_le (length piece.bytes) 16 && nat_le (piece.at + length piece.bytes) len then Some piece else None)
+    (piece_of line)

@@ -56,8 +56,8 @@ may_begin (e ∷ entries) len = elim e.after [ None ↦ true | Some after ↦ le
 
 abbrev pub begins : List Entry → Version → List ℕ → Option Stage
 begins entries v line = option_and_then
-  (λ len. if may_begin entries len then Some (Saving v (record { len = len; runs = [] })) else None)
-  (length_in v (suc (length entries)) line)
+    (λ len. if may_begin entries len then Some (Saving v (record { len = len; runs = [] })) else None)
+    (length_in v (suc (length entries)) line)
 
 -- the reading after one more line; none where the line is out of place
 unfoldable pub next_at : List Entry → Stage → List ℕ → Option Reading
@@ -70,7 +70,7 @@ next_at entries (Saving v s) line =
     else option_map (λ piece. record { entries = entries; stage = Saving v (record { len = s.len; runs = s.runs ++ piece ∷ [] }) }) (saved_in s.len line)
 next_at entries (Ending v s) line =
     option_map (λ after. record { entries = record { saved = s; after = after } ∷ entries; stage = Between })
-      (after_in v (suc (length entries)) line)
+    (after_in v (suc (length entries)) line)
 
 abbrev pub next : Reading → List ℕ → Option Reading
 next r line = next_at r.entries r.stage line
@@ -97,7 +97,7 @@ begins_with_s (b ∷ bytes) = b == 115
 -- what may stand behind the last newline: nothing, or a front of a line that may come there
 abbrev pub IsRest : List Entry → Stage → List ℕ → Type 0
 IsRest entries Between rest = (rest ≡ []) ⊎ ((v : Version) × (len : ℕ) × (length entries < 65535) × (len ≤ MAX_LEN) × (len < 16 ^ digits_of v)
-  × IsTrue (may_begin entries len) × IsPrefix rest (start_line v (suc (length entries)) len))
+    × IsTrue (may_begin entries len) × IsPrefix rest (start_line v (suc (length entries)) len))
 IsRest entries (Saving v s) rest =
     (IsTrue (begins_with_s rest) × IsPrefix rest (save_line (suc (length entries)))) ⊎ ((begins_with_s rest ≡ false) × IsTrue (is_short rest))
 IsRest entries (Ending v s) rest = (after : ℕ) × (after ≤ MAX_LEN) × IsPrefix rest (end_line v (suc (length entries)) after)

@@ -25,7 +25,10 @@ pub fn save_image<D: Device, A: Allocator + Clone>(
 }
 
 /// Changes the image. Whatever it answers, what was saved gives the old image back.
-pub fn change_image<D: Device, A: Allocator>(device: &mut D, change: &Change<A>) -> Result<(), DeviceFailed>
+pub fn change_image<D: Device, A: Allocator>(
+    device: &mut D,
+    change: &Change<A>,
+) -> Result<(), DeviceFailed>
     requires countable { D.failures device.old < u64.MAX }
     requires room { length (effect change.now []) ≤ D.room device.old }
     ensures ok { D.honest device.old → OnOk result (D.image device.new ≡ effect change.now (D.image device.old)) }
@@ -36,7 +39,10 @@ pub fn change_image<D: Device, A: Allocator>(device: &mut D, change: &Change<A>)
 }
 
 /// Puts back what was saved. Whatever it answers, putting it back again gives the same image.
-pub fn restore_image<D: Device, A: Allocator>(device: &mut D, kept: Saved<A>) -> Result<(), DeviceFailed>
+pub fn restore_image<D: Device, A: Allocator>(
+    device: &mut D,
+    kept: Saved<A>,
+) -> Result<(), DeviceFailed>
     requires countable { D.failures device.old < u64.MAX }
     requires within { AllWithin kept.len (map run_of kept.runs) }
     requires room { kept.len ≤ D.room device.old }

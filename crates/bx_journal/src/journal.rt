@@ -30,7 +30,10 @@ ghost use Rattle.bx_journal.specs.Journal.{HasRead};
 ghost use Rattle.bx_journal.specs.Calls.{ReadFault};
 
 /// Reads a journal's text, or says at which line it is damaged.
-pub fn read_journal<A: Allocator + Clone>(alloc: &A, text: &[u8]) -> Result<JournalRead<A>, SessionFault>
+pub fn read_journal<A: Allocator + Clone>(
+    alloc: &A,
+    text: &[u8],
+) -> Result<JournalRead<A>, SessionFault>
     ensures reads { IfOk result (λ j. Reads text.now (reading_of j.entries.items j.stage)) }
     ensures read { IfOk result (λ j. HasRead text.now j) }
     ensures fault { IfErr result (ReadFault text.now) }
@@ -59,5 +62,9 @@ pub fn read_journal<A: Allocator + Clone>(alloc: &A, text: &[u8]) -> Result<Jour
     if !rest_fits(number, told, &stage, rest) {
         return Err(SessionFault::Damaged { line });
     }
-    Ok(JournalRead { entries, stage, whole: at })
+    Ok(JournalRead {
+        entries,
+        stage,
+        whole: at,
+    })
 }

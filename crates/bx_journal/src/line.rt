@@ -47,7 +47,11 @@ pub fn after_in(version: Version, number: u32, line: &[u8]) -> Option<Option<u64
     let head = end_head(version, number);
     match version {
         Version::First => {
-            if line == head.as_bytes() { Some(None) } else { None }
+            if line == head.as_bytes() {
+                Some(None)
+            } else {
+                None
+            }
         }
         Version::Second => {
             let digits = behind(head.as_bytes(), line)?;
@@ -58,7 +62,11 @@ pub fn after_in(version: Version, number: u32, line: &[u8]) -> Option<Option<u64
 
 /// What a saved line gives in an entry of an image of this length.
 #[tactic(auto, unfolding(crate::specs::Line::saved_in, crate::specs::DumpLine::piece_of))]
-pub fn saved_in<A: Allocator + Clone>(alloc: &A, len: u64, line: &[u8]) -> Result<Option<Piece<A>>, NoMemory>
+pub fn saved_in<A: Allocator + Clone>(
+    alloc: &A,
+    len: u64,
+    line: &[u8],
+) -> Result<Option<Piece<A>>, NoMemory>
     ensures { IfOk result (λ piece. option_map run_of piece ≡ saved_read len line.now) }
 {
     let Ok(read) = Line::parse(line, 1) else {

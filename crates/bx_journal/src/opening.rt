@@ -16,11 +16,7 @@ impl<D: Device, T: TextStore, A: Allocator + Clone> Session<D, T, A> {
     ghost use Rattle.bx_journal.specs.Opening.{FaultCounts, IsOpened, RefusesLength, RefusesText};
 
     /// Opens a pair. An unfinished entry is dropped, or its change is taken back. An `Err` hands both back.
-    pub fn open(
-        alloc: A,
-        device: D,
-        store: T,
-    ) -> Result<(Self, Recovered), (D, T, SessionFault)>
+    pub fn open(alloc: A, device: D, store: T) -> Result<(Self, Recovered), (D, T, SessionFault)>
         requires device_countable { D.failures device < u64.MAX }
         requires store_countable { T.failures store < u64.MAX }
 
@@ -59,7 +55,16 @@ impl<D: Device, T: TextStore, A: Allocator + Clone> Session<D, T, A> {
         match recover(&alloc, &mut device, &mut store) {
             Ok(recovered) => {
                 let count = recovered.changes;
-                Ok((Session { alloc, device, store, count, is_broken: false }, recovered))
+                Ok((
+                    Session {
+                        alloc,
+                        device,
+                        store,
+                        count,
+                        is_broken: false,
+                    },
+                    recovered,
+                ))
             }
             Err(fault) => Err((device, store, fault)),
         }

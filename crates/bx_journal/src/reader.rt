@@ -18,6 +18,16 @@ pub struct EntryRead<A: Allocator = Global> {
 #[derive(Drop)]
 pub enum StageRead<A: Allocator = Global> {
     Between,
-    Saving { version: Version, len: u64, runs: Vec<Piece<A>, A>, begins: u64 },
-    Ending { version: Version, kept: Saved<A>, begins: u64, saved: u64 },
+    Saving {
+        version: Version,
+        len: u64,
+        runs: Vec<Piece<A>, A>,
+        begins: u64,
+    },
+    Ending {
+        version: Version,
+        kept: Saved<A>,
+        begins: u64,
+        saved: u64,
+    },
 }

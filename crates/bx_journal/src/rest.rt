@@ -15,6 +15,7 @@ use bx_image::MAX_LEN;
 use std::alloc::Allocator;
 
 const MOST_CHANGES: u32 = 65_535;
+
 const MOST_SHORT: usize = 75;
 
 fn is_front(front: &[u8], line: &[u8]) -> bool
@@ -121,7 +122,12 @@ fn rest_ending(number: u32, version: Version, rest: &[u8]) -> bool
 }
 
 /// Whether what follows the last newline may stand there.
-pub fn rest_fits<A: Allocator>(number: u32, told: Option<u64>, stage: &StageRead<A>, rest: &[u8]) -> bool
+pub fn rest_fits<A: Allocator>(
+    number: u32,
+    told: Option<u64>,
+    stage: &StageRead<A>,
+    rest: &[u8],
+) -> bool
     ensures { (es : List Entry) → suc (length es) ≡ number → told ≡ told_by es → IsTrue result ↔ IsRest es (stage_of stage.now) rest.now }
 {
     match stage {

@@ -36,16 +36,16 @@ impl<D: Device, T: TextStore, A: Allocator + Clone> Session<D, T, A> {
         // Accepted, it makes the machine's step, and the session goes on.
         ensures accepted { D.honest self.old.device → T.honest self.old.store → (stack : List (List ℕ)) → IsReady D.image T.text self.old stack
             → IfOk result (λ n. PerformStep stack change.now (Ok n) (effect change.now (top stack) ∷ stack)
-                × IsReady D.image T.text self.new (effect change.now (top stack) ∷ stack)) }
+            × IsReady D.image T.text self.new (effect change.now (top stack) ∷ stack)) }
         ensures entry { D.honest self.old.device → T.honest self.old.store → IfOk result (λ n.
             T.text self.new.store ≡ T.text self.old.store
-                ++ entry_text n (kept_of (saved change.now (D.image self.old.device))) (length (effect change.now (D.image self.old.device)))) }
+            ++ entry_text n (kept_of (saved change.now (D.image self.old.device))) (length (effect change.now (D.image self.old.device)))) }
 
         // An interruption leaves the old stack or the new one, and another fault leaves all as it was.
         ensures fault { D.honest self.old.device → T.honest self.old.store → (stack : List (List ℕ)) → IsReady D.image T.text self.old stack
             → IfErr result (λ e. AfterFault e
-                (RecoversEither (T.text self.new.store) (D.image self.new.device) stack (effect change.now (top stack) ∷ stack))
-                (IsSame D.image T.text self.old self.new)) }
+            (RecoversEither (T.text self.new.store) (D.image self.new.device) stack (effect change.now (top stack) ∷ stack))
+            (IsSame D.image T.text self.old self.new)) }
 
         ensures broken { (self.old.is_broken ≡ true) ↔ IsErrOf result SessionFault.Broken }
         ensures full { IsErrOf result SessionFault.JournalFull ↔ ((self.old.is_broken ≡ false) × (65535 ≤ self.old.count)) }

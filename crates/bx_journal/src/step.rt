@@ -22,13 +22,7 @@ fn begin(version: Version, number: u32, told: Option<u64>, line: &[u8]) -> Optio
 {
     let len = length_in(version, number, line)?;
     match told {
-        Some(after) => {
-            if len == after {
-                Some(len)
-            } else {
-                None
-            }
-        }
+        Some(after) => { if len == after { Some(len) } else { None } }
         None => Some(len),
     }
 }
@@ -51,11 +45,21 @@ pub fn take_start<A: Allocator + Clone>(
     }
     if let Some(len) = begin(Version::First, number, told, line) {
         let runs = no_runs(alloc)?;
-        return Ok(Some(StageRead::Saving { version: Version::First, len, runs, begins: at }));
+        return Ok(Some(StageRead::Saving {
+            version: Version::First,
+            len,
+            runs,
+            begins: at,
+        }));
     }
     if let Some(len) = begin(Version::Second, number, told, line) {
         let runs = no_runs(alloc)?;
-        return Ok(Some(StageRead::Saving { version: Version::Second, len, runs, begins: at }));
+        return Ok(Some(StageRead::Saving {
+            version: Version::Second,
+            len,
+            runs,
+            begins: at,
+        }));
     }
     Ok(None)
 }
@@ -84,8 +88,16 @@ pub fn take_saved<A: Allocator + Clone>(
         → IfOk result (KeepsMarks text es after) }
 {
     if is_save(number, line) {
-        let kept = Saved { len, runs: Pieces::from_vec(runs) };
-        return Ok(Some(StageRead::Ending { version, kept, begins, saved: after }));
+        let kept = Saved {
+            len,
+            runs: Pieces::from_vec(runs),
+        };
+        return Ok(Some(StageRead::Ending {
+            version,
+            kept,
+            begins,
+            saved: after,
+        }));
     }
     let Some(piece) = saved_in(alloc, len, line)? else {
         return Ok(None);
@@ -93,7 +105,12 @@ pub fn take_saved<A: Allocator + Clone>(
     if runs.push(piece).is_err() {
         return Err(NoMemory);
     }
-    Ok(Some(StageRead::Saving { version, len, runs, begins }))
+    Ok(Some(StageRead::Saving {
+        version,
+        len,
+        runs,
+        begins,
+    }))
 }
 
 /// Takes a line behind the save line of an entry: the entry is finished. The answer is whether it is in place.
@@ -116,7 +133,13 @@ pub fn take_end<A: Allocator>(
     let Some(after) = after_in(version, number, line) else {
         return Ok(false);
     };
-    let entry = EntryRead { version, kept, after, begins, saved };
+    let entry = EntryRead {
+        version,
+        kept,
+        after,
+        begins,
+        saved,
+    };
     if entries.push(entry).is_err() {
         return Err(NoMemory);
     }
@@ -143,10 +166,18 @@ pub fn take_line<A: Allocator + Clone>(
             let told = told_length(entries);
             take_start(alloc, number, told, at, line)
         }
-        StageRead::Saving { version, len, runs, begins } => {
-            take_saved(alloc, number, version, len, runs, begins, after, line)
-        }
-        StageRead::Ending { version, kept, begins, saved } => {
+        StageRead::Saving {
+            version,
+            len,
+            runs,
+            begins,
+        } => { take_saved(alloc, number, version, len, runs, begins, after, line) }
+        StageRead::Ending {
+            version,
+            kept,
+            begins,
+            saved,
+        } => {
             if take_end(number, entries, version, kept, begins, saved, line)? {
                 Ok(Some(StageRead::Between))
             } else {

@@ -7,7 +7,6 @@ ghost use Rattle.bx_journal.specs.Text.{Entry};
 ghost use Rattle.bx_journal.specs.Stack.{Recovers};
 ghost use Rattle.bx_journal.specs.Phase.{IsAtRest, IsOpen, RecoversEither};
 ghost use Rattle.bx_journal.specs.Step.{TakesBack};
-
 ghost use Rattle.std.specs.Prelude.{drop, []};
 ghost use Rattle.bx_journal.specs.Parsed.{AllKept, AreMarked, entries_of};
 ghost use Rattle.bx_journal.specs.Mark.{IsMark};
@@ -75,7 +74,9 @@ pub fn undo_entries<D: Device, T: TextStore, A: Allocator>(
     ensures store_honesty { T.honest store.new ↔ T.honest store.old }
 {
     for i in 0..k {
-        let Some(entry) = entries.pop() else { return Ok(()) };
+        let Some(entry) = entries.pop() else {
+            return Ok(())
+        };
         undo_entry(device, store, entry.kept, entry.begins, entry.saved)?;
     }
     Ok(())

@@ -37,7 +37,10 @@ fn check_length<D: Device>(device: &mut D, told: Option<u64>) -> Result<(), Sess
 
 /// Compares the image's length with the one that the last finished entry tells, or makes room for what is to be
 /// restored. An entry that has its save line begins with the length that was told, so there is nothing to compare.
-fn prepare<D: Device, A: Allocator>(device: &mut D, journal: &JournalRead<A>) -> Result<(), SessionFault>
+fn prepare<D: Device, A: Allocator>(
+    device: &mut D,
+    journal: &JournalRead<A>,
+) -> Result<(), SessionFault>
     requires { D.failures device.old < u64.MAX }
     ensures lengths { D.honest device.old → (bytes : List ℕ) → HasRead bytes journal.now
         → OnOk result (HaveLengths (entries_of journal.now.entries.items) (image_at (stage_of journal.now.stage) (D.image device.old))) }
@@ -84,23 +87,41 @@ fn finish<D: Device, T: TextStore, A: Allocator>(
     ensures no_failure { OnOk result ((D.failures device.new ≡ D.failures device.old) × (T.failures store.new ≡ T.failures store.old)) }
     ensures failure { OnErr result (D.failures device.new + T.failures store.new ≡ D.failures device.old + T.failures store.old + 1) }
 {
-    let JournalRead { entries, stage, whole } = journal;
+    let JournalRead {
+        entries,
+        stage,
+        whole,
+    } = journal;
     let changes = entries.len() as u32;
     match stage {
         StageRead::Between => {
             if whole == bytes.len() as u64 {
-                return Ok(Recovered { how: How::Clean, changes });
+                return Ok(Recovered {
+                    how: How::Clean,
+                    changes,
+                });
             }
             drop_tail(store, whole)?;
-            Ok(Recovered { how: How::Dropped, changes })
+            Ok(Recovered {
+                how: How::Dropped,
+                changes,
+            })
         }
         StageRead::Saving { begins, .. } => {
             drop_tail(store, begins)?;
-            Ok(Recovered { how: How::Dropped, changes })
+            Ok(Recovered {
+                how: How::Dropped,
+                changes,
+            })
         }
         StageRead::Ending { kept, begins, .. } => {
             take_back(device, store, kept, begins)?;
-            Ok(Recovered { how: How::Restored { number: changes + 1 }, changes })
+            Ok(Recovered {
+                how: How::Restored {
+                    number: changes + 1,
+                },
+                changes,
+            })
         }
     }
 }

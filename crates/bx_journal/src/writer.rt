@@ -17,7 +17,11 @@ use bx_text::{NoMemory, Piece, xxd_line};
 use std::alloc::Allocator;
 
 /// The text of an entry up to and with its save line.
-pub fn entry_head<A: Allocator>(alloc: A, number: u32, kept: &Saved<A>) -> Result<Vec<u8, A>, NoMemory>
+pub fn entry_head<A: Allocator>(
+    alloc: A,
+    number: u32,
+    kept: &Saved<A>,
+) -> Result<Vec<u8, A>, NoMemory>
     requires within { AllWithin kept.now.len kept.now.runs }
     ensures { IfOk result (λ head. head.items ≡ head_text number (kept_of kept.now)) }
 {

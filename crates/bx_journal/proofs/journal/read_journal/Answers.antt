@@ -13,7 +13,7 @@ returns-in_default-taken-clause-fault g c =
     let f = c.in-Some.ensures.found in
     let found : IsFound c.loop-i.rest.now c.in-Some.i = record { below = f.0; plain = f.1; is = f.2 } in
     read_stops c.args.text.now c.loop-i.rest.now c.loop-i.entries.items c.take_line.new.entries.items c.loop-i.stage c.loop-i.at c.loop-i.line c.in-Some.i c.loop-i.invariant.read c.loop-i.invariant.left found
-      (subst (Leads (reading_of c.loop-i.entries.items c.loop-i.stage) (take c.in-Some.i c.loop-i.rest.now) (entries_of c.take_line.new.entries.items)) c.in_default-taken.is c.in-Ok.ensures.leads)
+    (subst (Leads (reading_of c.loop-i.entries.items c.loop-i.stage) (take c.in-Some.i c.loop-i.rest.now) (entries_of c.take_line.new.entries.items)) c.in_default-taken.is c.in-Ok.ensures.leads)
 
 pub loop-i-preserved : goal.loop-i-preserved
 loop-i-preserved g c =
@@ -23,11 +23,11 @@ loop-i-preserved g c =
     let read : IsReadTo c.args.text.now c.loop-i.entries.items c.loop-i.stage c.loop-i.at c.loop-i.line = c.loop-i.invariant.read in
     let same : c.loop-i.at + (c.in-Some.i + 1) ≡ c.loop-i.at + c.in-Some.i + 1 = omega arith in
     let keeps : KeepsMarks c.args.text.now c.take_line.new.entries.items (c.loop-i.at + c.in-Some.i + 1) (Some c.in-Some-taken.next) =
-      subst (KeepsMarks c.args.text.now c.take_line.new.entries.items (c.loop-i.at + c.in-Some.i + 1)) c.in-Some-taken.is (c.in-Ok.ensures.marked c.args.text.now read.marked read.mark (omega arith)) in
+    subst (KeepsMarks c.args.text.now c.take_line.new.entries.items (c.loop-i.at + c.in-Some.i + 1)) c.in-Some-taken.is (c.in-Ok.ensures.marked c.args.text.now read.marked read.mark (omega arith)) in
     record {
       read = read_on c.args.text.now c.loop-i.rest.now c.loop-i.entries.items c.take_line.new.entries.items c.loop-i.stage c.in-Some-taken.next c.loop-i.at c.loop-i.line c.in-Some.i read c.loop-i.invariant.left found
-        (subst (Leads (reading_of c.loop-i.entries.items c.loop-i.stage) (take c.in-Some.i c.loop-i.rest.now) (entries_of c.take_line.new.entries.items)) c.in-Some-taken.is c.in-Ok.ensures.leads)
-        keeps;
+          (subst (Leads (reading_of c.loop-i.entries.items c.loop-i.stage) (take c.in-Some.i c.loop-i.rest.now) (entries_of c.take_line.new.entries.items)) c.in-Some-taken.is c.in-Ok.ensures.leads)
+          keeps;
       left = c.split_at.ensures.back ∙ ap (drop (c.in-Some.i + 1)) c.loop-i.invariant.left ∙ drop_twice c.loop-i.at (c.in-Some.i + 1) c.args.text.now ∙ ap (λ n. drop n c.args.text.now) same;
       few = omega arith;
     }
@@ -38,7 +38,7 @@ returns-then-not-rest_fits-clause-fault g c =
     let told : c.told_length-told.result ≡ told_by (entries_of c.loop-i.entries.items) = c.told_length-told.ensures ∙ ap (λ es. told_by (entries_of es)) c.deref.ensures.value in
     let test = c.rest_fits.ensures (entries_of c.loop-i.entries.items) counted told in
     read_fails c.args.text.now c.loop-i.rest.now c.loop-i.entries.items c.loop-i.stage c.loop-i.at c.loop-i.line c.loop-i.invariant.read c.loop-i.invariant.left c.in_default.ensures.none
-      (λ h. let clash : false ≡ true = sym c.if-not-rest_fits.true ∙ test.1 h in absurd (cc))
+    (λ h. let clash : false ≡ true = sym c.if-not-rest_fits.true ∙ test.1 h in absurd (cc))
 
 pub returns-clause-reads : goal.returns-clause-reads
 returns-clause-reads g c =

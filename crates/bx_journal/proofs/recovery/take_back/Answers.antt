@@ -20,10 +20,10 @@ pub returns-clause-ok : goal.returns-clause-ok
 returns-clause-ok g c dh th stack es v tail =
     let good = c.restore_image.ensures.again dh tail.sound.unfinished in
     c.drop_tail.ensures.ok th (g.D.Device.image c.restore_image.new.device) stack es (Ending v (kept_of c.args.kept))
-      (tail_moves _ _ _ stack es v (kept_of c.args.kept) _ tail good) (good.same ∙ sym (c.in_ok-restore_image.ensures.ok dh))
+    (tail_moves _ _ _ stack es v (kept_of c.args.kept) _ tail good) (good.same ∙ sym (c.in_ok-restore_image.ensures.ok dh))
 
 pub returns-clause-fault : goal.returns-clause-fault
 returns-clause-fault g c dh th stack es v tail =
     let good = c.restore_image.ensures.again dh tail.sound.unfinished in
     c.drop_tail.ensures.fault th (g.D.Device.image c.restore_image.new.device) stack es (Ending v (kept_of c.args.kept))
-      (tail_moves _ _ _ stack es v (kept_of c.args.kept) _ tail good) (good.same ∙ sym (c.in_ok-restore_image.ensures.ok dh))
+    (tail_moves _ _ _ stack es v (kept_of c.args.kept) _ tail good) (good.same ∙ sym (c.in_ok-restore_image.ensures.ok dh))

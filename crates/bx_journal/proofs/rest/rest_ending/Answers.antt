@@ -23,6 +23,7 @@ returns-in-Second c es s counted =
     let n : ℕ = suc (length es) in
     let head : c.as_bytes-in-Second.result.now ≡ end_head Second n = c.as_bytes-in-Second.ensures.value ∙ c.end_head-head.ensures.text ∙ ap (λ v. end_head v c.args.number) c.in-Second.is ∙ ap (end_head Second) (sym counted) in
     let same : (x : ℕ) → end_line Second n x ≡ end_line c.args.version n x = λ x. ap (λ v. end_line v n x) (sym c.in-Second.is) in
-    let is = subst (λ h. (c.is_number_front.result ≡ true → IsNumberFront h 16 c.args.rest.now) × (IsNumberFront h 16 c.args.rest.now → c.is_number_front.result ≡ true)) head c.is_number_front.ensures in
-    ((λ h. let f = is.0 h in (f.0, f.1, subst (IsPrefix c.args.rest.now) (same f.0) f.3)),
-      λ f. is.1 (f.0, f.1, omega (arith, f.1), subst (IsPrefix c.args.rest.now) (sym (same f.0)) f.2))
+    let is = subst (λ h. (c.is_number_front.result ≡ true → IsNumberFront h 16 c.args.rest.now) × (IsNumberFront h 16 c.args.rest.now → c.is_number_front.result ≡ true)) head c.is_number_front.ensures in (
+      (λ h. let f = is.0 h in (f.0, f.1, subst (IsPrefix c.args.rest.now) (same f.0) f.3)),
+      λ f. is.1 (f.0, f.1, omega (arith, f.1), subst (IsPrefix c.args.rest.now) (sym (same f.0)) f.2),
+    )

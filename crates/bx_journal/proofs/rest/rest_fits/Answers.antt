@@ -13,9 +13,9 @@ returns-in-Between g c es counted told =
 pub returns-in-Saving : goal.returns-in-Saving
 returns-in-Saving g c es counted told =
     subst (λ s. IsTrue c.rest_saving.result ↔ IsRest es (stage_of s) c.args.rest.now) (sym c.in-Saving.is)
-      (c.rest_saving.ensures es c.in-Saving.version (record { len = c.in-Saving.len; runs = map run_of c.in-Saving.runs.items }) counted)
+    (c.rest_saving.ensures es c.in-Saving.version (record { len = c.in-Saving.len; runs = map run_of c.in-Saving.runs.items }) counted)
 
 pub returns-in-Ending : goal.returns-in-Ending
 returns-in-Ending g c es counted told =
     subst (λ s. IsTrue c.rest_ending.result ↔ IsRest es (stage_of s) c.args.rest.now) (sym c.in-Ending.is)
-      (c.rest_ending.ensures es (kept_of c.in-Ending.kept) counted)
+    (c.rest_ending.ensures es (kept_of c.in-Ending.kept) counted)

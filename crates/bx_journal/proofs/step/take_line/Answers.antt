@@ -11,19 +11,19 @@ pub returns-in-Between-clause-leads : goal.returns-in-Between-clause-leads
 returns-in-Between-clause-leads g c =
     let counted : suc (length (entries_of c.args.entries.now.items)) ≡ c.len.result + 1 = omega (arith, length-entries_of c.args.entries.now.items) in
     subst (λ s. IfOk c.take_start.result (Leads (reading_of c.args.entries.now.items s) c.args.line.now (entries_of c.args.entries.now.items))) (sym c.in-Between.is)
-      (c.take_start.ensures.leads (entries_of c.args.entries.now.items) counted (c.told_length-told.ensures ∙ ap (λ es. told_by (entries_of es)) c.deref.ensures.value))
+    (c.take_start.ensures.leads (entries_of c.args.entries.now.items) counted (c.told_length-told.ensures ∙ ap (λ es. told_by (entries_of es)) c.deref.ensures.value))
 
 pub returns-in-Between-clause-marked : goal.returns-in-Between-clause-marked
 returns-in-Between-clause-marked g c text marked mark le =
     let counted : suc (length c.args.entries.now.items) ≡ c.len.result + 1 = omega arith in
     c.take_start.ensures.marked text c.args.entries.now.items c.args.after (subst (λ s. IsMarked text c.args.entries.now.items s c.args.at) c.in-Between.is marked) counted
-      (subst (λ s. IsMark text c.args.at (reading_of c.args.entries.now.items s)) c.in-Between.is mark) le
+    (subst (λ s. IsMark text c.args.at (reading_of c.args.entries.now.items s)) c.in-Between.is mark) le
 
 pub returns-in-Saving-clause-leads : goal.returns-in-Saving-clause-leads
 returns-in-Saving-clause-leads g c =
     let counted : suc (length (entries_of c.args.entries.now.items)) ≡ c.len.result + 1 = omega (arith, length-entries_of c.args.entries.now.items) in
     subst (λ s. IfOk c.take_saved.result (Leads (reading_of c.args.entries.now.items s) c.args.line.now (entries_of c.args.entries.now.items))) (sym c.in-Saving.is)
-      (c.take_saved.ensures.leads (entries_of c.args.entries.now.items) counted)
+    (c.take_saved.ensures.leads (entries_of c.args.entries.now.items) counted)
 
 pub returns-in-Saving-clause-marked : goal.returns-in-Saving-clause-marked
 returns-in-Saving-clause-marked g c text marked mark le =

@@ -30,7 +30,7 @@ returns-clause-ok g c device_honest store_honest stack writes =
     let moved = change_moves (kept_of (saved c.args.change.now x)) (g.T.TextStore.text c.append_head.new.store) x y stack opened (c.change_image.ensures.taken_back device_honest) in
     let ends = ends_of c.args.change.now (g.T.TextStore.text c.args.store.now) (g.T.TextStore.text c.append_head.new.store) x y stack c.args.head.now c.args.end.now writes moved is in
     on_ok_weaker c.append_end.result (subst (λ z. IsAtRest (g.T.TextStore.text c.append_end.new.store) y (z ∷ stack)) is)
-      (c.append_end.ensures.ok (c.append_head.ensures.goes_on.honesty.1 store_honest) y stack (in_rows (kept_of (saved c.args.change.now x))) ends)
+    (c.append_end.ensures.ok (c.append_head.ensures.goes_on.honesty.1 store_honest) y stack (in_rows (kept_of (saved c.args.change.now x))) ends)
 
 pub returns-clause-fault : goal.returns-clause-fault
 returns-clause-fault g c device_honest store_honest stack writes =
@@ -41,4 +41,4 @@ returns-clause-fault g c device_honest store_honest stack writes =
     let moved = change_moves (kept_of (saved c.args.change.now x)) (g.T.TextStore.text c.append_head.new.store) x y stack opened (c.change_image.ensures.taken_back device_honest) in
     let ends = ends_of c.args.change.now (g.T.TextStore.text c.args.store.now) (g.T.TextStore.text c.append_head.new.store) x y stack c.args.head.now c.args.end.now writes moved is in
     on_err_weaker c.append_end.result (subst (λ z. RecoversEither (g.T.TextStore.text c.append_end.new.store) y stack (z ∷ stack)) is)
-      (c.append_end.ensures.fault (c.append_head.ensures.goes_on.honesty.1 store_honest) y stack (in_rows (kept_of (saved c.args.change.now x))) ends)
+    (c.append_end.ensures.fault (c.append_head.ensures.goes_on.honesty.1 store_honest) y stack (in_rows (kept_of (saved c.args.change.now x))) ends)

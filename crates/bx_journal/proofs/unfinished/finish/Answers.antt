@@ -15,7 +15,7 @@ always_err (Err e) p = p
 pub returns-then-whole-bytes-clause-opened : goal.returns-then-whole-bytes-clause-opened
 returns-then-whole-bytes-clause-opened g c dh th lengths =
     opened_clean (g.T.TextStore.text c.args.store.now) c.args.bytes.now (g.D.Device.image c.args.device.now) c.args.journal c.len-changes.result
-      c.requires.read c.in-Between.is (c.requires.text th) (omega arith) lengths (omega arith)
+    c.requires.read c.in-Between.is (c.requires.text th) (omega arith) lengths (omega arith)
 
 pub returns-then-whole-bytes-clause-keeps : goal.returns-then-whole-bytes-clause-keeps
 returns-then-whole-bytes-clause-keeps g c dh th stack rec =
@@ -24,7 +24,7 @@ returns-then-whole-bytes-clause-keeps g c dh th stack rec =
 pub returns-in-Between-clause-opened : goal.returns-in-Between-clause-opened
 returns-in-Between-clause-opened g c dh th lengths =
     opened_dropped (g.T.TextStore.text c.args.store.now) c.args.bytes.now (g.D.Device.image c.args.device.now) (g.T.TextStore.text c.drop_tail.new.store) c.args.journal c.len-changes.result
-      c.requires.read c.in-Between.is (c.requires.text th) (λ e. omega arith) lengths (c.in_ok-drop_tail-in-Between.ensures.text th) (omega arith)
+    c.requires.read c.in-Between.is (c.requires.text th) (λ e. omega arith) lengths (c.in_ok-drop_tail-in-Between.ensures.text th) (omega arith)
 
 pub returns-in-Between-clause-keeps : goal.returns-in-Between-clause-keeps
 returns-in-Between-clause-keeps g c dh th stack rec =
@@ -34,7 +34,7 @@ returns-in-Between-clause-keeps g c dh th stack rec =
 pub returns-in-Saving-clause-opened : goal.returns-in-Saving-clause-opened
 returns-in-Saving-clause-opened g c dh th lengths =
     opened_saving (g.T.TextStore.text c.args.store.now) c.args.bytes.now (g.D.Device.image c.args.device.now) (g.T.TextStore.text c.drop_tail-in-Saving.new.store) c.args.journal c.len-changes.result
-      _ _ _ _ c.requires.read c.in-Saving.is (c.requires.text th) lengths (c.in_ok-drop_tail-in-Saving.ensures.text th) (omega arith)
+    _ _ _ _ c.requires.read c.in-Saving.is (c.requires.text th) lengths (c.in_ok-drop_tail-in-Saving.ensures.text th) (omega arith)
 
 pub returns-in-Saving-clause-keeps : goal.returns-in-Saving-clause-keeps
 returns-in-Saving-clause-keeps g c dh th stack rec =
@@ -47,7 +47,7 @@ take_back-requires-clause-within g c = ending_within c.args.bytes.now c.args.jou
 pub returns-clause-opened : goal.returns-clause-opened
 returns-clause-opened g c dh th lengths =
     opened_ending (g.T.TextStore.text c.args.store.now) c.args.bytes.now (g.D.Device.image c.args.device.now) (g.T.TextStore.text c.take_back.new.store) (g.D.Device.image c.take_back.new.device) c.args.journal c.len-changes.result
-      _ _ _ _ c.requires.read c.in-Ending.is (c.requires.text th) lengths (c.in_ok-take_back-in-Ending.ensures.image dh) (c.in_ok-take_back-in-Ending.ensures.text th) (omega arith)
+    _ _ _ _ c.requires.read c.in-Ending.is (c.requires.text th) lengths (c.in_ok-take_back-in-Ending.ensures.image dh) (c.in_ok-take_back-in-Ending.ensures.text th) (omega arith)
 
 pub returns-clause-keeps : goal.returns-clause-keeps
 returns-clause-keeps g c dh th stack rec =

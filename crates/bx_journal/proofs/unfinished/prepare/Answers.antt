@@ -15,14 +15,14 @@ returns-in-Between-clause-lengths g c dh bytes read =
     let x : List ℕ = g.D.Device.image c.args.device.now in
     let is : image_at (stage_of c.args.journal.now.stage) x ≡ x = ap (λ s. image_at (stage_of s) x) c.in-Between.is in
     on_ok_weaker c.check_length.result (λ h. lengths_early bytes x _ c.args.journal.now read is (told_same x c.told_length-told.result c.deref.result.now c.args.journal.now.entries.items c.told_length-told.ensures c.deref.ensures.value h))
-      (c.check_length.ensures.same_length dh)
+    (c.check_length.ensures.same_length dh)
 
 pub returns-in-Saving-clause-lengths : goal.returns-in-Saving-clause-lengths
 returns-in-Saving-clause-lengths g c dh bytes read =
     let x : List ℕ = g.D.Device.image c.args.device.now in
     let is : image_at (stage_of c.args.journal.now.stage) x ≡ x = ap (λ s. image_at (stage_of s) x) c.in-Saving.is in
     on_ok_weaker c.check_length-in-Saving.result (λ h. lengths_early bytes x _ c.args.journal.now read is (told_same x c.told_length-told.result c.deref.result.now c.args.journal.now.entries.items c.told_length-told.ensures c.deref.ensures.value h))
-      (c.check_length-in-Saving.ensures.same_length dh)
+    (c.check_length-in-Saving.ensures.same_length dh)
 
 pub returns-in_ok-reserve-in-Ending-clause-lengths :
     goal.returns-in_ok-reserve-in-Ending-clause-lengths

@@ -20,9 +20,10 @@ overflow_add-n c =
 
 pub loop-c-preserved : goal.loop-c-preserved
 loop-c-preserved c =
-    let small : c.in-Some.d < 16 = (digit_of (get_or c.args.text.now c.loop-c.c-index 0) c.in-Some.d (sym c.in-Some.ensures)).0 in
-    (sym (digit_on c.args.text.now c.loop-c.c-index c.loop-c.n c.in-Some.d (omega arith) (sym c.in-Some.ensures)) ∙ c.loop-c.invariant.0,
-      digit_fits c.loop-c.c-index c.loop-c.n c.in-Some.d c.loop-c.invariant.1 small)
+    let small : c.in-Some.d < 16 = (digit_of (get_or c.args.text.now c.loop-c.c-index 0) c.in-Some.d (sym c.in-Some.ensures)).0 in (
+      sym (digit_on c.args.text.now c.loop-c.c-index c.loop-c.n c.in-Some.d (omega arith) (sym c.in-Some.ensures)) ∙ c.loop-c.invariant.0,
+      digit_fits c.loop-c.c-index c.loop-c.n c.in-Some.d c.loop-c.invariant.1 small,
+    )
 
 pub returns : goal.returns
 returns c = sym (digits_end c.args.text.now c.loop-c.c-index c.loop-c.n (omega arith)) ∙ c.loop-c.invariant.0

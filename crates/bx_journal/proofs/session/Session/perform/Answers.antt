@@ -54,7 +54,7 @@ module _ (g : _) (c : After-write_entry g) where
       }
 
   writes : g.D.Device.honest c.args.self.now.device → g.T.TextStore.honest c.args.self.now.store → (stack : List (List ℕ)) → IsReady g.D.Device.image g.T.TextStore.text c.args.self.now stack
-    → WritesEntry c.args.change.now (g.T.TextStore.text c.reserve-2.new.self) (g.D.Device.image c.reserve.new.self) stack c.deref.result.now c.deref-2.result.now
+      → WritesEntry c.args.change.now (g.T.TextStore.text c.reserve-2.new.self) (g.D.Device.image c.reserve.new.self) stack c.deref.result.now c.deref-2.result.now
   unfolding x
   writes dh th stack ready =
       let base = writes_entry c.args.change.now (g.T.TextStore.text c.args.self.now.store) (g.D.Device.image c.args.self.now.device) stack c.args.self.now.count (kept_of c.in_ok-kept.kept) c.in_ok-after.after c.deref.result.now c.deref-2.result.now (prepared dh) ready.rest ready.count in
@@ -62,7 +62,7 @@ module _ (g : _) (c : After-write_entry g) where
       subst (λ t. P t (g.D.Device.image c.reserve.new.self)) (sym (text_same th)) (subst (P (g.T.TextStore.text c.args.self.now.store)) (sym (image_same dh)) base)
 
   pushed : g.D.Device.honest c.args.self.now.device → (stack : List (List ℕ)) → IsReady g.D.Device.image g.T.TextStore.text c.args.self.now stack
-    → effect c.args.change.now (g.D.Device.image c.reserve.new.self) ≡ effect c.args.change.now (top stack)
+      → effect c.args.change.now (g.D.Device.image c.reserve.new.self) ≡ effect c.args.change.now (top stack)
   unfolding x
   pushed dh stack ready = ap (effect c.args.change.now) (image_same dh ∙ sym (top_of_rest (g.T.TextStore.text c.args.self.now.store) (g.D.Device.image c.args.self.now.device) stack ready.rest))
 
@@ -76,13 +76,14 @@ pub returns-in-Ok-clause-accepted : goal.returns-in-Ok-clause-accepted
 returns-in-Ok-clause-accepted g c dh th stack ready =
     let b = (goal.at.returns-in-Ok-clause-accepted g c).After-write_entry in
     let counted : length stack ≡ suc c.args.self.now.count = ready.count in
-    let stood = c.in-Ok.ensures.ok (device_honest g b dh) (store_honest g b th) stack (writes g b dh th stack ready) in
-    ((omega arith, fits g b dh stack ready, omega arith, refl),
+    let stood = c.in-Ok.ensures.ok (device_honest g b dh) (store_honest g b th) stack (writes g b dh th stack ready) in (
+      (omega arith, fits g b dh stack ready, omega arith, refl),
       record {
         rest = subst (λ z. IsAtRest (g.T.TextStore.text c.write_entry.new.store) (g.D.Device.image c.write_entry.new.device) (z ∷ stack)) (pushed g b dh stack ready) stood;
         count = omega arith;
         whole = ready.whole;
-      })
+      },
+    )
 
 pub returns-in-Ok-clause-entry : goal.returns-in-Ok-clause-entry
 unfolding x
@@ -93,8 +94,8 @@ returns-in-Ok-clause-entry g c dh th =
     let text : List ℕ = g.T.TextStore.text c.args.self.now.store in
     let written = c.in-Ok.ensures.text (store_honest g b th) in
     entry_is (g.T.TextStore.text c.write_entry.new.store) (g.T.TextStore.text c.reserve-2.new.self) text c.deref.result.now c.deref-2.result.now
-      (head_text (c.args.self.now.count + 1) (kept_of (saved c.args.change.now x))) (end_text (c.args.self.now.count + 1) (length (effect c.args.change.now x)))
-      written (text_same g b th) (p.head_is ∙ ap (head_text (c.args.self.now.count + 1)) p.saved_is) (p.line_is ∙ ap (end_text (c.args.self.now.count + 1)) p.after_is)
+    (head_text (c.args.self.now.count + 1) (kept_of (saved c.args.change.now x))) (end_text (c.args.self.now.count + 1) (length (effect c.args.change.now x)))
+    written (text_same g b th) (p.head_is ∙ ap (head_text (c.args.self.now.count + 1)) p.saved_is) (p.line_is ∙ ap (end_text (c.args.self.now.count + 1)) p.after_is)
   where
     entry_is : (new old text head line h l : List ℕ) → new ≡ old ++ head ++ line → old ≡ text → head ≡ h → line ≡ l → new ≡ text ++ (h ++ l)
     entry_is new old text head line h l e p q r = rw (e, p, q, r) (append_assoc text h l)
@@ -103,4 +104,4 @@ pub returns-clause-fault : goal.returns-clause-fault
 returns-clause-fault g c dh th stack ready =
     let b = (goal.at.returns-clause-fault g c).After-write_entry in
     subst (λ z. RecoversEither (g.T.TextStore.text c.write_entry.new.store) (g.D.Device.image c.write_entry.new.device) stack (z ∷ stack)) (pushed g b dh stack ready)
-      (c.in-Err.ensures.fault (device_honest g b dh) (store_honest g b th) stack (writes g b dh th stack ready))
+    (c.in-Err.ensures.fault (device_honest g b dh) (store_honest g b th) stack (writes g b dh th stack ready))
