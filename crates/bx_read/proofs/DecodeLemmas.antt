@@ -8,7 +8,7 @@ use Rattle.bx_read.proofs.PieceLemmas.{rest_of, long_enough}
 use Rattle.bx_read.proofs.PairsLemmas.{pairs_at-wrong, pairs_at-last, bytes_at-space, bytes_at-next}
 
 -- one byte more in front
-more_in_front : (front : List ℕ) (b : ℕ) (o : Option (List ℕ)) → option_map (λ more. front ++ more) (option_map (λ more. b ∷ more) o) ≡ option_map (λ more. (front ++ b ∷ []) ++ more) o
+pub more_in_front : (front : List ℕ) (b : ℕ) (o : Option (List ℕ)) → option_map (λ more. front ++ more) (option_map (λ more. b ∷ more) o) ≡ option_map (λ more. (front ++ b ∷ []) ++ more) o
 more_in_front front b None = refl
 more_in_front front b (Some more) = ap Some (sym (append_assoc front (b ∷ []) more))
 

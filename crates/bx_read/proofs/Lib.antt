@@ -3,7 +3,10 @@ pub mod PairsLemmas
 pub mod GrammarLemmas
 pub mod PieceLemmas
 pub mod DecodeLemmas
+pub mod DumpLemmas
+pub mod LinesLemmas
 pub mod PackedLemmas
 pub mod AddressLemmas
 pub mod LineLemmas
 pub mod WrittenLemmas
+pub mod PlainLemmas

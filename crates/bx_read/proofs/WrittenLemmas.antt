@@ -21,7 +21,7 @@ use Rattle.std.proofs.lemmas.Fmt.{digits_is_IsNumeral}
 abbrev Prints : ℕ → Type 0
 Prints c = (32 ≤ c) × (c ≤ 126)
 
-hex_range : (c : ℕ) → is_hex c ≡ true → (48 ≤ c) × (c ≤ 102)
+pub hex_range : (c : ℕ) → is_hex c ≡ true → (48 ≤ c) × (c ≤ 102)
 hex_range c is = (grind (arith, nat_tests), grind (arith, nat_tests))
 
 hex_prints : (c : ℕ) → is_hex c ≡ true → Prints c

@@ -1,14 +1,23 @@
 -- What a line of a dump gives, and what a line that is written gives back.
-use Rattle.std.specs.Prelude.{◌≡◌, ◌≢◌, ℕ, Bool, ◌+◌, ◌-◌, ◌^◌, ◌<◌, ◌≤◌, List, ◌++◌, length, slice_index, map, codes, All, Some, false}
+use Rattle.std.specs.Prelude.{◌≡◌, ◌≢◌, ℕ, Bool, ◌+◌, ◌-◌, ◌*◌, ◌^◌, ◌<◌, ◌≤◌, List, ◌++◌, length, slice_index, map, codes, All, Some, false}
 use Rattle.bx_text.specs.Field.{hex_text}
 use Rattle.bx_text.specs.Dump.{hex_columns, hex_width, shown_byte, dump_line, default_line}
 use Rattle.bx_read.specs.Grammar.{IsLine}
 use Rattle.bx_read.specs.Line.{line_piece}
+use Rattle.bx_read.specs.Text.{lines_of, GivesPieces, total_bytes}
 
 -- No line gives two different pairs of an address and bytes.
 abbrev pub LineIsUnique : Type 0
 LineIsUnique = (line hex other_hex bytes other_bytes : List ℕ) (at other_at : ℕ) → IsLine line at hex bytes → IsLine line other_at other_hex other_bytes →
     (at ≡ other_at) × (hex ≡ other_hex) × (bytes ≡ other_bytes)
+
+-- No text gives two different lists of pieces.
+abbrev pub TextIsUnique : Type 0
+TextIsUnique = (text : List ℕ) (pieces others : List (ℕ × List ℕ)) → GivesPieces (lines_of text) pieces → GivesPieces (lines_of text) others → pieces ≡ others
+
+-- The pieces of a text are no more than its lines, and their bytes together no more than half of its bytes.
+abbrev pub PiecesAreFew : Type 0
+PiecesAreFew = (text : List ℕ) (pieces : List (ℕ × List ℕ)) → GivesPieces (lines_of text) pieces → (length pieces ≤ length (lines_of text)) × (2 * total_bytes pieces ≤ length text)
 
 -- xxd's default line without its newline
 abbrev pub line_text : ℕ → List ℕ → List ℕ

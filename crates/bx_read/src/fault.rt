@@ -1,4 +1,8 @@
 //! What a reader refuses.
+ghost use Rattle.std.specs.Prelude.{◌≡◌};
+ghost use Rattle.bx_read.specs.declared.fault.ReadFault.TheVariants.{NoMemory as OutOfMemory};
+
+use std::alloc::{AllocError, AllocFailed};
 use thiserror::Error;
 
 /// What stopped the reading of a text. Lines are counted from 1.
@@ -27,4 +31,20 @@ pub enum ReadFault {
     /// The last digit of a plain text has no second one.
     #[error("line {line}: odd number of digits")]
     OddDigits { line: u64 },
+}
+
+impl From<AllocError> for ReadFault {
+    ghost from_gives = { λ _ fault. fault ≡ OutOfMemory };
+
+    fn from(_: AllocError) -> Self {
+        ReadFault::NoMemory
+    }
+}
+
+impl<T: Drop> From<AllocFailed<T>> for ReadFault {
+    ghost from_gives = { λ _ fault. fault ≡ OutOfMemory };
+
+    fn from(_: AllocFailed<T>) -> Self {
+        ReadFault::NoMemory
+    }
 }

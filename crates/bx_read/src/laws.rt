@@ -1,9 +1,19 @@
 //! Laws of the format, over its definitions alone.
-ghost use Rattle.bx_read.specs.Laws.{LineIsUnique, DumpLineReadsBack, WrittenLineReadsBack};
+ghost use Rattle.bx_read.specs.Laws.{LineIsUnique, TextIsUnique, PiecesAreFew, DumpLineReadsBack, WrittenLineReadsBack};
 
 /// No line gives two different pairs of an address and bytes.
 pub fn line_is_unique()
     ensures { LineIsUnique }
+{}
+
+/// No text gives two different lists of pieces.
+pub fn text_is_unique()
+    ensures { TextIsUnique }
+{}
+
+/// The pieces of a text are no more than its lines, and their bytes together no more than half of its bytes.
+pub fn pieces_are_few()
+    ensures { PiecesAreFew }
 {}
 
 /// A line of an xxd dump, for any columns and groups, reads back as its address and its bytes.
