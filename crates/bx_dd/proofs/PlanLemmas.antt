@@ -1,21 +1,23 @@
 -- The bounds that accepted operands keep.
-use Rattle.std.proofs.Common.{◌≡◌, ◌≢◌, ℕ, zero, suc, ◌+◌, ◌*◌, ◌^◌, ◌<◌, ◌≤◌, Bool, true, false, not, cond, ◌&&◌, ◌||◌, eqb, ltb, List, [], ◌∷◌, ◌++◌, length, get_or, slice_get, Option, Some, None, Result, Ok, Err, unwrap_or, codes, refl, sym, ap, ◌∙◌, ◌⊎◌, inl, inr, subst, arith}
+use Rattle.std.proofs.Common.{◌≡◌, ◌≢◌, ℕ, zero, suc, ◌+◌, ◌*◌, ◌^◌, ◌<◌, ◌≤◌, Bool, true, false, not, cond, ◌&&◌, ◌||◌, eqb, ltb, leb, List, [], ◌∷◌, ◌++◌, length, get_or, slice_get, Option, Some, None, Result, Ok, Err, unwrap_or, codes, refl, sym, ap, ◌∙◌, ◌⊎◌, inl, inr, subst, arith}
 use Rattle.std.specs.List.{position_or_len}
 use Rattle.std.specs.Option.{option_or, option_map, option_and_then}
 use Rattle.std.specs.Result.{result_ok}
 use Rattle.std.specs.Str.{bytes_eq}
-use Rattle.std.proofs.lemmas.Bool.{ltb-false, ltb-true, not-false, eqb-false, lt-ltb, le-ltb}
+use Rattle.std.proofs.lemmas.Bool.{ltb-false, ltb-true, not-false, eqb-false, leb-true}
 use Rattle.std.proofs.lemmas.List.Sums.{prefix_len_stops}
 use Rattle.std.proofs.lemmas.Option.{get_or_from_slice_get, slice_get_within, slice_get_past, slice_get-get_or}
 use Rattle.std.proofs.lemmas.Slice.Eq.{bytes_eq-Decides}
 use Rattle.bx_dd.specs.declared.fault.DdFault.{DdFault}
 use Rattle.bx_dd.specs.declared.form.Shape.TheVariants.{Flat, Block, Unblock}
-use Rattle.bx_dd.specs.declared.number.SizeFault.{SizeFault}
-use Rattle.bx_dd.specs.declared.number.SizeFault.TheVariants.{Bad, TooLarge}
+use Rattle.bx_text.specs.declared.number.SizeFault.{SizeFault}
+use Rattle.bx_text.specs.declared.number.SizeFault.TheVariants.{Bad, TooLarge}
 use Rattle.bx_dd.specs.declared.operands.Kind.{Kind}
 use Rattle.bx_dd.specs.declared.operands.Kind.TheVariants.{Size}
-use Rattle.bx_dd.specs.Number.{number_of, limited}
-use Rattle.bx_dd.specs.Operands.{is_operand, name_of, value_of, kind_of, is_named, is_given, size_fault, value_fault, kind_fault, operand_fault, first_fault, given, number_given, number_or, block_size, ibs_of, obs_of, converts, shape_of, is_conflict, is_cbs_missing, later_fault, fault_of}
+use Rattle.bx_text.specs.declared.number.SizeStyle.TheVariants.{Product}
+use Rattle.bx_text.specs.Number.{size_value, within}
+use Rattle.bx_dd.specs.Number.{number_of}
+use Rattle.bx_dd.specs.Operands.{is_operand, name_of, value_of, kind_of, is_named, is_given, size_fault, value_fault, kind_fault, operand_fault, first_fault, given, number_given, number_or, ibs_of, obs_of, converts, shape_of, is_conflict, is_cbs_missing, later_fault, fault_of}
 
 -- ---- options and tests
 
@@ -96,9 +98,20 @@ module _ (name : List ℕ) (most : ℕ) (words : List (List ℕ)) (none : first_
       (size.0, ap (option_and_then (λ v. result_ok (number_of v))) found ∙ ap result_ok size.1, size.2, size.3)
 
 -- a number that is given
+abbrev chosen : Bool → ℕ → Result ℕ SizeFault
+chosen b m = cond b (Ok m) (Err TooLarge)
+
+low_limit : (m n : ℕ) (b : Bool) → b ≡ leb m 1099511627775 → chosen b m ≡ Ok n → n ≤ 1099511627775
+low_limit m n true is e = let same : m ≡ n = cc in omega (arith, leb-true m 1099511627775 (sym is))
+low_limit m n false is e = absurd (cc)
+
+within_limit : (n : ℕ) (o : Option ℕ) → within 1099511627775 o ≡ Ok n → n ≤ 1099511627775
+within_limit n None is = absurd (cc)
+within_limit n (Some m) is = low_limit m n (leb m 1099511627775) refl is
+
 number_limit : (value : List ℕ) (n : ℕ) → number_of value ≡ Ok n → n ≤ 1099511627775
 unfolding number_of
-number_limit value n is = ?
+number_limit value n is = within_limit n (size_value Product value) is
 
 pub number_few : (name : List ℕ) (words : List (List ℕ)) (n : ℕ) → number_given name words ≡ Some n → n ≤ 1099511627775
 number_few name words n is = number_in (given name words) is where

@@ -1,5 +1,5 @@
 -- What dd's operands ask for, and which of them is faulty.
-use Rattle.std.specs.Prelude.{ℕ, ◌+◌, ◌*◌, ◌^◌, Bool, true, false, not, ◌==◌, ◌&&◌, ◌||◌, nat_lt, if◌then◌else◌, List, [], ◌∷◌, ◌++◌, length, slice_get, Option, None, Some, option_and_then, unwrap_or, Result, Ok, Err, codes}
+use Rattle.std.specs.Prelude.{ℕ, ◌+◌, ◌*◌, ◌^◌, Bool, not, ◌==◌, ◌&&◌, ◌||◌, nat_lt, if◌then◌else◌, List, [], ◌∷◌, ◌++◌, length, slice_get, Option, None, Some, option_and_then, unwrap_or, Result, Ok, Err, codes}
 use Rattle.std.specs.List.{slice_split, position_or_len, before_first, after_first, list_any, list_all}
 use Rattle.std.specs.Option.{option_map, option_or}
 use Rattle.std.specs.Result.{result_ok}
@@ -10,8 +10,8 @@ use Rattle.bx_dd.specs.declared.form.Letters.{Letters}
 use Rattle.bx_dd.specs.declared.form.Letters.TheVariants.{Keep, Upper, Lower}
 use Rattle.bx_dd.specs.declared.form.Shape.{Shape}
 use Rattle.bx_dd.specs.declared.form.Shape.TheVariants.{Flat, Block, Unblock}
-use Rattle.bx_dd.specs.declared.number.SizeFault.{SizeFault}
-use Rattle.bx_dd.specs.declared.number.SizeFault.TheVariants.{Bad, TooLarge}
+use Rattle.bx_text.specs.declared.number.SizeFault.{SizeFault}
+use Rattle.bx_text.specs.declared.number.SizeFault.TheVariants.{Bad, TooLarge}
 use Rattle.bx_dd.specs.declared.operands.Kind.{Kind}
 use Rattle.bx_dd.specs.declared.operands.Kind.TheVariants.{File, Size, Number, Conversions}
 use Rattle.bx_dd.specs.Number.{number_of}

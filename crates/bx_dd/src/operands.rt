@@ -8,8 +8,8 @@ ghost use Rattle.bx_dd.specs.Operands.{is_operand, name_of, value_of, kind_of, p
 
 use crate::fault::DdFault;
 use crate::form::{Letters, Shape};
-use crate::number::{SizeFault, read_number};
-use bx_text::Words;
+use crate::number::read_number;
+use bx_text::{SizeFault, Words};
 use std::alloc::Allocator;
 
 /// What the value of an operand is.

@@ -1,4 +1,4 @@
-use Rattle.std.proofs.Common.{◌≡◌, ◌<◌, [], length, get_or, arith}
+use Rattle.std.proofs.Common.{◌<◌, [], length, get_or, arith}
 use Rattle.std.proofs.lemmas.Option.{slice_get-get_or}
 use Rattle.bx_dd.proofs.OperandsLemmas.{fault_here, fault_later}
 use Rattle.bx_dd.proofs.operands.first_fault.Goals as goal

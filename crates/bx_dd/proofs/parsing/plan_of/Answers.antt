@@ -1,6 +1,4 @@
-use Rattle.std.proofs.Common.{◌≡◌, ◌≢◌, ◌<◌, ◌≤◌, ◌*◌, ◌^◌, ℕ, sym, ap, ◌∙◌, subst}
-use Rattle.bx_dd.specs.declared.form.Shape.{Shape}
-use Rattle.bx_dd.specs.declared.form.Shape.TheVariants.{Flat}
+use Rattle.std.proofs.Common.{sym, ◌∙◌}
 use Rattle.bx_dd.proofs.PlanLemmas.{bounds}
 use Rattle.bx_dd.proofs.parsing.plan_of.Goals as goal
 
