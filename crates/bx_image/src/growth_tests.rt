@@ -5,7 +5,7 @@ use crate::ration::ration;
 use linked_list_allocator::LocalHeap;
 use std::test::Fail;
 
-const MOST_BYTES: usize = 2000;
+const MOST_WORDS: usize = 250;
 
 const IMAGE: &[u8] = b"ABCDEFGHIJ";
 
@@ -16,7 +16,8 @@ fn growths_of_save(rt: HostRuntime) -> Result<(), Fail> {
     let mut refused = 0u32;
     let mut last = usize::MAX;
     let mut found = None;
-    for bytes in 0..MOST_BYTES {
+    for words in 0..MOST_WORDS {
+        let bytes = words * 8;
         let bump = ration(rt.alloc(), bytes)?;
         let Ok(change) = change(
             &bump,
