@@ -48,7 +48,7 @@ fn growths_of_save(rt: HostRuntime) -> Result<(), Fail> {
     }
     println!(rt; "{refused} growths of save refused, then {found:?}")?;
     assert!(rt; found.is_some());
-    assert!(rt; refused >= 6);
+    assert!(rt; refused >= 5);
     Ok(())
 }
 
