@@ -35,3 +35,4 @@ pub mod LogLemmas
 pub mod Performed
 pub mod PieceBound
 pub mod SavedBound
+pub mod Refusals

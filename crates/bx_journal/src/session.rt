@@ -29,6 +29,7 @@ impl<D: Device, T: TextStore, A: Allocator + Clone> Session<D, T, A> {
     ghost use Rattle.bx_journal.specs.Session.{IsReady, IsSame, AfterFault};
     ghost use Rattle.bx_journal.specs.Standing.{IsStanding};
     ghost use Rattle.bx_journal.specs.Opening.{FaultCounts};
+    ghost use Rattle.bx_journal.specs.Refusing.{PerformFault};
 
     /// Changes the image, and answers the change's number.
     pub fn perform(&mut self, change: &Change<A>) -> Result<u32, SessionFault>
@@ -62,6 +63,7 @@ impl<D: Device, T: TextStore, A: Allocator + Clone> Session<D, T, A> {
         ensures device_honesty { D.honest self.new.device ↔ D.honest self.old.device }
         ensures store_honesty { T.honest self.new.store ↔ T.honest self.old.store }
         ensures no_failure { OnOk result ((D.failures self.new.device ≡ D.failures self.old.device) × (T.failures self.new.store ≡ T.failures self.old.store)) }
+        ensures faults { IfErr result PerformFault }
         ensures counts { IfErr result (λ e. FaultCounts e (D.failures self.old.device) (T.failures self.old.store) (D.failures self.new.device) (T.failures self.new.store)) }
     {
         if self.is_broken {

@@ -54,6 +54,7 @@ impl<D: Device, T: TextStore, A: Allocator + Clone> Session<D, T, A> {
     ghost use Rattle.bx_journal.specs.Calls.{RecoversBelow};
     ghost use Rattle.bx_journal.specs.Opening.{FaultCounts};
     ghost use Rattle.bx_journal.specs.Undoing.{IsOutOfStep};
+    ghost use Rattle.bx_journal.specs.Refusing.{UndoFault};
 
     /// Takes the last k changes back, the newest first, and answers how many are left.
     pub fn undo(&mut self, k: u32) -> Result<u32, SessionFault>
@@ -91,6 +92,7 @@ impl<D: Device, T: TextStore, A: Allocator + Clone> Session<D, T, A> {
         ensures device_honesty { D.honest self.new.device ↔ D.honest self.old.device }
         ensures store_honesty { T.honest self.new.store ↔ T.honest self.old.store }
         ensures no_failure { OnOk result ((D.failures self.new.device ≡ D.failures self.old.device) × (T.failures self.new.store ≡ T.failures self.old.store)) }
+        ensures faults { T.honest self.old.store → HasCount (T.text self.old.store) self.old.count → IfErr result (UndoFault self.old.count) }
         ensures counts { IfErr result (λ e. FaultCounts e (D.failures self.old.device) (T.failures self.old.store) (D.failures self.new.device) (T.failures self.new.store)) }
     {
         if self.is_broken {
