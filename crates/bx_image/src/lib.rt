@@ -7,6 +7,7 @@ mod file;
 mod fuse;
 mod laws;
 mod memory;
+mod pages;
 mod record;
 mod spans;
 
@@ -17,11 +18,14 @@ pub use file::{FileImage, RandomAccess, Stop, counted, read_full, resize_to, siz
 pub use fuse::{Fuse, FuseImage, Part};
 pub use laws::{law_place, law_restore, law_runs};
 pub use memory::MemImage;
+pub use pages::PagedImage;
 pub use record::{Saved, save};
 
 #[cfg(test)]
 mod device_tests;
 #[cfg(test)]
 mod file_tests;
+#[cfg(test)]
+mod pages_tests;
 #[cfg(test)]
 mod tests;
