@@ -22,10 +22,14 @@ pub use pages::PagedImage;
 pub use record::{Saved, save};
 
 #[cfg(test)]
+mod change_tests;
+#[cfg(test)]
 mod device_tests;
 #[cfg(test)]
 mod file_tests;
 #[cfg(test)]
+mod growth_tests;
+#[cfg(test)]
 mod pages_tests;
 #[cfg(test)]
-mod tests;
+mod ration;
