@@ -1,4 +1,4 @@
-use Rattle.std.proofs.Common.{◌≡◌, ◌<◌, ◌/◌, length, arith, rules}
+use Rattle.std.proofs.Common.{◌≡◌, ◌<◌, ◌/◌, length, rules}
 use Rattle.bx_image.proofs.Paging.{written_at}
 use Rattle.bx_image.proofs.pages.write_in_one.Goals as goal
 

@@ -1,4 +1,4 @@
-use Rattle.std.proofs.Common.{◌≤◌, ◌+◌, length, arith}
+use Rattle.std.proofs.Common.{length, arith}
 use Rattle.bx_image.proofs.Images.{length-image_of}
 use Rattle.bx_image.specs.Pages.{byte_at}
 use Rattle.bx_image.proofs.Paging.{image_read}

@@ -1,4 +1,4 @@
-use Rattle.bx_image.proofs.Paging.{image_resized, zeros_resized}
+use Rattle.bx_image.proofs.Paging.{image_resized}
 use Rattle.bx_image.proofs.pages.PagedImageDevice.set_len.Goals as goal
 
 pub returns-clause-ok : goal.returns-clause-ok
