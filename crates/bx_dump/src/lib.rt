@@ -1,12 +1,14 @@
 //! Dumps of whole streams.
 #![tactic(auto)]
 
+mod folded;
 mod hexdump;
 mod od;
 mod pages;
 mod xxd_dump;
 
+pub use folded::{Dumped, Form, dump};
 pub use hexdump::hexdump_c;
 pub use od::{Address, Kind, NumForm, Size};
-pub use pages::{Dumped, Form, dump};
+pub use pages::{Pages, Part, dump_part};
 pub use xxd_dump::xxd_default;

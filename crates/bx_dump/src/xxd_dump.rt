@@ -4,7 +4,7 @@ ghost use Rattle.bx_text.specs.Dump.{default_line};
 ghost use Rattle.bx_dump.specs.Lines.{default_dump};
 ghost use Rattle.bx_dump.specs.Dumped.{DumpsAll, DumpsFront};
 
-use crate::pages::{Dumped, Form, dump};
+use crate::folded::{Dumped, Form, dump};
 use bx_text::{IoFault, put_full_line, xxd_line};
 use std::io::{Read, Write};
 

@@ -3,7 +3,7 @@ use Rattle.bx_text.specs.Fold.{lines_to, line_bytes, line_text, line_count, fold
 use Rattle.std.proofs.lemmas.List.{length-take-le, length-drop}
 use Rattle.bx_text.proofs.KnownLemmas.{take-put_mid_more}
 use Rattle.bx_dump.proofs.FoldLemmas.{lines_stay, count_is, count_all, bytes_after, taken_stay, lines_next}
-use Rattle.bx_dump.proofs.pages.put_lines.Goals as goal
+use Rattle.bx_dump.proofs.folded.put_lines.Goals as goal
 
 pub loop-k-init : goal.loop-k-init
 loop-k-init g c = record {
