@@ -110,8 +110,8 @@ part_none : (skip : ℕ) (limit : Option ℕ) (xs : List ℕ) → length xs ≤ 
 part_none skip None xs short = drop_all skip xs short
 part_none skip (Some most) xs short = ap (take most) (drop_all skip xs short) ∙ none most
   where
-  none : (n : ℕ) → take {A = ℕ} n [] ≡ []
-  none n = take_all {A = ℕ} n [] (omega arith)
+    none : (n : ℕ) → take {A = ℕ} n [] ≡ []
+    none n = take_all {A = ℕ} n [] (omega arith)
 
 last_within : (limit : Option ℕ) (n : ℕ) (r : Option (List ℕ)) → IsLast limit n r → IfSome limit (λ most. n ≤ most)
 last_within None n r p = tt

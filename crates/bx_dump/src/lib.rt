@@ -5,6 +5,7 @@ mod folded;
 mod hexdump;
 mod od;
 mod pages;
+mod xxd_cells;
 mod xxd_dump;
 
 pub use folded::{Dumped, Form, dump};
