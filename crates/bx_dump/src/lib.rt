@@ -7,9 +7,11 @@ mod od;
 mod pages;
 mod xxd_cells;
 mod xxd_dump;
+mod xxd_lines;
 
 pub use folded::{Dumped, Form, dump};
 pub use hexdump::hexdump_c;
 pub use od::{Address, Kind, NumForm, Size};
 pub use pages::{Pages, Part, dump_part};
 pub use xxd_dump::xxd_default;
+pub use xxd_lines::{LineForm, Lines};

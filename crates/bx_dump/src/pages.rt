@@ -42,7 +42,9 @@ pub trait Pages {
         ensures same { (xs : List ℕ) → written self.new xs ≡ written self.old xs }
         ensures size { block self.new ≡ block self.old };
 
-    ghost goes_on: { (p : Self) (input more : List ℕ) → Seen p input → (rest : List ℕ) × (written p (input ++ more) ≡ written p input ++ rest) };
+    /// Says that later bytes only make the text longer.
+    fn grows(&self)
+        ensures { (input more : List ℕ) → Seen self.now input → (rest : List ℕ) × (written self.now (input ++ more) ≡ written self.now input ++ rest) };
 }
 
 /// How much was dumped, and how much text was written.
@@ -122,6 +124,7 @@ fn dump_pages<R: Read, W: Write, P: Pages>(
         written: 0,
     };
     loop {
+        pages.grows();
         let want = next_len(size, limit, part.read);
         let n = match meter.fill(r, &mut block[..want]) {
             Ok(n) => n,
