@@ -6,6 +6,7 @@ mod hexdump;
 mod od;
 mod pages;
 mod xxd_cells;
+mod xxd_columns;
 mod xxd_dump;
 mod xxd_lines;
 
@@ -13,5 +14,6 @@ pub use folded::{Dumped, Form, dump};
 pub use hexdump::hexdump_c;
 pub use od::{Address, Kind, NumForm, Size};
 pub use pages::{Pages, Part, dump_part};
+pub use xxd_columns::{Columns, Digits};
 pub use xxd_dump::xxd_default;
 pub use xxd_lines::{LineForm, Lines};
