@@ -103,8 +103,8 @@ module _ (f : ℕ → List ℕ) (w g : ℕ) (even : (b : ℕ) → length (f b) �
       ap (λ n. laid_out (columns_place w g) (λ k. f (get_or xs k 0)) n width) (sym one) ∙ next
       ∙ ap (λ t. front i ++ (part ++ t)) blanks ∙ regroup (front i) part (replicate d 32) (replicate (width - columns_place w g (suc i)) 32)
     where
-    regroup : (a b c e : List ℕ) → a ++ (b ++ (c ++ e)) ≡ a ++ (b ++ c) ++ e
-    regroup a b c e = simp append_assoc
+      regroup : (a b c e : List ℕ) → a ++ (b ++ (c ++ e)) ≡ a ++ (b ++ c) ++ e
+      regroup a b c e = simp append_assoc
 
   -- within a group
   front_within : (j r : ℕ) → r < g → g * j + r ≤ length xs → front (g * j + r) ≡ front (g * j) ++ flat_map f (take r (drop (g * j) xs))
@@ -149,8 +149,8 @@ module _ (f : ℕ → List ℕ) (w g : ℕ) (even : (b : ℕ) → length (f b) �
       ∙ regroup (front (g * j)) (flat_map f (take r (drop (g * j) xs))) (f (get_or (drop (g * j) xs) r 0)) (32 ∷ [])
       ∙ ap (λ t. front (g * j) ++ (t ++ 32 ∷ [])) (sym more)
     where
-    regroup : (a b c e : List ℕ) → a ++ b ++ (c ++ e) ≡ a ++ (b ++ c ++ e)
-    regroup a b c e = simp append_assoc
+      regroup : (a b c e : List ℕ) → a ++ b ++ (c ++ e) ≡ a ++ (b ++ c ++ e)
+      regroup a b c e = simp append_assoc
 
   -- all whole groups
   front_groups : (j : ℕ) → g * j ≤ length xs → front (g * j) ≡ flat_map (piece_at (w * g) (flat_map f xs)) (range_with_len 0 j)
@@ -206,5 +206,5 @@ line_parts digits cols group at front size bytes cells address body tail field p
     ∙ ap (λ t. hex_text false 8 at ++ (codes ": " ++ t ++ codes " " ++ map shown_byte bytes ++ codes "\n")) (ap (λ n. grouped n cells field) whole ∙ ap (λ t. grouped (cell_width digits * group) t field) digits_are ∙ laid ∙ ap (λ n. columns digits group bytes n) wide)
     ∙ regroup (hex_text false 8 at) (codes ": ") (columns digits group bytes (columns_width (cell_width digits) cols group)) (codes " ") (map shown_byte bytes) (codes "\n")
   where
-  regroup : (a b c d e f : List ℕ) → a ++ (b ++ c ++ d ++ e ++ f) ≡ a ++ b ++ c ++ d ++ e ++ f
-  regroup a b c d e f = simp append_assoc
+    regroup : (a b c d e f : List ℕ) → a ++ (b ++ c ++ d ++ e ++ f) ≡ a ++ b ++ c ++ d ++ e ++ f
+    regroup a b c d e f = simp append_assoc

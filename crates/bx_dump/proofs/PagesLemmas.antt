@@ -183,3 +183,28 @@ front_behind text skip limit before r0 r1 r2 w0 w1 fault front rest =
       appended = rw same rest.appended;
       cause = rw count rest.cause;
     }
+
+-- where two texts are the same, so are the dumps
+pub part_along : (text other : List ℕ → List ℕ) (skip : ℕ) (limit : Option ℕ) (r0 r1 w0 w1 : Option (List ℕ)) (read written : ℕ) → ((xs : List ℕ) → text xs ≡ other xs) →
+    WritesPart text skip limit r0 r1 w0 w1 read written → WritesPart other skip limit r0 r1 w0 w1 read written
+part_along text other skip limit r0 r1 w0 w1 read written same d =
+    let e : other d.input ≡ text d.input = sym (same d.input) in record {
+      input = d.input;
+      consumed = d.consumed;
+      ends = d.ends;
+      dumped = d.dumped;
+      appended = rw e d.appended;
+      long = rw e d.long;
+    }
+
+pub front_along : (text other : List ℕ → List ℕ) (from before : ℕ) (r0 r1 w0 w1 : Option (List ℕ)) (fault : IoFault) → ((xs : List ℕ) → text xs ≡ other xs) →
+    WritesFrontOf text from before r0 r1 w0 w1 fault → WritesFrontOf other from before r0 r1 w0 w1 fault
+front_along text other from before r0 r1 w0 w1 fault same d =
+    let e : other d.input ≡ text d.input = sym (same d.input) in record {
+      input = d.input;
+      written = d.written;
+      consumed = d.consumed;
+      within = rw e d.within;
+      appended = rw e d.appended;
+      cause = d.cause;
+    }

@@ -9,11 +9,14 @@ mod xxd_cells;
 mod xxd_columns;
 mod xxd_dump;
 mod xxd_lines;
+mod xxd_options;
+mod xxd_rows;
 
 pub use folded::{Dumped, Form, dump};
 pub use hexdump::hexdump_c;
 pub use od::{Address, Kind, NumForm, Size};
 pub use pages::{Pages, Part, dump_part};
 pub use xxd_columns::{Columns, Digits};
-pub use xxd_dump::xxd_default;
 pub use xxd_lines::{LineForm, Lines};
+pub use xxd_options::{XxdOptions, XxdStyle};
+pub use xxd_rows::{Items, Plain};

@@ -68,7 +68,11 @@ impl Columns {
     fn groups_in(&self, len: usize) -> usize
         ensures { result ≡ len / self.now.group }
     {
-        if len == self.cols { self.whole } else { len / self.group }
+        if len == self.cols {
+            self.whole
+        } else {
+            len / self.group
+        }
     }
 }
 

@@ -1,39 +1,64 @@
-//! xxd's dump by default.
-ghost use Rattle.std.specs.Prelude.{◌≡◌, ℕ, ◌<◌, ◌≤◌, ◌^◌, List, true, take, length, IfOk, IfErr};
-ghost use Rattle.bx_text.specs.Dump.{default_line};
-ghost use Rattle.bx_dump.specs.Lines.{default_dump};
-ghost use Rattle.bx_dump.specs.Dumped.{DumpsAll, DumpsFront};
+//! xxd's dump.
+ghost use Rattle.std.specs.Prelude.{◌≡◌, ℕ, ◌+◌, ◌*◌, ◌^◌, ◌<◌, ◌≤◌, IfOk, IfErr};
+ghost use Rattle.bx_dump.specs.Lines.{in_lines};
+ghost use Rattle.bx_dump.specs.Pages.{WritesPart, WritesFrontOf, part_of};
+ghost use Rattle.bx_dump.specs.Rows.{plain_line};
+ghost use Rattle.bx_dump.specs.Styles.{group_of, xxd_text};
+ghost use Rattle.bx_dump.specs.Xxd.{columns_line};
 
-use crate::folded::{Dumped, Form, dump};
-use bx_text::{IoFault, put_full_line, xxd_line};
+use crate::pages::{Part, dump_part};
+use crate::xxd_columns::{Columns, Digits};
+use crate::xxd_lines::{LineForm, Lines};
+use crate::xxd_options::{XxdOptions, XxdStyle};
+use crate::xxd_rows::Plain;
+use bx_text::IoFault;
 use std::io::{Read, Write};
 
-/// xxd's default lines.
-pub struct DefaultLines;
-
-impl Form for DefaultLines {
-    ghost line = { λ _. default_line };
-
-    #[inline]
-    fn put(&self, page: &mut [u8], at: u64, bytes: &[u8]) -> usize {
-        if at < 1 << 32
-            && let Some(full) = bytes.first_chunk::<16>()
-        {
-            let (line, _) = page.split_at_mut(68);
-            put_full_line(line, at as u32, full);
-            return 68;
-        }
-        let line = xxd_line(at, bytes);
-        let text = line.as_bytes();
-        page[..text.len()].copy_from_slice(text);
-        text.len()
-    }
+/// Writes lines of a form, the first of them for an address, after `before` bytes that were written.
+pub fn dump_lines<R: Read, W: Write, F: LineForm + Drop>(
+    r: &mut R,
+    w: &mut W,
+    form: F,
+    start: u64,
+    o: &XxdOptions,
+    before: u64,
+) -> Result<Part, IoFault>
+    requires start { start ≤ 2 ^ 63 }
+    requires before { before ≤ 2 ^ 63 }
+    ensures ok { IfOk result (λ part. WritesPart (λ input. in_lines (F.line form) (F.cols form) start (part_of o.now.seek o.now.limit input)) o.now.seek o.now.limit (R.remaining r.old) (R.remaining r.new) (W.contents w.old) (W.contents w.new) part.read part.written) }
+    ensures err { IfErr result (WritesFrontOf (λ input. in_lines (F.line form) (F.cols form) start (part_of o.now.seek o.now.limit input)) 0 before (R.remaining r.old) (R.remaining r.new) (W.contents w.old) (W.contents w.new)) }
+    ensures few { IfOk result (λ part. part.written ≤ 2 ^ 60) }
+{
+    let mut lines = Lines::new(form, start);
+    dump_part(r, w, &mut lines, o.seek, o.limit, before)
 }
 
-/// Writes the dump of all that the reader gives.
-pub fn xxd_default<R: Read, W: Write>(r: &mut R, w: &mut W) -> Result<Dumped, IoFault>
-    ensures ok { IfOk result (λ d. DumpsAll default_dump (R.remaining r.old) (R.remaining r.new) (W.contents w.old) (W.contents w.new) d.read d.written) }
-    ensures err { IfErr result (DumpsFront default_dump (R.remaining r.old) (R.remaining r.new) (W.contents w.old) (W.contents w.new)) }
+/// Writes lines with columns of digits.
+fn dump_columns<R: Read, W: Write>(
+    r: &mut R,
+    w: &mut W,
+    digits: Digits,
+    o: &XxdOptions,
+) -> Result<Part, IoFault>
+    requires some { 0 < o.now.cols }
+    requires few { o.now.cols ≤ 256 }
+    requires groups { o.now.group ≤ 256 }
+    requires seek { o.now.seek ≤ 2 ^ 62 }
+    requires shift { o.now.shift ≤ 2 ^ 62 }
+    ensures ok { IfOk result (λ part. WritesPart (λ input. in_lines (columns_line digits o.now.cols (group_of o.now.cols o.now.group)) o.now.cols (o.now.seek + o.now.shift) (part_of o.now.seek o.now.limit input)) o.now.seek o.now.limit (R.remaining r.old) (R.remaining r.new) (W.contents w.old) (W.contents w.new) part.read part.written) }
+    ensures err { IfErr result (WritesFrontOf (λ input. in_lines (columns_line digits o.now.cols (group_of o.now.cols o.now.group)) o.now.cols (o.now.seek + o.now.shift) (part_of o.now.seek o.now.limit input)) 0 0 (R.remaining r.old) (R.remaining r.new) (W.contents w.old) (W.contents w.new)) }
 {
-    dump(r, w, &DefaultLines, true, 0)
+    let group = if o.group == 0 { o.cols } else { o.group };
+    let form = Columns::new(digits, o.cols as usize, group as usize);
+    dump_lines(r, w, form, o.seek + o.shift, o, 0)
+}
+
+/// Writes lines of plain digits.
+fn dump_plain<R: Read, W: Write>(r: &mut R, w: &mut W, o: &XxdOptions) -> Result<Part, IoFault>
+    requires some { 0 < o.now.cols }
+    requires few { o.now.cols ≤ 256 }
+    ensures ok { IfOk result (λ part. WritesPart (λ input. in_lines (plain_line o.now.upper) o.now.cols 0 (part_of o.now.seek o.now.limit input)) o.now.seek o.now.limit (R.remaining r.old) (R.remaining r.new) (W.contents w.old) (W.contents w.new) part.read part.written) }
+    ensures err { IfErr result (WritesFrontOf (λ input. in_lines (plain_line o.now.upper) o.now.cols 0 (part_of o.now.seek o.now.limit input)) 0 0 (R.remaining r.old) (R.remaining r.new) (W.contents w.old) (W.contents w.new)) }
+{
+    dump_lines(r, w, Plain::new(o.cols as usize, o.upper), 0, o, 0)
 }

@@ -51,6 +51,7 @@ pub trait LineForm {
         requires some { 0 < length bytes.now }
         requires fits { length bytes.now ≤ cols self.now }
         requires cells { cells.now ≡ flat_map (cell self.now) bytes.now }
+        requires long { length cells.now ≡ width self.now * length bytes.now }
         ensures most { result ≤ room self.now }
         ensures text { take result text.new ≡ line self.now at bytes.now };
 
@@ -72,7 +73,7 @@ fn put_next<F: LineForm>(
     requires room { F.room form.now ≤ length text.old }
     requires inside { begin < length bytes.now }
     requires few { length bytes.now ≤ 16384 }
-    requires address { at ≤ 2 ^ 63 }
+    requires address { at ≤ 2 ^ 63 + 2 ^ 40 }
     requires cells { cells.now ≡ flat_map (F.cell form.now) bytes.now }
     ensures most { result ≤ F.room form.now }
     ensures text { take result text.new ≡ F.line form.now (at + begin) (take (min (begin + F.cols form.now) (length bytes.now) - begin) (drop begin bytes.now)) }
@@ -89,7 +90,7 @@ fn put_lines<F: LineForm>(form: &F, text: &mut [u8], at: u64, bytes: &[u8], cell
     requires room { F.room form.now * ((length bytes.now + F.cols form.now - 1) / F.cols form.now) ≤ length text.old }
     requires small { length text.old ≤ 65536 }
     requires few { length bytes.now ≤ 16384 }
-    requires address { at ≤ 2 ^ 63 }
+    requires address { at ≤ 2 ^ 63 + 2 ^ 40 }
     requires cells { cells.now ≡ flat_map (F.cell form.now) bytes.now }
     ensures within { result ≤ length text.old }
     ensures text { take result text.new ≡ in_lines (F.line form.now) (F.cols form.now) at bytes.now }
@@ -109,7 +110,7 @@ pub struct Lines<F: LineForm> {
     form: F,
     start: u64,
     lines: usize,
-    ghost low: { start ≤ 2 ^ 63 - 2 ^ 41 },
+    ghost low: { start ≤ 2 ^ 63 },
     ghost broad: { 0 < F.cols form },
     ghost some: { 0 < lines },
     ghost few: { F.cols form * lines ≤ 16384 },
@@ -120,7 +121,7 @@ pub struct Lines<F: LineForm> {
 impl<F: LineForm> Lines<F> {
     /// As many lines at once as there is room for.
     pub fn new(form: F, start: u64) -> Self
-        requires { start ≤ 2 ^ 63 - 2 ^ 41 }
+        requires { start ≤ 2 ^ 63 }
         ensures form { result.form ≡ form }
         ensures start { result.start ≡ start }
     {

@@ -26,3 +26,8 @@ put_line-requires-clause-cells g c =
     let total : c.args.begin + size ≡ c.min-end.result = omega arith in
     let many : w * c.min-end.result - w * c.args.begin ≡ w * size = omega (arith, ap (λ n. w * n) total) in
     ap (λ t. take (w * c.min-end.result - w * c.args.begin) (drop (w * c.args.begin) t)) c.requires.cells ∙ cells_part f w even c.args.begin size (w * c.min-end.result - w * c.args.begin) bytes many
+
+pub put_line-requires-clause-long : goal.put_line-requires-clause-long
+put_line-requires-clause-long g c =
+    let chunk = take (c.min-end.result - c.args.begin) (drop c.args.begin c.args.bytes.now) in
+    ap length (put_line-requires-clause-cells g c) ∙ cells_len (g.F.LineForm.cell c.args.form.now) (g.F.LineForm.width c.args.form.now) c.even.ensures chunk
