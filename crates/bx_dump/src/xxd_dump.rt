@@ -33,6 +33,22 @@ pub fn dump_lines<R: Read, W: Write, F: LineForm + Drop>(
     dump_part(r, w, &mut lines, o.seek, o.limit, before)
 }
 
+/// The bytes of a group.
+fn group_len(o: &XxdOptions) -> usize
+    requires some { 0 < o.now.cols }
+    requires few { o.now.cols ≤ 256 }
+    requires groups { o.now.group ≤ 256 }
+    ensures value { result ≡ group_of o.now.cols o.now.group }
+    ensures some { 0 < result }
+    ensures most { result ≤ 256 }
+{
+    if o.group == 0 {
+        o.cols as usize
+    } else {
+        o.group as usize
+    }
+}
+
 /// Writes lines with columns of digits.
 fn dump_columns<R: Read, W: Write>(
     r: &mut R,
@@ -48,8 +64,8 @@ fn dump_columns<R: Read, W: Write>(
     ensures ok { IfOk result (λ part. WritesPart (λ input. in_lines (columns_line digits o.now.cols (group_of o.now.cols o.now.group)) o.now.cols (o.now.seek + o.now.shift) (part_of o.now.seek o.now.limit input)) o.now.seek o.now.limit (R.remaining r.old) (R.remaining r.new) (W.contents w.old) (W.contents w.new) part.read part.written) }
     ensures err { IfErr result (WritesFrontOf (λ input. in_lines (columns_line digits o.now.cols (group_of o.now.cols o.now.group)) o.now.cols (o.now.seek + o.now.shift) (part_of o.now.seek o.now.limit input)) 0 0 (R.remaining r.old) (R.remaining r.new) (W.contents w.old) (W.contents w.new)) }
 {
-    let group = if o.group == 0 { o.cols } else { o.group };
-    let form = Columns::new(digits, o.cols as usize, group as usize);
+    let group = group_len(o);
+    let form = Columns::new(digits, o.cols as usize, group);
     dump_lines(r, w, form, o.seek + o.shift, o, 0)
 }
 
