@@ -1,10 +1,9 @@
 // Changes to images.
 ghost use Rattle.std.specs.Prelude.{◌≡◌, ◌↔◌, ◌+◌, ◌<◌, ◌≤◌, [], List, ℕ, length, IfOk, IsOk, OnOk, OnErr, is_err};
-ghost use Rattle.bx_image.specs.Change.{effect, Fits, KeepsUntouched};
+ghost use Rattle.bx_image.specs.Change.{effect, saved, restore, Restores, AllWithin, Covers, IsAsGood, Fits, KeepsUntouched};
 ghost use Rattle.bx_image.specs.Device.{GoesOn};
 ghost use Rattle.bx_image.specs.Image.{end_of};
-ghost use Rattle.bx_image.specs.Record.{saved, restore};
-ghost use Rattle.bx_image.specs.declared.change.Change.{Change};
+ghost use Rattle.bx_image.specs.declared.record.Saved.{Saved};
 
 use crate::{Device, DeviceFailed, TooLarge};
 use bx_text::{Piece, Pieces};
@@ -25,6 +24,7 @@ pub fn check<A: Allocator>(change: &Change<A>, len: u64) -> Result<u64, TooLarge
     ensures exact { IsOk result ↔ Fits change.now len MAX_LEN }
     ensures len { (x : List ℕ) → length x ≡ len → IfOk result (λ n. n ≡ length (effect change.now x)) }
     ensures reach { IfOk result (λ n. length (effect change.now []) ≤ n) }
+    ensures bound { IfOk result (λ n. n ≤ MAX_LEN) }
 {
     let mut longest = change.base.unwrap_or(len);
     if len > MAX_LEN || longest > MAX_LEN {
@@ -61,6 +61,9 @@ pub fn apply<D: Device, A: Allocator>(
     requires room { length (effect change.now []) ≤ D.room device.old }
     ensures ok { D.honest device.old → OnOk result (D.image device.new ≡ effect change.now (D.image device.old)) }
     ensures failed { D.honest device.old → OnErr result (KeepsUntouched change.now (D.image device.old) (D.image device.new)) }
+    ensures taken_back { D.honest device.old → IsAsGood (saved change.now (D.image device.old)) (D.image device.old) (D.image device.new) }
+    ensures restores { D.honest device.old → (s : Saved A) → Restores change.now s → AllWithin s.len s.runs → OnOk result (D.image device.new ≡ restore s (D.image device.old)) }
+    ensures again { D.honest device.old → (s : Saved A) → Restores change.now s → Covers s (D.image device.old) → IsAsGood s (D.image device.old) (D.image device.new) }
     ensures goes_on { GoesOn D.honest D.room D.failures (is_err result) device.old device.new }
 {
     if let Some(n) = change.base {

@@ -8,15 +8,20 @@ mod fuse;
 mod laws;
 mod memory;
 mod record;
+mod spans;
 
-pub use change::{Change, MAX_LEN, apply, check};
 pub use bx_text::NoMemory;
+pub use change::{Change, MAX_LEN, apply, check};
 pub use device::{Device, DeviceFailed, ImageFault, TooLarge};
-pub use file::FileImage;
-pub use fuse::{FuseImage, Part};
-pub use laws::{law_place, law_restore};
+pub use file::{FileImage, RandomAccess, Stop, counted, read_full, resize_to, size_of, write_full};
+pub use fuse::{Fuse, FuseImage, Part};
+pub use laws::{law_place, law_restore, law_runs};
 pub use memory::MemImage;
 pub use record::{Saved, save};
 
+#[cfg(test)]
+mod device_tests;
+#[cfg(test)]
+mod file_tests;
 #[cfg(test)]
 mod tests;

@@ -2,14 +2,18 @@
 #![tactic(auto)]
 
 mod fault;
+mod file;
+mod fuse;
 mod memory;
 mod store;
 
 pub use bx_image::DeviceFailed;
 pub use bx_text::NoMemory;
 pub use fault::TextFault;
+pub use file::FileText;
+pub use fuse::FuseText;
 pub use memory::MemText;
-pub use store::TextStore;
+pub use store::{MOST, TextStore};
 
 #[cfg(test)]
 mod tests;

@@ -1,7 +1,7 @@
 //! A text in memory.
 ghost use Rattle.std.specs.Prelude.{◌≡◌, [], vec_capacity};
 
-use crate::{DeviceFailed, NoMemory, TextFault, TextStore};
+use crate::{DeviceFailed, MOST, NoMemory, TextFault, TextStore};
 use std::alloc::{Allocator, Global};
 
 /// A text in memory: it is always honest and never fails.
@@ -9,9 +9,6 @@ use std::alloc::{Allocator, Global};
 pub struct MemText<A: Allocator = Global> {
     bytes: Vec<u8, A>,
 }
-
-// No store makes room for more.
-const MOST: u64 = 1 << 62;
 
 impl<A: Allocator> MemText<A> {
     ghost use Rattle.bx_store.specs.Memory.{memory_text};

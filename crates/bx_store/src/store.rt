@@ -6,6 +6,9 @@ ghost use Rattle.bx_store.specs.Store.{IsPartlyAppended, IsPartlyCut, has_failed
 use crate::{DeviceFailed, NoMemory, TextFault};
 use std::alloc::Allocator;
 
+/// No store makes room for a longer text.
+pub const MOST: u64 = 1 << 62;
+
 /// A text in bytes. What an honest store promises is said of its `text`; the rest holds of every store.
 pub trait TextStore {
     /// The text that an honest store has.

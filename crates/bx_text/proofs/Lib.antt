@@ -3,3 +3,4 @@ pub mod KnownLemmas
 pub mod FixedLemmas
 pub mod PartsLemmas
 pub mod PiecesLemmas
+pub mod NumberLemmas

@@ -6,3 +6,5 @@ pub mod Writing
 pub mod Fold
 pub mod Lending
 pub mod InPieces
+pub mod Number
+pub mod Capped

@@ -1,0 +1,47 @@
+-- The faults of all crates, with their numbers.
+use Rattle.std.specs.Prelude.{ℕ}
+use Rattle.bx_cli.specs.declared.fault.Fault.{Fault}
+use Rattle.bx_cli.specs.declared.fault.Fault.TheVariants.{NoMemory, ReadFailed, WriteFailed, InputTooLong, SkipPastEnd, BadAddress, MissingColon, BadPair, NoData, TooWide, AddressTooLarge, OddDigits, UnknownOperand, BadNumber, NumberTooLarge, ZeroSize, Conflict, MissingCbs, Repeated, SeekWithoutOutput, TooLarge, DeviceFailed, Damaged, TooFew, JournalFull, Interrupted, Broken, LengthDiffers, Usage, OpenFailed}
+use Rattle.bx_text.specs.declared.fault.IoFault.{IoFault}
+use Rattle.bx_text.specs.declared.fault.IoFault.TheVariants.{NoMemory as IoNoMemory, ReadFailed as IoReadFailed, WriteFailed as IoWriteFailed, InputTooLong as IoInputTooLong, SkipPastEnd as IoSkipPastEnd}
+
+-- the number of a fault
+abbrev pub number_of : Fault → ℕ
+number_of NoMemory = 1
+number_of ReadFailed = 2
+number_of (WriteFailed _) = 3
+number_of InputTooLong = 4
+number_of SkipPastEnd = 5
+number_of (BadAddress _) = 10
+number_of (MissingColon _) = 11
+number_of (BadPair _) = 12
+number_of (NoData _) = 13
+number_of (TooWide _) = 14
+number_of (AddressTooLarge _) = 15
+number_of (OddDigits _) = 16
+number_of (UnknownOperand _) = 20
+number_of (BadNumber _) = 21
+number_of (NumberTooLarge _) = 22
+number_of (ZeroSize _) = 23
+number_of Conflict = 24
+number_of MissingCbs = 25
+number_of (Repeated _) = 26
+number_of SeekWithoutOutput = 27
+number_of TooLarge = 30
+number_of DeviceFailed = 31
+number_of (Damaged _) = 40
+number_of (TooFew _) = 41
+number_of JournalFull = 42
+number_of Interrupted = 43
+number_of Broken = 44
+number_of (LengthDiffers _) = 45
+number_of Usage = 50
+number_of OpenFailed = 51
+
+-- the same fault, among those of all crates
+abbrev pub of_io : IoFault → Fault
+of_io IoNoMemory = NoMemory
+of_io IoReadFailed = ReadFailed
+of_io (IoWriteFailed n) = WriteFailed n
+of_io IoInputTooLong = InputTooLong
+of_io IoSkipPastEnd = SkipPastEnd

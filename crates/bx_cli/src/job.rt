@@ -1,0 +1,144 @@
+//! What a command line asks for.
+ghost use Rattle.std.specs.Prelude.{◌≡◌, ◌≤◌, ◌^◌};
+
+use bx_text::Name;
+
+/// How addresses are shown.
+#[derive(Clone, Copy, Debug, PartialEq, Eq)]
+pub enum Radix {
+    Octal,
+    Decimal,
+    Hexadecimal,
+    Without,
+}
+
+/// How a number is shown.
+#[derive(Clone, Copy, Debug, PartialEq, Eq)]
+pub enum NumForm {
+    Signed,
+    Octal,
+    Unsigned,
+    Hexadecimal,
+}
+
+/// How many bytes a number has.
+#[derive(Clone, Copy, Debug, PartialEq, Eq)]
+pub enum Size {
+    One,
+    Two,
+    Four,
+    Eight,
+}
+
+/// What `od` shows of the bytes.
+#[derive(Clone, Copy, Debug, PartialEq, Eq)]
+pub enum OdKind {
+    Chars,
+    Number { form: NumForm, size: Size },
+}
+
+/// The style of an `xxd` dump.
+#[derive(Clone, Copy, Debug, PartialEq, Eq)]
+pub enum XxdLook {
+    Normal,
+    Plain,
+    Bits,
+    Include,
+}
+
+/// `od`: how and what it dumps.
+#[derive(Drop)]
+pub struct OdJob {
+    pub address: Radix,
+    pub kind: OdKind,
+    pub skip: u64,
+    pub limit: Option<u64>,
+    pub all: bool,
+    pub file: Option<Name>,
+    ghost skips_little: { skip ≤ 2 ^ 62 },
+}
+
+/// `xxd`: how and what it dumps.
+#[derive(Drop)]
+pub struct XxdJob {
+    pub look: XxdLook,
+    pub cols: u16,
+    pub group: u16,
+    pub limit: Option<u64>,
+    pub seek: u64,
+    pub shift: u64,
+    pub upper: bool,
+    pub file: Option<Name>,
+    ghost has_a_column: { 1 ≤ cols },
+    ghost few_columns: { cols ≤ 256 },
+    ghost small_groups: { group ≤ 256 },
+    ghost seeks_little: { seek ≤ 2 ^ 62 },
+    ghost shifts_little: { shift ≤ 2 ^ 62 },
+}
+
+/// `hexdump -C`: what it dumps.
+#[derive(Drop)]
+pub struct HexdumpJob {
+    pub skip: u64,
+    pub limit: Option<u64>,
+    pub all: bool,
+    pub file: Option<Name>,
+    ghost skips_little: { skip ≤ 2 ^ 62 },
+}
+
+/// `strings`: which runs it shows, and how.
+#[derive(Drop)]
+pub struct StringsJob {
+    pub least: u16,
+    pub offsets: Radix,
+    pub file: Option<Name>,
+    ghost some: { 1 ≤ least },
+    ghost short: { least ≤ 4096 },
+}
+
+/// `revert`: the dump, and the image and journal that it is written onto. `at` is added to the addresses, or with `plain` the place of the first byte.
+#[derive(Drop)]
+pub struct RevertJob {
+    pub dump: Option<Name>,
+    pub plain: bool,
+    pub at: u64,
+    pub image: Name,
+    pub journal: Name,
+    ghost near: { at ≤ 2 ^ 62 },
+}
+
+/// One variant for each subcommand.
+#[derive(Drop)]
+pub enum Job {
+    Od(OdJob),
+    Xxd(XxdJob),
+    Hexdump(HexdumpJob),
+    Strings(StringsJob),
+    Revert(RevertJob),
+    Undo {
+        count: u32,
+        image: Name,
+        journal: Name,
+    },
+    Log {
+        image: Name,
+        journal: Name,
+    },
+    Help {
+        text: Name,
+    },
+}
+
+impl Job {
+    ghost use Rattle.bx_cli.specs.Job.{is_dump};
+
+    /// Whether the job only reads one input and writes one output.
+    pub fn is_dump(&self) -> bool
+        ensures { result ≡ is_dump self.now }
+    {
+        match self {
+            Job::Od(_) | Job::Xxd(_) | Job::Hexdump(_) | Job::Strings(_) => true,
+            _ => false,
+        }
+    }
+}

@@ -1,0 +1,278 @@
+//! From words to a job.
+ghost use Rattle.std.specs.Prelude.{◌≤◌, ◌^◌, IfOk, IfSome};
+
+use crate::commands::program;
+use crate::fault::Fault;
+use crate::job::{
+    HexdumpJob, Job, NumForm, OdJob, OdKind, Radix, RevertJob, Size, StringsJob, XxdJob, XxdLook,
+};
+use crate::number::{NumberStyle, read_number};
+use bx_text::{Name, Words};
+use clap::error::ErrorKind;
+use clap::{ArgMatches, Error};
+use std::alloc::Global;
+
+const MOST_COLUMNS: u64 = 256;
+
+const MOST_LEAST: u64 = 4096;
+
+const MOST_STEPS: u64 = 65_535;
+
+/// The job that the words ask for; the words are those behind the program's name.
+pub fn plan_words(alloc: Global, words: &Words) -> Result<Job, Fault> {
+    let mut texts = Vec::new(alloc);
+    texts.push("bx").map_err(|_| Fault::NoMemory)?;
+    for i in 0..words.len() {
+        if let Some(word) = words.get(i) {
+            texts.push(word).map_err(|_| Fault::NoMemory)?;
+        }
+    }
+    let command = program(alloc)?;
+    let matches = match command.try_get_matches_from(texts.as_slice()) {
+        Ok(matches) => matches,
+        Err(error) => return refused(alloc, error),
+    };
+    match matches.subcommand() {
+        Some((name, inner)) => job_of(alloc, name, inner),
+        None => Err(Fault::Usage),
+    }
+}
+
+// Words that ask for help are no mistake.
+fn refused(alloc: Global, error: Error) -> Result<Job, Fault> {
+    match error.kind() {
+        ErrorKind::DisplayHelp | ErrorKind::DisplayVersion => {
+            let text = error.to_string(alloc)?;
+            Ok(Job::Help {
+                text: Name::from_string(text),
+            })
+        }
+        ErrorKind::OutOfMemory => Err(Fault::NoMemory),
+        _ => Err(Fault::Usage),
+    }
+}
+
+fn job_of(alloc: Global, name: &str, inner: &ArgMatches<'_>) -> Result<Job, Fault> {
+    match name {
+        "od" => od(alloc, inner),
+        "xxd" => xxd(alloc, inner),
+        "hexdump" => hexdump(alloc, inner),
+        "strings" => strings(alloc, inner),
+        "revert" => revert(alloc, inner),
+        "undo" => undo(alloc, inner),
+        "log" => log(alloc, inner),
+        _ => Err(Fault::Usage),
+    }
+}
+
+fn number(m: &ArgMatches<'_>, id: &str, style: NumberStyle) -> Result<Option<u64>, Fault>
+    ensures { IfOk result (λ o. IfSome o (λ n. n ≤ 2 ^ 62)) }
+{
+    match m.get_str(id) {
+        None => Ok(None),
+        Some(text) => match read_number(text.as_bytes(), style) {
+            Some(n) => Ok(Some(n)),
+            None => Err(Fault::Usage),
+        },
+    }
+}
+
+fn number_or(m: &ArgMatches<'_>, id: &str, style: NumberStyle, default: u64) -> Result<u64, Fault>
+    requires { default ≤ 2 ^ 62 }
+    ensures { IfOk result (λ n. n ≤ 2 ^ 62) }
+{
+    match number(m, id, style)? {
+        Some(n) => Ok(n),
+        None => Ok(default),
+    }
+}
+
+// A number of decimal digits alone.
+fn count_or(m: &ArgMatches<'_>, id: &str, default: u64, most: u64) -> Result<u64, Fault>
+    requires { default ≤ most }
+    ensures { IfOk result (λ n. n ≤ most) }
+{
+    let Some(text) = m.get_str(id) else {
+        return Ok(default);
+    };
+    if text.is_empty() || !text.bytes().all(|b| b.is_ascii_digit()) {
+        return Err(Fault::Usage);
+    }
+    match text.parse::<u64>() {
+        Ok(n) if n <= most => Ok(n),
+        _ => Err(Fault::Usage),
+    }
+}
+
+fn name_of(alloc: Global, text: &str) -> Result<Name, Fault> {
+    Ok(Name::from_string(String::from_str(alloc, text)?))
+}
+
+fn name(alloc: Global, m: &ArgMatches<'_>, id: &str) -> Result<Option<Name>, Fault> {
+    match m.get_str(id) {
+        None => Ok(None),
+        Some(text) => Ok(Some(name_of(alloc, text)?)),
+    }
+}
+
+// The image and its journal, which are two files.
+fn pair(alloc: Global, m: &ArgMatches<'_>) -> Result<(Name, Name), Fault> {
+    let Some(image) = m.get_str("image") else {
+        return Err(Fault::Usage);
+    };
+    let journal = match m.get_str("journal") {
+        Some(journal) => String::from_str(alloc, journal)?,
+        None => format!(in alloc; "{image}.bxj")?,
+    };
+    if journal.as_str() == image {
+        return Err(Fault::Usage);
+    }
+    Ok((name_of(alloc, image)?, Name::from_string(journal)))
+}
+
+fn radix(text: Option<&str>, none: Radix, with_n: bool) -> Result<Radix, Fault> {
+    match text {
+        None => Ok(none),
+        Some("d") => Ok(Radix::Decimal),
+        Some("o") => Ok(Radix::Octal),
+        Some("x") => Ok(Radix::Hexadecimal),
+        Some("n") if with_n => Ok(Radix::Without),
+        Some(_) => Err(Fault::Usage),
+    }
+}
+
+fn kind_word(text: &str) -> Result<OdKind, Fault> {
+    let (form, size) = match text.as_bytes() {
+        [b'c'] => return Ok(OdKind::Chars),
+        [form, size] => (*form, *size),
+        _ => return Err(Fault::Usage),
+    };
+    let form = match form {
+        b'd' => NumForm::Signed,
+        b'o' => NumForm::Octal,
+        b'u' => NumForm::Unsigned,
+        b'x' => NumForm::Hexadecimal,
+        _ => return Err(Fault::Usage),
+    };
+    let size = match size {
+        b'1' => Size::One,
+        b'2' => Size::Two,
+        b'4' => Size::Four,
+        b'8' => Size::Eight,
+        _ => return Err(Fault::Usage),
+    };
+    Ok(OdKind::Number { form, size })
+}
+
+fn kind(m: &ArgMatches<'_>) -> Result<OdKind, Fault> {
+    if let Some(text) = m.get_str("kind") {
+        return kind_word(text);
+    }
+    for short in ["o1", "u2", "o2", "d2", "x2"] {
+        if m.get_flag(short) {
+            return kind_word(short);
+        }
+    }
+    if m.get_flag("chars") {
+        return Ok(OdKind::Chars);
+    }
+    kind_word("o2")
+}
+
+fn od(alloc: Global, m: &ArgMatches<'_>) -> Result<Job, Fault> {
+    Ok(Job::Od(OdJob {
+        address: radix(m.get_str("radix"), Radix::Octal, true)?,
+        kind: kind(m)?,
+        skip: number_or(m, "skip", NumberStyle::Count, 0)?,
+        limit: number(m, "limit", NumberStyle::Count)?,
+        all: m.get_flag("all"),
+        file: name(alloc, m, "file")?,
+    }))
+}
+
+fn columns(m: &ArgMatches<'_>, default: u64) -> Result<u16, Fault>
+    requires least { 1 ≤ default }
+    requires most { default ≤ 256 }
+    ensures { IfOk result (λ n. (1 ≤ n) × (n ≤ 256)) }
+{
+    match number_or(m, "cols", NumberStyle::Bare, default)? {
+        n @ 1..=MOST_COLUMNS => Ok(n as u16),
+        _ => Err(Fault::Usage),
+    }
+}
+
+fn xxd(alloc: Global, m: &ArgMatches<'_>) -> Result<Job, Fault> {
+    let (look, cols, group) = if m.get_flag("plain") {
+        (XxdLook::Plain, 30, 2)
+    } else if m.get_flag("bits") {
+        (XxdLook::Bits, 6, 1)
+    } else if m.get_flag("include") {
+        (XxdLook::Include, 12, 2)
+    } else {
+        (XxdLook::Normal, 16, 2)
+    };
+    let cols = columns(m, cols)?;
+    let group = number_or(m, "group", NumberStyle::Bare, group)?.min(MOST_COLUMNS) as u16;
+    Ok(Job::Xxd(XxdJob {
+        look,
+        cols,
+        group,
+        limit: number(m, "limit", NumberStyle::Bare)?,
+        seek: number_or(m, "seek", NumberStyle::Bare, 0)?,
+        shift: number_or(m, "shift", NumberStyle::Bare, 0)?,
+        upper: m.get_flag("upper"),
+        file: name(alloc, m, "file")?,
+    }))
+}
+
+// The canonical form has to be asked for: there is no other.
+fn hexdump(alloc: Global, m: &ArgMatches<'_>) -> Result<Job, Fault> {
+    if !m.get_flag("canonical") {
+        return Err(Fault::Usage);
+    }
+    Ok(Job::Hexdump(HexdumpJob {
+        skip: number_or(m, "skip", NumberStyle::Count, 0)?,
+        limit: number(m, "limit", NumberStyle::Count)?,
+        all: m.get_flag("all"),
+        file: name(alloc, m, "file")?,
+    }))
+}
+
+fn strings(alloc: Global, m: &ArgMatches<'_>) -> Result<Job, Fault> {
+    let least = count_or(m, "least", 4, MOST_LEAST)? as u16;
+    if least == 0 {
+        return Err(Fault::Usage);
+    }
+    Ok(Job::Strings(StringsJob {
+        least,
+        offsets: radix(m.get_str("offsets"), Radix::Without, false)?,
+        file: name(alloc, m, "file")?,
+    }))
+}
+
+fn revert(alloc: Global, m: &ArgMatches<'_>) -> Result<Job, Fault> {
+    let at = number_or(m, "offset", NumberStyle::Bare, 0)?;
+    let (image, journal) = pair(alloc, m)?;
+    Ok(Job::Revert(RevertJob {
+        dump: name(alloc, m, "dump")?,
+        plain: m.get_flag("plain"),
+        at,
+        image,
+        journal,
+    }))
+}
+
+fn undo(alloc: Global, m: &ArgMatches<'_>) -> Result<Job, Fault> {
+    let count = count_or(m, "count", 1, MOST_STEPS)? as u32;
+    let (image, journal) = pair(alloc, m)?;
+    Ok(Job::Undo {
+        count,
+        image,
+        journal,
+    })
+}
+
+fn log(alloc: Global, m: &ArgMatches<'_>) -> Result<Job, Fault> {
+    let (image, journal) = pair(alloc, m)?;
+    Ok(Job::Log { image, journal })
+}

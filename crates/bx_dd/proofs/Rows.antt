@@ -1,0 +1,46 @@
+-- Rows that are computed.
+use Rattle.std.specs.Prelude.{◌≡◌, true, false, None, Some, [], ◌∷◌, ◌++◌, refl, codes}
+use Rattle.bx_text.specs.InPieces.{in_pieces}
+use Rattle.bx_dd.specs.declared.form.Letters.TheVariants.{Keep, Upper}
+use Rattle.bx_dd.specs.declared.form.Shape.TheVariants.{Flat, Block, Unblock}
+use Rattle.bx_dd.specs.Output.{selected, converted, cut_records, joined, block_of, swapped, padded, records, fitted, line_of, shaped}
+
+swab_odd_block : converted (record { ibs = 3; obs = 512; cbs = 0; swab = true; sync = false; letters = Keep; shape = Flat }) (codes "ABCDEF") ≡ codes "BACEDF"
+unfolding joined in_pieces block_of swapped shaped
+swab_odd_block = refl
+
+block_row : converted (record { ibs = 512; obs = 512; cbs = 4; swab = false; sync = false; letters = Keep; shape = Block }) (codes "ab\nlongline\n") ≡ codes "ab  long"
+unfolding joined in_pieces block_of swapped shaped padded records fitted
+block_row = refl
+
+block_cut : cut_records Block 4 (codes "ab\nlongline\n") ≡ 1
+unfolding cut_records records
+block_cut = refl
+
+unblock_row : converted (record { ibs = 512; obs = 512; cbs = 4; swab = false; sync = false; letters = Keep; shape = Unblock }) (codes "ab  cd") ≡ codes "ab\ncd\n"
+unfolding joined in_pieces block_of swapped shaped line_of
+unblock_row = refl
+
+sync_row : converted (record { ibs = 4; obs = 512; cbs = 0; swab = false; sync = true; letters = Keep; shape = Flat }) (codes "abcde") ≡ codes "abcde" ++ 0 ∷ 0 ∷ 0 ∷ []
+unfolding joined in_pieces block_of swapped shaped padded
+sync_row = refl
+
+skip_count_row : converted (record { ibs = 2; obs = 2; cbs = 0; swab = false; sync = false; letters = Upper; shape = Flat }) (selected 2 1 (Some 1) (codes "abcdef")) ≡ codes "CD"
+unfolding joined in_pieces block_of swapped shaped padded
+skip_count_row = refl
+
+skip_past_end : converted (record { ibs = 512; obs = 512; cbs = 0; swab = false; sync = false; letters = Keep; shape = Flat }) (selected 512 9 None (codes "abc")) ≡ []
+unfolding joined in_pieces block_of swapped shaped padded
+skip_past_end = refl
+
+count_zero : converted (record { ibs = 512; obs = 512; cbs = 0; swab = false; sync = false; letters = Keep; shape = Flat }) (selected 512 0 (Some 0) (codes "abc")) ≡ []
+unfolding joined in_pieces block_of swapped shaped padded
+count_zero = refl
+
+sync_block_row : converted (record { ibs = 4; obs = 512; cbs = 2; swab = false; sync = true; letters = Keep; shape = Block }) (codes "a\nb") ≡ codes "a b "
+unfolding joined in_pieces block_of swapped shaped padded records fitted
+sync_block_row = refl
+
+by_blocks : converted (record { ibs = 3; obs = 512; cbs = 4; swab = false; sync = false; letters = Upper; shape = Block }) (codes "ab\nlongline\n") ≡ codes "AB  LONG"
+unfolding joined in_pieces block_of swapped shaped padded records fitted
+by_blocks = refl

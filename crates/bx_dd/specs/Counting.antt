@@ -1,0 +1,31 @@
+-- What dd counts.
+use Rattle.std.specs.Prelude.{ℕ, ◌/◌, ◌%◌, min, ◌==◌, if◌then◌else◌, List, [], ◌++◌, length, codes}
+use Rattle.std.specs.Fmt.{decimal}
+use Rattle.bx_dd.specs.declared.form.Form.{Form}
+use Rattle.bx_dd.specs.declared.counts.Counts.{Counts}
+use Rattle.bx_dd.specs.Output.{converted, cut_records, joined}
+
+-- 1 where a rest is left after whole pieces, else 0
+abbrev pub parts_in : ℕ → ℕ → ℕ
+parts_in size n = min (n % size) 1
+
+-- blocks of the selected input and of the output, and the records that were cut
+abbrev pub counts_of : Form → List ℕ → Counts
+counts_of form input = record {
+  whole_in = length input / form.ibs;
+  part_in = parts_in form.ibs (length input);
+  whole_out = length (converted form input) / form.obs;
+  part_out = parts_in form.obs (length (converted form input));
+  cut = cut_records form.shape form.cbs (joined form input);
+}
+
+-- how many records were cut, if any were
+abbrev pub cut_text : ℕ → List ℕ
+cut_text n = if n == 0 then [] else if n == 1 then codes "1 truncated record\n" else decimal n ++ codes " truncated records\n"
+
+-- dd's report
+abbrev pub report_text : Counts → List ℕ
+report_text c =
+    decimal c.whole_in ++ codes "+" ++ decimal c.part_in ++ codes " records in\n"
+    ++ decimal c.whole_out ++ codes "+" ++ decimal c.part_out ++ codes " records out\n"
+    ++ cut_text c.cut

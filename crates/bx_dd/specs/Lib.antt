@@ -1,0 +1,5 @@
+pub mod Output
+pub mod Counting
+pub mod Standing
+pub mod Plan
+pub mod Transfer

@@ -1,0 +1,95 @@
+-- What dd makes of an input.
+use Rattle.std.specs.Prelude.{ℕ, ◌-◌, ◌*◌, ◌%◌, Bool, not, ◌==◌, nat_lt, if◌then◌else◌, List, [], ◌∷◌, ◌++◌, length, take, drop, map, replicate, min, count_by, Option, None, Some}
+use Rattle.std.specs.Char.{to_ascii_uppercase, to_ascii_lowercase}
+use Rattle.std.specs.List.{flat_map, onto_first, suffix_len}
+use Rattle.bx_text.specs.InPieces.{in_pieces}
+use Rattle.bx_dd.specs.declared.form.Form.{Form}
+use Rattle.bx_dd.specs.declared.form.Letters.{Letters}
+use Rattle.bx_dd.specs.declared.form.Letters.TheVariants.{Keep, Upper, Lower}
+use Rattle.bx_dd.specs.declared.form.Shape.{Shape}
+use Rattle.bx_dd.specs.declared.form.Shape.TheVariants.{Flat, Block, Unblock}
+
+-- what follows `skip` blocks, at most `count` blocks of it
+abbrev pub selected : ℕ → ℕ → Option ℕ → List ℕ → List ℕ
+selected ibs skip None input = drop (skip * ibs) input
+selected ibs skip (Some count) input = take (count * ibs) (drop (skip * ibs) input)
+
+-- the byte that fills up a short block
+abbrev pub filler : Shape → ℕ
+filler Flat = 0
+filler Block = 32
+filler Unblock = 32
+
+-- a list, filled up to n
+unfoldable pub padded : ℕ → ℕ → List ℕ → List ℕ
+padded fill n xs = xs ++ replicate (n - length xs) fill
+
+-- the bytes of each pair change places; an odd last byte stays
+unfoldable pub swapped : List ℕ → List ℕ
+swapped [] = []
+swapped (a ∷ []) = a ∷ []
+swapped (a ∷ b ∷ rest) = b ∷ a ∷ swapped rest
+
+-- ASCII letters in one case
+abbrev pub cased : Letters → ℕ → ℕ
+cased Keep b = b
+cased Upper b = to_ascii_uppercase b
+cased Lower b = to_ascii_lowercase b
+
+-- one block: padded, then swapped, then in one case
+unfoldable pub block_of : Form → List ℕ → List ℕ
+block_of form block =
+    let full = if form.sync then padded (filler form.shape) form.ibs block else block in
+    map (cased form.letters) (if form.swab then swapped full else full)
+
+-- the blocks, joined
+unfoldable pub joined : Form → List ℕ → List ℕ
+joined form input = in_pieces (block_of form) form.ibs input
+
+-- the parts at newlines; after the last newline there is one only if bytes follow
+unfoldable pub records : List ℕ → List (List ℕ)
+records [] = []
+records (b ∷ bytes) = if b == 10 then [] ∷ records bytes else onto_first b (records bytes)
+
+-- a record in n bytes
+unfoldable pub fitted : ℕ → List ℕ → List ℕ
+fitted n line = take n (padded 32 n line)
+
+abbrev pub is_space : ℕ → Bool
+is_space b = b == 32
+
+-- a line for a record: without the spaces at its end
+unfoldable pub line_of : List ℕ → List ℕ
+line_of piece = take (length piece - suffix_len is_space piece) piece ++ 10 ∷ []
+
+-- records of one size for lines, or lines for records of one size
+unfoldable pub shaped : Shape → ℕ → List ℕ → List ℕ
+shaped Flat size bytes = bytes
+shaped Block size bytes = flat_map (fitted size) (records bytes)
+shaped Unblock size bytes = in_pieces line_of size bytes
+
+-- how many records are too long
+unfoldable pub cut_records : Shape → ℕ → List ℕ → ℕ
+cut_records Flat size bytes = 0
+cut_records Block size bytes = count_by (λ line. nat_lt size (length line)) (records bytes)
+cut_records Unblock size bytes = 0
+
+-- what is written for the selected input
+abbrev pub converted : Form → List ℕ → List ℕ
+converted form input = shaped form.shape form.cbs (joined form input)
+
+-- any byte but a newline
+abbrev pub goes_on : ℕ → Bool
+goes_on b = not (b == 10)
+
+-- how many bytes at the end are a record that may go on
+unfoldable pub unfinished : Shape → ℕ → List ℕ → ℕ
+unfinished Flat size bytes = 0
+unfinished Block size bytes = suffix_len goes_on bytes
+unfinished Unblock size bytes = length bytes % size
+
+-- how many bytes of the record that may go on are kept: no more than are written
+abbrev pub held_count : Shape → ℕ → List ℕ → ℕ
+held_count Flat size bytes = 0
+held_count Block size bytes = min size (suffix_len goes_on bytes)
+held_count Unblock size bytes = length bytes % size

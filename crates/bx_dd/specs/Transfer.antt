@@ -1,0 +1,61 @@
+-- What a transfer reads, and what it makes of that.
+use Rattle.std.specs.Prelude.{◌≡◌, ℕ, ◌+◌, ◌*◌, ◌^◌, ◌<◌, ◌≤◌, List, length, Option, None, Some, IfSome, ◌⊎◌}
+use Rattle.std.specs.Io.KnownBytes.{Consumes, IsAtEnd}
+use Rattle.bx_text.specs.declared.stream.State.{State}
+use Rattle.bx_text.specs.declared.stream.State.TheVariants.{Open, Ended}
+use Rattle.bx_dd.specs.declared.counts.Counts.{Counts}
+use Rattle.bx_dd.specs.declared.counts.Transfer.{Transfer}
+use Rattle.bx_dd.specs.declared.fault.DdFault.{DdFault}
+use Rattle.bx_dd.specs.declared.fault.DdFault.TheVariants.{NoMemory, ReadFailed, InputTooLong}
+use Rattle.bx_dd.specs.declared.plan.Plan.{Plan}
+use Rattle.bx_dd.specs.Counting.{counts_of}
+use Rattle.bx_dd.specs.Output.{selected, converted}
+use Rattle.bx_dd.specs.Plan.{form_of}
+
+-- of an input, what a plan copies
+abbrev pub selected_by : {A : Type 0} → Plan A → List ℕ → List ℕ
+selected_by plan input = selected plan.ibs plan.skip plan.count input
+
+-- of an input, what a plan writes
+abbrev pub output_of : {A : Type 0} → Plan A → List ℕ → List ℕ
+output_of plan input = converted (form_of plan) (selected_by plan input)
+
+-- of an input, what a plan counts
+abbrev pub counts_by : {A : Type 0} → Plan A → List ℕ → Counts
+counts_by plan input = counts_of (form_of plan) (selected_by plan input)
+
+-- the input's end was reached, or that of skip and count
+abbrev pub IsReadOut : Option (List ℕ) → ℕ → ℕ → Option ℕ → List ℕ → Type 0
+IsReadOut new ibs skip None input = IsAtEnd new
+IsReadOut new ibs skip (Some count) input = (length input ≡ (skip + count) * ibs) ⊎ IsAtEnd new
+
+-- no more was read than skip and count ask for
+abbrev pub IsWithin : ℕ → ℕ → Option ℕ → List ℕ → Type 0
+IsWithin ibs skip count input = IfSome count (λ n. length input ≤ (skip + n) * ibs)
+
+-- some input was read, and this was made of it
+pub record IsTransfer {A P : Type 0} (plan : Plan P) (old new : Option (List ℕ)) (t : Transfer A) : Type 0 where
+  pub input : List ℕ
+  pub consumed : Consumes old new input
+  pub all : IsReadOut new plan.ibs plan.skip plan.count input
+  pub within : IsWithin plan.ibs plan.skip plan.count input
+  pub few : length input ≤ 2 ^ 40
+  pub bytes : t.bytes ≡ output_of plan input
+  pub counts : t.counts ≡ counts_by plan input
+
+-- why a transfer stopped after n bytes where there was room for `room` of them
+abbrev pub IsStopCause : DdFault → ℕ → ℕ → Type 0
+IsStopCause NoMemory room n = Unit {0}
+IsStopCause ReadFailed room n = Unit {0}
+IsStopCause InputTooLong room n = room < n
+IsStopCause _ room n = ⊥
+
+-- some bytes were read before the fault
+abbrev pub HasStopped : Option (List ℕ) → Option (List ℕ) → ℕ → DdFault → Type 0
+HasStopped old new room fault = (bytes : List ℕ) × Consumes old new bytes × IsStopCause fault room (length bytes)
+
+-- these bytes were read: n blocks, or fewer up to the input's end
+pub record HasRead (old new : Option (List ℕ)) (n size : ℕ) (state : State) (input : List ℕ) : Type 0 where
+  pub consumed : Consumes old new input
+  pub within : length input ≤ n * size
+  pub extent : ((state ≡ Open) × (length input ≡ n * size)) ⊎ ((state ≡ Ended) × IsAtEnd new)

@@ -1,0 +1,175 @@
+//! Blocks converted one by one.
+ghost use Rattle.std.specs.Prelude.{◌≡◌, ◌≢◌, ℕ, ◌+◌, ◌-◌, ◌*◌, ◌%◌, ◌^◌, ◌<◌, ◌≤◌, List, [], ◌++◌, length, take, IfOk, IsOkUnless};
+ghost use Rattle.bx_dd.specs.Counting.{counts_of};
+ghost use Rattle.bx_dd.specs.Output.{block_of, converted, held_count, joined, shaped};
+ghost use Rattle.bx_dd.specs.Plan.{form_of};
+ghost use Rattle.bx_dd.specs.Standing.{IsAfter, HasSizes, Stands, finished};
+ghost use Rattle.bx_dd.specs.declared.form.Shape.TheVariants.{Unblock};
+
+use crate::block::ready_block;
+use crate::counts::{Counts, Transfer};
+use crate::fault::DdFault;
+use crate::form::Form;
+use crate::plan::Plan;
+use crate::records::{Tail, push_rest, push_shaped};
+use bx_text::Bytes;
+use std::alloc::{AllocError, Allocator, Global};
+use std::marker::Model;
+
+/// A conversion under way: the output so far, and the bytes of the record that may go on.
+#[derive(Drop)]
+pub struct Convert<A: Allocator = Global> {
+    alloc: A,
+    form: Form,
+    taken: u64,
+    out: Vec<u8, A>,
+    held: Vec<u8, A>,
+    over: bool,
+    cut: u64,
+}
+
+impl<A: Allocator> Model for Convert<A> {
+    ghost use Rattle.bx_dd.specs.Standing.{Progress};
+
+    ghost Value = { Progress };
+
+    ghost use Rattle.bx_dd.specs.declared.form.Shape.TheVariants.{Unblock};
+    ghost use Rattle.std.specs.Prelude.{length, ◌<◌, ◌≤◌, ◌≡◌, ◌+◌, ◌%◌, ◌^◌};
+    ghost use Rattle.bx_dd.specs.Standing.{HasSizes};
+
+    ghost view = { λ c. record { form = c.form; taken = c.taken; out = c.out.items; held = c.held.items; over = c.over; cut = c.cut } };
+
+    ghost invariant = { λ c. HasSizes c.form × (length c.held.items ≤ c.form.cbs) × (c.form.shape ≡ Unblock → length c.held.items < c.form.cbs) × (c.taken ≤ 2 ^ 40) × (c.cut ≤ c.taken + 16777216) × (c.taken % c.form.ibs ≡ 0 → c.cut ≤ c.taken) };
+}
+
+impl<A: Allocator + Clone> Convert<A> {
+    /// Nothing converted yet. The one fault is want of memory.
+    pub fn new<P: Allocator>(alloc: A, plan: &Plan<P>) -> Result<Convert<A>, DdFault>
+        ensures form { IfOk result (λ c. c.form ≡ form_of plan.now) }
+        ensures after { IfOk result (λ c. IsAfter [] c) }
+        ensures fault { IsOkUnless result DdFault.NoMemory }
+    {
+        let out = Vec::new(alloc.clone()?);
+        let held = Vec::new(alloc.clone()?);
+        Ok(Convert {
+            alloc,
+            form: plan.form(),
+            taken: 0,
+            out,
+            held,
+            over: false,
+            cut: 0,
+        })
+    }
+}
+
+impl<A: Allocator> Convert<A> {
+    /// The next block: 1 to `ibs` bytes, after whole blocks alone. The one fault is want of memory, and the conversion is then given up.
+    pub fn block(self, b: &[u8]) -> Result<Convert<A>, DdFault>
+        requires some { 0 < length b.now }
+        requires fits { length b.now ≤ self.form.ibs }
+        requires whole { self.taken % self.form.ibs ≡ 0 }
+        requires few { self.taken + length b.now ≤ 2 ^ 40 }
+        ensures form { IfOk result (λ c. c.form ≡ self.form) }
+        ensures taken { IfOk result (λ c. c.taken ≡ self.taken + length b.now) }
+        ensures after { (input : List ℕ) → IsAfter input self → IfOk result (λ c. IsAfter (input ++ b.now) c) }
+        ensures fault { IsOkUnless result DdFault.NoMemory }
+    {
+        let mut next = self;
+        let form = next.form;
+        let tail = Tail {
+            over: next.over,
+            cut: next.cut,
+        };
+        let tail = take_block(&next.alloc, &mut next.out, &mut next.held, tail, b, form)?;
+        next.over = tail.over;
+        next.cut = tail.cut;
+        next.taken += b.len() as u64;
+        Ok(next)
+    }
+
+    /// The output and the counts. The one fault is want of memory.
+    pub fn finish(self) -> Result<Transfer<A>, DdFault>
+        ensures bytes { (input : List ℕ) → IsAfter input self → IfOk result (λ t. t.bytes ≡ converted self.form input) }
+        ensures counts { (input : List ℕ) → IsAfter input self → IfOk result (λ t. t.counts ≡ counts_of self.form input) }
+        ensures fault { IsOkUnless result DdFault.NoMemory }
+    {
+        let Convert {
+            alloc: _,
+            form,
+            taken,
+            mut out,
+            held,
+            over,
+            cut,
+        } = self;
+        push_rest(&mut out, held.as_slice(), form)?;
+        let length = out.len() as u64;
+        let counts = Counts {
+            whole_in: taken / form.ibs,
+            part_in: (taken % form.ibs).min(1),
+            whole_out: length / form.obs,
+            part_out: (length % form.obs).min(1),
+            cut: if over { cut + 1 } else { cut },
+        };
+        Ok(Transfer {
+            bytes: Bytes::from_vec(out),
+            counts,
+        })
+    }
+
+    /// How many bytes were given.
+    pub fn taken(&self) -> u64
+        ensures taken { result ≡ self.now.taken }
+        ensures given { (input : List ℕ) → IsAfter input self.now → result ≡ length input }
+    {
+        self.taken
+    }
+
+    /// How many bytes of the record that may go on are kept.
+    pub fn held(&self) -> u64
+        ensures held { result ≡ length self.now.held }
+        ensures kept { (input : List ℕ) → IsAfter input self.now → result ≡ held_count self.now.form.shape self.now.form.cbs (joined self.now.form input) }
+    {
+        self.held.len() as u64
+    }
+
+    /// What the records that are finished give.
+    pub fn out(&self) -> &[u8]
+        ensures out { result.now ≡ self.now.out }
+        ensures written { (input : List ℕ) → IsAfter input self.now → let form = self.now.form in result.now ≡ shaped form.shape form.cbs (finished form.shape form.cbs (joined form input)) }
+    {
+        self.out.as_slice()
+    }
+}
+
+/// The next block, made ready and put into records.
+fn take_block<A: Allocator>(
+    alloc: &A,
+    out: &mut Vec<u8, A>,
+    held: &mut Vec<u8, A>,
+    tail: Tail,
+    b: &[u8],
+    form: Form,
+) -> Result<Tail, AllocError>
+    requires sizes { HasSizes form }
+    requires fits { length b.now ≤ form.ibs }
+    requires room { length held.old.items ≤ form.cbs }
+    requires part { form.shape ≡ Unblock → length held.old.items < form.cbs }
+    requires few { tail.cut + 16777216 < 2 ^ 64 }
+    ensures within { IfOk result (λ t. (length held.new.items ≤ form.cbs) × (t.cut ≤ tail.cut + form.ibs) × (length b.now ≡ form.ibs → t.cut ≤ tail.cut + length b.now)) }
+    ensures part { IfOk result (λ t. form.shape ≡ Unblock → length held.new.items < form.cbs) }
+    ensures next { (z : List ℕ) → Stands form.shape form.cbs z out.old.items held.old.items tail.over tail.cut →
+        IfOk result (λ t. Stands form.shape form.cbs (z ++ block_of form b.now) out.new.items held.new.items t.over t.cut) }
+{
+    let ready = ready_block(alloc, b, form)?;
+    let next = push_shaped(
+        out,
+        held,
+        tail,
+        ready.as_slice(),
+        form.shape,
+        form.cbs as usize,
+    )?;
+    Ok(next)
+}

@@ -1,0 +1,18 @@
+//! dd: operands, and blocks of a stream, converted and counted.
+#![tactic(auto)]
+
+mod block;
+mod convert;
+mod copying;
+mod counts;
+mod fault;
+mod form;
+mod plan;
+mod records;
+
+pub use convert::Convert;
+pub use copying::transfer;
+pub use counts::{Counts, Transfer, report};
+pub use fault::DdFault;
+pub use form::{Form, Letters, Shape};
+pub use plan::Plan;

@@ -1,0 +1,84 @@
+//! What dd's operands ask for.
+ghost use Rattle.std.specs.Prelude.{◌≡◌, ◌≢◌, ◌↔◌, ◌*◌, ◌^◌, ◌<◌, ◌≤◌, IfOk, IsErr, IsOkUnless};
+ghost use Rattle.std.specs.Option.{ForSome};
+ghost use Rattle.bx_dd.specs.declared.form.Shape.TheVariants.{Flat};
+
+use crate::fault::DdFault;
+use crate::form::{Form, Letters, Shape};
+use bx_image::Change;
+use bx_text::{Bytes, Name, Piece, Pieces};
+use std::alloc::{AllocError, Allocator, Global};
+
+/// What is read, how it is converted, and where it goes. Sizes are in bytes; `skip` and `count` are input blocks, and `seek` is output blocks.
+#[derive(Drop)]
+pub struct Plan<A: Allocator = Global> {
+    /// The file of `if=`.
+    pub input: Option<Name<A>>,
+    /// The file of `of=`.
+    pub output: Option<Name<A>>,
+    pub ibs: u64,
+    pub obs: u64,
+    /// 0 where none was given.
+    pub cbs: u64,
+    pub skip: u64,
+    pub seek: u64,
+    pub count: Option<u64>,
+    pub swab: bool,
+    pub sync: bool,
+    pub notrunc: bool,
+    pub letters: Letters,
+    pub shape: Shape,
+    ghost some_ibs: { 0 < ibs },
+    ghost few_ibs: { ibs ≤ 16777216 },
+    ghost some_obs: { 0 < obs },
+    ghost few_obs: { obs ≤ 1099511627775 },
+    ghost some_cbs: { shape ≢ Flat → 0 < cbs },
+    ghost few_cbs: { cbs ≤ 16777216 },
+    ghost few_count: { ForSome count (λ n. n ≤ 1099511627775) },
+    ghost skip_fits: { skip * ibs ≤ 2 ^ 48 },
+    ghost seek_fits: { seek * obs ≤ 2 ^ 48 },
+}
+
+impl<A: Allocator> Plan<A> {
+    ghost use Rattle.bx_dd.specs.Plan.{form_of, change_of};
+
+    /// The sizes and conversions.
+    pub fn form(&self) -> Form
+        ensures { result ≡ form_of self.now }
+    {
+        Form {
+            ibs: self.ibs,
+            obs: self.obs,
+            cbs: self.cbs,
+            swab: self.swab,
+            sync: self.sync,
+            letters: self.letters,
+            shape: self.shape,
+        }
+    }
+
+    /// Whether the output can go to a stream: it has no place to seek to.
+    pub fn for_stream(&self) -> Result<(), DdFault>
+        ensures refused { IsErr result ↔ (0 < self.now.seek) }
+        ensures fault { IsOkUnless result DdFault.SeekWithoutOutput }
+    {
+        if self.seek > 0 {
+            return Err(DdFault::SeekWithoutOutput);
+        }
+        Ok(())
+    }
+
+    /// The change that puts the output in its place. The image ends there first, unless `conv=notrunc` was given. The one fault is want of memory, and the bytes are then given up.
+    pub fn change<B: Allocator>(&self, alloc: B, bytes: Bytes<B>) -> Result<Change<B>, DdFault>
+        ensures change { IfOk result (λ c. c ≡ change_of self.now bytes) }
+        ensures fault { IsOkUnless result DdFault.NoMemory }
+    {
+        let at = self.seek * self.obs;
+        let mut writes = Vec::new(alloc);
+        writes.push(Piece { at, bytes }).map_err(AllocError::from)?;
+        Ok(Change {
+            base: if self.notrunc { None } else { Some(at) },
+            writes: Pieces::from_vec(writes),
+        })
+    }
+}

@@ -1,0 +1,22 @@
+use Rattle.std.proofs.Common.{◌∙◌, ℕ, List, get_or}
+use Rattle.std.proofs.lemmas.List.{take_more}
+use Rattle.bx_image.specs.declared.spans.Span.{Span}
+use Rattle.bx_image.proofs.Devices.{GoesOn_then}
+use Rattle.bx_image.proofs.Runs.{AreRunsOf-push, HaveBytes-push}
+use Rattle.bx_image.proofs.SpanLemmas.{StandOver-push}
+use Rattle.bx_image.proofs.record.read_runs.Goals as goal
+
+pub loop-span-preserved : goal.loop-span-preserved
+loop-span-preserved g c =
+    let kept = c.loop-span.invariant in
+    let run = c.in_ok-read_run.ensures in
+    let spans : List Span = c.args.spans.now in
+    let k : ℕ = c.loop-span.span-index in
+    let none : Span = record { at = 0; end = 0 } in
+    rw c.in_ok-push.ensures.items (record {
+      over = rw (take_more spans k none c.loop-span-test.true) (StandOver-push _ _ (get_or spans k none) c.in_ok-read_run.field-0 kept.over run.at run.end);
+      bytes = HaveBytes-push _ _ kept.bytes run.bytes;
+      runs = λ honest. AreRunsOf-push _ _ _ (kept.runs honest) (rw (kept.image honest) at run.run (kept.goes_on.honesty.1 honest));
+      image = λ honest. run.image (kept.goes_on.honesty.1 honest) ∙ kept.image honest;
+      goes_on = GoesOn_then _ _ _ _ _ _ _ kept.goes_on run.goes_on;
+    })

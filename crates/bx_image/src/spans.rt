@@ -1,0 +1,96 @@
+// The addresses that a change touches, as ranges by rising address.
+ghost use Rattle.std.specs.Prelude.{◌≡◌, ◌<◌, ◌≤◌, ◌+◌, ◌&&◌, ◌||◌, ℕ, List, min, nat_le, nat_lt, length, IfOk, OnOk};
+ghost use Rattle.std.specs.List.Sorted.{IsPermutation, IsNonDecreasingBy};
+ghost use Rattle.bx_image.specs.Change.{touches};
+ghost use Rattle.bx_image.specs.Spans.{are_over, with_span, LieWithin, AreApart};
+
+use crate::Change;
+use bx_text::Piece;
+use std::alloc::{AllocError, Allocator};
+
+/// A range of addresses, from `at` up to before `end`.
+#[derive(Clone, Copy)]
+pub struct Span {
+    pub at: u64,
+    pub end: u64,
+}
+
+/// The addresses below `len` that the change touches, as ranges with gaps between them.
+pub fn touched<A: Allocator + Clone>(
+    alloc: A,
+    change: &Change<A>,
+    len: u64,
+) -> Result<Vec<Span, A>, AllocError>
+    ensures over { IfOk result (λ spans. (i : ℕ) → are_over spans.items i ≡ (nat_lt i len && touches change.now i)) }
+    ensures within { IfOk result (λ spans. LieWithin len spans.items) }
+    ensures apart { IfOk result (λ spans. AreApart spans.items) }
+{
+    let mut spans = collected(alloc.clone()?, change, len)?;
+    sort(&mut spans);
+    merged(alloc, spans.as_slice(), len)
+}
+
+// In the order of the base and the writes.
+fn collected<A: Allocator>(
+    alloc: A,
+    change: &Change<A>,
+    len: u64,
+) -> Result<Vec<Span, A>, AllocError>
+    ensures over { IfOk result (λ spans. (i : ℕ) → are_over spans.items i ≡ (nat_lt i len && touches change.now i)) }
+    ensures within { IfOk result (λ spans. LieWithin len spans.items) }
+{
+    let mut spans = Vec::new(alloc);
+    push(&mut spans, change.base.unwrap_or(len), len)?;
+    for write in change.writes.as_slice() {
+        push(&mut spans, write.at, clipped_end(write, len))?;
+    }
+    Ok(spans)
+}
+
+fn clipped_end<A: Allocator>(write: &Piece<A>, len: u64) -> u64
+    ensures { result ≡ min (write.now.at + length write.now.bytes) len }
+{
+    let count = write.bytes.as_slice().len() as u64;
+    write.at.saturating_add(count).min(len)
+}
+
+// Adds the addresses from `at` up to before `end`, if there are any.
+fn push<A: Allocator>(spans: &mut Vec<Span, A>, at: u64, end: u64) -> Result<(), AllocError>
+    ensures { OnOk result (spans.new.items ≡ with_span at end spans.old.items) }
+{
+    if at < end {
+        spans.push(Span { at, end })?;
+    }
+    Ok(())
+}
+
+fn sort<A: Allocator>(spans: &mut Vec<Span, A>)
+    ensures permutation { IsPermutation spans.old.items spans.new.items }
+    ensures sorted { IsNonDecreasingBy (λ s. s.at) spans.new.items }
+{
+    spans.sort_unstable_by_key(|s| s.at);
+}
+
+// Joins those that overlap or touch.
+fn merged<A: Allocator>(alloc: A, spans: &[Span], len: u64) -> Result<Vec<Span, A>, AllocError>
+    requires within { LieWithin len spans.now }
+    requires sorted { IsNonDecreasingBy (λ s. s.at) spans.now }
+    ensures over { IfOk result (λ merged. (i : ℕ) → are_over merged.items i ≡ are_over spans.now i) }
+    ensures within { IfOk result (λ merged. LieWithin len merged.items) }
+    ensures apart { IfOk result (λ merged. AreApart merged.items) }
+{
+    let mut merged = Vec::with_capacity(alloc, spans.len())?;
+    let mut at = 0;
+    let mut end = 0;
+    for span in spans {
+        if end < span.at {
+            push(&mut merged, at, end)?;
+            at = span.at;
+            end = span.end;
+        } else {
+            end = end.max(span.end);
+        }
+    }
+    push(&mut merged, at, end)?;
+    Ok(merged)
+}

@@ -1,0 +1,12 @@
+pub mod DigitsLemmas
+pub mod PairsLemmas
+pub mod GrammarLemmas
+pub mod PieceLemmas
+pub mod DecodeLemmas
+pub mod DumpLemmas
+pub mod LinesLemmas
+pub mod PackedLemmas
+pub mod AddressLemmas
+pub mod LineLemmas
+pub mod WrittenLemmas
+pub mod PlainLemmas

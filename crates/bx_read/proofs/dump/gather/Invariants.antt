@@ -1,0 +1,12 @@
+use Rattle.std.proofs.Common.{◌≡◌, length}
+use Rattle.bx_read.specs.Text.{dump_pieces, gathered, contents}
+use Rattle.bx_read.specs.Lines.{coming}
+use Rattle.bx_read.proofs.DumpLemmas.{after}
+use Rattle.bx_read.proofs.dump.gather.Given as goal
+
+abbrev pub decreases-loop-answer : goal.decreases-loop-answer
+decreases-loop-answer g l = length (coming l.lines)
+
+-- the pieces so far, and those of the lines to come, are all
+abbrev pub invariant-loop-answer : goal.invariant-loop-answer
+invariant-loop-answer g l = dump_pieces l.text ≡ after (contents l.pieces.items) (gathered (coming l.lines))

@@ -1,0 +1,5 @@
+use Rattle.bx_read.proofs.WrittenLemmas.{written}
+use Rattle.bx_read.proofs.laws.written_line_reads_back.Goals as goal
+
+pub returns : goal.returns
+returns c = written

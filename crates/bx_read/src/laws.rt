@@ -1,0 +1,28 @@
+//! Laws of the format, over its definitions alone.
+ghost use Rattle.bx_read.specs.Laws.{LineIsUnique, TextIsUnique, PiecesAreFew, DumpLineReadsBack, WrittenLineReadsBack};
+
+/// No line gives two different pairs of an address and bytes.
+pub fn line_is_unique()
+    ensures { LineIsUnique }
+{}
+
+/// No text gives two different lists of pieces.
+pub fn text_is_unique()
+    ensures { TextIsUnique }
+{}
+
+/// The pieces of a text are no more than its lines, and their bytes together no more than half of its bytes.
+pub fn pieces_are_few()
+    ensures { PiecesAreFew }
+{}
+
+/// A line of an xxd dump, for any columns and groups, reads back as its address and its bytes.
+pub fn dump_line_reads_back()
+    ensures { DumpLineReadsBack }
+{}
+
+/// A default line of 1 to 16 bytes that end at or below 2^48 - 1 reads back as its address and its bytes. It has at
+/// most 75 bytes, all of them printing ones, and begins with a digit.
+pub fn written_line_reads_back()
+    ensures { WrittenLineReadsBack }
+{}

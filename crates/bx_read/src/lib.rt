@@ -1,0 +1,19 @@
+//! The strict reader of dumps.
+#![tactic(auto)]
+
+mod digits;
+mod dump;
+mod fault;
+mod laws;
+mod line;
+mod lines;
+mod plain;
+
+pub use dump::read_dump;
+pub use fault::ReadFault;
+pub use laws::{
+    dump_line_reads_back, line_is_unique, pieces_are_few, text_is_unique, written_line_reads_back,
+};
+pub use line::Line;
+pub use lines::DumpLines;
+pub use plain::read_plain;

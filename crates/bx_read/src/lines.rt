@@ -1,0 +1,93 @@
+//! The lines of a dump, one after another.
+ghost use Rattle.std.specs.Prelude.{◌≡◌, ◌+◌, ◌^◌, ◌<◌, ◌≤◌, ◌∷◌, [], ℕ, List, length, MatchOption, MatchResult, Some, None, Ok, Err};
+ghost use Rattle.bx_read.specs.Text.{lines_of, is_skipped, answers};
+
+use crate::fault::ReadFault;
+use crate::line::Line;
+use memchr::memchr;
+
+/// The lines of a text that hold bytes: empty lines and lines `*` are left out, and after a fault there are none.
+#[derive(Drop)]
+pub struct DumpLines<'a> {
+    text: &'a [u8],
+    passed: u64,
+    ghost fits: { passed + length text.now < 2 ^ 64 },
+}
+
+impl<'a> DumpLines<'a> {
+    ghost use Rattle.bx_read.specs.Text.{lines_of, answers};
+    ghost use Rattle.bx_read.specs.Lines.{coming, line_view};
+    ghost use Rattle.bx_read.specs.Line.{read_line};
+
+    /// The lines of `text`, whose last newline may be missing.
+    pub fn new(text: &'a [u8]) -> DumpLines<'a>
+        ensures { coming result ≡ answers 1 (lines_of text.now) }
+    {
+        let _len = text.len();
+        DumpLines { text, passed: 0 }
+    }
+
+    /// Takes the next line, without its newline.
+    fn take_line(&mut self) -> &'a [u8]
+        requires { 0 < length self.old.text.now }
+        ensures lines { lines_of self.old.text.now ≡ result.now ∷ lines_of self.new.text.now }
+        ensures passed { self.new.passed ≡ self.old.passed + 1 }
+        ensures shorter { length self.new.text.now < length self.old.text.now }
+    {
+        let text = self.text;
+        self.passed += 1;
+        match memchr(b'\n', text) {
+            Some(end) => {
+                self.text = &text[end + 1..];
+                &text[..end]
+            }
+            None => {
+                self.text = &text[text.len()..];
+                text
+            }
+        }
+    }
+
+    /// Reads the line that was taken last. A fault is the end.
+    fn read(&mut self, line: &'a [u8]) -> Result<Line<'a>, ReadFault>
+        ensures exact { MatchResult result (λ l. read_line self.old.passed line.now ≡ Ok (l.at, l.hex.now)) (λ e. read_line self.old.passed line.now ≡ Err e) }
+        ensures number { MatchResult result (λ l. l.number ≡ self.old.passed) (λ _. self.new.text.now ≡ []) }
+        ensures kept { MatchResult result (λ _. self.new ≡ self.old) (λ _. self.new.passed ≡ self.old.passed) }
+    {
+        match Line::parse(line, self.passed) {
+            Ok(read) => Ok(read),
+            Err(fault) => {
+                self.text = &[];
+                Err(fault)
+            }
+        }
+    }
+}
+
+impl<'a> Iterator for DumpLines<'a> {
+    type Item = Result<Line<'a>, ReadFault>;
+
+    ghost use Rattle.bx_read.specs.Lines.{coming, line_view};
+    ghost use Rattle.std.specs.Iterator.{YieldsFirstBy, item_count};
+
+    ghost next_gives = { YieldsFirstBy line_view coming };
+
+    ghost remaining = { item_count coming };
+
+    fn next(&mut self) -> Option<Result<Line<'a>, ReadFault>> {
+        while !self.text.is_empty() {
+            let line = self.take_line();
+            if !is_skipped(line) {
+                return Some(self.read(line));
+            }
+        }
+        None
+    }
+}
+
+/// Whether the line stands for none: it is empty, or a star.
+fn is_skipped(line: &[u8]) -> bool
+    ensures { result ≡ is_skipped line.now }
+{
+    line.is_empty() || (line.len() == 1 && line[0] == b'*')
+}

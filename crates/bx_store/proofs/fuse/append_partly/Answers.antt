@@ -1,0 +1,6 @@
+use Rattle.bx_store.proofs.Texts.{IsPartlyAppended_either}
+use Rattle.bx_store.proofs.fuse.append_partly.Goals as goal
+
+pub returns-in-All-clause-appended : goal.returns-in-All-clause-appended
+returns-in-All-clause-appended g c honest =
+    IsPartlyAppended_either c.append-in-All.result _ _ _ (c.append-in-All.ensures.ok honest) (c.append-in-All.ensures.failed honest)

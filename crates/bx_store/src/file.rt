@@ -1,0 +1,102 @@
+//! A text in a file.
+ghost use Rattle.std.specs.Prelude.{◌≡◌, ◌↔◌, ◌+◌, ◌^◌, ◌-◌, ◌<◌, ◌≤◌, ◌++◌, length, take, IfOk, OnOk, OnErr, IsOk, if◌then◌else◌};
+ghost use Rattle.bx_image.specs.File.{IsCutOnTheWay};
+ghost use Rattle.bx_store.specs.Store.{IsPartlyAppended, has_failed};
+
+use crate::{DeviceFailed, MOST, NoMemory, TextFault, TextStore};
+use bx_image::{RandomAccess, counted, read_full, resize_to, size_of, write_full};
+use std::alloc::Allocator;
+use std::fs::File;
+
+/// A text in a file, to which it appends at the end. It is honest where the file is.
+#[derive(Drop)]
+pub struct FileText<F: RandomAccess = File> {
+    file: F,
+    failures: u64,
+}
+
+impl<F: RandomAccess> FileText<F> {
+    /// The text that the file has.
+    pub fn new(file: F) -> Self
+        ensures text { ⟦<FileText<F> as TextStore>⟧.text result ≡ F.content file }
+        ensures honest { ⟦<FileText<F> as TextStore>⟧.honest result ↔ F.honest file }
+        ensures failures { ⟦<FileText<F> as TextStore>⟧.failures result ≡ 0 }
+    {
+        FileText { file, failures: 0 }
+    }
+}
+
+// All the bytes that a file has.
+fn read_whole<F: RandomAccess, A: Allocator>(
+    file: &mut F,
+    alloc: A,
+) -> Result<Vec<u8, A>, TextFault>
+    ensures bytes { F.honest file.old → IfOk result (λ bytes. bytes.items ≡ F.content file.old) }
+    ensures content { F.honest file.old → F.content file.new ≡ F.content file.old }
+    ensures honesty { F.honest file.new ↔ F.honest file.old }
+{
+    let len = size_of(file)?;
+    let mut bytes = Vec::new(alloc);
+    bytes.resize(len as usize, 0)?;
+    read_full(file, 0, bytes.as_mut_slice())?;
+    Ok(bytes)
+}
+
+// Adds bytes at the end of a file.
+fn append_to<F: RandomAccess>(file: &mut F, bytes: &[u8]) -> Result<(), DeviceFailed>
+    requires { F.honest file.old → length (F.content file.old) + length bytes.now < 2 ^ 64 }
+    ensures ok { F.honest file.old → OnOk result (F.content file.new ≡ F.content file.old ++ bytes.now) }
+    ensures failed { F.honest file.old → OnErr result (IsPartlyAppended bytes.now (F.content file.old) (F.content file.new)) }
+    ensures honesty { F.honest file.new ↔ F.honest file.old }
+{
+    let end = size_of(file)?;
+    if bytes.len() as u64 > u64::MAX - end {
+        return Err(DeviceFailed);
+    }
+    write_full(file, end, bytes)
+}
+
+impl<F: RandomAccess> TextStore for FileText<F> {
+    ghost text = { λ f. F.content f.file };
+
+    ghost honest = { λ f. F.honest f.file };
+
+    ghost room = { λ _. 2 ^ 64 - 1 };
+
+    ghost failures = { λ f. f.failures };
+
+    fn len(&mut self) -> Result<u64, DeviceFailed> {
+        let outcome = size_of(&mut self.file);
+        counted(&mut self.failures, outcome)
+    }
+
+    fn read_all<A: Allocator>(&mut self, alloc: A) -> Result<Vec<u8, A>, TextFault> {
+        let outcome = read_whole(&mut self.file, alloc);
+        if let Err(TextFault::DeviceFailed) = outcome {
+            self.failures += 1;
+        }
+        outcome
+    }
+
+    fn append(&mut self, bytes: &[u8]) -> Result<(), DeviceFailed> {
+        let outcome = append_to(&mut self.file, bytes);
+        counted(&mut self.failures, outcome)
+    }
+
+    fn cut(&mut self, n: u64) -> Result<(), DeviceFailed> {
+        let outcome = resize_to(&mut self.file, n);
+        counted(&mut self.failures, outcome)
+    }
+
+    fn reserve(&mut self, n: u64) -> Result<(), NoMemory> {
+        if n > MOST { Err(NoMemory) } else { Ok(()) }
+    }
+
+    fn reserved(&self) -> u64 {
+        u64::MAX
+    }
+
+    fn faults(&self) -> u64 {
+        self.failures
+    }
+}

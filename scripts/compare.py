@@ -1,0 +1,180 @@
+#!/usr/bin/env python3
+"""Compares bx with xxd, od, hexdump, strings and dd on random inputs and options.
+
+Usage: scripts/compare.py [--bx PATH] [--rounds N] [--seed N] [TOOL ...]
+
+Only options on which both tools agree are drawn; README.md lists the differences.
+It runs outside the gate and exits 1 where an output or a status class differs.
+"""
+import argparse
+import os
+import random
+import subprocess
+import sys
+import tempfile
+
+ENV = {**os.environ, "LC_ALL": "C"}
+
+
+def run(args, data):
+    """The standard output, standard error and status of a command."""
+    done = subprocess.run(args, input=data, capture_output=True, env=ENV, timeout=60)
+    return done.stdout, done.stderr, done.returncode
+
+
+def some_bytes(rng, most=600):
+    """Random bytes: any, text, zeros, or lines that repeat."""
+    n = rng.choice([0, 1, 2, 15, 16, 17, 31, 32, 33, 48, rng.randrange(most)])
+    kind = rng.randrange(4)
+    if kind == 0:
+        return rng.randbytes(n)
+    if kind == 1:
+        return bytes(rng.choice(b"abc XYZ~ !\n\0\x7f\x80") for _ in range(n))
+    if kind == 2:
+        return bytes(n)
+    line = rng.randbytes(16)
+    return b"".join(line if rng.randrange(4) else rng.randbytes(16) for _ in range(n // 16)) + rng.randbytes(n % 16)
+
+
+def maybe(rng, option, value):
+    return [option, str(value())] if rng.randrange(3) == 0 else []
+
+
+def number(rng, n):
+    """The number n as decimal, hexadecimal or octal text."""
+    return rng.choice([str(n), hex(n), "0" + oct(n)[2:] if n else "0"])
+
+
+def xxd_case(rng):
+    data = some_bytes(rng)
+    style = rng.choice([[], [], ["-b"], ["-p"], ["-i"]])
+    args = list(style)
+    args += maybe(rng, "-c", lambda: number(rng, rng.randrange(1, 257 if style != ["-b"] else 257)))
+    if style in ([], ["-b"]):
+        args += maybe(rng, "-g", lambda: number(rng, rng.randrange(0, 40)))
+        args += maybe(rng, "-o", lambda: number(rng, rng.randrange(0, 2**31)))
+    if style in ([], ["-p"]) and rng.randrange(3) == 0:
+        args.append("-u")
+    args += maybe(rng, "-l", lambda: number(rng, rng.randrange(1, 700)))
+    if data:
+        args += maybe(rng, "-s", lambda: number(rng, rng.randrange(0, len(data))))
+    return data, args, args
+
+
+def od_case(rng):
+    data = some_bytes(rng)
+    args = maybe(rng, "-A", lambda: rng.choice("doxn"))
+    kind = rng.randrange(3)
+    if kind == 0:
+        args += ["-t", rng.choice(["c"] + [f + s for f in "doux" for s in "1248"])]
+    elif kind == 1:
+        args.append("-" + rng.choice("bcdosx"))
+    if rng.randrange(3) == 0:
+        args.append("-v")
+    args += maybe(rng, "-N", lambda: number(rng, rng.randrange(0, 700)))
+    if data:
+        args += maybe(rng, "-j", lambda: number(rng, rng.randrange(0, len(data))))
+    return data, args, args
+
+
+def hexdump_case(rng):
+    data = some_bytes(rng)
+    args = ["-C"]
+    if rng.randrange(3) == 0:
+        args.append("-v")
+    args += maybe(rng, "-n", lambda: rng.randrange(1, 700))
+    if data:
+        args += maybe(rng, "-s", lambda: number(rng, rng.randrange(0, len(data))))
+    return data, args, args
+
+
+def strings_case(rng):
+    data = some_bytes(rng).replace(b"\t", b" ")
+    args = ["-a"] if rng.randrange(2) else []
+    args += maybe(rng, "-n", lambda: rng.randrange(1, 40))
+    args += maybe(rng, "-t", lambda: rng.choice("dox"))
+    real = args if "-a" in args else ["-a"] + args
+    return data, args, real
+
+
+def dd_case(rng):
+    data = some_bytes(rng)
+    args = []
+    if rng.randrange(2):
+        args.append("ibs=%d" % (rng.randrange(1, 20) * 2))
+    if rng.randrange(2):
+        args.append("obs=%d" % rng.randrange(1, 40))
+    words = []
+    shape = rng.randrange(3)
+    if shape:
+        words.append(["block", "unblock"][shape - 1])
+        args.append("cbs=%d" % rng.randrange(1, 20))
+    words += rng.choice([[], ["lcase"], ["ucase"]])
+    words += rng.choice([[], ["swab"]]) if len(data) % 2 == 0 else []
+    words += rng.choice([[], ["sync"]])
+    if words:
+        args.append("conv=" + ",".join(words))
+    if rng.randrange(3) == 0:
+        args.append("skip=%d" % rng.randrange(3))
+    if rng.randrange(3) == 0:
+        args.append("count=%d" % rng.randrange(1, 6))
+    rng.shuffle(args)
+    return data, args, args
+
+
+def same_strings(a, b):
+    """GNU strings pads an offset to seven places; bx doesn't."""
+    return [line.lstrip(b" ") for line in a.split(b"\n")] == [line.lstrip(b" ") for line in b.split(b"\n")]
+
+
+def dd_report(err):
+    return [line for line in err.split(b"\n") if b"record" in line]
+
+
+CASES = {"xxd": xxd_case, "od": od_case, "hexdump": hexdump_case, "strings": strings_case, "dd": dd_case}
+
+
+def differs(tool, rng, bx, folder):
+    data, ours, real = CASES[tool](rng)
+    path = os.path.join(folder, "in.bin")
+    with open(path, "wb") as out:
+        out.write(data)
+    named = rng.randrange(2) == 0 or (tool == "xxd" and "-s" in ours)
+    if tool == "dd":
+        mine = run([bx, "dd", *ours], data)
+        theirs = run(["dd", *real], data)
+        same = mine[0] == theirs[0] and dd_report(mine[1]) == dd_report(theirs[1]) and mine[2] == theirs[2]
+    else:
+        tail = ["in.bin"] if named else []
+        mine = run([bx, tool, *ours, *tail], None if named else data)
+        theirs = run([tool, *real, *tail], None if named else data)
+        equal = same_strings if tool == "strings" else (lambda a, b: a == b)
+        same = equal(mine[0], theirs[0]) and (mine[2] == 0) == (theirs[2] == 0)
+    if same:
+        return None
+    return f"{tool} {' '.join(real)} on {data!r}\n  bx:   {mine}\n  real: {theirs}"
+
+
+def main():
+    parser = argparse.ArgumentParser(description=__doc__.split("\n")[0])
+    parser.add_argument("--bx", default="./bx")
+    parser.add_argument("--rounds", type=int, default=300)
+    parser.add_argument("--seed", type=int, default=1)
+    parser.add_argument("tools", nargs="*")
+    options = parser.parse_args()
+    bx = os.path.abspath(options.bx)
+    bad = 0
+    with tempfile.TemporaryDirectory() as folder:
+        os.chdir(folder)
+        for tool in options.tools or CASES:
+            rng = random.Random(f"{tool} {options.seed}")
+            found = [d for d in (differs(tool, rng, bx, folder) for _ in range(options.rounds)) if d]
+            for d in found[:3]:
+                print(d)
+            print(f"{tool}: {options.rounds - len(found)} of {options.rounds} agree")
+            bad += len(found)
+    sys.exit(1 if bad else 0)
+
+
+if __name__ == "__main__":
+    main()
