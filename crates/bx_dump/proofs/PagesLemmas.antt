@@ -7,7 +7,7 @@ use Rattle.bx_text.specs.declared.fault.IoFault.{IoFault}
 use Rattle.bx_text.specs.declared.fault.IoFault.TheVariants.{NoMemory, ReadFailed, WriteFailed, InputTooLong, SkipPastEnd}
 use Rattle.bx_text.specs.Stream.{StopsIn, IsReadCause}
 use Rattle.bx_text.specs.Writing.{WritesFront}
-use Rattle.bx_text.proofs.KnownLemmas.{Appends-trans, Consumes-trans, Appends-nil}
+use Rattle.bx_text.proofs.KnownLemmas.{Appends-trans, Consumes-trans, Appends-nil, Consumes-nil}
 use Rattle.bx_dump.specs.Dumped.{IsDumpFault}
 use Rattle.bx_dump.specs.Pages.{WritesPart, WritesRest, WritesFrontOf, Skips, StopsAt, part_of, capped, IsLast, IsEndOf}
 
@@ -208,3 +208,90 @@ front_along text other from before r0 r1 w0 w1 fault same d =
       appended = rw e d.appended;
       cause = d.cause;
     }
+
+-- A text behind the dump: `last` where so many bytes were dumped.
+module _ (text other : List ℕ → List ℕ) (skip : ℕ) (limit : Option ℕ) (r0 r1 w0 w1 w2 : Option (List ℕ)) (read written : ℕ) (last : List ℕ)
+    (is : (xs : List ℕ) → length (part_of skip limit xs) ≡ read → other xs ≡ text xs ++ last) (d : WritesPart text skip limit r0 r1 w0 w1 read written) where
+  pub part_then : Appends w1 w2 last → WritesPart other skip limit r0 r1 w0 w2 read (written + length last)
+  part_then writes =
+      let e = is d.input d.dumped in record {
+        input = d.input;
+        consumed = d.consumed;
+        ends = d.ends;
+        dumped = d.dumped;
+        appended = rw e (Appends-trans w0 w1 w2 (text d.input) last d.appended writes);
+        long = omega (arith, ap length e, length-append (text d.input) last, d.long);
+      }
+
+  pub stop_then : (before : ℕ) (fault : IoFault) → WritesFront (before + written) w1 w2 last fault → WritesFrontOf other 0 before r0 r1 w0 w2 fault
+  stop_then before (WriteFailed n) stop =
+      let e = is d.input d.dumped in
+      let front : take (written + stop.0) (other d.input) ≡ text d.input ++ take stop.0 last =
+      rw (e, ← d.long) (take-append-add (text d.input) last stop.0) in record {
+        input = d.input;
+        written = written + stop.0;
+        consumed = d.consumed;
+        within = omega (arith, ap length e, length-append (text d.input) last, stop.2, d.long);
+        appended = rw front (Appends-trans w0 w1 w2 (text d.input) (take stop.0 last) d.appended stop.3);
+        cause = let same : n ≡ before + (written + stop.0) = omega (arith, stop.1) in same;
+      }
+  stop_then before NoMemory stop = absurd stop
+  stop_then before ReadFailed stop = absurd stop
+  stop_then before InputTooLong stop = absurd stop
+  stop_then before SkipPastEnd stop = absurd stop
+
+-- a front of a text is one of a longer text
+pub front_then : (text other : List ℕ → List ℕ) (from before : ℕ) (r0 r1 w0 w1 : Option (List ℕ)) (fault : IoFault) → ((xs : List ℕ) → (rest : List ℕ) × (other xs ≡ text xs ++ rest)) →
+    WritesFrontOf text from before r0 r1 w0 w1 fault → WritesFrontOf other from before r0 r1 w0 w1 fault
+front_then text other from before r0 r1 w0 w1 fault is d =
+    let more = is d.input in
+    let front : take d.written (other d.input) ≡ take d.written (text d.input) = ap (take d.written) more.1 ∙ take-append-le d.written (text d.input) more.0 d.within in record {
+      input = d.input;
+      written = d.written;
+      consumed = d.consumed;
+      within = omega (arith, d.within, ap length more.1, length-append (text d.input) more.0);
+      appended = rw front d.appended;
+      cause = d.cause;
+    }
+
+-- a text in front of the dump
+pub part_after : (text : List ℕ → List ℕ) (skip : ℕ) (limit : Option ℕ) (r0 r1 w0 w1 w2 : Option (List ℕ)) (read written : ℕ) (head : List ℕ) → Appends w0 w1 head →
+    WritesPart text skip limit r0 r1 w1 w2 read written → WritesPart (λ xs. head ++ text xs) skip limit r0 r1 w0 w2 read (length head + written)
+part_after text skip limit r0 r1 w0 w1 w2 read written head writes d = record {
+  input = d.input;
+  consumed = d.consumed;
+  ends = d.ends;
+  dumped = d.dumped;
+  appended = Appends-trans w0 w1 w2 head (text d.input) writes d.appended;
+  long = omega (arith, length-append head (text d.input), d.long);
+}
+
+pub front_after : (text : List ℕ → List ℕ) (r0 r1 w0 w1 w2 : Option (List ℕ)) (from before all : ℕ) (head : List ℕ) (fault : IoFault) → all ≡ before + length head → Appends w0 w1 head →
+    WritesFrontOf text from all r0 r1 w1 w2 fault → WritesFrontOf (λ xs. head ++ text xs) from before r0 r1 w0 w2 fault
+front_after text r0 r1 w0 w1 w2 from before all head fault is writes d =
+    let front : take (length head + d.written) (head ++ text d.input) ≡ head ++ take d.written (text d.input) = take-append-add head (text d.input) d.written in
+    let count : all + d.written ≡ before + (length head + d.written) = omega arith in record {
+      input = d.input;
+      written = length head + d.written;
+      consumed = d.consumed;
+      within = omega (arith, length-append head (text d.input), d.within);
+      appended = rw front (Appends-trans w0 w1 w2 head (take d.written (text d.input)) writes d.appended);
+      cause = rw (← count) d.cause;
+    }
+
+-- the text in front was not written whole
+pub front_head : (text : List ℕ → List ℕ) (r w0 w1 : Option (List ℕ)) (before : ℕ) (head : List ℕ) (fault : IoFault) → WritesFront before w0 w1 head fault →
+    WritesFrontOf (λ xs. head ++ text xs) 0 before r r w0 w1 fault
+front_head text r w0 w1 before head (WriteFailed n) stop =
+    let front : take stop.0 (head ++ text []) ≡ take stop.0 head = take-append-le stop.0 head (text []) (omega (arith, stop.2)) in record {
+      input = [];
+      written = stop.0;
+      consumed = Consumes-nil r;
+      within = omega (arith, length-append head (text []), stop.2);
+      appended = rw front stop.3;
+      cause = stop.1;
+    }
+front_head text r w0 w1 before head NoMemory stop = absurd stop
+front_head text r w0 w1 before head ReadFailed stop = absurd stop
+front_head text r w0 w1 before head InputTooLong stop = absurd stop
+front_head text r w0 w1 before head SkipPastEnd stop = absurd stop

@@ -40,7 +40,11 @@ abbrev pub include_head : List ℕ → List ℕ
 include_head name = codes "unsigned char " ++ c_name name ++ codes "[] = {\n"
 
 abbrev pub include_tail : List ℕ → ℕ → List ℕ
-include_tail name n = codes "};\nunsigned int " ++ c_name name ++ codes "_len = " ++ digits 10 false n ++ codes ";\n"
+include_tail name n = codes "};\nunsigned int " ++ c_name name ++ codes "_len = " ++ (digits 10 false n ++ codes ";\n")
+
+-- a whole declaration
+abbrev pub named_text : List ℕ → ℕ → List ℕ → List ℕ
+named_text name cols bytes = include_head name ++ include_items cols bytes ++ include_tail name (length bytes)
 
 -- bytes a group, where 0 stands for all of a line
 abbrev pub group_of : ℕ → ℕ → ℕ
@@ -53,7 +57,7 @@ styled Normal cols group upper start bytes = in_lines (columns_line (Hexadecimal
 styled Bits cols group upper start bytes = in_lines (columns_line Binary cols group) cols start bytes
 styled Plain cols group upper start bytes = in_lines (plain_line upper) cols 0 bytes
 styled (Include None) cols group upper start bytes = include_items cols bytes
-styled (Include (Some name)) cols group upper start bytes = include_head name.now ++ include_items cols bytes ++ include_tail name.now (length bytes)
+styled (Include (Some name)) cols group upper start bytes = named_text name.now cols bytes
 
 -- xxd's text of an input
 abbrev pub xxd_text : XxdOptions → List ℕ → List ℕ

@@ -9,6 +9,7 @@ mod xxd_cells;
 mod xxd_columns;
 mod xxd_dump;
 mod xxd_lines;
+mod xxd_names;
 mod xxd_options;
 mod xxd_rows;
 

@@ -1,17 +1,18 @@
 //! xxd's dump.
-ghost use Rattle.std.specs.Prelude.{◌≡◌, ℕ, ◌+◌, ◌*◌, ◌^◌, ◌<◌, ◌≤◌, IfOk, IfErr};
+ghost use Rattle.std.specs.Prelude.{◌≡◌, ℕ, ◌+◌, ◌*◌, ◌^◌, ◌<◌, ◌≤◌, length, IfOk, IfErr};
 ghost use Rattle.bx_dump.specs.Lines.{in_lines};
 ghost use Rattle.bx_dump.specs.Pages.{WritesPart, WritesFrontOf, part_of};
 ghost use Rattle.bx_dump.specs.Rows.{plain_line};
-ghost use Rattle.bx_dump.specs.Styles.{group_of, xxd_text};
+ghost use Rattle.bx_dump.specs.Styles.{group_of, include_items, named_text, xxd_text};
 ghost use Rattle.bx_dump.specs.Xxd.{columns_line};
 
 use crate::pages::{Part, dump_part};
 use crate::xxd_columns::{Columns, Digits};
 use crate::xxd_lines::{LineForm, Lines};
+use crate::xxd_names::{emit_head, emit_tail};
 use crate::xxd_options::{XxdOptions, XxdStyle};
-use crate::xxd_rows::Plain;
-use bx_text::IoFault;
+use crate::xxd_rows::{Items, Plain};
+use bx_text::{IoFault, emit_after};
 use std::io::{Read, Write};
 
 /// Writes lines of a form, the first of them for an address, after `before` bytes that were written.
@@ -77,4 +78,64 @@ fn dump_plain<R: Read, W: Write>(r: &mut R, w: &mut W, o: &XxdOptions) -> Result
     ensures err { IfErr result (WritesFrontOf (λ input. in_lines (plain_line o.now.upper) o.now.cols 0 (part_of o.now.seek o.now.limit input)) 0 0 (R.remaining r.old) (R.remaining r.new) (W.contents w.old) (W.contents w.new)) }
 {
     dump_lines(r, w, Plain::new(o.cols as usize, o.upper), 0, o, 0)
+}
+
+/// Writes the items of a C array, after `before` bytes that were written.
+fn dump_items<R: Read, W: Write>(
+    r: &mut R,
+    w: &mut W,
+    o: &XxdOptions,
+    before: u64,
+) -> Result<Part, IoFault>
+    requires some { 0 < o.now.cols }
+    requires few { o.now.cols ≤ 256 }
+    requires before { before ≤ 2 ^ 62 + 64 }
+    ensures ok { IfOk result (λ part. WritesPart (λ input. include_items o.now.cols (part_of o.now.seek o.now.limit input)) o.now.seek o.now.limit (R.remaining r.old) (R.remaining r.new) (W.contents w.old) (W.contents w.new) part.read part.written) }
+    ensures err { IfErr result (WritesFrontOf (λ input. include_items o.now.cols (part_of o.now.seek o.now.limit input)) 0 before (R.remaining r.old) (R.remaining r.new) (W.contents w.old) (W.contents w.new)) }
+    ensures few { IfOk result (λ part. part.written ≤ 2 ^ 60 + 1) }
+{
+    let lines = match dump_lines(r, w, Items::new(o.cols as usize), 0, o, before) {
+        Ok(lines) => lines,
+        Err(fault) => return Err(fault),
+    };
+    if lines.read == 0 {
+        return Ok(lines);
+    }
+    if let Err(fault) = emit_after(w, before + lines.written, b"\n") {
+        return Err(fault);
+    }
+    Ok(Part {
+        read: lines.read,
+        written: lines.written + 1,
+    })
+}
+
+/// Writes the declaration of a C array.
+fn dump_named<R: Read, W: Write>(
+    r: &mut R,
+    w: &mut W,
+    o: &XxdOptions,
+    name: &[u8],
+) -> Result<Part, IoFault>
+    requires some { 0 < o.now.cols }
+    requires few { o.now.cols ≤ 256 }
+    requires name { length name.now ≤ 2 ^ 62 }
+    ensures ok { IfOk result (λ part. WritesPart (λ input. named_text name.now o.now.cols (part_of o.now.seek o.now.limit input)) o.now.seek o.now.limit (R.remaining r.old) (R.remaining r.new) (W.contents w.old) (W.contents w.new) part.read part.written) }
+    ensures err { IfErr result (WritesFrontOf (λ input. named_text name.now o.now.cols (part_of o.now.seek o.now.limit input)) 0 0 (R.remaining r.old) (R.remaining r.new) (W.contents w.old) (W.contents w.new)) }
+{
+    let before = match emit_head(w, name) {
+        Ok(before) => before,
+        Err(fault) => return Err(fault),
+    };
+    let items = match dump_items(r, w, o, before) {
+        Ok(items) => items,
+        Err(fault) => return Err(fault),
+    };
+    match emit_tail(w, before + items.written, name, items.read) {
+        Ok(written) => Ok(Part {
+            read: items.read,
+            written,
+        }),
+        Err(fault) => Err(fault),
+    }
 }
