@@ -3,7 +3,7 @@ ghost use Rattle.std.specs.Prelude.{◌≡◌, ℕ, ◌+◌, ◌*◌, ◌^◌, �
 ghost use Rattle.bx_dump.specs.Lines.{in_lines};
 ghost use Rattle.bx_dump.specs.Pages.{WritesPart, WritesFrontOf, part_of};
 ghost use Rattle.bx_dump.specs.Rows.{plain_line};
-ghost use Rattle.bx_dump.specs.Styles.{group_of, include_items, named_text, xxd_text};
+ghost use Rattle.bx_dump.specs.Styles.{group_of, include_items, named_text, styled, xxd_text, IsCountable};
 ghost use Rattle.bx_dump.specs.Xxd.{columns_line};
 
 use crate::pages::{Part, dump_part};
@@ -136,6 +136,66 @@ fn dump_named<R: Read, W: Write>(
             read: items.read,
             written,
         }),
+        Err(fault) => Err(fault),
+    }
+}
+
+/// Writes the items of a C array, and its declaration where it has a name.
+fn dump_include<R: Read, W: Write>(
+    r: &mut R,
+    w: &mut W,
+    o: &XxdOptions,
+    name: Option<&str>,
+) -> Result<Part, IoFault>
+    requires some { 0 < o.now.cols }
+    requires few { o.now.cols ≤ 256 }
+    requires name { IsCountable (XxdStyle.Include name) }
+    ensures ok { IfOk result (λ part. WritesPart (λ input. styled (XxdStyle.Include name.entry) o.now.cols (group_of o.now.cols o.now.group) o.now.upper (o.now.seek + o.now.shift) (part_of o.now.seek o.now.limit input)) o.now.seek o.now.limit (R.remaining r.old) (R.remaining r.new) (W.contents w.old) (W.contents w.new) part.read part.written) }
+    ensures err { IfErr result (WritesFrontOf (λ input. styled (XxdStyle.Include name.entry) o.now.cols (group_of o.now.cols o.now.group) o.now.upper (o.now.seek + o.now.shift) (part_of o.now.seek o.now.limit input)) 0 0 (R.remaining r.old) (R.remaining r.new) (W.contents w.old) (W.contents w.new)) }
+{
+    match name {
+        None => dump_items(r, w, o, 0),
+        Some(name) => dump_named(r, w, o, name.as_bytes()),
+    }
+}
+
+/// Writes the text of the style.
+fn dump_styled<R: Read, W: Write>(r: &mut R, w: &mut W, o: &XxdOptions) -> Result<Part, IoFault>
+    requires some { 0 < o.now.cols }
+    requires few { o.now.cols ≤ 256 }
+    requires groups { o.now.group ≤ 256 }
+    requires seek { o.now.seek ≤ 2 ^ 62 }
+    requires shift { o.now.shift ≤ 2 ^ 62 }
+    requires name { IsCountable o.now.style }
+    ensures ok { IfOk result (λ part. WritesPart (xxd_text o.now) o.now.seek o.now.limit (R.remaining r.old) (R.remaining r.new) (W.contents w.old) (W.contents w.new) part.read part.written) }
+    ensures err { IfErr result (WritesFrontOf (xxd_text o.now) 0 0 (R.remaining r.old) (R.remaining r.new) (W.contents w.old) (W.contents w.new)) }
+{
+    match o.style {
+        XxdStyle::Normal => dump_columns(r, w, Digits::Hexadecimal { upper: o.upper }, o),
+        XxdStyle::Bits => dump_columns(r, w, Digits::Binary, o),
+        XxdStyle::Plain => dump_plain(r, w, o),
+        XxdStyle::Include(name) => dump_include(r, w, o, name),
+    }
+}
+
+/// Writes xxd's text of the bytes from place `seek` on, at most `limit` of them, and answers how many they are.
+///
+/// A seek past the end of the input gives no bytes. The input may have 2^40 bytes, those included that are skipped, and no
+/// more of it is read than is needed. Nothing is flushed. After a fault a front of the text of the bytes that were read
+/// was written; `WriteFailed` counts it. `upper` has no effect on `Bits` and `Include`, nor have `group` and `shift` on
+/// `Plain` and `Include`.
+pub fn xxd<R: Read, W: Write>(r: &mut R, w: &mut W, o: &XxdOptions) -> Result<u64, IoFault>
+    requires some { 0 < o.now.cols }
+    requires few { o.now.cols ≤ 256 }
+    requires groups { o.now.group ≤ 256 }
+    requires seek { o.now.seek ≤ 2 ^ 62 }
+    requires shift { o.now.shift ≤ 2 ^ 62 }
+    requires name { IsCountable o.now.style }
+    ensures ok { IfOk result (λ n. (written : ℕ) × WritesPart (xxd_text o.now) o.now.seek o.now.limit (R.remaining r.old) (R.remaining r.new) (W.contents w.old) (W.contents w.new) n written) }
+    ensures err { IfErr result (WritesFrontOf (xxd_text o.now) 0 0 (R.remaining r.old) (R.remaining r.new) (W.contents w.old) (W.contents w.new)) }
+{
+    match dump_styled(r, w, o) {
+        Ok(part) => Ok(part.read),
         Err(fault) => Err(fault),
     }
 }
