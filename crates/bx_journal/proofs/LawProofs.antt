@@ -1,0 +1,53 @@
+-- The laws.
+use Rattle.std.proofs.Common.{◌≡◌, ℕ, zero, suc, ◌+◌, ◌<◌, ◌≤◌, Bool, true, false, List, [], ◌∷◌, ◌++◌, length, refl, ap, sym, ◌∙◌, subst, inl, inr, ◌⊎◌, arith, append_assoc, append-nil, Option, Some, None}
+use Rattle.std.specs.Prelude.{flat_map, IsTrue}
+use Rattle.std.proofs.lemmas.Bool.{cases_lt}
+use Rattle.bx_image.specs.declared.change.TheConstants.{MAX_LEN}
+use Rattle.bx_journal.specs.Kept.{Kept}
+use Rattle.bx_journal.specs.declared.version.Version.TheVariants.{Second}
+use Rattle.bx_journal.specs.Laws.{HasBytes, WrittenIsRead, StandsForOne, DamagedAtOne}
+use Rattle.bx_journal.specs.Line.{end_line}
+use Rattle.bx_journal.specs.Entry.{rows, head_lines, head_text, end_text, entry_text}
+use Rattle.bx_journal.specs.Text.{Entry, Stage, Between, Ending, Reading, Reads, IsRest, split, joined, start, after_lines, IsDamagedAt, IsAccepted}
+use Rattle.bx_journal.specs.Stack.{StandsFor, stack_of}
+use Rattle.bx_journal.specs.Phase.{in_rows}
+use Rattle.bx_journal.proofs.Splits.{split-append}
+use Rattle.bx_journal.proofs.Runs.{SafeRun, GoesAllBy, safe_all, after_lines-append, empty_rest}
+use Rattle.bx_journal.proofs.RowLemmas.{all_rows_byte, all_rows_are}
+use Rattle.bx_journal.proofs.EntryRun.{head_run, end_run, saving, ending, between}
+
+joined-append : (a b : List (List ℕ)) → joined (a ++ b) ≡ joined a ++ joined b
+joined-append [] b = refl
+joined-append (l ∷ a) b = ap (λ t. (l ++ 10 ∷ []) ++ t) (joined-append a b) ∙ sym (append_assoc (l ++ 10 ∷ []) (joined a) (joined b))
+
+pub written_is_read : WrittenIsRead
+written_is_read text es s after reads whole room most after_most within bytes may =
+    let e : Entry = record { saved = in_rows s; after = Some after } in
+    let E : Reading → Type 0 = λ r. r ≡ between (e ∷ es) in
+    let Any : Reading → Type 0 = λ r. Unit {0} in
+    let n : ℕ = suc (length es) in
+    let lines : List (List ℕ) = head_lines n s ++ end_line Second n after ∷ [] in
+    let run : SafeRun Any E (between es) lines = head_run Any E es s room most may (all_rows_are s.len s.runs within bytes) tt (λ runs. tt) (end_line Second n after ∷ [])
+    (end_run Any E es (in_rows s) after after_most tt tt refl) in
+    let g : GoesAllBy Any E (between es) (split (joined lines)) = safe_all Any E (between es) lines run in
+    let is : joined lines ≡ entry_text n s after = joined-append (head_lines n s) (end_line Second n after ∷ []) in
+    let all : Reads (text ++ joined lines) (between (e ∷ es)) = record {
+      lines = rw (split-append text (joined lines) whole) (after_lines-append start (between es) (split text).lines (split (joined lines)).lines reads.lines ∙ g.lines ∙ ap Some g.ends);
+      rest = rw (split-append text (joined lines) whole) (subst (IsRest (e ∷ es) Between) (sym g.whole) (inl refl));
+    } in
+    (e, record { len = refl; bytes = all_rows_byte s.runs; told = refl }, subst (λ t. Reads (text ++ t) (between (e ∷ es))) is all)
+
+some_same : {A : Type 0} (x y : A) → Some x ≡ Some y → x ≡ y
+some_same x y e = cc
+
+pub stands_for_one : StandsForOne
+stands_for_one text x s t a b =
+    let same : between a.entries ≡ between b.entries = some_same (between a.entries) (between b.entries) (sym a.reads.lines ∙ b.reads.lines) in
+    a.stack_is ∙ ap (λ (r : Reading). stack_of r.entries x) same ∙ sym b.stack_is
+
+pub damaged_at_one : DamagedAtOne
+damaged_at_one text m n a b =
+    elim (cases_lt m n) [
+      | inl less ↦ absurd (a.damaged (b.least m less))
+      | inr most ↦ elim (cases_lt n m) [ inl less ↦ absurd (b.damaged (a.least n less)) | inr least ↦ omega arith ]
+    ]

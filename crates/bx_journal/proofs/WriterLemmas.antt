@@ -1,0 +1,100 @@
+-- Texts of entries, line by line.
+use Rattle.std.proofs.Common.{◌≡◌, ℕ, zero, suc, ◌+◌, ◌-◌, ◌*◌, ◌/◌, ◌<◌, ◌≤◌, ◌^◌, min, List, [], ◌∷◌, ◌++◌, length, map, take, drop, refl, ap, sym, ◌∙◌, subst, arith, append_assoc, append-nil, length-drop, length-append, inl, inr, get_or}
+use Rattle.std.specs.Prelude.{flat_map}
+use Rattle.std.specs.List.{range_with_len}
+use Rattle.std.proofs.lemmas.List.{map-append, take_all}
+use Rattle.std.proofs.lemmas.Bool.{cases_lt}
+use Rattle.std.proofs.lemmas.Grind.{flat_map-append, common_steps}
+use Rattle.bx_text.specs.declared.pieces.Piece.{Piece}
+use Rattle.bx_image.specs.Change.{AllWithin}
+use Rattle.bx_image.specs.Image.{end_of}
+use Rattle.bx_journal.specs.Kept.{Run, Kept, run_of}
+use Rattle.bx_journal.specs.declared.version.Version.TheVariants.{Second}
+use Rattle.bx_journal.specs.Line.{start_line, save_line}
+use Rattle.bx_journal.specs.DumpLine.{dump_line}
+use Rattle.bx_journal.specs.Entry.{row, rows, head_lines, head_text}
+use Rattle.bx_journal.specs.Text.{ended, joined}
+
+range_more : (a n : ℕ) → range_with_len a (n + 1) ≡ range_with_len a n ++ (a + n) ∷ []
+range_more a zero = ap (λ x. x ∷ []) (omega arith)
+range_more a (suc n) =
+    let count : suc n + 1 ≡ suc (n + 1) = omega arith in
+    let same : a + 1 + n ≡ a + suc n = omega arith in
+    ap (range_with_len a) count ∙ ap (λ xs. a ∷ xs) (range_more (a + 1) n ∙ ap (λ k. range_with_len (a + 1) n ++ k ∷ []) same)
+
+abbrev pub lines_of : List Run → List (List ℕ)
+lines_of rows = map (λ (p : Run). dump_line p.at p.bytes) rows
+
+pub lines_more : (rows more : List Run) → joined (lines_of (rows ++ more)) ≡ joined (lines_of rows) ++ joined (lines_of more)
+lines_more rows more = ap joined (map-append (λ (p : Run). dump_line p.at p.bytes) rows more) ∙ flat_map-append ended (lines_of rows) (lines_of more)
+
+-- the rows of a run before a place, and one more
+pub row_more : (run : Run) (k : ℕ) → joined (lines_of (map (row run) (range_with_len 0 (k + 1)))) ≡ joined (lines_of (map (row run) (range_with_len 0 k))) ++ ended (dump_line (row run k).at (row run k).bytes)
+row_more run k =
+    ap (λ ks. joined (lines_of (map (row run) ks))) (range_more 0 k)
+    ∙ ap (λ ps. joined (lines_of ps)) (map-append (row run) (range_with_len 0 k) ((0 + k) ∷ []))
+    ∙ lines_more (map (row run) (range_with_len 0 k)) (map (row run) ((0 + k) ∷ []))
+    ∙ ap (λ t. joined (lines_of (map (row run) (range_with_len 0 k))) ++ t) (append-nil (ended (dump_line (row run (0 + k)).at (row run (0 + k)).bytes)))
+    ∙ ap (λ j. joined (lines_of (map (row run) (range_with_len 0 k))) ++ ended (dump_line (row run j).at (row run j).bytes)) (let none : 0 + k ≡ k = omega arith in none)
+
+row_slice : (bytes : List ℕ) (k to : ℕ) → to ≡ min (16 * k + 16) (length bytes) → take (to - 16 * k) (drop (16 * k) bytes) ≡ take 16 (drop (16 * k) bytes)
+row_slice bytes k to is =
+    elim (cases_lt (length bytes) (16 * k + 16)) [
+      | inl less ↦
+          let short : length (drop (16 * k) bytes) ≤ 16 = omega (arith, length-drop (16 * k) bytes, less) in
+          let all : length (drop (16 * k) bytes) ≤ to - 16 * k = omega (arith, length-drop (16 * k) bytes, less, is) in
+          take_all (to - 16 * k) (drop (16 * k) bytes) all ∙ sym (take_all 16 (drop (16 * k) bytes) short)
+      | inr more ↦ ap (λ n. take n (drop (16 * k) bytes)) (let count : to - 16 * k ≡ 16 = omega (arith, is, more) in count)
+    ]
+
+pub row_written : (text old new bytes : List ℕ) (run : Run) (k to : ℕ) → bytes ≡ run.bytes → to ≡ min (16 * k + 16) (length bytes)
+    → new ≡ old ++ ended (dump_line (run.at + 16 * k) (take (to - 16 * k) (drop (16 * k) bytes))) → old ≡ text ++ joined (lines_of (map (row run) (range_with_len 0 k)))
+    → new ≡ text ++ joined (lines_of (map (row run) (range_with_len 0 (k + 1))))
+row_written text old new bytes run k to same is added before =
+    let slice : take (to - 16 * k) (drop (16 * k) bytes) ≡ (row run k).bytes = row_slice bytes k to is ∙ ap (λ b. take 16 (drop (16 * k) b)) same in
+    added ∙ ap (λ b. old ++ ended (dump_line (run.at + 16 * k) b)) slice ∙ ap (λ t. t ++ ended (dump_line (run.at + 16 * k) (row run k).bytes)) before
+    ∙ append_assoc text (joined (lines_of (map (row run) (range_with_len 0 k)))) (ended (dump_line (row run k).at (row run k).bytes))
+    ∙ ap (λ t. text ++ t) (sym (row_more run k))
+
+pub rows_written : (text new bytes : List ℕ) (run : Run) (k : ℕ) → bytes ≡ run.bytes → k ≡ (length bytes + 15) / 16 → new ≡ text ++ joined (lines_of (map (row run) (range_with_len 0 k))) → new ≡ text ++ joined (lines_of (rows run))
+unfolding rows
+rows_written text new bytes run k same last is =
+    is ∙ ap (λ n. text ++ joined (lines_of (map (row run) (range_with_len 0 n)))) (last ∙ ap (λ b. (length b + 15) / 16) same)
+
+pub row_fits : (at : ℕ) (bytes : List ℕ) (k : ℕ) → end_of at bytes < 2 ^ 64 → k < length bytes → at + k < 2 ^ 64
+row_fits at [] k most inside = absurd (omega arith)
+row_fits at (b ∷ bytes) k most inside = omega (arith, most, inside)
+
+pub within_at : {A : Type 0} → (len : ℕ) (runs : List (Piece A)) (run : Piece A) (k : ℕ) → AllWithin len runs → k < length runs → run ≡ get_or runs k run → end_of run.at run.bytes ≤ len
+within_at len [] run k all inside is = absurd (omega arith)
+within_at len (r ∷ runs) run zero all inside is = subst (λ p. end_of p.at p.bytes ≤ len) (sym is) all.0
+within_at len (r ∷ runs) run (suc k) all inside is = within_at len runs run k all.1 (omega (arith, inside)) is
+
+-- the lines of the first runs, and of one more
+pub runs_more : {A : Type 0} → (text old new : List ℕ) (runs : List (Piece A)) (run : Piece A) (k : ℕ) → k < length runs → run ≡ get_or runs k run
+    → new ≡ old ++ joined (lines_of (rows (run_of run))) → old ≡ text ++ joined (lines_of (flat_map rows (map run_of (take k runs))))
+    → new ≡ text ++ joined (lines_of (flat_map rows (map run_of (take (k + 1) runs))))
+runs_more text old new runs run k inside is added before =
+    let one : take (k + 1) runs ≡ take k runs ++ run ∷ [] = take_one runs run k inside is in
+    let all : flat_map rows (map run_of (take (k + 1) runs)) ≡ flat_map rows (map run_of (take k runs)) ++ rows (run_of run) =
+    ap (λ rs. flat_map rows (map run_of rs)) one ∙ ap (flat_map rows) (map-append run_of (take k runs) (run ∷ []))
+    ∙ flat_map-append rows (map run_of (take k runs)) (run_of run ∷ []) ∙ ap (λ ps. flat_map rows (map run_of (take k runs)) ++ ps) (append-nil (rows (run_of run))) in
+    added ∙ ap (λ t. t ++ joined (lines_of (rows (run_of run)))) before ∙ append_assoc text (joined (lines_of (flat_map rows (map run_of (take k runs))))) (joined (lines_of (rows (run_of run))))
+    ∙ ap (λ t. text ++ t) (sym (lines_more (flat_map rows (map run_of (take k runs))) (rows (run_of run))) ∙ ap (λ ps. joined (lines_of ps)) (sym all))
+  where
+    take_one : {A : Type 0} → (runs : List (Piece A)) (run : Piece A) (k : ℕ) → k < length runs → run ≡ get_or runs k run → take (k + 1) runs ≡ take k runs ++ run ∷ []
+    take_one [] run k inside is = absurd (omega arith)
+    take_one (r ∷ runs) run zero inside is = ap (λ p. p ∷ []) (sym is)
+    take_one (r ∷ runs) run (suc k) inside is =
+        let count : suc k + 1 ≡ suc (k + 1) = omega arith in
+        ap (λ n. take n (r ∷ runs)) count ∙ ap (λ rs. r ∷ rs) (take_one runs run k (omega (arith, inside)) is)
+
+pub head_written : (text : List ℕ) (n : ℕ) (s : Kept) → text ≡ ([] ++ ended (start_line Second n s.len)) ++ joined (lines_of (flat_map rows s.runs)) → head_text n s ≡ text ++ ended (save_line n)
+unfolding head_lines
+head_written text n s is =
+    ap (λ t. ended (start_line Second n s.len) ++ t) (flat_map-append ended (lines_of (flat_map rows s.runs)) (save_line n ∷ []) ∙ ap (λ t. joined (lines_of (flat_map rows s.runs)) ++ t) (append-nil (ended (save_line n))))
+    ∙ sym (append_assoc (ended (start_line Second n s.len)) (joined (lines_of (flat_map rows s.runs))) (ended (save_line n)))
+    ∙ ap (λ t. t ++ ended (save_line n)) (sym is)
+
+pub take_whole : {A : Type 0} → (runs : List A) (k : ℕ) → length runs ≤ k → take k runs ≡ runs
+take_whole runs k all = take_all k runs all

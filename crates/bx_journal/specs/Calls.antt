@@ -1,0 +1,54 @@
+-- What a session's calls answer.
+use Rattle.std.specs.Prelude.{◌≡◌, ◌⊎◌, ◌<◌, ◌≤◌, ℕ, suc, ◌+◌, ◌-◌, Option, None, Some, List, [], ◌∷◌, ◌++◌, length, drop, sum, map}
+use Rattle.bx_journal.specs.Kept.{Run}
+use Rattle.bx_journal.specs.Kept.{Kept}
+use Rattle.bx_journal.specs.declared.calls.LogRow.{LogRow}
+use Rattle.bx_journal.specs.declared.calls.How.{How}
+use Rattle.bx_journal.specs.declared.calls.How.TheVariants.{Clean, Dropped, Restored}
+use Rattle.bx_journal.specs.declared.fault.SessionFault.{SessionFault}
+use Rattle.bx_journal.specs.declared.fault.SessionFault.TheVariants.{NoMemory, TooLarge, DeviceFailed, Damaged, TooFew, JournalFull, Interrupted, Broken, LengthDiffers}
+use Rattle.bx_journal.specs.Text.{Entry, Stage, Between, Saving, Ending, Reading, Reads, IsDamagedAt}
+use Rattle.bx_journal.specs.Stack.{stack_of, image_at, Recovers}
+
+-- a row for each entry, the oldest first
+abbrev pub rows_of : List Entry → List LogRow
+rows_of [] = []
+rows_of (e ∷ entries) = rows_of entries ++ record { number = suc (length entries); old_len = e.saved.len; saved = sum (map (λ (run : Run). length run.bytes) e.saved.runs) } ∷ []
+
+-- what was found: `rest` is what follows the last newline
+abbrev pub how_of : Reading → List ℕ → How
+how_of r rest = how_at (suc (length r.entries)) r.stage rest
+  where
+    how_at : ℕ → Stage → List ℕ → How
+    how_at n Between [] = Clean
+    how_at n Between (b ∷ rest) = Dropped
+    how_at n (Saving v s) rest = Dropped
+    how_at n (Ending v s) rest = Restored n
+
+-- the newest entry tells a length that the image doesn't have
+abbrev pub Differs : List Entry → List ℕ → ℕ → Type 0
+Differs [] x expected = ⊥
+Differs (e ∷ entries) x expected = (e.after ≡ Some expected) × (length x ≡ expected → ⊥)
+
+-- The one line at which a text that isn't accepted is damaged, or a fault that the text doesn't make
+abbrev pub ReadFault : List ℕ → SessionFault → Type 0
+ReadFault text (Damaged line) = IsDamagedAt text line
+ReadFault text NoMemory = Unit {0}
+ReadFault text e = ⊥
+
+-- which fault opening may answer to a reading of the text
+abbrev pub OpenFault : Reading → List ℕ → SessionFault → Type 0
+OpenFault r x NoMemory = Unit {0}
+OpenFault r x DeviceFailed = Unit {0}
+OpenFault r x Interrupted = Unit {0}
+OpenFault r x (LengthDiffers expected) = Differs r.entries (image_at r.stage x) expected
+OpenFault r x e = ⊥
+
+-- after an undo that was interrupted: some of the images are off the stack
+abbrev pub RecoversBelow : List ℕ → List ℕ → List (List ℕ) → ℕ → Type 0
+RecoversBelow text x stack k = (j : ℕ) × (j ≤ k) × Recovers text x (drop j stack)
+
+-- an interruption leaves the one, each other fault the other
+abbrev pub AfterFaultOf : SessionFault → Type 0 → Type 0 → Type 0
+AfterFaultOf Interrupted interrupted same = interrupted
+AfterFaultOf e interrupted same = same

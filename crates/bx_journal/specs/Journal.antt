@@ -1,0 +1,16 @@
+-- A text that was read, with its places.
+use Rattle.std.specs.Prelude.{◌≡◌, ◌≤◌, ℕ, List, [], length, take, drop}
+use Rattle.bx_journal.specs.declared.journal.JournalRead.{JournalRead}
+use Rattle.bx_journal.specs.Mark.{IsMark}
+use Rattle.bx_journal.specs.Text.{split, Split, Reads}
+use Rattle.bx_journal.specs.Parsed.{IsMarked, entries_of, stage_of, reading_of}
+
+pub record HasPlaces {A : Type 0} (text : List ℕ) (j : JournalRead A) : Type 0 where
+  pub mark : IsMark text j.whole (record { entries = entries_of j.entries.items; stage = stage_of j.stage })
+  pub marked : IsMarked text j.entries.items j.stage j.whole
+  pub rest : drop j.whole text ≡ (split text).rest
+
+-- the text was read, and its places are known
+pub record HasRead {A : Type 0} (text : List ℕ) (j : JournalRead A) : Type 0 where
+  pub reads : Reads text (reading_of j.entries.items j.stage)
+  pub places : HasPlaces text j

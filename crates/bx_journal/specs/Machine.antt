@@ -1,0 +1,41 @@
+-- The machine of changes over stacks of whole images.
+use Rattle.std.specs.Prelude.{◌≡◌, ◌≢◌, ◌<◌, ◌≤◌, ℕ, suc, ◌+◌, ◌-◌, Result, Ok, Err, List, [], ◌∷◌, length, drop}
+use Rattle.bx_image.specs.declared.change.Change.{Change}
+use Rattle.bx_image.specs.declared.change.TheConstants.{MAX_LEN}
+use Rattle.bx_image.specs.Change.{effect, Fits}
+use Rattle.bx_journal.specs.declared.fault.SessionFault.{SessionFault}
+use Rattle.bx_journal.specs.declared.fault.SessionFault.TheVariants.{NoMemory, TooLarge, DeviceFailed, Damaged, TooFew, JournalFull, Interrupted, Broken, LengthDiffers}
+
+abbrev pub top : List (List ℕ) → List ℕ
+top [] = []
+top (x ∷ stack) = x
+
+-- how many changes a stack has
+abbrev pub changes_of : List (List ℕ) → ℕ
+changes_of stack = length stack - 1
+
+-- a change: 42 comes before 30, and want of memory may take its place
+abbrev pub PerformStep : {A : Type 0} → List (List ℕ) → Change A → Result ℕ SessionFault → List (List ℕ) → Type 0
+PerformStep old c (Ok n) new =
+    (changes_of old < 65535) × Fits c (length (top old)) MAX_LEN × (n ≡ changes_of old + 1) × (new ≡ effect c (top old) ∷ old)
+PerformStep old c (Err NoMemory) new = new ≡ old
+PerformStep old c (Err JournalFull) new = (changes_of old ≡ 65535) × (new ≡ old)
+PerformStep old c (Err TooLarge) new = (changes_of old < 65535) × (Fits c (length (top old)) MAX_LEN → ⊥) × (new ≡ old)
+PerformStep old c (Err DeviceFailed) new = ⊥
+PerformStep old c (Err (Damaged line)) new = ⊥
+PerformStep old c (Err (TooFew have)) new = ⊥
+PerformStep old c (Err Interrupted) new = ⊥
+PerformStep old c (Err Broken) new = ⊥
+PerformStep old c (Err (LengthDiffers expected)) new = ⊥
+
+abbrev pub UndoStep : List (List ℕ) → ℕ → Result ℕ SessionFault → List (List ℕ) → Type 0
+UndoStep old k (Ok left) new = (k ≤ changes_of old) × (left ≡ changes_of old - k) × (new ≡ drop k old)
+UndoStep old k (Err (TooFew have)) new = (changes_of old < k) × (have ≡ changes_of old) × (new ≡ old)
+UndoStep old k (Err NoMemory) new = new ≡ old
+UndoStep old k (Err JournalFull) new = ⊥
+UndoStep old k (Err TooLarge) new = ⊥
+UndoStep old k (Err DeviceFailed) new = ⊥
+UndoStep old k (Err (Damaged line)) new = ⊥
+UndoStep old k (Err Interrupted) new = ⊥
+UndoStep old k (Err Broken) new = ⊥
+UndoStep old k (Err (LengthDiffers expected)) new = ⊥

@@ -1,0 +1,30 @@
+-- The phases of a change and of an undo.
+use Rattle.std.specs.Prelude.{◌≡◌, ◌⊎◌, ◌<◌, ◌≤◌, ℕ, suc, ◌+◌, Bool, false, List, [], ◌∷◌, ◌++◌, length, flat_map}
+use Rattle.bx_journal.specs.Kept.{Kept}
+use Rattle.bx_image.specs.Change.{restore, Covers}
+use Rattle.bx_journal.specs.declared.version.Version.{Version}
+use Rattle.bx_journal.specs.Text.{Entry, Stage, Between, Ending, Reading, Reads, split}
+use Rattle.bx_journal.specs.Entry.{rows}
+use Rattle.bx_journal.specs.Stack.{stack_of, StandsFor, IsSound, HaveLengths, Recovers}
+
+-- the pair stands for the stack, and is sound
+pub record IsAtRest (text x : List ℕ) (stack : List (List ℕ)) : Type 0 where
+  pub stands : StandsFor text x stack
+  pub sound : IsSound text x (record { entries = stands.entries; stage = Between })
+
+-- The text ends with the save line of an entry that keeps s, and restoring s gives the image of the stack's top. The pair is sound.
+pub record IsOpen (v : Version) (s : Kept) (text x : List ℕ) (stack : List (List ℕ)) : Type 0 where
+  pub entries : List Entry
+  pub reads : Reads text (record { entries = entries; stage = Ending v s })
+  pub whole : (split text).rest ≡ []
+  pub sound : IsSound text x (record { entries = entries; stage = Ending v s })
+  pub lengths : HaveLengths entries (restore s x)
+  pub stack_is : stack ≡ stack_of entries (restore s x)
+
+-- a record in rows, as it reads
+abbrev pub in_rows : Kept → Kept
+in_rows s = record { len = s.len; runs = flat_map rows s.runs }
+
+-- after a fault: the one stack or the other
+abbrev pub RecoversEither : List ℕ → List ℕ → List (List ℕ) → List (List ℕ) → Type 0
+RecoversEither text x old new = Recovers text x old ⊎ Recovers text x new

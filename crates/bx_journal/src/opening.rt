@@ -1,0 +1,74 @@
+//! Opening a pair of an image and a journal.
+ghost use Rattle.std.specs.Prelude.{◌≡◌, ◌↔◌, ◌+◌, ◌<◌, List, ℕ, length, suc, false, IfOk, IfErr, OnOk, MatchResult};
+ghost use Rattle.bx_journal.specs.Text.{IsAccepted, IsDamagedAt, Reading, Reads};
+ghost use Rattle.bx_journal.specs.Stack.{Recovers, image_at, recovered};
+
+use crate::unfinished::recover;
+use crate::{How, Recovered, Session, SessionFault};
+use bx_image::Device;
+use bx_store::TextStore;
+use std::alloc::Allocator;
+
+impl<D: Device, T: TextStore, A: Allocator + Clone> Session<D, T, A> {
+    ghost use Rattle.bx_journal.specs.Session.{IsReady};
+    ghost use Rattle.bx_journal.specs.Standing.{IsStanding};
+    ghost use Rattle.bx_journal.specs.Calls.{AfterFaultOf, Differs, OpenFault};
+    ghost use Rattle.bx_journal.specs.Opening.{FaultCounts, IsOpened, RefusesLength, RefusesText};
+
+    /// Opens a pair. An unfinished entry is dropped, or its change is taken back. An `Err` hands both back.
+    pub fn open(alloc: A, device: D, store: T) -> Result<(Self, Recovered), (D, T, SessionFault)>
+        requires device_countable { D.failures device < u64.MAX }
+        requires store_countable { T.failures store < u64.MAX }
+
+        // What is found, whatever image it is: the pair that is left stands for the recovered stack.
+        ensures opened { D.honest device → T.honest store → (r : Reading) → Reads (T.text store) r
+            → IfOk result (λ o. IsOpened (T.text store) (D.image device) r (T.text o.0.store) (D.image o.0.device) o.1.how o.1.changes) }
+        ensures standing { D.honest device → T.honest store → (r : Reading) → Reads (T.text store) r
+            → IfOk result (λ o. IsStanding D.image T.text o.0 (recovered r (D.image device))) }
+        ensures fresh { IfOk result (λ o. (o.0.count ≡ o.1.changes) × (o.0.is_broken ≡ false)) }
+        ensures clean { D.honest device → T.honest store → IfOk result (λ o. o.1.how ≡ How.Clean → (T.text o.0.store ≡ T.text store) × (D.image o.0.device ≡ D.image device)) }
+
+        // A text that isn't accepted is never opened, and one that is accepted is never called damaged.
+        ensures accepted { T.honest store → OnOk result (IsAccepted (T.text store)) }
+        ensures damaged { T.honest store → IfErr result (λ e. (line : ℕ) → e.2 ≡ SessionFault.Damaged line → IsDamagedAt (T.text store) line) }
+        ensures unaccepted { T.honest store → (IsAccepted (T.text store) → ⊥) → MatchResult result (λ _. ⊥) (λ e. RefusesText e.2) }
+
+        // A length differs exactly where the newest finished entry tells another one than that of the image below which it stands.
+        ensures faults { D.honest device → T.honest store → (r : Reading) → Reads (T.text store) r → IfErr result (λ e. OpenFault r (D.image device) e.2) }
+        ensures differs { D.honest device → T.honest store → (r : Reading) (n : ℕ) → Reads (T.text store) r → Differs r.entries (image_at r.stage (D.image device)) n
+            → MatchResult result (λ _. ⊥) (λ e. RefusesLength n e.2) }
+
+        // From a sound pair the stack is kept, whatever it answers.
+        ensures keeps { D.honest device → T.honest store → (stack : List (List ℕ)) → Recovers (T.text store) (D.image device) stack
+            → IfOk result (λ o. IsReady D.image T.text o.0 stack) }
+        ensures keeps_err { D.honest device → T.honest store → (stack : List (List ℕ)) → Recovers (T.text store) (D.image device) stack
+            → IfErr result (λ e. Recovers (T.text e.1) (D.image e.0) stack) }
+        ensures lengths_kept { D.honest device → T.honest store → (stack : List (List ℕ)) → Recovers (T.text store) (D.image device) stack
+            → IfErr result (λ e. (n : ℕ) → e.2 ≡ SessionFault.LengthDiffers n → ⊥) }
+        ensures refused { D.honest device → T.honest store → IfErr result (λ e. AfterFaultOf e.2 (Unit {0})
+            ((T.text e.1 ≡ T.text store) × (D.image e.0 ≡ D.image device))) }
+        ensures honesty { IfOk result (λ o. (D.honest o.0.device ↔ D.honest device) × (T.honest o.0.store ↔ T.honest store)) }
+        ensures honesty_err { IfErr result (λ e. (D.honest e.0 ↔ D.honest device) × (T.honest e.1 ↔ T.honest store)) }
+        ensures no_failure { IfOk result (λ o. (D.failures o.0.device ≡ D.failures device) × (T.failures o.0.store ≡ T.failures store)) }
+        ensures counts { IfErr result (λ e. FaultCounts e.2 (D.failures device) (T.failures store) (D.failures e.0) (T.failures e.1)) }
+    {
+        let mut device = device;
+        let mut store = store;
+        match recover(&alloc, &mut device, &mut store) {
+            Ok(recovered) => {
+                let count = recovered.changes;
+                Ok((
+                    Session {
+                        alloc,
+                        device,
+                        store,
+                        count,
+                        is_broken: false,
+                    },
+                    recovered,
+                ))
+            }
+            Err(fault) => Err((device, store, fault)),
+        }
+    }
+}

@@ -1,0 +1,96 @@
+//! A session: changes to an image, each with its entry in the journal.
+ghost use Rattle.std.specs.Prelude.{◌≡◌, ◌↔◌, ◌⊎◌, ◌+◌, ◌<◌, ◌≤◌, ◌^◌, [], ◌∷◌, ◌++◌, List, ℕ, length, true, false, IfOk, IfErr, OnOk, OnErr, IsErrOf, is_ok, if◌then◌else◌};
+ghost use Rattle.bx_image.specs.Change.{effect, saved, Fits, AllWithin};
+ghost use Rattle.bx_journal.specs.Kept.{kept_of};
+ghost use Rattle.bx_journal.specs.Entry.{head_text, end_text, entry_text};
+ghost use Rattle.bx_journal.specs.Machine.{PerformStep, top};
+ghost use Rattle.bx_journal.specs.Phase.{RecoversEither};
+
+use crate::SessionFault;
+use crate::images::save_image;
+use crate::steps::write_entry;
+use crate::writer::{entry_end, entry_head};
+use bx_image::{Change, Device, MAX_LEN, check};
+use bx_store::TextStore;
+use std::alloc::{Allocator, Global};
+
+const MOST_CHANGES: u32 = 65_535;
+
+#[derive(Drop)]
+pub struct Session<D: Device, T: TextStore, A: Allocator = Global> {
+    pub(crate) alloc: A,
+    pub(crate) device: D,
+    pub(crate) store: T,
+    pub(crate) count: u32,
+    pub(crate) is_broken: bool,
+}
+
+impl<D: Device, T: TextStore, A: Allocator + Clone> Session<D, T, A> {
+    ghost use Rattle.bx_journal.specs.Session.{IsReady, IsSame, AfterFault};
+    ghost use Rattle.bx_journal.specs.Standing.{IsStanding};
+    ghost use Rattle.bx_journal.specs.Opening.{FaultCounts};
+
+    /// Changes the image, and answers the change's number.
+    pub fn perform(&mut self, change: &Change<A>) -> Result<u32, SessionFault>
+        requires device_countable { D.failures self.old.device < u64.MAX }
+        requires store_countable { T.failures self.old.store < u64.MAX }
+
+        // Accepted, it makes the machine's step, and the session goes on.
+        ensures accepted { D.honest self.old.device → T.honest self.old.store → (stack : List (List ℕ)) → IsStanding D.image T.text self.old stack
+            → IfOk result (λ n. PerformStep stack change.now (Ok n) (effect change.now (top stack) ∷ stack)
+            × IsStanding D.image T.text self.new (effect change.now (top stack) ∷ stack)) }
+        ensures sound { D.honest self.old.device → T.honest self.old.store → (stack : List (List ℕ)) → IsReady D.image T.text self.old stack
+            → OnOk result (IsReady D.image T.text self.new (effect change.now (top stack) ∷ stack)) }
+        ensures number { IfOk result (λ n. (n ≡ self.old.count + 1) × (self.new.count ≡ n) × (self.new.is_broken ≡ false)) }
+        ensures entry { D.honest self.old.device → T.honest self.old.store → IfOk result (λ n.
+            T.text self.new.store ≡ T.text self.old.store
+            ++ entry_text n (kept_of (saved change.now (D.image self.old.device))) (length (effect change.now (D.image self.old.device)))) }
+
+        // An interruption leaves the old stack or the new one, and another fault leaves all as it was.
+        ensures fault { D.honest self.old.device → T.honest self.old.store → (stack : List (List ℕ)) → IsReady D.image T.text self.old stack
+            → IfErr result (λ e. AfterFault e
+            (RecoversEither (T.text self.new.store) (D.image self.new.device) stack (effect change.now (top stack) ∷ stack))
+            (IsSame D.image T.text self.old self.new)) }
+
+        ensures refused { D.honest self.old.device → T.honest self.old.store → IfErr result (λ e. AfterFault e (Unit {0}) (IsSame D.image T.text self.old self.new)) }
+        ensures breaks { IsErrOf result SessionFault.Interrupted → (self.new.is_broken ≡ true) × (self.new.count ≡ self.old.count) }
+
+        ensures broken { (self.old.is_broken ≡ true) ↔ IsErrOf result SessionFault.Broken }
+        ensures untouched { IsErrOf result SessionFault.Broken → (self.new.device ≡ self.old.device) × (self.new.store ≡ self.old.store) }
+        ensures full { IsErrOf result SessionFault.JournalFull ↔ ((self.old.is_broken ≡ false) × (65535 ≤ self.old.count)) }
+        ensures large { D.honest self.old.device → IsErrOf result SessionFault.TooLarge → Fits change.now (length (D.image self.old.device)) MAX_LEN → ⊥ }
+        ensures device_honesty { D.honest self.new.device ↔ D.honest self.old.device }
+        ensures store_honesty { T.honest self.new.store ↔ T.honest self.old.store }
+        ensures no_failure { OnOk result ((D.failures self.new.device ≡ D.failures self.old.device) × (T.failures self.new.store ≡ T.failures self.old.store)) }
+        ensures counts { IfErr result (λ e. FaultCounts e (D.failures self.old.device) (T.failures self.old.store) (D.failures self.new.device) (T.failures self.new.store)) }
+    {
+        if self.is_broken {
+            return Err(SessionFault::Broken);
+        }
+        if self.count >= MOST_CHANGES {
+            return Err(SessionFault::JournalFull);
+        }
+        let len = self.device.len()?;
+        let after = check(change, len)?;
+        let kept = save_image(self.alloc.clone()?, &mut self.device, change)?;
+        let number = self.count + 1;
+        let head = entry_head(self.alloc.clone()?, number, &kept)?;
+        let end = entry_end(self.alloc.clone()?, number, after)?;
+        self.device.reserve(after)?;
+        let text_len = self.store.len()?;
+        let most = text_len
+            .saturating_add(head.len() as u64)
+            .saturating_add(end.len() as u64);
+        self.store.reserve(most)?;
+        match write_entry(&mut self.device, &mut self.store, change, &head, &end) {
+            Ok(()) => {
+                self.count = number;
+                Ok(number)
+            }
+            Err(_) => {
+                self.is_broken = true;
+                Err(SessionFault::Interrupted)
+            }
+        }
+    }
+}

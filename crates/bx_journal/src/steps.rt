@@ -1,0 +1,74 @@
+//! The steps of a change, each of which writes to one device.
+ghost use Rattle.std.specs.Prelude.{◌≡◌, ◌↔◌, ◌+◌, ◌<◌, ◌≤◌, [], ◌∷◌, ◌++◌, List, ℕ, length, OnOk, OnErr, is_err};
+ghost use Rattle.bx_journal.specs.Kept.{Kept as Record};
+ghost use Rattle.bx_image.specs.Change.{effect, saved, IsAsGood};
+ghost use Rattle.bx_image.specs.Device.{GoesOn};
+ghost use Rattle.bx_journal.specs.declared.version.Version.TheVariants.{Second};
+ghost use Rattle.bx_journal.specs.Kept.{kept_of};
+ghost use Rattle.bx_journal.specs.Stack.{Recovers};
+ghost use Rattle.bx_journal.specs.Phase.{IsAtRest, IsOpen, in_rows, RecoversEither};
+ghost use Rattle.bx_journal.specs.Step.{StartsEntry, EndsEntry, WritesEntry};
+
+use crate::images::change_image;
+use bx_image::{Change, Device, DeviceFailed};
+use bx_store::TextStore;
+use std::alloc::Allocator;
+
+/// Appends an entry up to its save line.
+pub fn append_head<T: TextStore>(store: &mut T, head: &[u8]) -> Result<(), DeviceFailed>
+    requires countable { T.failures store.old < u64.MAX }
+    requires fits { T.honest store.old → length (T.text store.old) + length head.now ≤ T.room store.old }
+    ensures ok { T.honest store.old → (x : List ℕ) (stack : List (List ℕ)) (s : Record) → StartsEntry (T.text store.old) x stack s head.now
+        → OnOk result (IsOpen Second (in_rows s) (T.text store.new) x stack) }
+    ensures fault { T.honest store.old → (x : List ℕ) (stack : List (List ℕ)) (s : Record) → StartsEntry (T.text store.old) x stack s head.now
+        → OnErr result (Recovers (T.text store.new) x stack) }
+    ensures text { T.honest store.old → OnOk result (T.text store.new ≡ T.text store.old ++ head.now) }
+    ensures goes_on { GoesOn T.honest T.room T.failures (is_err result) store.old store.new }
+{
+    store.append(head)
+}
+
+/// Appends the line that ends an entry.
+pub fn append_end<T: TextStore>(store: &mut T, end: &[u8]) -> Result<(), DeviceFailed>
+    requires countable { T.failures store.old < u64.MAX }
+    requires fits { T.honest store.old → length (T.text store.old) + length end.now ≤ T.room store.old }
+    ensures ok { T.honest store.old → (x : List ℕ) (stack : List (List ℕ)) (s : Record) → EndsEntry (T.text store.old) x stack s end.now
+        → OnOk result (IsAtRest (T.text store.new) x (x ∷ stack)) }
+    ensures fault { T.honest store.old → (x : List ℕ) (stack : List (List ℕ)) (s : Record) → EndsEntry (T.text store.old) x stack s end.now
+        → OnErr result (RecoversEither (T.text store.new) x stack (x ∷ stack)) }
+    ensures text { T.honest store.old → OnOk result (T.text store.new ≡ T.text store.old ++ end.now) }
+    ensures goes_on { GoesOn T.honest T.room T.failures (is_err result) store.old store.new }
+{
+    store.append(end)
+}
+
+/// Appends the entry of a change, and changes the image in between.
+pub fn write_entry<D: Device, T: TextStore, A: Allocator>(
+    device: &mut D,
+    store: &mut T,
+    change: &Change<A>,
+    head: &[u8],
+    end: &[u8],
+) -> Result<(), DeviceFailed>
+    requires device_countable { D.failures device.old < u64.MAX }
+    requires store_countable { T.failures store.old < u64.MAX }
+    requires image_room { length (effect change.now []) ≤ D.room device.old }
+    requires text_room { T.honest store.old → length (T.text store.old) + length head.now + length end.now ≤ T.room store.old }
+    ensures ok { D.honest device.old → T.honest store.old → (stack : List (List ℕ))
+        → WritesEntry change.now (T.text store.old) (D.image device.old) stack head.now end.now
+        → OnOk result (IsAtRest (T.text store.new) (D.image device.new) (effect change.now (D.image device.old) ∷ stack)) }
+    ensures fault { D.honest device.old → T.honest store.old → (stack : List (List ℕ))
+        → WritesEntry change.now (T.text store.old) (D.image device.old) stack head.now end.now
+        → OnErr result (RecoversEither (T.text store.new) (D.image device.new) stack (effect change.now (D.image device.old) ∷ stack)) }
+    ensures image { D.honest device.old → OnOk result (D.image device.new ≡ effect change.now (D.image device.old)) }
+    ensures back { D.honest device.old → OnOk result (IsAsGood (kept_of (saved change.now (D.image device.old))) (D.image device.old) (D.image device.new)) }
+    ensures text { T.honest store.old → OnOk result (T.text store.new ≡ T.text store.old ++ head.now ++ end.now) }
+    ensures device_honesty { D.honest device.new ↔ D.honest device.old }
+    ensures store_honesty { T.honest store.new ↔ T.honest store.old }
+    ensures no_failure { OnOk result ((D.failures device.new ≡ D.failures device.old) × (T.failures store.new ≡ T.failures store.old)) }
+    ensures failure { OnErr result (D.failures device.new + T.failures store.new ≡ D.failures device.old + T.failures store.old + 1) }
+{
+    append_head(store, head)?;
+    change_image(device, change)?;
+    append_end(store, end)
+}

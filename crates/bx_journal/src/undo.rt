@@ -1,0 +1,90 @@
+//! The steps of an undo, each of which writes to one device.
+ghost use Rattle.std.specs.Prelude.{◌≡◌, ◌↔◌, ◌+◌, ◌<◌, ◌≤◌, ◌∷◌, List, ℕ, length, take, map, OnOk, OnErr};
+ghost use Rattle.bx_image.specs.Change.{AllWithin, restore};
+ghost use Rattle.bx_journal.specs.Kept.{run_of, kept_of};
+ghost use Rattle.bx_journal.specs.declared.version.Version.{Version as Form};
+ghost use Rattle.bx_journal.specs.Text.{Entry};
+ghost use Rattle.std.specs.Prelude.{◌-◌};
+ghost use Rattle.bx_journal.specs.Stack.{Recovers, StandsFor};
+ghost use Rattle.bx_journal.specs.Undoing.{HasLeft};
+ghost use Rattle.bx_journal.specs.Phase.{IsAtRest, IsOpen, RecoversEither};
+ghost use Rattle.bx_journal.specs.Step.{TakesBack};
+ghost use Rattle.std.specs.Prelude.{drop, []};
+ghost use Rattle.bx_journal.specs.Parsed.{AllKept, AreMarked, entries_of};
+ghost use Rattle.bx_journal.specs.Mark.{IsMark};
+ghost use Rattle.bx_journal.specs.Text.{Between};
+
+use crate::EntryRead;
+use crate::images::restore_image;
+use bx_image::{Device, DeviceFailed, Saved};
+use bx_store::TextStore;
+use std::alloc::Allocator;
+
+/// Takes the newest entry back: cuts the line that ends it, restores the image, and cuts the rest of it.
+pub fn undo_entry<D: Device, T: TextStore, A: Allocator>(
+    device: &mut D,
+    store: &mut T,
+    kept: Saved<A>,
+    begins: u64,
+    saved: u64,
+) -> Result<(), DeviceFailed>
+    requires device_countable { D.failures device.old < u64.MAX }
+    requires store_countable { T.failures store.old < u64.MAX }
+    requires order { begins ≤ saved }
+    requires within_text { T.honest store.old → saved ≤ length (T.text store.old) }
+    requires within { AllWithin kept.len (map run_of kept.runs) }
+    requires image_room { kept.len ≤ D.room device.old }
+    ensures ok { D.honest device.old → T.honest store.old → (below : List (List ℕ)) (v : Form) (e : Entry)
+        → TakesBack (T.text store.old) (D.image device.old) below v e begins saved → kept_of kept ≡ e.saved
+        → OnOk result (IsAtRest (T.text store.new) (D.image device.new) below) }
+    ensures fault { D.honest device.old → T.honest store.old → (below : List (List ℕ)) (v : Form) (e : Entry)
+        → TakesBack (T.text store.old) (D.image device.old) below v e begins saved → kept_of kept ≡ e.saved
+        → OnErr result (RecoversEither (T.text store.new) (D.image device.new) (D.image device.old ∷ below) below) }
+    ensures image { D.honest device.old → OnOk result (D.image device.new ≡ restore (kept_of kept) (D.image device.old)) }
+    ensures text { T.honest store.old → OnOk result (T.text store.new ≡ take begins (T.text store.old)) }
+    ensures device_honesty { D.honest device.new ↔ D.honest device.old }
+    ensures store_honesty { T.honest store.new ↔ T.honest store.old }
+    ensures room { D.room device.old ≤ D.room device.new }
+    ensures no_failure { OnOk result ((D.failures device.new ≡ D.failures device.old) × (T.failures store.new ≡ T.failures store.old)) }
+    ensures failure { OnErr result (D.failures device.new + T.failures store.new ≡ D.failures device.old + T.failures store.old + 1) }
+{
+    store.cut(saved)?;
+    restore_image(device, kept)?;
+    store.cut(begins)
+}
+
+/// Takes the last k of the entries that were read back, the newest first.
+pub fn undo_entries<D: Device, T: TextStore, A: Allocator>(
+    device: &mut D,
+    store: &mut T,
+    bytes: &[u8],
+    entries: &mut Vec<EntryRead<A>, A>,
+    k: u32,
+) -> Result<(), DeviceFailed>
+    requires device_countable { D.failures device.old < u64.MAX }
+    requires store_countable { T.failures store.old < u64.MAX }
+    requires few { k ≤ length entries.old.items }
+    requires kept { AllKept (D.room device.old) (drop (length entries.old.items - k) entries.old.items) }
+    requires marked { AreMarked bytes.now [] 0 entries.old.items (length bytes.now) }
+    requires mark { IsMark bytes.now (length bytes.now) (record { entries = entries_of entries.old.items; stage = Between }) }
+    requires text { T.honest store.old → T.text store.old ≡ bytes.now }
+    ensures ok { D.honest device.old → T.honest store.old → (stack : List (List ℕ)) → IsAtRest (T.text store.old) (D.image device.old) stack
+        → OnOk result (IsAtRest (T.text store.new) (D.image device.new) (drop k stack)) }
+    ensures stands { D.honest device.old → T.honest store.old → (stack : List (List ℕ)) → StandsFor (T.text store.old) (D.image device.old) stack
+        → OnOk result (StandsFor (T.text store.new) (D.image device.new) (drop k stack)) }
+    ensures left { T.honest store.old → OnOk result (HasLeft (T.text store.old) (T.text store.new) (drop k (entries_of entries.old.items))) }
+    ensures fault { D.honest device.old → T.honest store.old → (stack : List (List ℕ)) → IsAtRest (T.text store.old) (D.image device.old) stack
+        → OnErr result ((j : ℕ) × (j ≤ k) × Recovers (T.text store.new) (D.image device.new) (drop j stack)) }
+    ensures device_honesty { D.honest device.new ↔ D.honest device.old }
+    ensures store_honesty { T.honest store.new ↔ T.honest store.old }
+    ensures no_failure { OnOk result ((D.failures device.new ≡ D.failures device.old) × (T.failures store.new ≡ T.failures store.old)) }
+    ensures failure { OnErr result (D.failures device.new + T.failures store.new ≡ D.failures device.old + T.failures store.old + 1) }
+{
+    for i in 0..k {
+        let Some(entry) = entries.pop() else {
+            return Ok(())
+        };
+        undo_entry(device, store, entry.kept, entry.begins, entry.saved)?;
+    }
+    Ok(())
+}

@@ -1,0 +1,209 @@
+//! What opening finds, and how it takes back what is unfinished.
+ghost use Rattle.std.specs.Prelude.{◌≡◌, ◌↔◌, ◌⊎◌, Some, ◌+◌, ◌<◌, ◌≤◌, List, ℕ, length, suc, OnOk, OnErr, IfOk, IfErr, IfSome, MatchResult};
+ghost use Rattle.bx_journal.specs.Calls.{AfterFaultOf, Differs, OpenFault};
+ghost use Rattle.bx_journal.specs.Journal.{HasRead};
+ghost use Rattle.bx_journal.specs.Opening.{FaultCounts, HasRoomFor, IsOpened, LookFault, RefusesLength, RefusesText};
+ghost use Rattle.bx_journal.specs.Parsed.{entries_of, reading_of, stage_of};
+ghost use Rattle.bx_journal.specs.Phase.{IsAtRest};
+ghost use Rattle.bx_journal.specs.Stack.{HaveLengths, Recovers, image_at};
+ghost use Rattle.bx_journal.specs.Text.{IsAccepted, IsDamagedAt, Reading, Reads};
+
+use crate::journal::{JournalRead, read_journal};
+use crate::recovery::{drop_tail, take_back};
+use crate::step::told_length;
+use crate::{How, Recovered, SessionFault, StageRead};
+use bx_image::{Device, DeviceFailed};
+use bx_store::{TextFault, TextStore};
+use std::alloc::Allocator;
+
+/// Whether the image has the length that the last entry tells, if it tells one.
+fn check_length<D: Device>(device: &mut D, told: Option<u64>) -> Result<(), SessionFault>
+    requires { D.failures device.old < u64.MAX }
+    ensures same_length { D.honest device.old → OnOk result (IfSome told (λ n. length (D.image device.old) ≡ n)) }
+    ensures fault { IfErr result (λ e. (e ≡ SessionFault.DeviceFailed)
+        ⊎ ((n : ℕ) × (e ≡ SessionFault.LengthDiffers n) × (D.honest device.old → (told ≡ Some n) × (length (D.image device.old) ≡ n → ⊥)))) }
+    ensures image { D.honest device.old → D.image device.new ≡ D.image device.old }
+    ensures honesty { D.honest device.new ↔ D.honest device.old }
+    ensures ok { OnOk result (D.failures device.new ≡ D.failures device.old) }
+    ensures counts { IfErr result (λ e. FaultCounts e (D.failures device.old) 0 (D.failures device.new) 0) }
+{
+    let Some(expected) = told else { return Ok(()) };
+    let len = device.len()?;
+    if len != expected {
+        return Err(SessionFault::LengthDiffers { expected });
+    }
+    Ok(())
+}
+
+/// Compares the image's length with the one that the last finished entry tells, or makes room for what is to be
+/// restored. An entry that has its save line begins with the length that was told, so there is nothing to compare.
+fn prepare<D: Device, A: Allocator>(
+    device: &mut D,
+    journal: &JournalRead<A>,
+) -> Result<(), SessionFault>
+    requires { D.failures device.old < u64.MAX }
+    ensures lengths { D.honest device.old → (bytes : List ℕ) → HasRead bytes journal.now
+        → OnOk result (HaveLengths (entries_of journal.now.entries.items) (image_at (stage_of journal.now.stage) (D.image device.old))) }
+    ensures fault { IfErr result (LookFault (D.honest device.old) (entries_of journal.now.entries.items) (image_at (stage_of journal.now.stage) (D.image device.old))) }
+    ensures room { OnOk result (HasRoomFor journal.now.stage (D.room device.new)) }
+    ensures image { D.honest device.old → D.image device.new ≡ D.image device.old }
+    ensures honesty { D.honest device.new ↔ D.honest device.old }
+    ensures ok { OnOk result (D.failures device.new ≡ D.failures device.old) }
+    ensures counts { IfErr result (λ e. FaultCounts e (D.failures device.old) 0 (D.failures device.new) 0) }
+{
+    let told = told_length(&journal.entries);
+    match &journal.stage {
+        StageRead::Between => check_length(device, told),
+        StageRead::Saving { .. } => check_length(device, told),
+        StageRead::Ending { kept, .. } => {
+            device.reserve(kept.len)?;
+            Ok(())
+        }
+    }
+}
+
+/// Cuts off what is unfinished, and takes its change back where its save line stands.
+fn finish<D: Device, T: TextStore, A: Allocator>(
+    device: &mut D,
+    store: &mut T,
+    bytes: &[u8],
+    journal: JournalRead<A>,
+) -> Result<Recovered, DeviceFailed>
+    requires device_countable { D.failures device.old < u64.MAX }
+    requires store_countable { T.failures store.old < u64.MAX }
+    requires read { HasRead bytes.now journal }
+    requires text { T.honest store.old → T.text store.old ≡ bytes.now }
+    requires room { HasRoomFor journal.stage (D.room device.old) }
+    ensures opened { D.honest device.old → T.honest store.old → HaveLengths (entries_of journal.entries.items) (image_at (stage_of journal.stage) (D.image device.old))
+        → IfOk result (λ o. IsOpened (T.text store.old) (D.image device.old) (reading_of journal.entries.items journal.stage) (T.text store.new) (D.image device.new) o.how o.changes) }
+    ensures clean { D.honest device.old → T.honest store.old → IfOk result (λ o. o.how ≡ How.Clean → (T.text store.new ≡ T.text store.old) × (D.image device.new ≡ D.image device.old)) }
+    ensures keeps { D.honest device.old → T.honest store.old → (stack : List (List ℕ)) → Recovers (T.text store.old) (D.image device.old) stack
+        → OnOk result (IsAtRest (T.text store.new) (D.image device.new) stack) }
+    ensures keeps_err { D.honest device.old → T.honest store.old → (stack : List (List ℕ)) → Recovers (T.text store.old) (D.image device.old) stack
+        → OnErr result (Recovers (T.text store.new) (D.image device.new) stack) }
+    ensures changes { IfOk result (λ o. o.changes ≡ length journal.entries.items) }
+    ensures device_honesty { D.honest device.new ↔ D.honest device.old }
+    ensures store_honesty { T.honest store.new ↔ T.honest store.old }
+    ensures no_failure { OnOk result ((D.failures device.new ≡ D.failures device.old) × (T.failures store.new ≡ T.failures store.old)) }
+    ensures failure { OnErr result (D.failures device.new + T.failures store.new ≡ D.failures device.old + T.failures store.old + 1) }
+{
+    let JournalRead {
+        entries,
+        stage,
+        whole,
+    } = journal;
+    let changes = entries.len() as u32;
+    match stage {
+        StageRead::Between => {
+            if whole == bytes.len() as u64 {
+                return Ok(Recovered {
+                    how: How::Clean,
+                    changes,
+                });
+            }
+            drop_tail(store, whole)?;
+            Ok(Recovered {
+                how: How::Dropped,
+                changes,
+            })
+        }
+        StageRead::Saving { begins, .. } => {
+            drop_tail(store, begins)?;
+            Ok(Recovered {
+                how: How::Dropped,
+                changes,
+            })
+        }
+        StageRead::Ending { kept, begins, .. } => {
+            take_back(device, store, kept, begins)?;
+            Ok(Recovered {
+                how: How::Restored {
+                    number: changes + 1,
+                },
+                changes,
+            })
+        }
+    }
+}
+
+/// Takes back what is unfinished in a journal that was read.
+pub fn recover_read<D: Device, T: TextStore, A: Allocator>(
+    device: &mut D,
+    store: &mut T,
+    bytes: &[u8],
+    journal: JournalRead<A>,
+) -> Result<Recovered, SessionFault>
+    requires device_countable { D.failures device.old < u64.MAX }
+    requires store_countable { T.failures store.old < u64.MAX }
+    requires read { HasRead bytes.now journal }
+    requires text { T.honest store.old → T.text store.old ≡ bytes.now }
+    ensures opened { D.honest device.old → T.honest store.old → (r : Reading) → Reads (T.text store.old) r
+        → IfOk result (λ o. IsOpened (T.text store.old) (D.image device.old) r (T.text store.new) (D.image device.new) o.how o.changes) }
+    ensures clean { D.honest device.old → T.honest store.old → IfOk result (λ o. o.how ≡ How.Clean → (T.text store.new ≡ T.text store.old) × (D.image device.new ≡ D.image device.old)) }
+    ensures faults { D.honest device.old → T.honest store.old → (r : Reading) → Reads (T.text store.old) r → IfErr result (OpenFault r (D.image device.old)) }
+    ensures differs { D.honest device.old → T.honest store.old → (r : Reading) (n : ℕ) → Reads (T.text store.old) r → Differs r.entries (image_at r.stage (D.image device.old)) n
+        → MatchResult result (λ _. ⊥) (RefusesLength n) }
+    ensures keeps { D.honest device.old → T.honest store.old → (stack : List (List ℕ)) → Recovers (T.text store.old) (D.image device.old) stack
+        → OnOk result (IsAtRest (T.text store.new) (D.image device.new) stack) }
+    ensures keeps_err { D.honest device.old → T.honest store.old → (stack : List (List ℕ)) → Recovers (T.text store.old) (D.image device.old) stack
+        → OnErr result (Recovers (T.text store.new) (D.image device.new) stack) }
+    ensures counted { D.honest device.old → T.honest store.old → (stack : List (List ℕ)) → Recovers (T.text store.old) (D.image device.old) stack
+        → IfOk result (λ o. length stack ≡ suc o.changes) }
+    ensures undamaged { IfErr result (λ e. (line : ℕ) → e ≡ SessionFault.Damaged line → ⊥) }
+    ensures refused { D.honest device.old → T.honest store.old → IfErr result (λ e. AfterFaultOf e (Unit {0})
+        ((T.text store.new ≡ T.text store.old) × (D.image device.new ≡ D.image device.old))) }
+    ensures device_honesty { D.honest device.new ↔ D.honest device.old }
+    ensures store_honesty { T.honest store.new ↔ T.honest store.old }
+    ensures no_failure { OnOk result ((D.failures device.new ≡ D.failures device.old) × (T.failures store.new ≡ T.failures store.old)) }
+    ensures counts { IfErr result (λ e. FaultCounts e (D.failures device.old) (T.failures store.old) (D.failures device.new) (T.failures store.new)) }
+{
+    if let Err(fault) = prepare(device, &journal) {
+        return Err(fault);
+    }
+    match finish(device, store, bytes, journal) {
+        Ok(found) => Ok(found),
+        Err(_) => Err(SessionFault::Interrupted),
+    }
+}
+
+/// Reads the journal, and takes back what is unfinished.
+pub fn recover<D: Device, T: TextStore, A: Allocator + Clone>(
+    alloc: &A,
+    device: &mut D,
+    store: &mut T,
+) -> Result<Recovered, SessionFault>
+    requires device_countable { D.failures device.old < u64.MAX }
+    requires store_countable { T.failures store.old < u64.MAX }
+    ensures opened { D.honest device.old → T.honest store.old → (r : Reading) → Reads (T.text store.old) r
+        → IfOk result (λ o. IsOpened (T.text store.old) (D.image device.old) r (T.text store.new) (D.image device.new) o.how o.changes) }
+    ensures clean { D.honest device.old → T.honest store.old → IfOk result (λ o. o.how ≡ How.Clean → (T.text store.new ≡ T.text store.old) × (D.image device.new ≡ D.image device.old)) }
+    ensures accepted { T.honest store.old → OnOk result (IsAccepted (T.text store.old)) }
+    ensures damaged { T.honest store.old → IfErr result (λ e. (line : ℕ) → e ≡ SessionFault.Damaged line → IsDamagedAt (T.text store.old) line) }
+    ensures unaccepted { T.honest store.old → (IsAccepted (T.text store.old) → ⊥) → MatchResult result (λ _. ⊥) RefusesText }
+    ensures faults { D.honest device.old → T.honest store.old → (r : Reading) → Reads (T.text store.old) r → IfErr result (OpenFault r (D.image device.old)) }
+    ensures differs { D.honest device.old → T.honest store.old → (r : Reading) (n : ℕ) → Reads (T.text store.old) r → Differs r.entries (image_at r.stage (D.image device.old)) n
+        → MatchResult result (λ _. ⊥) (RefusesLength n) }
+    ensures keeps { D.honest device.old → T.honest store.old → (stack : List (List ℕ)) → Recovers (T.text store.old) (D.image device.old) stack
+        → OnOk result (IsAtRest (T.text store.new) (D.image device.new) stack) }
+    ensures keeps_err { D.honest device.old → T.honest store.old → (stack : List (List ℕ)) → Recovers (T.text store.old) (D.image device.old) stack
+        → OnErr result (Recovers (T.text store.new) (D.image device.new) stack) }
+    ensures counted { D.honest device.old → T.honest store.old → (stack : List (List ℕ)) → Recovers (T.text store.old) (D.image device.old) stack
+        → IfOk result (λ o. length stack ≡ suc o.changes) }
+    ensures refused { D.honest device.old → T.honest store.old → IfErr result (λ e. AfterFaultOf e (Unit {0})
+        ((T.text store.new ≡ T.text store.old) × (D.image device.new ≡ D.image device.old))) }
+    ensures device_honesty { D.honest device.new ↔ D.honest device.old }
+    ensures store_honesty { T.honest store.new ↔ T.honest store.old }
+    ensures no_failure { OnOk result ((D.failures device.new ≡ D.failures device.old) × (T.failures store.new ≡ T.failures store.old)) }
+    ensures counts { IfErr result (λ e. FaultCounts e (D.failures device.old) (T.failures store.old) (D.failures device.new) (T.failures store.new)) }
+{
+    let bytes = match store.read_all(alloc.clone()?) {
+        Ok(bytes) => bytes,
+        Err(TextFault::NoMemory) => return Err(SessionFault::NoMemory),
+        Err(TextFault::DeviceFailed) => return Err(SessionFault::DeviceFailed),
+    };
+    let journal = match read_journal(alloc, &bytes) {
+        Ok(journal) => journal,
+        Err(fault) => return Err(fault),
+    };
+    recover_read(device, store, &bytes, journal)
+}
