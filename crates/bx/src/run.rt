@@ -1,8 +1,10 @@
 //! One run of the program.
 use crate::files::input;
 use crate::images::{command, log};
-use bx_cli::{Command, Fault, HexdumpJob, Job, Reply, RevertJob, XxdJob, XxdLook, plan_words};
-use bx_dump::{hexdump_c, xxd_default};
+use bx_cli::{
+    Command, Done, Fault, HexdumpJob, Job, OdJob, Reply, RevertJob, StringsJob, XxdJob, plan_words,
+    run_dump,
+};
 use bx_text::{Bytes, Name, Source, Words, emit};
 use std::alloc::Global;
 use std::env;
@@ -40,10 +42,10 @@ where
     let mut out = io::writer(rt);
     let written = match job {
         Job::Help { text } => show(&mut out, text.as_str())?,
-        Job::Xxd(XxdJob { file, .. }) | Job::Hexdump(HexdumpJob { file, .. }) => {
-            dump_file(rt, job, file, &mut out)?
-        }
-        Job::Od(_) | Job::Strings(_) => return Err(Fault::Usage),
+        Job::Od(OdJob { file, .. })
+        | Job::Xxd(XxdJob { file, .. })
+        | Job::Hexdump(HexdumpJob { file, .. })
+        | Job::Strings(StringsJob { file, .. }) => dump_file(rt, job, file, &mut out)?,
         Job::Revert(job) => revert(rt, job)?,
         Job::Undo {
             count,
@@ -115,26 +117,9 @@ fn dump_file<R, W: Write>(rt: &R, job: &Job, file: &Option<Name>, out: &mut W) -
 where
     R: Files<File = File> + Input,
 {
-    match file {
-        Some(name) => dump(job, &mut input(rt, name)?, out),
-        None => dump(job, &mut rt.reader(), out),
-    }
-}
-
-fn dump<I: Read, W: Write>(job: &Job, input: &mut I, out: &mut W) -> Result<u64, Fault> {
-    match job {
-        Job::Xxd(xxd) if is_default(xxd) => Ok(xxd_default(input, out)?.written),
-        Job::Hexdump(hexdump) if hexdump.skip == 0 && hexdump.limit.is_none() => {
-            Ok(hexdump_c(input, out, hexdump.all)?)
-        }
-        _ => Err(Fault::Usage),
-    }
-}
-
-fn is_default(xxd: &XxdJob) -> bool {
-    xxd.look == XxdLook::Normal
-        && (xxd.cols, xxd.group) == (16, 2)
-        && (xxd.seek, xxd.shift) == (0, 0)
-        && xxd.limit.is_none()
-        && !xxd.upper
+    let Done::Dumped(count) = match file {
+        Some(name) => run_dump(job, &mut input(rt, name)?, out)?,
+        None => run_dump(job, &mut rt.reader(), out)?,
+    };
+    Ok(count)
 }

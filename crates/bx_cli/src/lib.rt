@@ -3,6 +3,7 @@
 
 mod changes;
 mod command;
+mod dump;
 mod fault;
 mod job;
 mod laws;
@@ -14,6 +15,7 @@ mod run;
 mod tests;
 
 pub use command::{Command, Reply};
+pub use dump::{Done, run_dump};
 pub use fault::Fault;
 pub use job::{
     HexdumpJob, Job, NumForm, OdJob, OdKind, Radix, RevertJob, Size, StringsJob, XxdJob, XxdLook,
