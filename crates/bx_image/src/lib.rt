@@ -29,3 +29,7 @@ mod file_tests;
 mod growth_tests;
 #[cfg(test)]
 mod ration;
+#[cfg(test)]
+mod slow;
+#[cfg(test)]
+mod slow_tests;
