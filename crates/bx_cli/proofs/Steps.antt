@@ -7,9 +7,8 @@ use Rattle.bx_image.specs.Change.{effect, Fits}
 use Rattle.bx_journal.specs.declared.session.Session.{Session}
 use Rattle.bx_journal.specs.declared.fault.SessionFault.{SessionFault}
 use Rattle.bx_journal.specs.declared.fault.SessionFault.TheVariants.{NoMemory, TooLarge, DeviceFailed, Damaged, TooFew, JournalFull, Interrupted, Broken, LengthDiffers}
-use Rattle.bx_journal.specs.Refusing.{PerformFault, UndoFault}
-use Rattle.bx_journal.specs.Standing.{IsStanding}
-use Rattle.bx_journal.specs.Undoing.{HasCount}
+use Rattle.bx_journal.specs.Standing.{IsStanding, PerformFault}
+use Rattle.bx_journal.specs.Undoing.{HasCount, UndoFault}
 use Rattle.bx_journal.specs.Machine.{PerformStep, UndoStep, top, changes_of}
 use Rattle.bx_journal.specs.Session.{IsReady, IsSame, AfterFault}
 use Rattle.bx_journal.specs.Calls.{RecoversBelow}
@@ -168,38 +167,40 @@ pub undo_err : {D T A : Type 0} (hd : D → Type 0) (ht : T → Type 0) (image :
     → AfterFault e (RecoversBelow (text new.store) (image new.device) stack k) (IsSame image text old new))
     → ((old.is_broken ≡ true) ↔ IsErrOf (refusal e) Broken)
     → (((old.is_broken ≡ false) × (old.count < k)) ↔ IsErrOf (refusal e) (TooFew old.count))
-    → (ht old.store → HasCount (text old.store) old.count → UndoFault old.count e)
+    → UndoFault old.count e
+    → (ht old.store → HasCount (text old.store) old.count → (line : ℕ) → e ≡ Damaged line → ⊥)
     → (hd old.device → ht old.store → AfterFault e (Unit {0}) (IsSame image text old new))
     → (IsErrOf (refusal e) Interrupted → (new.is_broken ≡ true) × (new.count ≡ old.count))
     → (hd new.device ↔ hd old.device) → (ht new.store ↔ ht old.store)
     → (before : Standing) → HoldsAt hd ht image text old before → (after : Standing) × HoldsAt hd ht image text new after × UndoFrom before k (Err e) after
-undo_err hd ht image text old new k e fault broken few faults refused breaks device store (Standing.Down stack) h =
+undo_err hd ht image text old new k e fault broken few kind undamaged refused breaks device store (Standing.Down stack) h =
     (Standing.Down stack, stays_down hd ht image text old new e stack broken refused device store h, (broken.0 h.stands.0, refl))
-undo_err hd ht image text old new k NoMemory fault broken few faults refused breaks device store (Standing.Up stack) h =
+undo_err hd ht image text old new k NoMemory fault broken few kind undamaged refused breaks device store (Standing.Up stack) h =
     let same = fault h.device h.store stack h.stands in
     (Standing.Up stack, record { device = device.1 h.device; store = store.1 h.store; stands = ready_same image text old new stack h.stands same }, (refl, refl))
-undo_err hd ht image text old new k DeviceFailed fault broken few faults refused breaks device store (Standing.Up stack) h =
+undo_err hd ht image text old new k DeviceFailed fault broken few kind undamaged refused breaks device store (Standing.Up stack) h =
     let same = fault h.device h.store stack h.stands in
     (Standing.Up stack, record { device = device.1 h.device; store = store.1 h.store; stands = ready_same image text old new stack h.stands same }, refl)
-undo_err hd ht image text old new k (TooFew have) fault broken few faults refused breaks device store (Standing.Up stack) h =
+undo_err hd ht image text old new k (TooFew have) fault broken few kind undamaged refused breaks device store (Standing.Up stack) h =
     let same = fault h.device h.store stack h.stands in
     let changes = changes_of_ready image text old stack h.stands in
-    let told : have ≡ old.count = faults h.store (has_count image text old stack h.stands) in
+    let told : have ≡ old.count = kind in
     let short = (few.1 (ap (λ n. refusal (TooFew n)) told)).1 in
     let fewer : changes_of stack < k = omega arith in (
       Standing.Up stack,
       record { device = device.1 h.device; store = store.1 h.store; stands = ready_same image text old new stack h.stands same },
       (refl, (fewer, told ∙ sym changes, refl)),
     )
-undo_err hd ht image text old new k Interrupted fault broken few faults refused breaks device store (Standing.Up stack) h =
+undo_err hd ht image text old new k Interrupted fault broken few kind undamaged refused breaks device store (Standing.Up stack) h =
     let left = fault h.device h.store stack h.stands in
     (Standing.Down (drop left.0 stack), record { device = device.1 h.device; store = store.1 h.store; stands = ((breaks refl).0, left.2) }, (left.0, left.1, refl))
-undo_err hd ht image text old new k Broken fault broken few faults refused breaks device store (Standing.Up stack) h =
+undo_err hd ht image text old new k Broken fault broken few kind undamaged refused breaks device store (Standing.Up stack) h =
     absurd (up_not_broken image text old stack h.stands (broken.1 refl))
-undo_err hd ht image text old new k TooLarge fault broken few faults refused breaks device store (Standing.Up stack) h = absurd (faults h.store (has_count image text old stack h.stands))
-undo_err hd ht image text old new k JournalFull fault broken few faults refused breaks device store (Standing.Up stack) h = absurd (faults h.store (has_count image text old stack h.stands))
-undo_err hd ht image text old new k (Damaged line) fault broken few faults refused breaks device store (Standing.Up stack) h = absurd (faults h.store (has_count image text old stack h.stands))
-undo_err hd ht image text old new k (LengthDiffers expected) fault broken few faults refused breaks device store (Standing.Up stack) h = absurd (faults h.store (has_count image text old stack h.stands))
+undo_err hd ht image text old new k TooLarge fault broken few kind undamaged refused breaks device store (Standing.Up stack) h = absurd kind
+undo_err hd ht image text old new k JournalFull fault broken few kind undamaged refused breaks device store (Standing.Up stack) h = absurd kind
+undo_err hd ht image text old new k (Damaged line) fault broken few kind undamaged refused breaks device store (Standing.Up stack) h =
+    absurd (undamaged h.store (has_count image text old stack h.stands) line refl)
+undo_err hd ht image text old new k (LengthDiffers expected) fault broken few kind undamaged refused breaks device store (Standing.Up stack) h = absurd kind
 
 -- how the counts go on where a call failed
 pub counts_least : (e : SessionFault) (d t d_new t_new : ℕ) → FaultCounts e d t d_new t_new → d + t ≤ d_new + t_new

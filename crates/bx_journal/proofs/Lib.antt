@@ -35,4 +35,3 @@ pub mod LogLemmas
 pub mod Performed
 pub mod PieceBound
 pub mod SavedBound
-pub mod Refusals

@@ -21,4 +21,3 @@ pub mod Opening
 pub mod Standing
 pub mod Rows
 pub mod Undoing
-pub mod Refusing

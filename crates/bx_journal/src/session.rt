@@ -27,9 +27,8 @@ pub struct Session<D: Device, T: TextStore, A: Allocator = Global> {
 
 impl<D: Device, T: TextStore, A: Allocator + Clone> Session<D, T, A> {
     ghost use Rattle.bx_journal.specs.Session.{IsReady, IsSame, AfterFault};
-    ghost use Rattle.bx_journal.specs.Standing.{IsStanding};
+    ghost use Rattle.bx_journal.specs.Standing.{IsStanding, PerformFault};
     ghost use Rattle.bx_journal.specs.Opening.{FaultCounts};
-    ghost use Rattle.bx_journal.specs.Refusing.{PerformFault};
 
     /// Changes the image, and answers the change's number.
     pub fn perform(&mut self, change: &Change<A>) -> Result<u32, SessionFault>
@@ -56,6 +55,7 @@ impl<D: Device, T: TextStore, A: Allocator + Clone> Session<D, T, A> {
         ensures refused { D.honest self.old.device → T.honest self.old.store → IfErr result (λ e. AfterFault e (Unit {0}) (IsSame D.image T.text self.old self.new)) }
         ensures breaks { IsErrOf result SessionFault.Interrupted → (self.new.is_broken ≡ true) × (self.new.count ≡ self.old.count) }
 
+        ensures kind { IfErr result PerformFault }
         ensures broken { (self.old.is_broken ≡ true) ↔ IsErrOf result SessionFault.Broken }
         ensures untouched { IsErrOf result SessionFault.Broken → (self.new.device ≡ self.old.device) × (self.new.store ≡ self.old.store) }
         ensures full { IsErrOf result SessionFault.JournalFull ↔ ((self.old.is_broken ≡ false) × (65535 ≤ self.old.count)) }
@@ -63,7 +63,6 @@ impl<D: Device, T: TextStore, A: Allocator + Clone> Session<D, T, A> {
         ensures device_honesty { D.honest self.new.device ↔ D.honest self.old.device }
         ensures store_honesty { T.honest self.new.store ↔ T.honest self.old.store }
         ensures no_failure { OnOk result ((D.failures self.new.device ≡ D.failures self.old.device) × (T.failures self.new.store ≡ T.failures self.old.store)) }
-        ensures faults { IfErr result PerformFault }
         ensures counts { IfErr result (λ e. FaultCounts e (D.failures self.old.device) (T.failures self.old.store) (D.failures self.new.device) (T.failures self.new.store)) }
     {
         if self.is_broken {

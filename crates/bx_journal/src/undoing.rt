@@ -53,8 +53,7 @@ impl<D: Device, T: TextStore, A: Allocator + Clone> Session<D, T, A> {
     ghost use Rattle.bx_journal.specs.Standing.{IsStanding};
     ghost use Rattle.bx_journal.specs.Calls.{RecoversBelow};
     ghost use Rattle.bx_journal.specs.Opening.{FaultCounts};
-    ghost use Rattle.bx_journal.specs.Undoing.{IsOutOfStep};
-    ghost use Rattle.bx_journal.specs.Refusing.{UndoFault};
+    ghost use Rattle.bx_journal.specs.Undoing.{IsOutOfStep, UndoFault};
 
     /// Takes the last k changes back, the newest first, and answers how many are left.
     pub fn undo(&mut self, k: u32) -> Result<u32, SessionFault>
@@ -80,6 +79,7 @@ impl<D: Device, T: TextStore, A: Allocator + Clone> Session<D, T, A> {
         ensures refused { D.honest self.old.device → T.honest self.old.store → IfErr result (λ e. AfterFault e (Unit {0}) (IsSame D.image T.text self.old self.new)) }
         ensures breaks { IsErrOf result SessionFault.Interrupted → (self.new.is_broken ≡ true) × (self.new.count ≡ self.old.count) }
 
+        ensures kind { IfErr result (UndoFault self.old.count) }
         ensures broken { (self.old.is_broken ≡ true) ↔ IsErrOf result SessionFault.Broken }
         ensures untouched { IsErrOf result SessionFault.Broken → (self.new.device ≡ self.old.device) × (self.new.store ≡ self.old.store) }
         ensures few { ((self.old.is_broken ≡ false) × (self.old.count < k)) ↔ IsErrOf result (SessionFault.TooFew self.old.count) }
@@ -92,7 +92,6 @@ impl<D: Device, T: TextStore, A: Allocator + Clone> Session<D, T, A> {
         ensures device_honesty { D.honest self.new.device ↔ D.honest self.old.device }
         ensures store_honesty { T.honest self.new.store ↔ T.honest self.old.store }
         ensures no_failure { OnOk result ((D.failures self.new.device ≡ D.failures self.old.device) × (T.failures self.new.store ≡ T.failures self.old.store)) }
-        ensures faults { T.honest self.old.store → HasCount (T.text self.old.store) self.old.count → IfErr result (UndoFault self.old.count) }
         ensures counts { IfErr result (λ e. FaultCounts e (D.failures self.old.device) (T.failures self.old.store) (D.failures self.new.device) (T.failures self.new.store)) }
     {
         if self.is_broken {

@@ -16,7 +16,7 @@ pub returns-in-Err-clause-step : goal.returns-in-Err-clause-step
 returns-in-Err-clause-step g c = λ before h.
     let e = c.in-Err.ensures in
     let made = undo_err g.D.Device.honest g.T.TextStore.honest g.D.Device.image g.T.TextStore.text c.args.session.now c.undo.new.self c.args.k c.in-Err.fault
-    e.fault e.broken e.few e.faults e.refused e.breaks e.device_honesty e.store_honesty before h in
+    e.fault e.broken e.few e.kind e.undamaged e.refused e.breaks e.device_honesty e.store_honesty before h in
     (made.0, made.1, (Err c.in-Err.fault, ap Refused c.from.ensures, made.2))
 
 pub returns-in-Err-clause-counts : goal.returns-in-Err-clause-counts

@@ -6,8 +6,6 @@ use Rattle.bx_journal.specs.Parsed.{entries_of}
 use Rattle.bx_journal.specs.Undoing.{IsFinished}
 use Rattle.bx_journal.proofs.ReadLemmas.{length-entries_of}
 use Rattle.bx_journal.proofs.AgainLemmas.{in_step}
-use Rattle.bx_journal.specs.Refusing.{UndoFault}
-use Rattle.bx_journal.proofs.Refusals.{undo_fault}
 use Rattle.bx_journal.proofs.session.Session.undo.Goals as goal
 
 pub returns-in_err-read-clause-undamaged : goal.returns-in_err-read-clause-undamaged
@@ -35,9 +33,3 @@ returns-in-Ok-clause-whole g c th =
       subst (λ t. IsFinished t (entries_of c.in_ok-read.read.entries.items)) (c.in_ok-read.ensures.bytes th) read.finished,
       length-entries_of c.in_ok-read.read.entries.items ∙ read.counted,
     )
-
-pub returns-in_err-read-clause-faults : goal.returns-in_err-read-clause-faults
-returns-in_err-read-clause-faults g c th has =
-    let fault : UndoFault c.args.self.now.count c.in_err-read.field-0.0 =
-    undo_fault (g.T.TextStore.honest c.args.self.now.store) (g.T.TextStore.text c.args.self.now.store) c.args.self.now.count c.in_err-read.field-0.0 th has c.in_err-read.ensures.fault in
-    grind (arith, common_steps, fault)
