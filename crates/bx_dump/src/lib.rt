@@ -25,3 +25,6 @@ pub use xxd_lines::{LineForm, Lines, Put};
 pub use xxd_options::{XxdOptions, XxdStyle};
 pub use xxd_rows::{Items, Plain};
 pub use xxd_whole::xxd_default;
+
+#[cfg(test)]
+mod xxd_tests;
