@@ -27,7 +27,7 @@ pub struct Session<D: Device, T: TextStore, A: Allocator = Global> {
 
 impl<D: Device, T: TextStore, A: Allocator + Clone> Session<D, T, A> {
     ghost use Rattle.bx_journal.specs.Session.{IsReady, IsSame, AfterFault};
-    ghost use Rattle.bx_journal.specs.Standing.{IsStanding};
+    ghost use Rattle.bx_journal.specs.Standing.{IsStanding, PerformFault};
     ghost use Rattle.bx_journal.specs.Opening.{FaultCounts};
 
     /// Changes the image, and answers the change's number.
@@ -55,6 +55,7 @@ impl<D: Device, T: TextStore, A: Allocator + Clone> Session<D, T, A> {
         ensures refused { D.honest self.old.device → T.honest self.old.store → IfErr result (λ e. AfterFault e (Unit {0}) (IsSame D.image T.text self.old self.new)) }
         ensures breaks { IsErrOf result SessionFault.Interrupted → (self.new.is_broken ≡ true) × (self.new.count ≡ self.old.count) }
 
+        ensures kind { IfErr result PerformFault }
         ensures broken { (self.old.is_broken ≡ true) ↔ IsErrOf result SessionFault.Broken }
         ensures untouched { IsErrOf result SessionFault.Broken → (self.new.device ≡ self.old.device) × (self.new.store ≡ self.old.store) }
         ensures full { IsErrOf result SessionFault.JournalFull ↔ ((self.old.is_broken ≡ false) × (65535 ≤ self.old.count)) }

@@ -53,7 +53,7 @@ impl<D: Device, T: TextStore, A: Allocator + Clone> Session<D, T, A> {
     ghost use Rattle.bx_journal.specs.Standing.{IsStanding};
     ghost use Rattle.bx_journal.specs.Calls.{RecoversBelow};
     ghost use Rattle.bx_journal.specs.Opening.{FaultCounts};
-    ghost use Rattle.bx_journal.specs.Undoing.{IsOutOfStep};
+    ghost use Rattle.bx_journal.specs.Undoing.{IsOutOfStep, UndoFault};
 
     /// Takes the last k changes back, the newest first, and answers how many are left.
     pub fn undo(&mut self, k: u32) -> Result<u32, SessionFault>
@@ -79,6 +79,7 @@ impl<D: Device, T: TextStore, A: Allocator + Clone> Session<D, T, A> {
         ensures refused { D.honest self.old.device → T.honest self.old.store → IfErr result (λ e. AfterFault e (Unit {0}) (IsSame D.image T.text self.old self.new)) }
         ensures breaks { IsErrOf result SessionFault.Interrupted → (self.new.is_broken ≡ true) × (self.new.count ≡ self.old.count) }
 
+        ensures kind { IfErr result (UndoFault self.old.count) }
         ensures broken { (self.old.is_broken ≡ true) ↔ IsErrOf result SessionFault.Broken }
         ensures untouched { IsErrOf result SessionFault.Broken → (self.new.device ≡ self.old.device) × (self.new.store ≡ self.old.store) }
         ensures few { ((self.old.is_broken ≡ false) × (self.old.count < k)) ↔ IsErrOf result (SessionFault.TooFew self.old.count) }
