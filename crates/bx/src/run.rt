@@ -1,6 +1,6 @@
 //! One run of the program.
 use bx_cli::{Fault, HexdumpJob, Job, XxdJob, XxdLook, plan_words};
-use bx_dump::{hexdump_c, xxd_default};
+use bx_dump::{HexdumpOptions, hexdump_c, xxd_default};
 use bx_text::{Name, Words};
 use std::env;
 use std::fs::File;
@@ -69,8 +69,13 @@ where
 fn dump<I: Read, W: Write>(job: &Job, input: &mut I, out: &mut W) -> Result<u64, Fault> {
     match job {
         Job::Xxd(xxd) if is_default(xxd) => Ok(xxd_default(input, out)?.written),
-        Job::Hexdump(hexdump) if hexdump.skip == 0 && hexdump.limit.is_none() => {
-            Ok(hexdump_c(input, out, hexdump.all)?)
+        Job::Hexdump(hexdump) if hexdump.skip <= 1 << 62 => {
+            let options = HexdumpOptions {
+                skip: hexdump.skip,
+                limit: hexdump.limit,
+                all: hexdump.all,
+            };
+            Ok(hexdump_c(input, out, &options)?)
         }
         _ => Err(Fault::Usage),
     }
