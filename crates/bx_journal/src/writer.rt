@@ -114,7 +114,11 @@ fn push_any_row<A: Allocator>(text: &mut Vec<u8, A>, at: u64, bytes: &[u8]) -> R
 
 /// The same for 16 bytes at an address of 8 digits, at fixed places.
 #[tactic(auto, unfolding(crate::specs::DumpLine::dump_line))]
-fn push_full_row<A: Allocator>(text: &mut Vec<u8, A>, at: u32, bytes: &[u8; 16]) -> Result<(), NoMemory>
+fn push_full_row<A: Allocator>(
+    text: &mut Vec<u8, A>,
+    at: u32,
+    bytes: &[u8; 16],
+) -> Result<(), NoMemory>
     ensures { OnOk result (text.new.items ≡ text.old.items ++ ended (dump_line at bytes.now)) }
 {
     let line = full_line(at, bytes);
