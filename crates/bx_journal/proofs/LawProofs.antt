@@ -5,7 +5,7 @@ use Rattle.std.proofs.lemmas.Bool.{cases_lt}
 use Rattle.bx_image.specs.declared.change.TheConstants.{MAX_LEN}
 use Rattle.bx_journal.specs.Kept.{Kept}
 use Rattle.bx_journal.specs.declared.version.Version.TheVariants.{Second}
-use Rattle.bx_journal.specs.Laws.{HasBytes, WrittenIsRead, StandsForOne, DamagedAtOne}
+use Rattle.bx_journal.specs.Laws.{HasBytes, WrittenIsRead, StandsForOne, DamagedAtOne, EmptyIsSound}
 use Rattle.bx_journal.specs.Line.{end_line}
 use Rattle.bx_journal.specs.Entry.{rows, head_lines, head_text, end_text, entry_text}
 use Rattle.bx_journal.specs.Text.{Entry, Stage, Between, Ending, Reading, Reads, IsRest, split, joined, start, after_lines, IsDamagedAt, IsAccepted}
@@ -51,3 +51,10 @@ damaged_at_one text m n a b =
       | inl less ↦ absurd (a.damaged (b.least m less))
       | inr most ↦ elim (cases_lt n m) [ inl less ↦ absurd (b.damaged (a.least n less)) | inr least ↦ omega arith ]
     ]
+
+pub empty_is_sound : EmptyIsSound
+unfolding split after_lines stack_of
+empty_is_sound x = record {
+  stands = record { entries = []; reads = record { lines = refl; rest = inl refl }; whole = refl; lengths = tt; stack_is = refl };
+  sound = record { short = refl; unfinished = tt; finished = tt };
+}
