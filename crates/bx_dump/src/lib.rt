@@ -15,8 +15,8 @@ mod xxd_rows;
 mod xxd_tables;
 mod xxd_whole;
 
-pub use folded::{Dumped, Form, dump};
-pub use hexdump::hexdump_c;
+pub use folded::{Dumped, FoldedPages, Form, dump};
+pub use hexdump::{CanonLines, HexdumpOptions, hexdump_c};
 pub use od::{Address, Kind, NumForm, Size};
 pub use pages::{Pages, Part, dump_part};
 pub use xxd_columns::{Columns, Digits};

@@ -117,6 +117,7 @@ fn dump_pages<R: Read, W: Write, P: Pages>(
     ensures ok { IfOk result (λ part. WritesRest (P.written pages.old) limit (R.remaining r.old) (R.remaining r.new) (W.contents w.old) (W.contents w.new) part.read part.written) }
     ensures err { IfErr result (WritesFrontOf (λ input. P.written pages.old (capped limit input)) meter.old.taken before (R.remaining r.old) (R.remaining r.new) (W.contents w.old) (W.contents w.new)) }
     ensures few { IfOk result (λ part. part.written ≤ 2 ^ 60) }
+    ensures count { IfOk result (λ part. part.read ≤ 2 ^ 40) }
 {
     let size = pages.block_len();
     let mut part = Part {
@@ -157,6 +158,7 @@ pub fn dump_part<R: Read, W: Write, P: Pages>(
     ensures ok { IfOk result (λ part. WritesPart (λ input. P.written pages.old (part_of from limit input)) from limit (R.remaining r.old) (R.remaining r.new) (W.contents w.old) (W.contents w.new) part.read part.written) }
     ensures err { IfErr result (WritesFrontOf (λ input. P.written pages.old (part_of from limit input)) 0 before (R.remaining r.old) (R.remaining r.new) (W.contents w.old) (W.contents w.new)) }
     ensures few { IfOk result (λ part. part.written ≤ 2 ^ 60) }
+    ensures count { IfOk result (λ part. part.read ≤ 2 ^ 40) }
 {
     let mut meter = Meter::new(LIMIT);
     let mut block = [0; BLOCK];
