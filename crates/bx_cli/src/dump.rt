@@ -1,15 +1,13 @@
 //! Dumps, as jobs ask for them.
-ghost use Rattle.std.specs.Prelude.{◌≡◌, ◌≤◌, ◌^◌, ℕ, None, IfOk, IfErr, length};
-ghost use Rattle.bx_cli.specs.JobDump.{DumpsJob};
+ghost use Rattle.std.specs.Prelude.{◌≡◌, ◌≤◌, ◌^◌, ℕ, IfOk, IfErr, length};
+ghost use Rattle.bx_cli.specs.JobDump.{DumpsJob, DumpsHexdump, DumpsOd};
 ghost use Rattle.bx_cli.specs.Dump.{AreOptionsOf, IsStyleOf};
 ghost use Rattle.bx_dump.specs.declared.xxd_options.XxdOptions.{XxdOptions};
-ghost use Rattle.bx_dump.specs.Dumped.{DumpsAll};
-ghost use Rattle.bx_dump.specs.Hexdump.{hexdump_text};
 ghost use Rattle.bx_dump.specs.Styles.{IsCountable, xxd_text};
 ghost use Rattle.bx_dump.specs.Pages.{WritesPart, WritesFrontOf};
 
-use crate::{Fault, HexdumpJob, Job, XxdJob, XxdLook};
-use bx_dump::{HexdumpOptions, XxdOptions, XxdStyle, hexdump_c, xxd};
+use crate::{Fault, HexdumpJob, Job, OdJob, XxdJob, XxdLook};
+use bx_dump::{HexdumpOptions, OdOptions, XxdOptions, XxdStyle, hexdump_c, od, xxd};
 use bx_text::{IoFault, Name};
 use std::io::{Read, Write};
 
@@ -31,6 +29,7 @@ pub fn run_dump<R: Read, W: Write>(job: &Job, r: &mut R, w: &mut W) -> Result<Do
     ensures { IfOk result (DumpsJob job.now (R.remaining r.old) (R.remaining r.new) (W.contents w.old) (W.contents w.new)) }
 {
     match job {
+        Job::Od(job) => Ok(Done::Dumped(run_od(job, r, w)?)),
         Job::Xxd(job) => Ok(Done::Dumped(run_xxd(job, r, w)?)),
         Job::Hexdump(job) => Ok(Done::Dumped(run_hexdump(job, r, w)?)),
         _ => Err(Fault::Usage),
@@ -81,13 +80,28 @@ fn run_xxd<R: Read, W: Write>(job: &XxdJob, r: &mut R, w: &mut W) -> Result<u64,
     xxd(r, w, &options)
 }
 
-/// Writes the text of all that the reader gives. A skip or a limit can't be kept yet.
-fn run_hexdump<R: Read, W: Write>(job: &HexdumpJob, r: &mut R, w: &mut W) -> Result<u64, Fault>
-    ensures { IfOk result (λ n. (job.now.skip ≡ 0) × (job.now.limit ≡ None)
-        × ((written : ℕ) × DumpsAll (hexdump_text job.now.all 0) (R.remaining r.old) (R.remaining r.new) (W.contents w.old) (W.contents w.new) n written)) }
+/// Writes the lines and the end of `hexdump -C`.
+fn run_hexdump<R: Read, W: Write>(job: &HexdumpJob, r: &mut R, w: &mut W) -> Result<u64, IoFault>
+    ensures { IfOk result (DumpsHexdump job.now (R.remaining r.old) (R.remaining r.new) (W.contents w.old) (W.contents w.new)) }
 {
-    match (job.skip, job.limit) {
-        (0, None) => Ok(hexdump_c(r, w, job.all)?),
-        _ => Err(Fault::Usage),
-    }
+    let options = HexdumpOptions {
+        skip: job.skip,
+        limit: job.limit,
+        all: job.all,
+    };
+    hexdump_c(r, w, &options)
+}
+
+/// Writes the lines and the end of `od`.
+fn run_od<R: Read, W: Write>(job: &OdJob, r: &mut R, w: &mut W) -> Result<u64, IoFault>
+    ensures { IfOk result (DumpsOd job.now (R.remaining r.old) (R.remaining r.new) (W.contents w.old) (W.contents w.new)) }
+{
+    let options = OdOptions {
+        address: job.address,
+        kind: job.kind,
+        skip: job.skip,
+        limit: job.limit,
+        all: job.all,
+    };
+    od(r, w, &options)
 }
