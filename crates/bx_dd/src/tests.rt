@@ -154,6 +154,28 @@ fn operand_faults(rt: HostRuntime) -> Result<(), Fail> {
 }
 
 #[test]
+fn fault_texts(rt: HostRuntime) -> Result<(), Fail> {
+    let rows = [
+        (DdFault::NoMemory, "out of memory"),
+        (DdFault::ReadFailed, "read failed"),
+        (DdFault::InputTooLong, "input too long"),
+        (DdFault::UnknownOperand(1), "operand 1: unknown"),
+        (DdFault::BadNumber(2), "operand 2: bad number"),
+        (DdFault::NumberTooLarge(3), "operand 3: number too large"),
+        (DdFault::ZeroSize(4), "operand 4: zero size"),
+        (DdFault::Conflict, "conflicting conversions"),
+        (DdFault::MissingCbs, "cbs is missing"),
+        (DdFault::Repeated(15), "operand 15: given twice"),
+        (DdFault::SeekWithoutOutput, "seek needs an output file"),
+    ];
+    for (fault, text) in rows {
+        let shown = fault.to_string(rt.alloc())?;
+        assert!(rt; shown.as_str() == text);
+    }
+    Ok(())
+}
+
+#[test]
 fn a_whole_plan(rt: HostRuntime) -> Result<(), Fail> {
     let operands = [
         "if=a=b",
@@ -282,6 +304,36 @@ fn every_length(rt: HostRuntime) -> Result<(), Fail> {
         let mut reader = &bytes[..n];
         let transfer = transfer(alloc, &mut reader, &plan)?;
         assert!(rt; transfer.bytes.as_slice() == &bytes[..n]);
+    }
+    Ok(())
+}
+
+const TEXT: &[u8] = b"one\ntwo  \n\na longer Line with  spaces   \nq\xe9\xff\0\n\nlast";
+
+// The converter, block by block, and the plain program over the whole input agree.
+fn agree(rt: &impl Abort, alloc: Global, operands: &[&str]) -> Result<(), Fail> {
+    let plan = plan(alloc, operands)?;
+    for n in 0..=TEXT.len() {
+        let mut reader = &TEXT[..n];
+        let fast = transfer(alloc, &mut reader, &plan)?;
+        let plain = convert_whole(alloc, plan.form(), &TEXT[..n])?;
+        assert!(rt; fast.bytes.as_slice() == plain.as_slice());
+    }
+    Ok(())
+}
+
+#[test]
+fn converter_and_plain_program(rt: HostRuntime) -> Result<(), Fail> {
+    let rows = [
+        ["ibs=3", "cbs=5", "conv=swab"],
+        ["ibs=7", "cbs=5", "conv=sync,ucase"],
+        ["ibs=1", "cbs=5", "conv=block"],
+        ["ibs=3", "cbs=5", "conv=block,sync,swab"],
+        ["ibs=16", "cbs=5", "conv=unblock,lcase"],
+        ["ibs=2", "cbs=3", "conv=unblock,sync"],
+    ];
+    for operands in &rows {
+        agree(&rt, rt.alloc(), operands)?;
     }
     Ok(())
 }

@@ -16,6 +16,8 @@ use std::alloc::{Allocator, Global};
 
 const MOST_CHANGES: u32 = 65_535;
 
+/// An image and the journal of its changes. After a fault in the middle of writing it is broken: it answers
+/// `Broken` until the pair is opened again.
 #[derive(Drop)]
 pub struct Session<D: Device, T: TextStore, A: Allocator = Global> {
     pub(crate) alloc: A,
@@ -30,7 +32,11 @@ impl<D: Device, T: TextStore, A: Allocator + Clone> Session<D, T, A> {
     ghost use Rattle.bx_journal.specs.Standing.{IsStanding, PerformFault};
     ghost use Rattle.bx_journal.specs.Opening.{FaultCounts};
 
-    /// Changes the image, and answers the change's number.
+    /// Changes the image, and answers the change's number, which is how many changes then stand.
+    ///
+    /// All memory is taken before the first write. The faults come in this order: `Broken`, `JournalFull`,
+    /// `DeviceFailed` of the length, `TooLarge`, then `DeviceFailed` and `NoMemory` of saving and reserving, and
+    /// `Interrupted` from the first write on. Each but the last changes nothing.
     pub fn perform(&mut self, change: &Change<A>) -> Result<u32, SessionFault>
         requires device_countable { D.failures self.old.device < u64.MAX }
         requires store_countable { T.failures self.old.store < u64.MAX }

@@ -56,6 +56,10 @@ impl<D: Device, T: TextStore, A: Allocator + Clone> Session<D, T, A> {
     ghost use Rattle.bx_journal.specs.Undoing.{IsOutOfStep, UndoFault};
 
     /// Takes the last k changes back, the newest first, and answers how many are left.
+    ///
+    /// All memory is taken before the first write. The faults come in this order: `Broken`, `TooFew`, `DeviceFailed`
+    /// and `NoMemory` of reading, `Damaged` where the text was changed by others, `NoMemory` of reserving, and
+    /// `Interrupted` from the first write on. Each but the last changes nothing.
     pub fn undo(&mut self, k: u32) -> Result<u32, SessionFault>
         requires device_countable { D.failures self.old.device < u64.MAX }
         requires store_countable { T.failures self.old.store < u64.MAX }

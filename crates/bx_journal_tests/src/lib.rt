@@ -6,6 +6,10 @@ mod damage;
 #[cfg(test)]
 mod failures;
 #[cfg(test)]
+mod growths;
+#[cfg(test)]
+mod ration;
+#[cfg(test)]
 mod rows;
 #[cfg(test)]
 mod tools;
