@@ -2,5 +2,7 @@ pub mod BlockLemmas
 pub mod RecordsLemmas
 pub mod ConvertLemmas
 pub mod TransferLemmas
+pub mod OperandsLemmas
+pub mod PlanLemmas
 mod Rows
 mod MoreRows

@@ -3,3 +3,6 @@ pub mod Counting
 pub mod Standing
 pub mod Plan
 pub mod Transfer
+pub mod Number
+pub mod Operands
+pub mod Parsing

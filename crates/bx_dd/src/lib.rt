@@ -7,6 +7,9 @@ mod copying;
 mod counts;
 mod fault;
 mod form;
+mod number;
+mod operands;
+mod parsing;
 mod plan;
 mod records;
 
@@ -15,4 +18,8 @@ pub use copying::transfer;
 pub use counts::{Counts, Transfer, report};
 pub use fault::DdFault;
 pub use form::{Form, Letters, Shape};
+pub use parsing::parse;
 pub use plan::Plan;
+
+#[cfg(test)]
+mod tests;

@@ -20,8 +20,12 @@ pub use memory::MemImage;
 pub use record::{Saved, save};
 
 #[cfg(test)]
+mod change_tests;
+#[cfg(test)]
 mod device_tests;
 #[cfg(test)]
 mod file_tests;
 #[cfg(test)]
-mod tests;
+mod growth_tests;
+#[cfg(test)]
+mod ration;

@@ -29,3 +29,9 @@ pub mod TailLemmas
 pub mod UndoLoop
 pub mod OpenLemmas
 pub mod Judged
+pub mod UndoStands
+pub mod AgainLemmas
+pub mod LogLemmas
+pub mod Performed
+pub mod PieceBound
+pub mod SavedBound

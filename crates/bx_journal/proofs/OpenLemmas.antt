@@ -203,3 +203,8 @@ after_same (TooFew have) P p = p
 after_same JournalFull P p = p
 after_same Broken P p = p
 after_same (LengthDiffers n) P p = p
+
+-- a pair that recovers has its lengths
+pub recovers_same : (text x : List ℕ) (stack : List (List ℕ)) (e : SessionFault) (n : ℕ) (rec : Recovers text x stack) → OpenFault rec.reading x e → e ≡ LengthDiffers n → ⊥
+recovers_same text x stack e n rec fault is =
+    same_lengths rec.reading.entries (image_at rec.reading.stage x) n rec.lengths (subst (OpenFault rec.reading x) is fault)

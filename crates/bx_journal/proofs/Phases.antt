@@ -96,7 +96,7 @@ open_moves v s text x y stack o good = record {
   stack_is = o.stack_is ∙ ap (stack_of o.entries) (sym good.same);
 }
 
-may_begin_of : (es : List Entry) (x : List ℕ) (len : ℕ) → HaveLengths es x → len ≡ length x → may_begin es len ≡ true
+pub may_begin_of : (es : List Entry) (x : List ℕ) (len : ℕ) → HaveLengths es x → len ≡ length x → may_begin es len ≡ true
 may_begin_of [] x len h e = refl
 may_begin_of (entry ∷ es) x len h e = by_after entry.after h.0
   where

@@ -11,7 +11,7 @@ use Rattle.bx_journal.specs.Machine.{top, changes_of}
 use Rattle.bx_journal.specs.Phase.{IsAtRest}
 use Rattle.bx_journal.specs.Step.{StartsEntry, WritesEntry}
 
-top_of : (es : List Entry) (x : List ℕ) → top (stack_of es x) ≡ x
+pub top_of : (es : List Entry) (x : List ℕ) → top (stack_of es x) ≡ x
 unfolding stack_of
 top_of [] x = refl
 top_of (e ∷ es) x = refl

@@ -19,3 +19,5 @@ pub mod Step
 pub mod Text
 pub mod Opening
 pub mod Standing
+pub mod Rows
+pub mod Undoing

@@ -1,7 +1,9 @@
 //! A journal of changes to an image, by which they are taken back.
 #![tactic(auto)]
 
+mod again;
 mod calls;
+mod closing;
 mod fault;
 mod images;
 mod journal;
@@ -11,10 +13,12 @@ mod opening;
 mod reader;
 mod recovery;
 mod rest;
+mod rows;
 mod session;
 mod step;
 mod steps;
 mod undo;
+mod undoing;
 mod unfinished;
 mod version;
 mod words;
@@ -23,6 +27,6 @@ mod writer;
 pub use calls::{How, LogRow, Recovered};
 pub use fault::SessionFault;
 pub use laws::{one_damaged_line, one_stack, written_entry_is_read};
-pub use reader::{EntryRead, StageRead};
+pub(crate) use reader::{EntryRead, StageRead};
 pub use session::Session;
-pub use version::Version;
+pub(crate) use version::Version;

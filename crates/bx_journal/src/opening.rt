@@ -43,6 +43,8 @@ impl<D: Device, T: TextStore, A: Allocator + Clone> Session<D, T, A> {
             → IfOk result (λ o. IsReady D.image T.text o.0 stack) }
         ensures keeps_err { D.honest device → T.honest store → (stack : List (List ℕ)) → Recovers (T.text store) (D.image device) stack
             → IfErr result (λ e. Recovers (T.text e.1) (D.image e.0) stack) }
+        ensures lengths_kept { D.honest device → T.honest store → (stack : List (List ℕ)) → Recovers (T.text store) (D.image device) stack
+            → IfErr result (λ e. (n : ℕ) → e.2 ≡ SessionFault.LengthDiffers n → ⊥) }
         ensures refused { D.honest device → T.honest store → IfErr result (λ e. AfterFaultOf e.2 (Unit {0})
             ((T.text e.1 ≡ T.text store) × (D.image e.0 ≡ D.image device))) }
         ensures honesty { IfOk result (λ o. (D.honest o.0.device ↔ D.honest device) × (T.honest o.0.store ↔ T.honest store)) }

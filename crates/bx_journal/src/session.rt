@@ -18,15 +18,17 @@ const MOST_CHANGES: u32 = 65_535;
 
 #[derive(Drop)]
 pub struct Session<D: Device, T: TextStore, A: Allocator = Global> {
-    pub alloc: A,
-    pub device: D,
-    pub store: T,
-    pub count: u32,
-    pub is_broken: bool,
+    pub(crate) alloc: A,
+    pub(crate) device: D,
+    pub(crate) store: T,
+    pub(crate) count: u32,
+    pub(crate) is_broken: bool,
 }
 
 impl<D: Device, T: TextStore, A: Allocator + Clone> Session<D, T, A> {
     ghost use Rattle.bx_journal.specs.Session.{IsReady, IsSame, AfterFault};
+    ghost use Rattle.bx_journal.specs.Standing.{IsStanding};
+    ghost use Rattle.bx_journal.specs.Opening.{FaultCounts};
 
     /// Changes the image, and answers the change's number.
     pub fn perform(&mut self, change: &Change<A>) -> Result<u32, SessionFault>
@@ -34,9 +36,12 @@ impl<D: Device, T: TextStore, A: Allocator + Clone> Session<D, T, A> {
         requires store_countable { T.failures self.old.store < u64.MAX }
 
         // Accepted, it makes the machine's step, and the session goes on.
-        ensures accepted { D.honest self.old.device → T.honest self.old.store → (stack : List (List ℕ)) → IsReady D.image T.text self.old stack
+        ensures accepted { D.honest self.old.device → T.honest self.old.store → (stack : List (List ℕ)) → IsStanding D.image T.text self.old stack
             → IfOk result (λ n. PerformStep stack change.now (Ok n) (effect change.now (top stack) ∷ stack)
-            × IsReady D.image T.text self.new (effect change.now (top stack) ∷ stack)) }
+            × IsStanding D.image T.text self.new (effect change.now (top stack) ∷ stack)) }
+        ensures sound { D.honest self.old.device → T.honest self.old.store → (stack : List (List ℕ)) → IsReady D.image T.text self.old stack
+            → OnOk result (IsReady D.image T.text self.new (effect change.now (top stack) ∷ stack)) }
+        ensures number { IfOk result (λ n. (n ≡ self.old.count + 1) × (self.new.count ≡ n) × (self.new.is_broken ≡ false)) }
         ensures entry { D.honest self.old.device → T.honest self.old.store → IfOk result (λ n.
             T.text self.new.store ≡ T.text self.old.store
             ++ entry_text n (kept_of (saved change.now (D.image self.old.device))) (length (effect change.now (D.image self.old.device)))) }
@@ -47,13 +52,17 @@ impl<D: Device, T: TextStore, A: Allocator + Clone> Session<D, T, A> {
             (RecoversEither (T.text self.new.store) (D.image self.new.device) stack (effect change.now (top stack) ∷ stack))
             (IsSame D.image T.text self.old self.new)) }
 
+        ensures refused { D.honest self.old.device → T.honest self.old.store → IfErr result (λ e. AfterFault e (Unit {0}) (IsSame D.image T.text self.old self.new)) }
+        ensures breaks { IsErrOf result SessionFault.Interrupted → (self.new.is_broken ≡ true) × (self.new.count ≡ self.old.count) }
+
         ensures broken { (self.old.is_broken ≡ true) ↔ IsErrOf result SessionFault.Broken }
+        ensures untouched { IsErrOf result SessionFault.Broken → (self.new.device ≡ self.old.device) × (self.new.store ≡ self.old.store) }
         ensures full { IsErrOf result SessionFault.JournalFull ↔ ((self.old.is_broken ≡ false) × (65535 ≤ self.old.count)) }
         ensures large { D.honest self.old.device → IsErrOf result SessionFault.TooLarge → Fits change.now (length (D.image self.old.device)) MAX_LEN → ⊥ }
-        ensures failed { IsErrOf result SessionFault.DeviceFailed ⊎ IsErrOf result SessionFault.Interrupted
-            → D.failures self.new.device + T.failures self.new.store ≡ D.failures self.old.device + T.failures self.old.store + 1 }
         ensures device_honesty { D.honest self.new.device ↔ D.honest self.old.device }
         ensures store_honesty { T.honest self.new.store ↔ T.honest self.old.store }
+        ensures no_failure { OnOk result ((D.failures self.new.device ≡ D.failures self.old.device) × (T.failures self.new.store ≡ T.failures self.old.store)) }
+        ensures counts { IfErr result (λ e. FaultCounts e (D.failures self.old.device) (T.failures self.old.store) (D.failures self.new.device) (T.failures self.new.store)) }
     {
         if self.is_broken {
             return Err(SessionFault::Broken);

@@ -1,9 +1,10 @@
 //! The steps of a change, each of which writes to one device.
 ghost use Rattle.std.specs.Prelude.{◌≡◌, ◌↔◌, ◌+◌, ◌<◌, ◌≤◌, [], ◌∷◌, ◌++◌, List, ℕ, length, OnOk, OnErr, is_err};
 ghost use Rattle.bx_journal.specs.Kept.{Kept as Record};
-ghost use Rattle.bx_image.specs.Change.{effect};
+ghost use Rattle.bx_image.specs.Change.{effect, saved, IsAsGood};
 ghost use Rattle.bx_image.specs.Device.{GoesOn};
 ghost use Rattle.bx_journal.specs.declared.version.Version.TheVariants.{Second};
+ghost use Rattle.bx_journal.specs.Kept.{kept_of};
 ghost use Rattle.bx_journal.specs.Stack.{Recovers};
 ghost use Rattle.bx_journal.specs.Phase.{IsAtRest, IsOpen, in_rows, RecoversEither};
 ghost use Rattle.bx_journal.specs.Step.{StartsEntry, EndsEntry, WritesEntry};
@@ -60,6 +61,7 @@ pub fn write_entry<D: Device, T: TextStore, A: Allocator>(
         → WritesEntry change.now (T.text store.old) (D.image device.old) stack head.now end.now
         → OnErr result (RecoversEither (T.text store.new) (D.image device.new) stack (effect change.now (D.image device.old) ∷ stack)) }
     ensures image { D.honest device.old → OnOk result (D.image device.new ≡ effect change.now (D.image device.old)) }
+    ensures back { D.honest device.old → OnOk result (IsAsGood (kept_of (saved change.now (D.image device.old))) (D.image device.old) (D.image device.new)) }
     ensures text { T.honest store.old → OnOk result (T.text store.new ≡ T.text store.old ++ head.now ++ end.now) }
     ensures device_honesty { D.honest device.new ↔ D.honest device.old }
     ensures store_honesty { T.honest store.new ↔ T.honest store.old }

@@ -4,7 +4,9 @@ ghost use Rattle.bx_image.specs.Change.{AllWithin, restore};
 ghost use Rattle.bx_journal.specs.Kept.{run_of, kept_of};
 ghost use Rattle.bx_journal.specs.declared.version.Version.{Version as Form};
 ghost use Rattle.bx_journal.specs.Text.{Entry};
-ghost use Rattle.bx_journal.specs.Stack.{Recovers};
+ghost use Rattle.std.specs.Prelude.{◌-◌};
+ghost use Rattle.bx_journal.specs.Stack.{Recovers, StandsFor};
+ghost use Rattle.bx_journal.specs.Undoing.{HasLeft};
 ghost use Rattle.bx_journal.specs.Phase.{IsAtRest, IsOpen, RecoversEither};
 ghost use Rattle.bx_journal.specs.Step.{TakesBack};
 ghost use Rattle.std.specs.Prelude.{drop, []};
@@ -62,16 +64,21 @@ pub fn undo_entries<D: Device, T: TextStore, A: Allocator>(
     requires device_countable { D.failures device.old < u64.MAX }
     requires store_countable { T.failures store.old < u64.MAX }
     requires few { k ≤ length entries.old.items }
-    requires kept { AllKept (D.room device.old) entries.old.items }
+    requires kept { AllKept (D.room device.old) (drop (length entries.old.items - k) entries.old.items) }
     requires marked { AreMarked bytes.now [] 0 entries.old.items (length bytes.now) }
     requires mark { IsMark bytes.now (length bytes.now) (record { entries = entries_of entries.old.items; stage = Between }) }
     requires text { T.honest store.old → T.text store.old ≡ bytes.now }
     ensures ok { D.honest device.old → T.honest store.old → (stack : List (List ℕ)) → IsAtRest (T.text store.old) (D.image device.old) stack
         → OnOk result (IsAtRest (T.text store.new) (D.image device.new) (drop k stack)) }
+    ensures stands { D.honest device.old → T.honest store.old → (stack : List (List ℕ)) → StandsFor (T.text store.old) (D.image device.old) stack
+        → OnOk result (StandsFor (T.text store.new) (D.image device.new) (drop k stack)) }
+    ensures left { T.honest store.old → OnOk result (HasLeft (T.text store.old) (T.text store.new) (drop k (entries_of entries.old.items))) }
     ensures fault { D.honest device.old → T.honest store.old → (stack : List (List ℕ)) → IsAtRest (T.text store.old) (D.image device.old) stack
         → OnErr result ((j : ℕ) × (j ≤ k) × Recovers (T.text store.new) (D.image device.new) (drop j stack)) }
     ensures device_honesty { D.honest device.new ↔ D.honest device.old }
     ensures store_honesty { T.honest store.new ↔ T.honest store.old }
+    ensures no_failure { OnOk result ((D.failures device.new ≡ D.failures device.old) × (T.failures store.new ≡ T.failures store.old)) }
+    ensures failure { OnErr result (D.failures device.new + T.failures store.new ≡ D.failures device.old + T.failures store.old + 1) }
 {
     for i in 0..k {
         let Some(entry) = entries.pop() else {

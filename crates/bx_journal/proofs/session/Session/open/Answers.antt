@@ -1,6 +1,7 @@
 use Rattle.std.proofs.Common.{◌≡◌, ℕ, List, refl, ap, suc, sym, ◌∙◌}
 use Rattle.bx_journal.specs.Stack.{image_at}
 use Rattle.bx_journal.proofs.Phases.{length-stack_of}
+use Rattle.bx_journal.proofs.OpenLemmas.{recovers_same}
 use Rattle.bx_journal.proofs.session.Session.open.Goals as goal
 
 pub returns-in-Ok-clause-standing : goal.returns-in-Ok-clause-standing
@@ -11,3 +12,7 @@ returns-in-Ok-clause-standing g c dh th r reads =
 pub returns-in-Ok-clause-keeps : goal.returns-in-Ok-clause-keeps
 returns-in-Ok-clause-keeps g c dh th stack rec =
     record { rest = c.in-Ok.ensures.keeps dh th stack rec; count = c.in-Ok.ensures.counted dh th stack rec; whole = refl }
+
+pub returns-in-Err-clause-lengths_kept : goal.returns-in-Err-clause-lengths_kept
+returns-in-Err-clause-lengths_kept g c dh th stack rec n is =
+    recovers_same (g.T.TextStore.text c.args.store) (g.D.Device.image c.args.device) stack c.in-Err.fault n rec (c.in-Err.ensures.faults dh th rec.reading rec.reads) is

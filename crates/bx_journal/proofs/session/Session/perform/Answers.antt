@@ -1,11 +1,13 @@
 use Rattle.std.proofs.Common.{◌≡◌, ℕ, suc, ◌+◌, ◌-◌, ◌<◌, ◌≤◌, List, [], ◌∷◌, ◌++◌, length, refl, ap, sym, ◌∙◌, subst, arith, append_assoc}
 use Rattle.bx_image.specs.declared.change.TheConstants.{MAX_LEN}
 use Rattle.bx_journal.specs.Kept.{Kept, kept_of}
-use Rattle.bx_image.specs.Change.{effect, saved, IsOf, Fits}
+use Rattle.bx_image.specs.Change.{effect, saved, IsOf, IsAsGood, Fits}
 use Rattle.bx_journal.specs.Entry.{head_text, end_text, entry_text}
 use Rattle.bx_journal.specs.Machine.{top, changes_of}
 use Rattle.bx_journal.specs.Phase.{IsAtRest, RecoversEither}
 use Rattle.bx_journal.specs.Session.{IsReady}
+use Rattle.bx_journal.specs.Stack.{StandsFor}
+use Rattle.bx_journal.proofs.Performed.{performs, top_of_stands}
 use Rattle.bx_journal.specs.Step.{WritesEntry}
 use Rattle.bx_journal.proofs.Ready.{IsPrepared, writes_entry, top_of_rest}
 use Rattle.bx_journal.proofs.session.Session.perform.Goals as goal
@@ -66,24 +68,48 @@ module _ (g : _) (c : After-write_entry g) where
   unfolding x
   pushed dh stack ready = ap (effect c.args.change.now) (image_same dh ∙ sym (top_of_rest (g.T.TextStore.text c.args.self.now.store) (g.D.Device.image c.args.self.now.device) stack ready.rest))
 
-  fits : g.D.Device.honest c.args.self.now.device → (stack : List (List ℕ)) → IsReady g.D.Device.image g.T.TextStore.text c.args.self.now stack → Fits c.args.change.now (length (top stack)) MAX_LEN
-  fits dh stack ready =
+  fits_standing : g.D.Device.honest c.args.self.now.device → (stack : List (List ℕ)) → top stack ≡ x → Fits c.args.change.now (length (top stack)) MAX_LEN
+  unfolding x
+  fits_standing dh stack same =
       let long : c.in_ok-len.len ≡ length (g.D.Device.image c.args.self.now.device) = c.in_ok-len.ensures.len dh in
-      let same : top stack ≡ g.D.Device.image c.args.self.now.device = top_of_rest (g.T.TextStore.text c.args.self.now.store) (g.D.Device.image c.args.self.now.device) stack ready.rest in
       subst (λ n. Fits c.args.change.now n MAX_LEN) (long ∙ ap length (sym same)) (c.in_ok-after.ensures.exact.0 refl)
 
 pub returns-in-Ok-clause-accepted : goal.returns-in-Ok-clause-accepted
-returns-in-Ok-clause-accepted g c dh th stack ready =
+unfolding x
+returns-in-Ok-clause-accepted g c dh th stack standing =
     let b = (goal.at.returns-in-Ok-clause-accepted g c).After-write_entry in
-    let counted : length stack ≡ suc c.args.self.now.count = ready.count in
-    let stood = c.in-Ok.ensures.ok (device_honest g b dh) (store_honest g b th) stack (writes g b dh th stack ready) in (
-      (omega arith, fits g b dh stack ready, omega arith, refl),
+    let counted : length stack ≡ suc c.args.self.now.count = standing.count in
+    let x : List ℕ = g.D.Device.image c.args.self.now.device in
+    let text : List ℕ = g.T.TextStore.text c.args.self.now.store in
+    let same : top stack ≡ x = top_of_stands text x stack standing.stands in
+    let image : g.D.Device.image c.write_entry.new.device ≡ effect c.args.change.now x = c.in-Ok.ensures.image (device_honest g b dh) ∙ ap (effect c.args.change.now) (image_same g b dh) in
+    let good : IsAsGood (kept_of (saved c.args.change.now x)) x (g.D.Device.image c.write_entry.new.device) =
+    subst (λ z. IsAsGood (kept_of (saved c.args.change.now z)) z (g.D.Device.image c.write_entry.new.device)) (image_same g b dh) (c.in-Ok.ensures.back (device_honest g b dh)) in
+    let written : g.T.TextStore.text c.write_entry.new.store ≡ text ++ c.deref.result.now ++ c.deref-2.result.now =
+    c.in-Ok.ensures.text (store_honest g b th) ∙ ap (λ t. t ++ c.deref.result.now ++ c.deref-2.result.now) (text_same g b th) in
+    let stood : StandsFor (g.T.TextStore.text c.write_entry.new.store) (effect c.args.change.now x) (effect c.args.change.now x ∷ stack) =
+    performs c.args.change.now text (g.T.TextStore.text c.write_entry.new.store) x (g.D.Device.image c.write_entry.new.device) stack c.args.self.now.count (kept_of c.in_ok-kept.kept) c.in_ok-after.after c.deref.result.now c.deref-2.result.now
+    (prepared g b dh) standing.stands counted image good written in
+    let moved : StandsFor (g.T.TextStore.text c.write_entry.new.store) (g.D.Device.image c.write_entry.new.device) (effect c.args.change.now x ∷ stack) =
+    subst (λ z. StandsFor (g.T.TextStore.text c.write_entry.new.store) z (effect c.args.change.now x ∷ stack)) (sym image) stood in (
+      (omega arith, fits_standing g b dh stack same, omega arith, refl),
       record {
-        rest = subst (λ z. IsAtRest (g.T.TextStore.text c.write_entry.new.store) (g.D.Device.image c.write_entry.new.device) (z ∷ stack)) (pushed g b dh stack ready) stood;
+        stands = subst (λ z. StandsFor (g.T.TextStore.text c.write_entry.new.store) (g.D.Device.image c.write_entry.new.device) (effect c.args.change.now z ∷ stack)) (sym same) moved;
         count = omega arith;
-        whole = ready.whole;
+        whole = standing.whole;
       },
     )
+
+pub returns-in-Ok-clause-sound : goal.returns-in-Ok-clause-sound
+returns-in-Ok-clause-sound g c dh th stack ready =
+    let b = (goal.at.returns-in-Ok-clause-sound g c).After-write_entry in
+    let counted : length stack ≡ suc c.args.self.now.count = ready.count in
+    let stood = c.in-Ok.ensures.ok (device_honest g b dh) (store_honest g b th) stack (writes g b dh th stack ready) in
+    record {
+      rest = subst (λ z. IsAtRest (g.T.TextStore.text c.write_entry.new.store) (g.D.Device.image c.write_entry.new.device) (z ∷ stack)) (pushed g b dh stack ready) stood;
+      count = omega arith;
+      whole = ready.whole;
+    }
 
 pub returns-in-Ok-clause-entry : goal.returns-in-Ok-clause-entry
 unfolding x

@@ -1,0 +1,149 @@
+-- What dd's operands ask for, and which of them is faulty.
+use Rattle.std.specs.Prelude.{ℕ, ◌+◌, ◌*◌, ◌^◌, Bool, not, ◌==◌, ◌&&◌, ◌||◌, nat_lt, if◌then◌else◌, List, [], ◌∷◌, ◌++◌, length, slice_get, Option, None, Some, option_and_then, unwrap_or, Result, Ok, Err, codes}
+use Rattle.std.specs.List.{slice_split, position_or_len, before_first, after_first, list_any, list_all}
+use Rattle.std.specs.Option.{option_map, option_or}
+use Rattle.std.specs.Result.{result_ok}
+use Rattle.std.specs.Str.{bytes_eq}
+use Rattle.bx_dd.specs.declared.fault.DdFault.{DdFault}
+use Rattle.bx_dd.specs.declared.fault.DdFault.TheVariants.{UnknownOperand, BadNumber, NumberTooLarge, ZeroSize, Repeated, Conflict, MissingCbs}
+use Rattle.bx_dd.specs.declared.form.Letters.{Letters}
+use Rattle.bx_dd.specs.declared.form.Letters.TheVariants.{Keep, Upper, Lower}
+use Rattle.bx_dd.specs.declared.form.Shape.{Shape}
+use Rattle.bx_dd.specs.declared.form.Shape.TheVariants.{Flat, Block, Unblock}
+use Rattle.bx_text.specs.declared.number.SizeFault.{SizeFault}
+use Rattle.bx_text.specs.declared.number.SizeFault.TheVariants.{Bad, TooLarge}
+use Rattle.bx_dd.specs.declared.operands.Kind.{Kind}
+use Rattle.bx_dd.specs.declared.operands.Kind.TheVariants.{File, Size, Number, Conversions}
+use Rattle.bx_dd.specs.Number.{number_of}
+
+-- ---- one operand: the name in front of the first `=`, and the value behind it
+
+abbrev pub is_equals : ℕ → Bool
+is_equals b = b == 61
+
+abbrev pub is_operand : List ℕ → Bool
+is_operand word = nat_lt (position_or_len is_equals word) (length word)
+
+abbrev pub name_of : List ℕ → List ℕ
+name_of word = before_first is_equals word
+
+abbrev pub value_of : List ℕ → List ℕ
+value_of word = after_first is_equals word
+
+-- what the value of an operand of this name is
+abbrev pub kind_of : List ℕ → Option Kind
+kind_of name =
+    if bytes_eq name (codes "if") || bytes_eq name (codes "of") then Some File else
+    if bytes_eq name (codes "ibs") || bytes_eq name (codes "bs") || bytes_eq name (codes "cbs") then Some (Size 16777216) else
+    if bytes_eq name (codes "obs") then Some (Size 1099511627775) else
+    if bytes_eq name (codes "skip") || bytes_eq name (codes "seek") || bytes_eq name (codes "count") then Some Number else
+    if bytes_eq name (codes "conv") then Some Conversions else None
+
+-- the words of `conv`
+abbrev pub parts_of : List ℕ → List (List ℕ)
+parts_of value = slice_split (λ b. b == 44) value
+
+abbrev pub is_conversion : List ℕ → Bool
+is_conversion part =
+    bytes_eq part (codes "block") || bytes_eq part (codes "unblock") || bytes_eq part (codes "lcase") || bytes_eq part (codes "ucase")
+    || bytes_eq part (codes "swab") || bytes_eq part (codes "sync") || bytes_eq part (codes "notrunc")
+
+-- ---- faults, each with the operand's place from 1
+
+-- the fault of a number
+abbrev pub number_fault : ℕ → Result ℕ SizeFault → Option DdFault
+number_fault at (Ok n) = None
+number_fault at (Err Bad) = Some (BadNumber at)
+number_fault at (Err TooLarge) = Some (NumberTooLarge at)
+
+-- the fault of a size, which is 1 to `most`
+abbrev pub size_fault : ℕ → ℕ → Result ℕ SizeFault → Option DdFault
+size_fault at most (Ok n) = if nat_lt most n then Some (NumberTooLarge at) else if n == 0 then Some (ZeroSize at) else None
+size_fault at most (Err Bad) = Some (BadNumber at)
+size_fault at most (Err TooLarge) = Some (NumberTooLarge at)
+
+-- the fault of a value
+abbrev pub value_fault : ℕ → Kind → List ℕ → Option DdFault
+value_fault at File value = if length value == 0 then Some (UnknownOperand at) else None
+value_fault at (Size most) value = size_fault at most (number_of value)
+value_fault at Number value = number_fault at (number_of value)
+value_fault at Conversions value = if list_all is_conversion (parts_of value) then None else Some (UnknownOperand at)
+
+-- whether the word is an operand of this name
+abbrev pub is_named : List ℕ → List ℕ → Bool
+is_named name word = is_operand word && bytes_eq (name_of word) name
+
+-- whether one of the words is
+abbrev pub is_given : List ℕ → List (List ℕ) → Bool
+is_given name words = nat_lt (position_or_len (is_named name) words) (length words)
+
+-- the fault of an operand of this kind that may have been given before
+abbrev pub kind_fault : ℕ → Option Kind → Bool → List ℕ → Option DdFault
+kind_fault at None before value = Some (UnknownOperand at)
+kind_fault at (Some kind) before value = if before then Some (Repeated at) else value_fault at kind value
+
+-- the fault of a word behind others
+abbrev pub operand_fault : List (List ℕ) → List ℕ → Option DdFault
+operand_fault before word =
+    if is_operand word then kind_fault (length before + 1) (kind_of (name_of word)) (is_given (name_of word) before) (value_of word)
+    else Some (UnknownOperand (length before + 1))
+
+-- the fault of the first faulty word
+abbrev pub first_fault : List (List ℕ) → List (List ℕ) → Option DdFault
+first_fault before [] = None
+first_fault before (word ∷ words) = option_or (operand_fault before word) (first_fault (before ++ word ∷ []) words)
+
+-- ---- what the operands say
+
+-- the value of the operand of this name
+abbrev pub given : List ℕ → List (List ℕ) → Option (List ℕ)
+given name words = option_map value_of (slice_get words (position_or_len (is_named name) words))
+
+abbrev pub number_given : List ℕ → List (List ℕ) → Option ℕ
+number_given name words = option_and_then (λ value. result_ok (number_of value)) (given name words)
+
+abbrev pub number_or : ℕ → List ℕ → List (List ℕ) → ℕ
+number_or other name words = unwrap_or (number_given name words) other
+
+-- `bs` supersedes both block sizes
+abbrev pub block_size : List ℕ → List (List ℕ) → ℕ
+block_size name words = number_or (number_or 512 name words) (codes "bs") words
+
+abbrev pub ibs_of : List (List ℕ) → ℕ
+ibs_of words = block_size (codes "ibs") words
+
+abbrev pub obs_of : List (List ℕ) → ℕ
+obs_of words = block_size (codes "obs") words
+
+-- whether `conv` has this word
+abbrev pub converts : List ℕ → List (List ℕ) → Bool
+converts part words = list_any (λ p. bytes_eq p part) (parts_of (unwrap_or (given (codes "conv") words) []))
+
+abbrev pub letters_of : List (List ℕ) → Letters
+letters_of words = if converts (codes "ucase") words then Upper else if converts (codes "lcase") words then Lower else Keep
+
+abbrev pub shape_of : List (List ℕ) → Shape
+shape_of words = if converts (codes "block") words then Block else if converts (codes "unblock") words then Unblock else Flat
+
+-- the place of the operand of this name, from 1
+abbrev pub place_of : List ℕ → List (List ℕ) → ℕ
+place_of name words = position_or_len (is_named name) words + 1
+
+-- ---- faults of operands that each are sound
+
+abbrev pub is_conflict : List (List ℕ) → Bool
+is_conflict words = (converts (codes "lcase") words && converts (codes "ucase") words) || (converts (codes "block") words && converts (codes "unblock") words)
+
+abbrev pub is_cbs_missing : List (List ℕ) → Bool
+is_cbs_missing words = (converts (codes "block") words || converts (codes "unblock") words) && not (is_given (codes "cbs") words)
+
+abbrev pub later_fault : List (List ℕ) → Option DdFault
+later_fault words =
+    if is_conflict words then Some Conflict else
+    if is_cbs_missing words then Some MissingCbs else
+    if nat_lt (2 ^ 48) (number_or 0 (codes "skip") words * ibs_of words) then Some (NumberTooLarge (place_of (codes "skip") words)) else
+    if nat_lt (2 ^ 48) (number_or 0 (codes "seek") words * obs_of words) then Some (NumberTooLarge (place_of (codes "seek") words)) else None
+
+-- the fault of dd's operands
+abbrev pub fault_of : List (List ℕ) → Option DdFault
+fault_of words = option_or (first_fault [] words) (later_fault words)

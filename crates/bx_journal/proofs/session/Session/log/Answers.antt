@@ -1,0 +1,34 @@
+use Rattle.std.proofs.Common.{◌≡◌, ℕ, ◌<◌, ◌≤◌, List, length, ap, sym, ◌∙◌, subst, arith}
+use Rattle.std.specs.Prelude.{All}
+use Rattle.std.proofs.lemmas.Grind.{common_steps}
+use Rattle.bx_journal.specs.declared.fault.SessionFault.TheVariants.{Damaged}
+use Rattle.bx_journal.specs.declared.reader.EntryRead.{EntryRead}
+use Rattle.bx_journal.specs.Parsed.{entries_of}
+use Rattle.bx_journal.specs.Undoing.{IsFinished}
+use Rattle.bx_journal.proofs.ReadLemmas.{length-entries_of}
+use Rattle.bx_journal.proofs.AgainLemmas.{in_step}
+use Rattle.bx_journal.proofs.SavedBound.{saved_countable}
+use Rattle.bx_journal.proofs.session.Session.log.Goals as goal
+
+pub returns-in_err-read-clause-undamaged : goal.returns-in_err-read-clause-undamaged
+returns-in_err-read-clause-undamaged g c th has =
+    let none : (line : ℕ) → c.in_err-read.field-0.0 ≡ Damaged line → ⊥ =
+    in_step (g.T.TextStore.honest c.args.self.now.store) (g.T.TextStore.text c.args.self.now.store) c.args.self.now.count c.in_err-read.field-0.0 th has c.in_err-read.ensures.fault in
+    grind (arith, common_steps, none)
+
+pub rows-requires-clause-few : goal.rows-requires-clause-few
+rows-requires-clause-few g c =
+    let few : length c.in_ok-read.read.entries.items ≤ 65535 = c.in_ok-read.ensures.read.few in
+    omega (arith, few, ap length c.deref.ensures.value)
+
+pub rows-requires-clause-countable : goal.rows-requires-clause-countable
+rows-requires-clause-countable g c =
+    saved_countable c.in_ok-read.read.bytes.items c.in_ok-read.read.entries.items c.deref.result.now c.in_ok-read.ensures.read.finished.reads (omega (arith, c.in_ok-read.read.bytes.ok.0, c.in_ok-read.read.bytes.ok.1, c.in_ok-read.read.bytes.small)) c.deref.ensures.value
+
+pub returns-clause-whole : goal.returns-clause-whole
+returns-clause-whole g c th =
+    let read = c.in_ok-read.ensures.read in (
+      entries_of c.in_ok-read.read.entries.items,
+      subst (λ t. IsFinished t (entries_of c.in_ok-read.read.entries.items)) (c.in_ok-read.ensures.bytes th) read.finished,
+      length-entries_of c.in_ok-read.read.entries.items ∙ read.counted,
+    )

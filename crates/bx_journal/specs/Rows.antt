@@ -1,0 +1,7 @@
+-- How many bytes saved lines have.
+use Rattle.std.specs.Prelude.{ℕ, List, length, map, sum}
+use Rattle.bx_journal.specs.Kept.{Run}
+use Rattle.bx_journal.specs.Kept.{Kept}
+
+abbrev pub saved_length : Kept → ℕ
+saved_length s = sum (map (λ (run : Run). length run.bytes) s.runs)

@@ -1,0 +1,46 @@
+-- What undoing starts from and leaves.
+use Rattle.std.specs.Prelude.{◌≡◌, ◌⊎◌, ◌≤◌, ℕ, ◌-◌, List, [], length, drop}
+use Rattle.bx_journal.specs.declared.fault.SessionFault.{SessionFault}
+use Rattle.bx_journal.specs.declared.fault.SessionFault.TheVariants.{NoMemory, TooLarge, DeviceFailed, Damaged, TooFew, JournalFull, Interrupted, Broken, LengthDiffers}
+use Rattle.bx_journal.specs.declared.reader.EntryRead.{EntryRead}
+use Rattle.bx_journal.specs.Text.{Entry, Between, Reads, split, IsPrefix, IsDamagedAt, IsAccepted}
+use Rattle.bx_journal.specs.Mark.{IsMark}
+use Rattle.bx_journal.specs.Parsed.{AreMarked, entries_of}
+
+-- the text is these finished entries alone
+pub record IsFinished (text : List ℕ) (entries : List Entry) : Type 0 where
+  pub reads : Reads text (record { entries = entries; stage = Between })
+  pub whole : (split text).rest ≡ []
+
+-- what undoing leaves of the text: a front, which is these finished entries alone
+pub record HasLeft (old new : List ℕ) (entries : List Entry) : Type 0 where
+  pub front : IsPrefix new old
+  pub finished : IsFinished new entries
+
+-- the text is `count` finished entries alone
+abbrev pub HasCount : List ℕ → ℕ → Type 0
+HasCount text count = (entries : List Entry) × IsFinished text entries × (length entries ≡ count)
+
+-- a text that was read again, as finished entries alone, with their places
+pub record IsReadAgain {A : Type 0} (text : List ℕ) (es : List (EntryRead A)) (count : ℕ) : Type 0 where
+  pub finished : IsFinished text (entries_of es)
+  pub mark : IsMark text (length text) (record { entries = entries_of es; stage = Between })
+  pub marked : AreMarked text [] 0 es (length text)
+  pub counted : length es ≡ count
+  pub few : length es ≤ 65535
+
+-- where a text that isn't `count` finished entries alone is called damaged: at its damaged line, or at line 1 where it is accepted
+abbrev pub IsOutOfStep : List ℕ → ℕ → ℕ → Type 0
+IsOutOfStep text count line = IsDamagedAt text line ⊎ ((line ≡ 1) × IsAccepted text × (HasCount text count → ⊥))
+
+-- which fault reading again may answer: want of memory, a failed device, or a text that is out of step
+abbrev pub AgainFault : Type 0 → List ℕ → ℕ → SessionFault → Type 0
+AgainFault honest text count NoMemory = Unit {0}
+AgainFault honest text count DeviceFailed = Unit {0}
+AgainFault honest text count (Damaged line) = honest → IsOutOfStep text count line
+AgainFault honest text count TooLarge = ⊥
+AgainFault honest text count (TooFew have) = ⊥
+AgainFault honest text count JournalFull = ⊥
+AgainFault honest text count Interrupted = ⊥
+AgainFault honest text count Broken = ⊥
+AgainFault honest text count (LengthDiffers expected) = ⊥

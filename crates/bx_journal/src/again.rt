@@ -1,0 +1,78 @@
+//! The journal of an open session, read once more.
+ghost use Rattle.std.specs.Prelude.{◌≡◌, ◌↔◌, ◌+◌, ◌<◌, ◌≤◌, List, ℕ, length, IfOk, IfErr, IfSome, IfNone, OnOk};
+ghost use Rattle.bx_journal.specs.Journal.{HasRead};
+ghost use Rattle.bx_journal.specs.Opening.{FaultCounts};
+ghost use Rattle.bx_journal.specs.Undoing.{AgainFault, HasCount, IsReadAgain};
+
+use crate::journal::{JournalRead, read_journal};
+use crate::{EntryRead, SessionFault, StageRead};
+use bx_store::{TextFault, TextStore};
+use std::alloc::{Allocator, Global};
+
+/// A text of finished entries alone, and those entries.
+#[derive(Drop)]
+pub struct FinishedRead<A: Allocator = Global> {
+    pub bytes: Vec<u8, A>,
+    pub entries: Vec<EntryRead<A>, A>,
+}
+
+/// What was read, where it is so many finished entries alone.
+fn finished<A: Allocator>(
+    bytes: Vec<u8, A>,
+    journal: JournalRead<A>,
+    count: u32,
+) -> Option<FinishedRead<A>>
+    requires { HasRead bytes.items journal }
+    ensures some { IfSome result (λ o. IsReadAgain o.bytes.items o.entries.items count) }
+    ensures bytes { IfSome result (λ o. o.bytes.items ≡ bytes.items) }
+    ensures none { IfNone result (HasCount bytes.items count → ⊥) }
+{
+    let JournalRead {
+        entries,
+        stage,
+        whole,
+    } = journal;
+    match stage {
+        StageRead::Between => {
+            if whole != bytes.len() as u64 {
+                return None;
+            }
+            if entries.len() != count as usize {
+                return None;
+            }
+            Some(FinishedRead { bytes, entries })
+        }
+        StageRead::Saving { .. } => None,
+        StageRead::Ending { .. } => None,
+    }
+}
+
+/// Reads a text that is to be so many finished entries alone. It changes nothing.
+pub fn read_again<T: TextStore, A: Allocator + Clone>(
+    alloc: &A,
+    store: &mut T,
+    count: u32,
+) -> Result<FinishedRead<A>, SessionFault>
+    requires { T.failures store.old < u64.MAX }
+    ensures read { IfOk result (λ o. IsReadAgain o.bytes.items o.entries.items count) }
+    ensures bytes { T.honest store.old → IfOk result (λ o. o.bytes.items ≡ T.text store.old) }
+    ensures fault { IfErr result (AgainFault (T.honest store.old) (T.text store.old) count) }
+    ensures text { T.honest store.old → T.text store.new ≡ T.text store.old }
+    ensures honesty { T.honest store.new ↔ T.honest store.old }
+    ensures no_failure { OnOk result (T.failures store.new ≡ T.failures store.old) }
+    ensures counts { IfErr result (λ e. FaultCounts e 0 (T.failures store.old) 0 (T.failures store.new)) }
+{
+    let bytes = match store.read_all(alloc.clone()?) {
+        Ok(bytes) => bytes,
+        Err(TextFault::NoMemory) => return Err(SessionFault::NoMemory),
+        Err(TextFault::DeviceFailed) => return Err(SessionFault::DeviceFailed),
+    };
+    let journal = match read_journal(alloc, &bytes) {
+        Ok(journal) => journal,
+        Err(fault) => return Err(fault),
+    };
+    match finished(bytes, journal, count) {
+        Some(read) => Ok(read),
+        None => Err(SessionFault::Damaged { line: 1 }),
+    }
+}

@@ -1,0 +1,121 @@
+//! Taking changes back.
+ghost use Rattle.std.specs.Prelude.{◌≡◌, ◌↔◌, ◌+◌, ◌-◌, ◌<◌, ◌≤◌, [], List, ℕ, length, drop, true, false, All, IfOk, IfErr, OnOk, IsErrOf, Ok as Done};
+ghost use Rattle.bx_journal.specs.Machine.{UndoStep};
+ghost use Rattle.bx_journal.specs.Parsed.{AllKept, entries_of};
+ghost use Rattle.bx_journal.specs.Stack.{Recovers};
+ghost use Rattle.bx_journal.specs.Text.{Entry};
+ghost use Rattle.bx_journal.specs.Undoing.{AgainFault, HasCount, HasLeft, IsFinished, IsReadAgain};
+
+use crate::again::{FinishedRead, read_again};
+use crate::undo::undo_entries;
+use crate::{EntryRead, Session, SessionFault};
+use bx_image::Device;
+use bx_store::TextStore;
+use bx_text::NoMemory;
+use std::alloc::Allocator;
+
+/// The greatest length that one of the entries restores.
+fn longest_of<A: Allocator>(entries: &[EntryRead<A>]) -> u64
+    ensures { All (λ e. e.kept.len ≤ result) entries.now }
+{
+    let mut longest = 0;
+    for entry in entries {
+        longest = longest.max(entry.kept.len);
+    }
+    longest
+}
+
+/// Makes room for taking back the last k entries. It changes nothing.
+fn make_room<D: Device, T: TextStore, A: Allocator>(
+    device: &mut D,
+    store: &mut T,
+    read: &FinishedRead<A>,
+    k: u32,
+) -> Result<(), NoMemory>
+    requires few { k ≤ length read.now.entries.items }
+    ensures kept { (count : ℕ) → IsReadAgain read.now.bytes.items read.now.entries.items count
+        → OnOk result (AllKept (D.room device.new) (drop (length read.now.entries.items - k) read.now.entries.items)) }
+    ensures image { D.honest device.old → D.image device.new ≡ D.image device.old }
+    ensures text { T.honest store.old → T.text store.new ≡ T.text store.old }
+    ensures device_honesty { D.honest device.new ↔ D.honest device.old }
+    ensures store_honesty { T.honest store.new ↔ T.honest store.old }
+    ensures device_failures { D.failures device.new ≡ D.failures device.old }
+    ensures store_failures { T.failures store.new ≡ T.failures store.old }
+{
+    let first = read.entries.len() - k as usize;
+    let (_, last) = read.entries.as_slice().split_at(first);
+    device.reserve(longest_of(last))?;
+    store.reserve(read.bytes.len() as u64)
+}
+
+impl<D: Device, T: TextStore, A: Allocator + Clone> Session<D, T, A> {
+    ghost use Rattle.bx_journal.specs.Session.{IsReady, IsSame, AfterFault};
+    ghost use Rattle.bx_journal.specs.Standing.{IsStanding};
+    ghost use Rattle.bx_journal.specs.Calls.{RecoversBelow};
+    ghost use Rattle.bx_journal.specs.Opening.{FaultCounts};
+    ghost use Rattle.bx_journal.specs.Undoing.{IsOutOfStep};
+
+    /// Takes the last k changes back, the newest first, and answers how many are left.
+    pub fn undo(&mut self, k: u32) -> Result<u32, SessionFault>
+        requires device_countable { D.failures self.old.device < u64.MAX }
+        requires store_countable { T.failures self.old.store < u64.MAX }
+
+        // Accepted, it makes the machine's step, and the session goes on.
+        ensures accepted { D.honest self.old.device → T.honest self.old.store → (stack : List (List ℕ)) → IsStanding D.image T.text self.old stack
+            → IfOk result (λ left. UndoStep stack k (Done left) (drop k stack) × IsStanding D.image T.text self.new (drop k stack)) }
+        ensures sound { D.honest self.old.device → T.honest self.old.store → (stack : List (List ℕ)) → IsReady D.image T.text self.old stack
+            → OnOk result (IsReady D.image T.text self.new (drop k stack)) }
+        ensures left { IfOk result (λ left. (left + k ≡ self.old.count) × (self.new.count ≡ left) × (self.new.is_broken ≡ false)) }
+
+        // The text is then that of the other entries.
+        ensures text { T.honest self.old.store → (entries : List Entry) → IsFinished (T.text self.old.store) entries
+            → OnOk result (HasLeft (T.text self.old.store) (T.text self.new.store) (drop k entries)) }
+
+        // An interruption leaves the stack without some of the images, and another fault leaves all as it was.
+        ensures fault { D.honest self.old.device → T.honest self.old.store → (stack : List (List ℕ)) → IsReady D.image T.text self.old stack
+            → IfErr result (λ e. AfterFault e
+            (RecoversBelow (T.text self.new.store) (D.image self.new.device) stack k)
+            (IsSame D.image T.text self.old self.new)) }
+        ensures refused { D.honest self.old.device → T.honest self.old.store → IfErr result (λ e. AfterFault e (Unit {0}) (IsSame D.image T.text self.old self.new)) }
+        ensures breaks { IsErrOf result SessionFault.Interrupted → (self.new.is_broken ≡ true) × (self.new.count ≡ self.old.count) }
+
+        ensures broken { (self.old.is_broken ≡ true) ↔ IsErrOf result SessionFault.Broken }
+        ensures untouched { IsErrOf result SessionFault.Broken → (self.new.device ≡ self.old.device) × (self.new.store ≡ self.old.store) }
+        ensures few { ((self.old.is_broken ≡ false) × (self.old.count < k)) ↔ IsErrOf result (SessionFault.TooFew self.old.count) }
+
+        // The text is called damaged exactly where it isn't so many finished entries alone.
+        ensures damaged { T.honest self.old.store → IfErr result (λ e. (line : ℕ) → e ≡ SessionFault.Damaged line → IsOutOfStep (T.text self.old.store) self.old.count line) }
+        ensures undamaged { T.honest self.old.store → HasCount (T.text self.old.store) self.old.count → IfErr result (λ e. (line : ℕ) → e ≡ SessionFault.Damaged line → ⊥) }
+        ensures whole { T.honest self.old.store → OnOk result (HasCount (T.text self.old.store) self.old.count) }
+
+        ensures device_honesty { D.honest self.new.device ↔ D.honest self.old.device }
+        ensures store_honesty { T.honest self.new.store ↔ T.honest self.old.store }
+        ensures no_failure { OnOk result ((D.failures self.new.device ≡ D.failures self.old.device) × (T.failures self.new.store ≡ T.failures self.old.store)) }
+        ensures counts { IfErr result (λ e. FaultCounts e (D.failures self.old.device) (T.failures self.old.store) (D.failures self.new.device) (T.failures self.new.store)) }
+    {
+        if self.is_broken {
+            return Err(SessionFault::Broken);
+        }
+        if k > self.count {
+            return Err(SessionFault::TooFew { have: self.count });
+        }
+        let mut read = read_again(&self.alloc, &mut self.store, self.count)?;
+        make_room(&mut self.device, &mut self.store, &read, k)?;
+        match undo_entries(
+            &mut self.device,
+            &mut self.store,
+            &read.bytes,
+            &mut read.entries,
+            k,
+        ) {
+            Ok(()) => {
+                self.count -= k;
+                Ok(self.count)
+            }
+            Err(_) => {
+                self.is_broken = true;
+                Err(SessionFault::Interrupted)
+            }
+        }
+    }
+}
