@@ -3,7 +3,7 @@ ghost use Rattle.std.specs.Prelude.{◌≡◌, ℕ, ◌+◌, ◌-◌, ◌*◌, �
 ghost use Rattle.bx_dump.specs.Hexdump.{canon_columns, canon_place, canon_line, canon_end, hexdump_text};
 ghost use Rattle.bx_dump.specs.Dumped.{DumpsAll, DumpsFront};
 
-use crate::pages::{Form, dump};
+use crate::folded::{Form, dump};
 use bx_text::{
     IoFault, ShortText, blank, emit_after, hex_digit, hex_field, push_text, put_address, put_text,
 };

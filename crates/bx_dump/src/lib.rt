@@ -1,12 +1,26 @@
 //! Dumps of whole streams.
 #![tactic(auto)]
 
+mod folded;
 mod hexdump;
 mod od;
 mod pages;
+mod xxd_cells;
+mod xxd_columns;
 mod xxd_dump;
+mod xxd_lines;
+mod xxd_names;
+mod xxd_options;
+mod xxd_rows;
+mod xxd_whole;
 
+pub use folded::{Dumped, Form, dump};
 pub use hexdump::hexdump_c;
 pub use od::{Address, Kind, NumForm, Size};
-pub use pages::{Dumped, Form, dump};
-pub use xxd_dump::xxd_default;
+pub use pages::{Pages, Part, dump_part};
+pub use xxd_columns::{Columns, Digits};
+pub use xxd_dump::xxd;
+pub use xxd_lines::{LineForm, Lines};
+pub use xxd_options::{XxdOptions, XxdStyle};
+pub use xxd_rows::{Items, Plain};
+pub use xxd_whole::xxd_default;

@@ -1,164 +1,183 @@
-//! Dumps of whole inputs, a page at a time.
-ghost use Rattle.std.specs.Prelude.{◌≡◌, ℕ, zero, suc, ◌+◌, ◌*◌, ◌/◌, ◌^◌, ◌<◌, ◌≤◌, Bool, true, false, List, ◌++◌, length, take, IfOk, IfErr, IsTrue, if◌then◌else◌};
-ghost use Rattle.bx_text.specs.Fold.{line_bytes, line_count, line_text, lines_to, folded, show_at, IsTaken};
-ghost use Rattle.bx_dump.specs.Dumped.{DumpsAll, DumpsFront};
+//! Dumps of inputs, a page of text at a time.
+ghost use Rattle.std.specs.Prelude.{◌≡◌, ℕ, ◌+◌, ◌-◌, ◌*◌, ◌^◌, ◌<◌, ◌≤◌, true, List, [], ◌++◌, length, take, Option, IfOk, IfErr, IfSome, Some};
+ghost use Rattle.bx_dump.specs.Pages.{WritesPart, WritesRest, WritesFrontOf, Skips, StopsAt, part_of, capped};
 
-use bx_text::{Fold, IoFault, Meter, Show, emit_after};
+use bx_text::{IoFault, Meter, State, emit_after};
 use std::io::{Read, Write};
 
-/// The most bytes of an input.
-const LIMIT: u64 = 1 << 40;
+/// The most bytes of an input, those included that are skipped.
+pub const LIMIT: u64 = 1 << 40;
 
-/// The form of a dump's lines.
-pub trait Form {
-    /// The line for some bytes at an address.
-    ghost line: { Self → ℕ → List ℕ → List ℕ };
+/// The most bytes of an input that are put at once.
+pub const BLOCK: usize = 16384;
 
-    /// Puts the line for 1 to 16 bytes at the front, and answers how long it is.
-    fn put(&self, page: &mut [u8], at: u64, bytes: &[u8]) -> usize
-        requires room { 96 ≤ length page.old }
-        requires some { 0 < length bytes.now }
-        requires fits { length bytes.now ≤ 16 }
-        ensures most { result ≤ 96 }
-        ensures text { take result page.new ≡ line self.now at bytes.now };
+/// How many bytes of text there is room for.
+pub const PAGE: usize = 98304;
+
+/// What turns the bytes of an input into text, a block at a time.
+pub trait Pages {
+    /// The text for bytes at the front of an input, which more bytes only make longer.
+    ghost written: { Self → List ℕ → List ℕ };
+
+    /// These bytes were put, in whole blocks.
+    ghost Seen: { Self → List ℕ → Type 0 };
+
+    /// The bytes of a block.
+    ghost block: { Self → ℕ };
+
+    /// How many bytes are put at once.
+    fn block_len(&self) -> usize
+        ensures value { result ≡ block self.now }
+        ensures some { 0 < result }
+        ensures most { result ≤ BLOCK };
+
+    /// Puts the text for the next bytes at the front of the page, and answers how long it is. The rest of the page is working space.
+    fn put(&mut self, page: &mut [u8], done: u64, bytes: &[u8]) -> usize
+        requires page { length page.old ≡ PAGE }
+        requires few { done + length bytes.now ≤ 2 ^ 40 }
+        requires fits { length bytes.now ≤ block self.old }
+        ensures most { result ≤ PAGE }
+        ensures text { (input : List ℕ) → length input ≡ done → Seen self.old input → written self.old (input ++ bytes.now) ≡ written self.old input ++ take result page.new }
+        ensures seen { (input : List ℕ) → length input ≡ done → Seen self.old input → length bytes.now ≡ block self.old → Seen self.new (input ++ bytes.now) }
+        ensures same { (xs : List ℕ) → written self.new xs ≡ written self.old xs }
+        ensures size { block self.new ≡ block self.old };
+
+    /// Says that later bytes only make the text longer.
+    fn grows(&self)
+        ensures { (input more : List ℕ) → Seen self.now input → (rest : List ℕ) × (written self.now (input ++ more) ≡ written self.now input ++ rest) };
 }
 
-/// Says what stands for the next line, where `all` folds none.
-#[inline]
-fn show_next(all: bool, fold: &mut Fold, bytes: &[u8]) -> Show
-    ensures show { (whole : List ℕ) (k : ℕ) → bytes.now ≡ line_bytes whole k → IsTaken all fold.old whole k → result ≡ (if all then Show.Line else show_at whole k) }
-    ensures taken { (whole : List ℕ) (k : ℕ) → bytes.now ≡ line_bytes whole k → IsTaken all fold.old whole k → length bytes.now ≡ 16 → IsTaken all fold.new whole (suc k) }
-{
-    if all {
-        return Show::Line;
-    }
-    match bytes.first_chunk::<16>() {
-        Some(line) => fold.step(line),
-        None => Show::Line,
-    }
-}
-
-/// Puts what stands for a line, where `all` folds none.
-#[inline]
-fn put_next<F: Form>(
-    page: &mut [u8],
-    form: &F,
-    all: bool,
-    fold: &mut Fold,
-    at: u64,
-    bytes: &[u8],
-) -> usize
-    requires room { 96 ≤ length page.old }
-    requires some { 0 < length bytes.now }
-    requires fits { length bytes.now ≤ 16 }
-    ensures most { result ≤ 96 }
-    ensures text { (whole : List ℕ) (k start : ℕ) → at ≡ start + 16 * k → bytes.now ≡ line_bytes whole k → IsTaken all fold.old whole k →
-        take result page.new ≡ line_text (F.line form.now) all start whole k }
-    ensures taken { (whole : List ℕ) (k : ℕ) → bytes.now ≡ line_bytes whole k → IsTaken all fold.old whole k → length bytes.now ≡ 16 → IsTaken all fold.new whole (suc k) }
-{
-    match show_next(all, fold, bytes) {
-        Show::Line => form.put(page, at, bytes),
-        Show::Star => {
-            page[..2].copy_from_slice(b"*\n");
-            2
-        }
-        Show::Nothing => 0,
-    }
-}
-
-/// Puts what stands for the lines of some bytes.
-fn put_lines<F: Form>(
-    page: &mut [u8],
-    form: &F,
-    all: bool,
-    fold: &mut Fold,
-    at: u64,
-    bytes: &[u8],
-) -> usize
-    requires room { 96 * line_count bytes.now ≤ length page.old }
-    requires address { at + length bytes.now + 15 < 2 ^ 64 }
-    ensures within { result ≤ 96 * line_count bytes.now }
-    ensures text { (input : List ℕ) (n start : ℕ) → length input ≡ 16 * n → at ≡ start + 16 * n → IsTaken all fold.old input n →
-        folded (F.line form.now) all start (input ++ bytes.now) ≡ folded (F.line form.now) all start input ++ take result page.new }
-    ensures taken { (input : List ℕ) (n lines : ℕ) → length input ≡ 16 * n → length bytes.now ≡ 16 * lines → IsTaken all fold.old input n →
-        IsTaken all fold.new (input ++ bytes.now) (n + lines) }
-{
-    let mut used = 0;
-    let count = (bytes.len() + 15) / 16;
-    for k in 0..count {
-        let begin = 16 * k;
-        let end = (begin + 16).min(bytes.len());
-        used += put_next(
-            &mut page[used..],
-            form,
-            all,
-            fold,
-            at + begin as u64,
-            &bytes[begin..end],
-        );
-    }
-    used
-}
-
-/// How much was read and written.
+/// How much was dumped, and how much text was written.
 #[derive(Clone, Copy, Debug, PartialEq, Eq)]
-pub struct Dumped {
+pub struct Part {
     pub read: u64,
     pub written: u64,
 }
 
-/// Writes the lines of all that the reader gives, the first at address `start`.
-pub fn dump<R: Read, W: Write, F: Form>(
+/// Reads bytes away, and answers whether there were so many.
+fn skip<R: Read>(
+    meter: &mut Meter,
     r: &mut R,
-    w: &mut W,
-    form: &F,
-    all: bool,
-    start: u64,
-) -> Result<Dumped, IoFault>
-    requires { start ≤ 2 ^ 62 }
-    ensures ok { IfOk result (λ d. DumpsAll (folded (F.line form.now) all start) (R.remaining r.old) (R.remaining r.new) (W.contents w.old) (W.contents w.new) d.read d.written) }
-    ensures err { IfErr result (DumpsFront (folded (F.line form.now) all start) (R.remaining r.old) (R.remaining r.new) (W.contents w.old) (W.contents w.new)) }
-    ensures few { IfOk result (λ d. d.written ≤ 2 ^ 44) }
-{
-    dump_pages(r, w, form, all, start, &mut [0; 16384], &mut [0; 98304])
-}
-
-/// The same, with working space.
-fn dump_pages<R: Read, W: Write, F: Form>(
-    r: &mut R,
-    w: &mut W,
-    form: &F,
-    all: bool,
-    start: u64,
+    count: u64,
     block: &mut [u8],
-    page: &mut [u8],
-) -> Result<Dumped, IoFault>
-    requires start { start ≤ 2 ^ 62 }
-    requires block { length block.old ≡ 16384 }
-    requires page { length page.old ≡ 98304 }
-    ensures ok { IfOk result (λ d. DumpsAll (folded (F.line form.now) all start) (R.remaining r.old) (R.remaining r.new) (W.contents w.old) (W.contents w.new) d.read d.written) }
-    ensures err { IfErr result (DumpsFront (folded (F.line form.now) all start) (R.remaining r.old) (R.remaining r.new) (W.contents w.old) (W.contents w.new)) }
-    ensures few { IfOk result (λ d. d.written ≤ 2 ^ 44) }
+) -> Result<bool, IoFault>
+    requires open { meter.old.state ≡ State.Open }
+    requires first { meter.old.taken ≡ 0 }
+    requires limit { meter.old.limit ≡ 2 ^ 40 }
+    requires block { 0 < length block.old }
+    ensures limit { meter.new.limit ≡ 2 ^ 40 }
+    ensures ok { IfOk result (λ all. Skips all count (R.remaining r.old) (R.remaining r.new)) }
+    ensures open { IfOk result (λ all. all ≡ true → (meter.new.state ≡ State.Open) × (meter.new.taken ≡ count)) }
+    ensures err { IfErr result (StopsAt (2 ^ 40) (R.remaining r.old) (R.remaining r.new)) }
 {
-    let mut meter = Meter::new(LIMIT);
-    let mut fold = Fold::new();
-    let mut written = 0u64;
-    loop {
-        let at = meter.taken;
-        let n = match meter.fill(r, block) {
+    while meter.taken < count {
+        let want = (count - meter.taken).min(block.len() as u64) as usize;
+        let n = match meter.fill(r, &mut block[..want]) {
             Ok(n) => n,
             Err(fault) => return Err(fault),
         };
-        let used = put_lines(page, form, all, &mut fold, start + at, &block[..n]);
-        if let Err(fault) = emit_after(w, written, &page[..used]) {
-            return Err(fault);
-        }
-        written += used as u64;
-        if n < block.len() {
-            return Ok(Dumped {
-                read: meter.taken,
-                written,
-            });
+        if n < want {
+            return Ok(false);
         }
     }
+    Ok(true)
+}
+
+/// How many bytes are read next, where `size` are a block and `done` were dumped.
+fn next_len(size: usize, limit: Option<u64>, done: u64) -> usize
+    requires { IfSome limit (λ most. done ≤ most) }
+    ensures most { result ≤ size }
+    ensures within { IfSome limit (λ most. done + result ≤ most) }
+    ensures last { result < size → limit ≡ Some (done + result) }
+{
+    match limit {
+        Some(most) if most - done < size as u64 => (most - done) as usize,
+        _ => size,
+    }
+}
+
+/// Writes the text of what comes next in the input, at most `limit` bytes of it.
+fn dump_pages<R: Read, W: Write, P: Pages>(
+    meter: &mut Meter,
+    r: &mut R,
+    w: &mut W,
+    pages: &mut P,
+    limit: Option<u64>,
+    before: u64,
+    block: &mut [u8],
+    page: &mut [u8],
+) -> Result<Part, IoFault>
+    requires open { meter.old.state ≡ State.Open }
+    requires limit { meter.old.limit ≡ 2 ^ 40 }
+    requires before { before ≤ 2 ^ 63 }
+    requires block { length block.old ≡ BLOCK }
+    requires page { length page.old ≡ PAGE }
+    requires seen { P.Seen pages.old [] }
+    requires empty { P.written pages.old [] ≡ [] }
+    ensures ok { IfOk result (λ part. WritesRest (P.written pages.old) limit (R.remaining r.old) (R.remaining r.new) (W.contents w.old) (W.contents w.new) part.read part.written) }
+    ensures err { IfErr result (WritesFrontOf (λ input. P.written pages.old (capped limit input)) meter.old.taken before (R.remaining r.old) (R.remaining r.new) (W.contents w.old) (W.contents w.new)) }
+    ensures few { IfOk result (λ part. part.written ≤ 2 ^ 60) }
+{
+    let size = pages.block_len();
+    let mut part = Part {
+        read: 0,
+        written: 0,
+    };
+    loop {
+        pages.grows();
+        let want = next_len(size, limit, part.read);
+        let n = match meter.fill(r, &mut block[..want]) {
+            Ok(n) => n,
+            Err(fault) => return Err(fault),
+        };
+        let used = pages.put(page, part.read, &block[..n]);
+        if let Err(fault) = emit_after(w, before + part.written, &page[..used]) {
+            return Err(fault);
+        }
+        part.read += n as u64;
+        part.written += used as u64;
+        if n < size {
+            return Ok(part);
+        }
+    }
+}
+
+/// Writes the text of the bytes from place `from` on, at most `limit` of them, after `before` bytes that were written.
+pub fn dump_part<R: Read, W: Write, P: Pages>(
+    r: &mut R,
+    w: &mut W,
+    pages: &mut P,
+    from: u64,
+    limit: Option<u64>,
+    before: u64,
+) -> Result<Part, IoFault>
+    requires before { before ≤ 2 ^ 63 }
+    requires seen { P.Seen pages.old [] }
+    requires empty { P.written pages.old [] ≡ [] }
+    ensures ok { IfOk result (λ part. WritesPart (λ input. P.written pages.old (part_of from limit input)) from limit (R.remaining r.old) (R.remaining r.new) (W.contents w.old) (W.contents w.new) part.read part.written) }
+    ensures err { IfErr result (WritesFrontOf (λ input. P.written pages.old (part_of from limit input)) 0 before (R.remaining r.old) (R.remaining r.new) (W.contents w.old) (W.contents w.new)) }
+    ensures few { IfOk result (λ part. part.written ≤ 2 ^ 60) }
+{
+    let mut meter = Meter::new(LIMIT);
+    let mut block = [0; BLOCK];
+    match skip(&mut meter, r, from, &mut block) {
+        Ok(true) => {}
+        Ok(false) => {
+            return Ok(Part {
+                read: 0,
+                written: 0,
+            });
+        }
+        Err(fault) => return Err(fault),
+    }
+    dump_pages(
+        &mut meter,
+        r,
+        w,
+        pages,
+        limit,
+        before,
+        &mut block,
+        &mut [0; PAGE],
+    )
 }

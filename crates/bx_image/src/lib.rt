@@ -7,6 +7,7 @@ mod file;
 mod fuse;
 mod laws;
 mod memory;
+mod pages;
 mod record;
 mod spans;
 
@@ -17,6 +18,7 @@ pub use file::{FileImage, RandomAccess, Stop, counted, read_full, resize_to, siz
 pub use fuse::{Fuse, FuseImage, Part};
 pub use laws::{law_place, law_restore, law_runs};
 pub use memory::MemImage;
+pub use pages::PagedImage;
 pub use record::{Saved, save};
 
 #[cfg(test)]
@@ -27,5 +29,7 @@ mod device_tests;
 mod file_tests;
 #[cfg(test)]
 mod growth_tests;
+#[cfg(test)]
+mod pages_tests;
 #[cfg(test)]
 mod ration;

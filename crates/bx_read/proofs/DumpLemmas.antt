@@ -1,5 +1,5 @@
 -- The pieces of a text.
-use Rattle.std.proofs.Common.{◌≡◌, ◌⊎◌, ℕ, zero, suc, ◌+◌, ◌*◌, ◌<◌, ◌≤◌, Bool, true, false, ◌||◌, cond, eqb, Some, Result, Ok, Err, List, [], ◌∷◌, ◌++◌, length, refl, arith, sym, ap, subst, ◌∙◌, append_assoc, get_or, ◌&&◌, inl, inr, ⊎_elim}
+use Rattle.std.proofs.Common.{◌≡◌, ◌⊎◌, ℕ, zero, suc, ◌+◌, ◌*◌, ◌<◌, ◌≤◌, Bool, true, false, ◌||◌, cond, eqb, Some, Option, Result, Ok, Err, List, [], ◌∷◌, ◌++◌, length, refl, arith, sym, ap, subst, ◌∙◌, append_assoc, get_or, ◌&&◌, inl, inr, ⊎_elim}
 use Rattle.std.specs.Prelude.{codes, bytes_eq}
 use Rattle.std.specs.Option.{unwrap_or, option_map}
 use Rattle.std.proofs.lemmas.Slice.Eq.{bytes_eq-Decides}
@@ -12,6 +12,7 @@ use Rattle.bx_read.proofs.PieceLemmas.{some_bytes}
 use Rattle.bx_read.specs.Digits.{is_hex, pairs_of, pair_value}
 use Rattle.bx_read.specs.Line.{read_line}
 use Rattle.bx_read.specs.Grammar.{IsLine}
+use Rattle.bx_read.specs.Next.{IsNextPiece}
 use Rattle.bx_read.specs.Text.{ReadLine, is_skipped, answer_then, answers, piece_then, gathered, GivesPieces, IsPiece, total_bytes, lines_of, with_front, contents}
 use Rattle.bx_text.specs.declared.pieces.Piece.{Piece}
 use Rattle.bx_read.specs.declared.fault.ReadFault.{ReadFault}
@@ -78,11 +79,11 @@ found (line ∷ lines) n ps e = go (is_skipped line) refl (λ qs. found lines (n
         inr (r.0, r.1, r.2, r.3, r.4, r.5, later r.3 r.6)
 
 -- a line of the grammar begins with a digit
-first_is : (line : List ℕ) (at : ℕ) (hex bytes : List ℕ) → IsLine line at hex bytes → is_hex (get_or line 0 0) ≡ true
+pub first_is : (line : List ℕ) (at : ℕ) (hex bytes : List ℕ) → IsLine line at hex bytes → is_hex (get_or line 0 0) ≡ true
 first_is line at hex bytes is =
     rw (is.spelled, get_or_append_left is.digits (58 ∷ 32 ∷ (hex ++ is.tail)) 0 0 is.some_digits) (is.address 0 0 is.some_digits)
 
-not_skipped : (line : List ℕ) → is_hex (get_or line 0 0) ≡ true → is_skipped line ≡ false
+pub not_skipped : (line : List ℕ) → is_hex (get_or line 0 0) ≡ true → is_skipped line ≡ false
 not_skipped line digit = go (is_skipped line) refl
   where
     go : (b : Bool) → is_skipped line ≡ b → b ≡ false
@@ -229,3 +230,8 @@ module _ {A : Type 0} (text : List ℕ) (pieces : List (Piece A)) (exact : gathe
 pub not_read : (text : List ℕ) (e : ReadFault) → (e ≡ NoMemory) ⊎ (gathered (answers 1 (lines_of text)) ≡ Err e) → (ps : Pieces) → GivesPieces (lines_of text) ps → e ≡ NoMemory
 not_read text e (inl is) ps gives = is
 not_read text e (inr is) ps gives = let read = only (lines_of text) 1 ps gives in cc
+
+-- the next piece, where there is one
+pub next_is : {A : Type 0} (old new : List (Result ReadLine ReadFault)) (o : Option (Piece A)) (piece : Piece A) → o ≡ Some piece → IsNextPiece old new o →
+    (hex : List ℕ) × (number : ℕ) × (pairs_of hex ≡ Some piece.bytes) × (old ≡ Ok (piece.at, hex, number) ∷ new)
+next_is {A} old new o piece e is = subst (IsNextPiece old new) e is

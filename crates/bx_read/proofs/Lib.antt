@@ -10,3 +10,5 @@ pub mod AddressLemmas
 pub mod LineLemmas
 pub mod WrittenLemmas
 pub mod PlainLemmas
+pub mod FullLemmas
+pub mod FullLines

@@ -1,12 +1,15 @@
 //! Whole dumps.
-ghost use Rattle.std.specs.Prelude.{◌≡◌, ◌⊎◌, ◌*◌, ◌≤◌, ℕ, List, length, map, Some, Ok, Err, MatchResult, IfOk, All};
-ghost use Rattle.bx_read.specs.Digits.{pairs_of};
-ghost use Rattle.bx_read.specs.Text.{lines_of, dump_pieces, contents, total_bytes, IsPiece, GivesPieces};
+ghost use Rattle.std.specs.Prelude.{◌≡◌, ◌⊎◌, ◌*◌, ◌≤◌, ◌∷◌, ℕ, List, Result, length, map, Some, Ok, Err, MatchResult, IfOk, All};
+ghost use Rattle.bx_read.specs.Text.{ReadLine, lines_of, dump_pieces, contents, total_bytes, IsPiece, GivesPieces};
+ghost use Rattle.bx_read.specs.Lines.{coming};
+ghost use Rattle.bx_read.specs.Next.{IsNextPiece};
+ghost use Rattle.bx_read.specs.declared.fault.ReadFault.{ReadFault};
 
 use crate::fault::ReadFault;
-use crate::line::Line;
+use crate::full::FULL;
 use crate::lines::DumpLines;
 use bx_text::{Bytes, Piece};
+use memchr::memchr;
 use std::alloc::Allocator;
 
 /// Reads the text of a dump, whose last newline may be missing: the pieces of its lines, in order. Empty lines and
@@ -30,24 +33,48 @@ pub fn read_dump<A: Allocator + Clone>(alloc: A, text: &[u8]) -> Result<Vec<Piec
 fn gather<A: Allocator + Clone>(alloc: A, text: &[u8]) -> Result<Vec<Piece<A>, A>, ReadFault>
     ensures { MatchResult result (λ v. dump_pieces text.now ≡ Ok (contents v.items)) (λ e. (e ≡ ReadFault.NoMemory) ⊎ (dump_pieces text.now ≡ Err e)) }
 {
-    let mut pieces = Vec::new(alloc.clone()?);
+    let mut pieces = Vec::with_capacity(alloc.clone()?, expected_lines(text))?;
     let mut lines = DumpLines::new(text);
-    while let Some(answer) = lines.next() {
-        let piece = piece_of(alloc.clone()?, &answer?)?;
+    while let Some(piece) = next_piece(&alloc, &mut lines)? {
         pieces.push(piece)?;
     }
     Ok(pieces)
 }
 
-/// The address and the bytes of a line.
-fn piece_of<A: Allocator>(alloc: A, line: &Line<'_>) -> Result<Piece<A>, ReadFault>
-    ensures { MatchResult result (λ p. (p.at ≡ line.now.at) × (pairs_of line.now.hex.now ≡ Some p.bytes)) (λ e. e ≡ ReadFault.NoMemory) }
+/// How many lines there are if all are like the first, and none is shorter than xxd's default.
+fn expected_lines(text: &[u8]) -> usize {
+    let first = memchr(b'\n', text).unwrap_or(0);
+    text.len() / first.max(FULL - 1) + 1
+}
+
+/// The next line's piece, and none at the end.
+fn next_piece<A: Allocator + Clone>(
+    alloc: &A,
+    lines: &mut DumpLines<'_>,
+) -> Result<Option<Piece<A>>, ReadFault>
+    ensures { MatchResult result (IsNextPiece (coming lines.old) (coming lines.new)) (λ e. (e ≡ ReadFault.NoMemory) ⊎ ((later : List (Result ReadLine ReadFault)) × (coming lines.old ≡ Err e ∷ later))) }
 {
-    let mut out = [0u8; 256];
-    let count = line.decode(&mut out);
-    let bytes = Vec::from_slice(alloc, &out[..count])?;
+    if let Some(full) = lines.take_full() {
+        return Ok(Some(piece(alloc.clone()?, full.at, &full.bytes)?));
+    }
+    match lines.next() {
+        None => Ok(None),
+        Some(Err(fault)) => Err(fault),
+        Some(Ok(line)) => {
+            let mut out = [0u8; 256];
+            let count = line.decode(&mut out);
+            Ok(Some(piece(alloc.clone()?, line.at, &out[..count])?))
+        }
+    }
+}
+
+/// The bytes at their address.
+fn piece<A: Allocator>(alloc: A, at: u64, bytes: &[u8]) -> Result<Piece<A>, ReadFault>
+    ensures { MatchResult result (λ p. (p.at ≡ at) × (p.bytes ≡ bytes.now)) (λ e. e ≡ ReadFault.NoMemory) }
+{
+    let bytes = Vec::from_slice(alloc, bytes)?;
     Ok(Piece {
-        at: line.at,
+        at,
         bytes: Bytes::from_vec(bytes),
     })
 }

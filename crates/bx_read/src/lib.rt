@@ -4,10 +4,13 @@
 mod digits;
 mod dump;
 mod fault;
+mod full;
 mod laws;
 mod line;
 mod lines;
 mod plain;
+#[cfg(test)]
+mod tests;
 
 pub use dump::read_dump;
 pub use fault::ReadFault;

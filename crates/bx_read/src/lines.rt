@@ -1,8 +1,9 @@
 //! The lines of a dump, one after another.
-ghost use Rattle.std.specs.Prelude.{◌≡◌, ◌+◌, ◌^◌, ◌<◌, ◌≤◌, ◌∷◌, [], ℕ, List, length, MatchOption, MatchResult, Some, None, Ok, Err};
+ghost use Rattle.std.specs.Prelude.{◌≡◌, ◌+◌, ◌^◌, ◌<◌, ◌≤◌, ◌∷◌, [], ℕ, List, length, MatchOption, MatchResult, IfSome, IfNone, Some, None, Ok, Err};
 ghost use Rattle.bx_read.specs.Text.{lines_of, is_skipped, answers};
 
 use crate::fault::ReadFault;
+use crate::full::{FULL, FullLine, full_line};
 use crate::line::Line;
 use memchr::memchr;
 
@@ -18,6 +19,7 @@ impl<'a> DumpLines<'a> {
     ghost use Rattle.bx_read.specs.Text.{lines_of, answers};
     ghost use Rattle.bx_read.specs.Lines.{coming, line_view};
     ghost use Rattle.bx_read.specs.Line.{read_line};
+    ghost use Rattle.bx_read.specs.Digits.{pairs_of};
 
     /// The lines of `text`, whose last newline may be missing.
     pub fn new(text: &'a [u8]) -> DumpLines<'a>
@@ -46,6 +48,21 @@ impl<'a> DumpLines<'a> {
                 text
             }
         }
+    }
+
+    /// Takes the next line if it is one of xxd's default form with 16 bytes, which most lines of most dumps are.
+    #[inline]
+    pub(crate) fn take_full(&mut self) -> Option<FullLine>
+        ensures some { IfSome result (λ l. (hex : List ℕ) × (pairs_of hex ≡ Some l.bytes) × (coming self.old ≡ Ok (l.at, hex, self.old.passed + 1) ∷ coming self.new)) }
+        ensures none { IfNone result (self.new ≡ self.old) }
+    {
+        if self.text.len() < FULL {
+            return None;
+        }
+        let line = full_line(self.text)?;
+        self.text = &self.text[FULL..];
+        self.passed += 1;
+        Some(line)
     }
 
     /// Reads the line that was taken last. A fault is the end.

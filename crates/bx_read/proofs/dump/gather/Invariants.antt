@@ -4,9 +4,9 @@ use Rattle.bx_read.specs.Lines.{coming}
 use Rattle.bx_read.proofs.DumpLemmas.{after}
 use Rattle.bx_read.proofs.dump.gather.Given as goal
 
-abbrev pub decreases-loop-answer : goal.decreases-loop-answer
-decreases-loop-answer g l = length (coming l.lines)
+abbrev pub decreases-loop-pieces : goal.decreases-loop-pieces
+decreases-loop-pieces g l = length (coming l.lines)
 
 -- the pieces so far, and those of the lines to come, are all
-abbrev pub invariant-loop-answer : goal.invariant-loop-answer
-invariant-loop-answer g l = dump_pieces l.text ≡ after (contents l.pieces.items) (gathered (coming l.lines))
+abbrev pub invariant-loop-pieces : goal.invariant-loop-pieces
+invariant-loop-pieces g l = dump_pieces l.text ≡ after (contents l.pieces.items) (gathered (coming l.lines))

@@ -1,0 +1,297 @@
+-- What a dump of a part leaves where it stops or ends.
+use Rattle.std.proofs.Common.{◌≡◌, ℕ, ◌+◌, ◌-◌, ◌*◌, ◌^◌, ◌<◌, ◌≤◌, Bool, true, false, List, [], ◌++◌, length, take, drop, Option, None, Some, IfSome, refl, sym, ap, ◌∙◌, arith, length-append, inl, inr, ⊎_elim, ◌⊎◌}
+use Rattle.std.specs.Io.KnownBytes.{Appends, Consumes, IsAtEnd}
+use Rattle.std.proofs.lemmas.List.{take-append-le, take_all, take_at, drop_all, length-drop}
+use Rattle.std.proofs.Math.Seq.{take-append-add, drop-append-add}
+use Rattle.bx_text.specs.declared.fault.IoFault.{IoFault}
+use Rattle.bx_text.specs.declared.fault.IoFault.TheVariants.{NoMemory, ReadFailed, WriteFailed, InputTooLong, SkipPastEnd}
+use Rattle.bx_text.specs.Stream.{StopsIn, IsReadCause}
+use Rattle.bx_text.specs.Writing.{WritesFront}
+use Rattle.bx_text.proofs.KnownLemmas.{Appends-trans, Consumes-trans, Appends-nil, Consumes-nil}
+use Rattle.bx_dump.specs.Dumped.{IsDumpFault}
+use Rattle.bx_dump.specs.Pages.{WritesPart, WritesRest, WritesFrontOf, Skips, StopsAt, part_of, capped, IsLast, IsEndOf}
+
+-- more bytes were read before the fault
+cause_after : (fault : IoFault) (taken n : ℕ) → taken ≤ 2 ^ 40 → IsReadCause fault (2 ^ 40 - taken) n → IsReadCause fault (2 ^ 40) (taken + n)
+cause_after ReadFailed taken n le p = tt
+cause_after InputTooLong taken n le p = omega arith
+cause_after NoMemory taken n le p = absurd p
+cause_after (WriteFailed m) taken n le p = absurd p
+cause_after SkipPastEnd taken n le p = absurd p
+
+-- why a read stopped is why a dump did
+dump_cause : (fault : IoFault) (n written : ℕ) → IsReadCause fault (2 ^ 40) n → IsDumpFault fault n written
+dump_cause ReadFailed n written p = tt
+dump_cause InputTooLong n written p = p
+dump_cause NoMemory n written p = absurd p
+dump_cause (WriteFailed m) n written p = absurd p
+dump_cause SkipPastEnd n written p = absurd p
+
+pub stops_after : (r0 r1 r2 : Option (List ℕ)) (input : List ℕ) (taken : ℕ) (fault : IoFault) → length input ≡ taken → taken ≤ 2 ^ 40 → Consumes r0 r1 input →
+    StopsIn r1 r2 (2 ^ 40 - taken) fault → StopsAt (2 ^ 40) r0 r2 fault
+stops_after r0 r1 r2 input taken fault len few reads stop =
+    let all : length (input ++ stop.0) ≡ taken + length stop.0 = omega (arith, length-append input stop.0) in record {
+      input = input ++ stop.0;
+      consumed = Consumes-trans r0 r1 r2 input stop.0 reads stop.1;
+      cause = rw all (cause_after fault taken (length stop.0) few stop.2);
+    }
+
+-- the bytes so far, and more of what follows
+capped_more : (limit : Option ℕ) (xs more : List ℕ) → IfSome limit (λ most. length xs ≤ most) → (rest : List ℕ) × (capped limit (xs ++ more) ≡ xs ++ rest)
+capped_more None xs more within = (more, refl)
+capped_more (Some most) xs more within =
+    let e : length xs + (most - length xs) ≡ most = omega arith in
+    (take (most - length xs) more, ap (λ n. take n (xs ++ more)) (sym e) ∙ take-append-add xs more (most - length xs))
+
+pub capped_all : (limit : Option ℕ) (xs : List ℕ) → IfSome limit (λ most. length xs ≤ most) → capped limit xs ≡ xs
+capped_all None xs within = refl
+capped_all (Some most) xs within = take_all most xs within
+
+-- the reader stopped
+pub rest_read_stop : (text : List ℕ → List ℕ) (limit : Option ℕ) (before : ℕ) (r0 r1 r2 w0 w1 : Option (List ℕ)) (input : List ℕ) (from taken : ℕ) (fault : IoFault) →
+    from + length input ≡ taken → taken ≤ 2 ^ 40 → IfSome limit (λ most. length input ≤ most) → ((more : List ℕ) → (rest : List ℕ) × (text (input ++ more) ≡ text input ++ rest)) →
+    Consumes r0 r1 input → Appends w0 w1 (text input) → StopsIn r1 r2 (2 ^ 40 - taken) fault → WritesFrontOf (λ xs. text (capped limit xs)) from before r0 r2 w0 w1 fault
+rest_read_stop text limit before r0 r1 r2 w0 w1 input from taken fault len few within goes reads writes stop =
+    let cut = capped_more limit input stop.0 within in
+    let more = goes cut.0 in
+    let is : text (capped limit (input ++ stop.0)) ≡ text input ++ more.0 = ap text cut.1 ∙ more.1 in
+    let front : take (length (text input)) (text (capped limit (input ++ stop.0))) ≡ text input =
+    ap (take (length (text input))) is ∙ take_at (text input) more.0 (length (text input)) refl in
+    let all : from + length (input ++ stop.0) ≡ taken + length stop.0 = omega (arith, length-append input stop.0) in record {
+      input = input ++ stop.0;
+      written = length (text input);
+      consumed = Consumes-trans r0 r1 r2 input stop.0 reads stop.1;
+      within = omega (arith, ap length is, length-append (text input) more.0);
+      appended = rw front writes;
+      cause = rw all (dump_cause fault (taken + length stop.0) (before + length (text input)) (cause_after fault taken (length stop.0) few stop.2));
+    }
+
+-- the writer stopped
+pub rest_write_stop : (text : List ℕ → List ℕ) (limit : Option ℕ) (from before : ℕ) (r0 r1 w0 w1 w2 : Option (List ℕ)) (old input page : List ℕ) (written : ℕ) (fault : IoFault) →
+    Consumes r0 r1 input → IfSome limit (λ most. length input ≤ most) → Appends w0 w1 old → length old ≡ written → text input ≡ old ++ page → WritesFront (before + written) w1 w2 page fault →
+    WritesFrontOf (λ xs. text (capped limit xs)) from before r0 r1 w0 w2 fault
+rest_write_stop text limit from before r0 r1 w0 w1 w2 old input page written (WriteFailed n) reads within writes len is stop =
+    let same : text (capped limit input) ≡ old ++ page = ap text (capped_all limit input within) ∙ is in
+    let front : take (written + stop.0) (text (capped limit input)) ≡ old ++ take stop.0 page =
+    rw (same, ← len) (take-append-add old page stop.0) in record {
+      input = input;
+      written = written + stop.0;
+      consumed = reads;
+      within = omega (arith, ap length same, length-append old page, stop.2);
+      appended = rw front (Appends-trans w0 w1 w2 old (take stop.0 page) writes stop.3);
+      cause = let e : n ≡ before + (written + stop.0) = omega (arith, stop.1) in e;
+    }
+rest_write_stop text limit from before r0 r1 w0 w1 w2 old input page written NoMemory reads within writes len is stop = absurd stop
+rest_write_stop text limit from before r0 r1 w0 w1 w2 old input page written ReadFailed reads within writes len is stop = absurd stop
+rest_write_stop text limit from before r0 r1 w0 w1 w2 old input page written InputTooLong reads within writes len is stop = absurd stop
+rest_write_stop text limit from before r0 r1 w0 w1 w2 old input page written SkipPastEnd reads within writes len is stop = absurd stop
+
+-- fewer are within the limit too
+pub within_along : (limit : Option ℕ) (m n : ℕ) → n ≤ m → IfSome limit (λ most. m ≤ most) → IfSome limit (λ most. n ≤ most)
+within_along None m n e p = tt
+within_along (Some most) m n e p = omega arith
+
+-- the end of the input, or of what may be dumped
+pub last_at_end : (limit : Option ℕ) (n : ℕ) (r : Option (List ℕ)) → IfSome limit (λ most. n ≤ most) → IsAtEnd r → IsLast limit n r
+last_at_end None n r within p = p
+last_at_end (Some most) n r within p = (within, inl p)
+
+pub last_at_limit : (limit : Option ℕ) (n : ℕ) (r : Option (List ℕ)) → limit ≡ Some n → IsLast limit n r
+last_at_limit None n r e = absurd cc
+last_at_limit (Some most) n r e = let same : most ≡ n = cc in (omega arith, inr (sym same))
+
+-- behind the bytes that were skipped
+part_behind : (skip : ℕ) (limit : Option ℕ) (front xs : List ℕ) → length front ≡ skip → part_of skip limit (front ++ xs) ≡ capped limit xs
+part_behind skip limit front xs len =
+    let e : skip ≡ length front + 0 = omega arith in
+    ap (capped limit) (ap (λ n. drop n (front ++ xs)) e ∙ drop-append-add front xs 0)
+
+part_none : (skip : ℕ) (limit : Option ℕ) (xs : List ℕ) → length xs ≤ skip → part_of skip limit xs ≡ []
+part_none skip None xs short = drop_all skip xs short
+part_none skip (Some most) xs short = ap (take most) (drop_all skip xs short) ∙ none most
+  where
+    none : (n : ℕ) → take {A = ℕ} n [] ≡ []
+    none n = take_all {A = ℕ} n [] (omega arith)
+
+last_within : (limit : Option ℕ) (n : ℕ) (r : Option (List ℕ)) → IsLast limit n r → IfSome limit (λ most. n ≤ most)
+last_within None n r p = tt
+last_within (Some most) n r p = p.0
+
+end_behind : (skip n m : ℕ) (limit : Option ℕ) (r : Option (List ℕ)) → m ≡ skip + n → IsLast limit n r → IsEndOf skip limit m r
+end_behind skip n m None r e p = p
+end_behind skip n m (Some most) r e p = (omega (arith, p.0), ⊎_elim (λ q. inl q) (λ q. inr (omega (arith, q))) p.1)
+
+end_short : (skip n : ℕ) (limit : Option ℕ) (r : Option (List ℕ)) → n < skip → IsAtEnd r → IsEndOf skip limit n r
+end_short skip n None r less p = p
+end_short skip n (Some most) r less p = (omega arith, inl p)
+
+-- all was skipped, and the rest dumped
+pub part_whole : (text : List ℕ → List ℕ) (skip : ℕ) (limit : Option ℕ) (r0 r1 r2 w0 w1 : Option (List ℕ)) (read written : ℕ) → Skips true skip r0 r1 →
+    WritesRest text limit r1 r2 w0 w1 read written → WritesPart (λ xs. text (part_of skip limit xs)) skip limit r0 r2 w0 w1 read written
+part_whole text skip limit r0 r1 r2 w0 w1 read written front rest =
+    let len = front.whole refl in
+    let within : IfSome limit (λ most. read ≤ most) = last_within limit read r2 rest.ends in
+    let within_all : IfSome limit (λ most. length rest.input ≤ most) = rw rest.dumped within in
+    let same : part_of skip limit (front.input ++ rest.input) ≡ rest.input = part_behind skip limit front.input rest.input len ∙ capped_all limit rest.input within_all in
+    let count : length (front.input ++ rest.input) ≡ skip + read = omega (arith, length-append front.input rest.input, rest.dumped) in record {
+      input = front.input ++ rest.input;
+      consumed = Consumes-trans r0 r1 r2 front.input rest.input front.consumed rest.consumed;
+      ends = end_behind skip read _ limit r2 count rest.ends;
+      dumped = ap length same ∙ rest.dumped;
+      appended = rw same rest.appended;
+      long = ap length (ap text same) ∙ rest.long;
+    }
+
+-- the input ended among the bytes to skip
+pub part_short : (text : List ℕ → List ℕ) (skip : ℕ) (limit : Option ℕ) (r0 r1 w : Option (List ℕ)) → text [] ≡ [] → Skips false skip r0 r1 →
+    WritesPart (λ xs. text (part_of skip limit xs)) skip limit r0 r1 w w 0 0
+part_short text skip limit r0 r1 w empty front =
+    let short = front.short refl in
+    let none : part_of skip limit front.input ≡ [] = part_none skip limit front.input (omega (arith, short.0)) in record {
+      input = front.input;
+      consumed = front.consumed;
+      ends = end_short skip (length front.input) limit r1 short.0 short.1;
+      dumped = ap length none;
+      appended = rw (none, empty) (Appends-nil w);
+      long = ap length (ap text none ∙ empty);
+    }
+
+-- a fault among the bytes to skip
+pub front_skip : (text : List ℕ → List ℕ) (before : ℕ) (r0 r1 w : Option (List ℕ)) (fault : IoFault) → StopsAt (2 ^ 40) r0 r1 fault → WritesFrontOf text 0 before r0 r1 w w fault
+front_skip text before r0 r1 w fault stop =
+    let none : take 0 (text stop.input) ≡ [] = refl in
+    let zero_more : 0 + length stop.input ≡ length stop.input = omega arith in record {
+      input = stop.input;
+      written = 0;
+      consumed = stop.consumed;
+      within = omega arith;
+      appended = Appends-nil w;
+      cause = rw zero_more (dump_cause fault (length stop.input) (before + 0) stop.cause);
+    }
+
+-- a fault after them
+pub front_behind : (text : List ℕ → List ℕ) (skip : ℕ) (limit : Option ℕ) (before : ℕ) (r0 r1 r2 w0 w1 : Option (List ℕ)) (fault : IoFault) → Skips true skip r0 r1 →
+    WritesFrontOf (λ xs. text (capped limit xs)) skip before r1 r2 w0 w1 fault → WritesFrontOf (λ xs. text (part_of skip limit xs)) 0 before r0 r2 w0 w1 fault
+front_behind text skip limit before r0 r1 r2 w0 w1 fault front rest =
+    let len = front.whole refl in
+    let same : text (part_of skip limit (front.input ++ rest.input)) ≡ text (capped limit rest.input) = ap text (part_behind skip limit front.input rest.input len) in
+    let count : 0 + length (front.input ++ rest.input) ≡ skip + length rest.input = omega (arith, length-append front.input rest.input) in record {
+      input = front.input ++ rest.input;
+      written = rest.written;
+      consumed = Consumes-trans r0 r1 r2 front.input rest.input front.consumed rest.consumed;
+      within = rw same rest.within;
+      appended = rw same rest.appended;
+      cause = rw count rest.cause;
+    }
+
+-- where two texts are the same, so are the dumps
+pub part_along : (text other : List ℕ → List ℕ) (skip : ℕ) (limit : Option ℕ) (r0 r1 w0 w1 : Option (List ℕ)) (read written : ℕ) → ((xs : List ℕ) → text xs ≡ other xs) →
+    WritesPart text skip limit r0 r1 w0 w1 read written → WritesPart other skip limit r0 r1 w0 w1 read written
+part_along text other skip limit r0 r1 w0 w1 read written same d =
+    let e : other d.input ≡ text d.input = sym (same d.input) in record {
+      input = d.input;
+      consumed = d.consumed;
+      ends = d.ends;
+      dumped = d.dumped;
+      appended = rw e d.appended;
+      long = rw e d.long;
+    }
+
+pub front_along : (text other : List ℕ → List ℕ) (from before : ℕ) (r0 r1 w0 w1 : Option (List ℕ)) (fault : IoFault) → ((xs : List ℕ) → text xs ≡ other xs) →
+    WritesFrontOf text from before r0 r1 w0 w1 fault → WritesFrontOf other from before r0 r1 w0 w1 fault
+front_along text other from before r0 r1 w0 w1 fault same d =
+    let e : other d.input ≡ text d.input = sym (same d.input) in record {
+      input = d.input;
+      written = d.written;
+      consumed = d.consumed;
+      within = rw e d.within;
+      appended = rw e d.appended;
+      cause = d.cause;
+    }
+
+-- A text behind the dump: `last` where so many bytes were dumped.
+module _ (text other : List ℕ → List ℕ) (skip : ℕ) (limit : Option ℕ) (r0 r1 w0 w1 w2 : Option (List ℕ)) (read written : ℕ) (last : List ℕ)
+    (is : (xs : List ℕ) → length (part_of skip limit xs) ≡ read → other xs ≡ text xs ++ last) (d : WritesPart text skip limit r0 r1 w0 w1 read written) where
+  pub part_then : Appends w1 w2 last → WritesPart other skip limit r0 r1 w0 w2 read (written + length last)
+  part_then writes =
+      let e = is d.input d.dumped in record {
+        input = d.input;
+        consumed = d.consumed;
+        ends = d.ends;
+        dumped = d.dumped;
+        appended = rw e (Appends-trans w0 w1 w2 (text d.input) last d.appended writes);
+        long = omega (arith, ap length e, length-append (text d.input) last, d.long);
+      }
+
+  pub stop_then : (before : ℕ) (fault : IoFault) → WritesFront (before + written) w1 w2 last fault → WritesFrontOf other 0 before r0 r1 w0 w2 fault
+  stop_then before (WriteFailed n) stop =
+      let e = is d.input d.dumped in
+      let front : take (written + stop.0) (other d.input) ≡ text d.input ++ take stop.0 last =
+      rw (e, ← d.long) (take-append-add (text d.input) last stop.0) in record {
+        input = d.input;
+        written = written + stop.0;
+        consumed = d.consumed;
+        within = omega (arith, ap length e, length-append (text d.input) last, stop.2, d.long);
+        appended = rw front (Appends-trans w0 w1 w2 (text d.input) (take stop.0 last) d.appended stop.3);
+        cause = let same : n ≡ before + (written + stop.0) = omega (arith, stop.1) in same;
+      }
+  stop_then before NoMemory stop = absurd stop
+  stop_then before ReadFailed stop = absurd stop
+  stop_then before InputTooLong stop = absurd stop
+  stop_then before SkipPastEnd stop = absurd stop
+
+-- a front of a text is one of a longer text
+pub front_then : (text other : List ℕ → List ℕ) (from before : ℕ) (r0 r1 w0 w1 : Option (List ℕ)) (fault : IoFault) → ((xs : List ℕ) → (rest : List ℕ) × (other xs ≡ text xs ++ rest)) →
+    WritesFrontOf text from before r0 r1 w0 w1 fault → WritesFrontOf other from before r0 r1 w0 w1 fault
+front_then text other from before r0 r1 w0 w1 fault is d =
+    let more = is d.input in
+    let front : take d.written (other d.input) ≡ take d.written (text d.input) = ap (take d.written) more.1 ∙ take-append-le d.written (text d.input) more.0 d.within in record {
+      input = d.input;
+      written = d.written;
+      consumed = d.consumed;
+      within = omega (arith, d.within, ap length more.1, length-append (text d.input) more.0);
+      appended = rw front d.appended;
+      cause = d.cause;
+    }
+
+-- a text in front of the dump
+pub part_after : (text : List ℕ → List ℕ) (skip : ℕ) (limit : Option ℕ) (r0 r1 w0 w1 w2 : Option (List ℕ)) (read written : ℕ) (head : List ℕ) → Appends w0 w1 head →
+    WritesPart text skip limit r0 r1 w1 w2 read written → WritesPart (λ xs. head ++ text xs) skip limit r0 r1 w0 w2 read (length head + written)
+part_after text skip limit r0 r1 w0 w1 w2 read written head writes d = record {
+  input = d.input;
+  consumed = d.consumed;
+  ends = d.ends;
+  dumped = d.dumped;
+  appended = Appends-trans w0 w1 w2 head (text d.input) writes d.appended;
+  long = omega (arith, length-append head (text d.input), d.long);
+}
+
+pub front_after : (text : List ℕ → List ℕ) (r0 r1 w0 w1 w2 : Option (List ℕ)) (from before all : ℕ) (head : List ℕ) (fault : IoFault) → all ≡ before + length head → Appends w0 w1 head →
+    WritesFrontOf text from all r0 r1 w1 w2 fault → WritesFrontOf (λ xs. head ++ text xs) from before r0 r1 w0 w2 fault
+front_after text r0 r1 w0 w1 w2 from before all head fault is writes d =
+    let front : take (length head + d.written) (head ++ text d.input) ≡ head ++ take d.written (text d.input) = take-append-add head (text d.input) d.written in
+    let count : all + d.written ≡ before + (length head + d.written) = omega arith in record {
+      input = d.input;
+      written = length head + d.written;
+      consumed = d.consumed;
+      within = omega (arith, length-append head (text d.input), d.within);
+      appended = rw front (Appends-trans w0 w1 w2 head (take d.written (text d.input)) writes d.appended);
+      cause = rw (← count) d.cause;
+    }
+
+-- the text in front was not written whole
+pub front_head : (text : List ℕ → List ℕ) (r w0 w1 : Option (List ℕ)) (before : ℕ) (head : List ℕ) (fault : IoFault) → WritesFront before w0 w1 head fault →
+    WritesFrontOf (λ xs. head ++ text xs) 0 before r r w0 w1 fault
+front_head text r w0 w1 before head (WriteFailed n) stop =
+    let front : take stop.0 (head ++ text []) ≡ take stop.0 head = take-append-le stop.0 head (text []) (omega (arith, stop.2)) in record {
+      input = [];
+      written = stop.0;
+      consumed = Consumes-nil r;
+      within = omega (arith, length-append head (text []), stop.2);
+      appended = rw front stop.3;
+      cause = stop.1;
+    }
+front_head text r w0 w1 before head NoMemory stop = absurd stop
+front_head text r w0 w1 before head ReadFailed stop = absurd stop
+front_head text r w0 w1 before head InputTooLong stop = absurd stop
+front_head text r w0 w1 before head SkipPastEnd stop = absurd stop

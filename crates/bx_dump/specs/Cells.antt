@@ -1,0 +1,17 @@
+-- The digits of bytes, and how they stand in groups.
+use Rattle.std.specs.Prelude.{ℕ, ◌+◌, ◌-◌, ◌*◌, ◌/◌, ◌%◌, List, [], ◌∷◌, ◌++◌, length, take, drop, replicate}
+use Rattle.std.specs.List.{flat_map, range_with_len}
+
+-- a byte as eight binary digits, the highest bit first
+abbrev pub bits_of : ℕ → List ℕ
+bits_of b =
+    (48 + b / 128 % 2) ∷ (48 + b / 64 % 2) ∷ (48 + b / 32 % 2) ∷ (48 + b / 16 % 2) ∷ (48 + b / 8 % 2) ∷ (48 + b / 4 % 2) ∷ (48 + b / 2 % 2) ∷ (48 + b % 2) ∷ []
+
+-- piece k of `piece` characters, and a space
+abbrev pub piece_at : ℕ → List ℕ → ℕ → List ℕ
+piece_at piece cells k = take piece (drop (piece * k) cells) ++ 32 ∷ []
+
+-- the characters in pieces, a space after each that is whole, and spaces up to the width
+abbrev pub grouped : ℕ → List ℕ → ℕ → List ℕ
+grouped piece cells width =
+    flat_map (piece_at piece cells) (range_with_len 0 (length cells / piece)) ++ (drop (piece * (length cells / piece)) cells ++ replicate (width - (length cells + length cells / piece)) 32)

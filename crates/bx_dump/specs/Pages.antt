@@ -1,0 +1,65 @@
+-- What a dump of a part of an input reads and writes.
+use Rattle.std.specs.Prelude.{◌≡◌, ℕ, ◌+◌, ◌^◌, ◌<◌, ◌≤◌, ◌⊎◌, Bool, true, false, List, length, take, drop, Option, None, Some}
+use Rattle.std.specs.Io.KnownBytes.{Appends, Consumes, IsAtEnd}
+use Rattle.bx_text.specs.declared.fault.IoFault.{IoFault}
+use Rattle.bx_text.specs.Stream.{IsReadCause}
+use Rattle.bx_dump.specs.Dumped.{IsDumpFault}
+
+-- at most so many of the bytes
+abbrev pub capped : Option ℕ → List ℕ → List ℕ
+capped None bytes = bytes
+capped (Some most) bytes = take most bytes
+
+-- the bytes from place `skip` on, at most `limit` of them
+abbrev pub part_of : ℕ → Option ℕ → List ℕ → List ℕ
+part_of skip limit bytes = capped limit (drop skip bytes)
+
+-- n bytes were dumped: all up to the input's end, or as many as may be
+abbrev pub IsLast : Option ℕ → ℕ → Option (List ℕ) → Type 0
+IsLast None n from = IsAtEnd from
+IsLast (Some most) n from = (n ≤ most) × (IsAtEnd from ⊎ (n ≡ most))
+
+-- n bytes were read: all up to the input's end, or as many as are skipped and dumped at most
+abbrev pub IsEndOf : ℕ → Option ℕ → ℕ → Option (List ℕ) → Type 0
+IsEndOf skip None n from = IsAtEnd from
+IsEndOf skip (Some most) n from = (n ≤ skip + most) × (IsAtEnd from ⊎ (n ≡ skip + most))
+
+-- The input was read as far as its part needs, and its whole text was written.
+pub record WritesPart (text : List ℕ → List ℕ) (skip : ℕ) (limit : Option ℕ) (r0 r1 w0 w1 : Option (List ℕ)) (read written : ℕ) : Type 0 where
+  pub input : List ℕ
+  pub consumed : Consumes r0 r1 input
+  pub ends : IsEndOf skip limit (length input) r1
+  pub dumped : length (part_of skip limit input) ≡ read
+  pub appended : Appends w0 w1 (text input)
+  pub long : length (text input) ≡ written
+
+-- The same of what comes after the bytes that are skipped, with the text of the part alone.
+pub record WritesRest (text : List ℕ → List ℕ) (limit : Option ℕ) (r0 r1 w0 w1 : Option (List ℕ)) (read written : ℕ) : Type 0 where
+  pub input : List ℕ
+  pub consumed : Consumes r0 r1 input
+  pub ends : IsLast limit read r1
+  pub dumped : length input ≡ read
+  pub appended : Appends w0 w1 (text input)
+  pub long : length (text input) ≡ written
+
+-- Some input was read after `from` bytes, and a front of its text was written after `before` bytes, which the fault counts too.
+pub record WritesFrontOf (text : List ℕ → List ℕ) (from before : ℕ) (r0 r1 w0 w1 : Option (List ℕ)) (fault : IoFault) : Type 0 where
+  pub input : List ℕ
+  pub written : ℕ
+  pub consumed : Consumes r0 r1 input
+  pub within : written ≤ length (text input)
+  pub appended : Appends w0 w1 (take written (text input))
+  pub cause : IsDumpFault fault (from + length input) (before + written)
+
+-- Bytes were skipped: all that were asked for, or fewer up to the input's end.
+pub record Skips (all : Bool) (count : ℕ) (r0 r1 : Option (List ℕ)) : Type 0 where
+  pub input : List ℕ
+  pub consumed : Consumes r0 r1 input
+  pub whole : all ≡ true → length input ≡ count
+  pub short : all ≡ false → (length input < count) × IsAtEnd r1
+
+-- Some bytes were read, and then no more could be.
+pub record StopsAt (room : ℕ) (r0 r1 : Option (List ℕ)) (fault : IoFault) : Type 0 where
+  pub input : List ℕ
+  pub consumed : Consumes r0 r1 input
+  pub cause : IsReadCause fault room (length input)

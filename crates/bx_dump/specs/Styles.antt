@@ -1,0 +1,72 @@
+-- The text of xxd in each style.
+use Rattle.std.specs.Prelude.{ℕ, zero, suc, ◌+◌, ◌^◌, ◌≤◌, Bool, false, ◌&&◌, ◌||◌, nat_le, if◌then◌else◌, List, [], ◌∷◌, ◌++◌, map, length, codes, None, Some}
+use Rattle.std.specs.Fmt.{digits}
+use Rattle.bx_dump.specs.Lines.{in_lines}
+use Rattle.bx_dump.specs.Pages.{part_of}
+use Rattle.bx_dump.specs.Rows.{plain_line, include_line}
+use Rattle.bx_dump.specs.Xxd.{columns_line}
+use Rattle.bx_dump.specs.declared.xxd_columns.Digits.TheVariants.{Hexadecimal, Binary}
+use Rattle.bx_dump.specs.declared.xxd_options.XxdStyle.{XxdStyle}
+use Rattle.bx_dump.specs.declared.xxd_options.XxdStyle.TheVariants.{Normal, Plain, Bits, Include}
+use Rattle.bx_dump.specs.declared.xxd_options.XxdOptions.{XxdOptions}
+
+abbrev pub is_digit : ℕ → Bool
+is_digit b = nat_le 48 b && nat_le b 57
+
+-- an ASCII letter or digit
+abbrev pub is_word : ℕ → Bool
+is_word b = is_digit b || nat_le 65 b && nat_le b 90 || nat_le 97 b && nat_le b 122
+
+-- what stands for a byte of a name
+abbrev pub name_byte : ℕ → ℕ
+name_byte b = if is_word b then b else 95
+
+-- what stands in front of a name
+abbrev pub name_front : List ℕ → List ℕ
+name_front [] = []
+name_front (b ∷ bs) = if is_digit b then codes "__" else []
+
+-- a name as C has it
+abbrev pub c_name : List ℕ → List ℕ
+c_name name = name_front name ++ map name_byte name
+
+-- all items: lines with a comma between two, and a newline at the end
+abbrev pub include_items : ℕ → List ℕ → List ℕ
+include_items cols [] = []
+include_items cols (b ∷ bs) = in_lines include_line cols 0 (b ∷ bs) ++ codes "\n"
+
+-- what a declaration begins and ends with
+abbrev pub include_head : List ℕ → List ℕ
+include_head name = codes "unsigned char " ++ c_name name ++ codes "[] = {\n"
+
+abbrev pub include_tail : List ℕ → ℕ → List ℕ
+include_tail name n = codes "};\nunsigned int " ++ c_name name ++ codes "_len = " ++ (digits 10 false n ++ codes ";\n")
+
+-- a whole declaration
+abbrev pub named_text : List ℕ → ℕ → List ℕ → List ℕ
+named_text name cols bytes = include_head name ++ include_items cols bytes ++ include_tail name (length bytes)
+
+-- bytes a group, where 0 stands for all of a line
+abbrev pub group_of : ℕ → ℕ → ℕ
+group_of cols zero = cols
+group_of cols (suc g) = suc g
+
+-- the text for bytes of which the first has the address `start`
+abbrev pub styled : XxdStyle → ℕ → ℕ → Bool → ℕ → List ℕ → List ℕ
+styled Normal cols group upper start bytes = in_lines (columns_line (Hexadecimal upper) cols group) cols start bytes
+styled Bits cols group upper start bytes = in_lines (columns_line Binary cols group) cols start bytes
+styled Plain cols group upper start bytes = in_lines (plain_line upper) cols 0 bytes
+styled (Include None) cols group upper start bytes = include_items cols bytes
+styled (Include (Some name)) cols group upper start bytes = named_text name.now cols bytes
+
+-- xxd's text of an input
+abbrev pub xxd_text : XxdOptions → List ℕ → List ℕ
+xxd_text o input = styled o.style o.cols (group_of o.cols o.group) o.upper (o.seek + o.shift) (part_of o.seek o.limit input)
+
+-- a name is not longer than a count of 64 bits can say
+abbrev pub IsCountable : XxdStyle → Type 0
+IsCountable Normal = Unit {0}
+IsCountable Plain = Unit {0}
+IsCountable Bits = Unit {0}
+IsCountable (Include None) = Unit {0}
+IsCountable (Include (Some name)) = length name.now ≤ 2 ^ 62

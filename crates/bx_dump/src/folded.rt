@@ -1,0 +1,164 @@
+//! Dumps of whole inputs, a page at a time.
+ghost use Rattle.std.specs.Prelude.{◌≡◌, ℕ, zero, suc, ◌+◌, ◌*◌, ◌/◌, ◌^◌, ◌<◌, ◌≤◌, Bool, true, false, List, ◌++◌, length, take, IfOk, IfErr, IsTrue, if◌then◌else◌};
+ghost use Rattle.bx_text.specs.Fold.{line_bytes, line_count, line_text, lines_to, folded, show_at, IsTaken};
+ghost use Rattle.bx_dump.specs.Dumped.{DumpsAll, DumpsFront};
+
+use bx_text::{Fold, IoFault, Meter, Show, emit_after};
+use std::io::{Read, Write};
+
+/// The most bytes of an input.
+const LIMIT: u64 = 1 << 40;
+
+/// The form of a dump's lines.
+pub trait Form {
+    /// The line for some bytes at an address.
+    ghost line: { Self → ℕ → List ℕ → List ℕ };
+
+    /// Puts the line for 1 to 16 bytes at the front, and answers how long it is.
+    fn put(&self, page: &mut [u8], at: u64, bytes: &[u8]) -> usize
+        requires room { 96 ≤ length page.old }
+        requires some { 0 < length bytes.now }
+        requires fits { length bytes.now ≤ 16 }
+        ensures most { result ≤ 96 }
+        ensures text { take result page.new ≡ line self.now at bytes.now };
+}
+
+/// Says what stands for the next line, where `all` folds none.
+#[inline]
+fn show_next(all: bool, fold: &mut Fold, bytes: &[u8]) -> Show
+    ensures show { (whole : List ℕ) (k : ℕ) → bytes.now ≡ line_bytes whole k → IsTaken all fold.old whole k → result ≡ (if all then Show.Line else show_at whole k) }
+    ensures taken { (whole : List ℕ) (k : ℕ) → bytes.now ≡ line_bytes whole k → IsTaken all fold.old whole k → length bytes.now ≡ 16 → IsTaken all fold.new whole (suc k) }
+{
+    if all {
+        return Show::Line;
+    }
+    match bytes.first_chunk::<16>() {
+        Some(line) => fold.step(line),
+        None => Show::Line,
+    }
+}
+
+/// Puts what stands for a line, where `all` folds none.
+#[inline]
+fn put_next<F: Form>(
+    page: &mut [u8],
+    form: &F,
+    all: bool,
+    fold: &mut Fold,
+    at: u64,
+    bytes: &[u8],
+) -> usize
+    requires room { 96 ≤ length page.old }
+    requires some { 0 < length bytes.now }
+    requires fits { length bytes.now ≤ 16 }
+    ensures most { result ≤ 96 }
+    ensures text { (whole : List ℕ) (k start : ℕ) → at ≡ start + 16 * k → bytes.now ≡ line_bytes whole k → IsTaken all fold.old whole k →
+        take result page.new ≡ line_text (F.line form.now) all start whole k }
+    ensures taken { (whole : List ℕ) (k : ℕ) → bytes.now ≡ line_bytes whole k → IsTaken all fold.old whole k → length bytes.now ≡ 16 → IsTaken all fold.new whole (suc k) }
+{
+    match show_next(all, fold, bytes) {
+        Show::Line => form.put(page, at, bytes),
+        Show::Star => {
+            page[..2].copy_from_slice(b"*\n");
+            2
+        }
+        Show::Nothing => 0,
+    }
+}
+
+/// Puts what stands for the lines of some bytes.
+fn put_lines<F: Form>(
+    page: &mut [u8],
+    form: &F,
+    all: bool,
+    fold: &mut Fold,
+    at: u64,
+    bytes: &[u8],
+) -> usize
+    requires room { 96 * line_count bytes.now ≤ length page.old }
+    requires address { at + length bytes.now + 15 < 2 ^ 64 }
+    ensures within { result ≤ 96 * line_count bytes.now }
+    ensures text { (input : List ℕ) (n start : ℕ) → length input ≡ 16 * n → at ≡ start + 16 * n → IsTaken all fold.old input n →
+        folded (F.line form.now) all start (input ++ bytes.now) ≡ folded (F.line form.now) all start input ++ take result page.new }
+    ensures taken { (input : List ℕ) (n lines : ℕ) → length input ≡ 16 * n → length bytes.now ≡ 16 * lines → IsTaken all fold.old input n →
+        IsTaken all fold.new (input ++ bytes.now) (n + lines) }
+{
+    let mut used = 0;
+    let count = (bytes.len() + 15) / 16;
+    for k in 0..count {
+        let begin = 16 * k;
+        let end = (begin + 16).min(bytes.len());
+        used += put_next(
+            &mut page[used..],
+            form,
+            all,
+            fold,
+            at + begin as u64,
+            &bytes[begin..end],
+        );
+    }
+    used
+}
+
+/// How much was read and written.
+#[derive(Clone, Copy, Debug, PartialEq, Eq)]
+pub struct Dumped {
+    pub read: u64,
+    pub written: u64,
+}
+
+/// Writes the lines of all that the reader gives, the first at address `start`.
+pub fn dump<R: Read, W: Write, F: Form>(
+    r: &mut R,
+    w: &mut W,
+    form: &F,
+    all: bool,
+    start: u64,
+) -> Result<Dumped, IoFault>
+    requires { start ≤ 2 ^ 62 }
+    ensures ok { IfOk result (λ d. DumpsAll (folded (F.line form.now) all start) (R.remaining r.old) (R.remaining r.new) (W.contents w.old) (W.contents w.new) d.read d.written) }
+    ensures err { IfErr result (DumpsFront (folded (F.line form.now) all start) (R.remaining r.old) (R.remaining r.new) (W.contents w.old) (W.contents w.new)) }
+    ensures few { IfOk result (λ d. d.written ≤ 2 ^ 44) }
+{
+    dump_pages(r, w, form, all, start, &mut [0; 16384], &mut [0; 98304])
+}
+
+/// The same, with working space.
+fn dump_pages<R: Read, W: Write, F: Form>(
+    r: &mut R,
+    w: &mut W,
+    form: &F,
+    all: bool,
+    start: u64,
+    block: &mut [u8],
+    page: &mut [u8],
+) -> Result<Dumped, IoFault>
+    requires start { start ≤ 2 ^ 62 }
+    requires block { length block.old ≡ 16384 }
+    requires page { length page.old ≡ 98304 }
+    ensures ok { IfOk result (λ d. DumpsAll (folded (F.line form.now) all start) (R.remaining r.old) (R.remaining r.new) (W.contents w.old) (W.contents w.new) d.read d.written) }
+    ensures err { IfErr result (DumpsFront (folded (F.line form.now) all start) (R.remaining r.old) (R.remaining r.new) (W.contents w.old) (W.contents w.new)) }
+    ensures few { IfOk result (λ d. d.written ≤ 2 ^ 44) }
+{
+    let mut meter = Meter::new(LIMIT);
+    let mut fold = Fold::new();
+    let mut written = 0u64;
+    loop {
+        let at = meter.taken;
+        let n = match meter.fill(r, block) {
+            Ok(n) => n,
+            Err(fault) => return Err(fault),
+        };
+        let used = put_lines(page, form, all, &mut fold, start + at, &block[..n]);
+        if let Err(fault) = emit_after(w, written, &page[..used]) {
+            return Err(fault);
+        }
+        written += used as u64;
+        if n < block.len() {
+            return Ok(Dumped {
+                read: meter.taken,
+                written,
+            });
+        }
+    }
+}

@@ -1,0 +1,139 @@
+//! The digits of many bytes at once, and how they stand in columns.
+ghost use Rattle.std.specs.Prelude.{◌≡◌, ◌+◌, ◌*◌, ◌/◌, ◌<◌, ◌≤◌, ◌++◌, false, map, length, take, codes};
+ghost use Rattle.std.specs.List.{flat_map, range_with_len};
+ghost use Rattle.bx_text.specs.Dump.{pair_of, shown_byte};
+ghost use Rattle.bx_text.specs.Field.{hex_text};
+ghost use Rattle.bx_dump.specs.Cells.{bits_of, piece_at, grouped};
+
+use bx_text::{blank, hex_digit, hex_field, put_address, put_text};
+
+/// Puts the two digits of each byte.
+pub fn put_pairs(cells: &mut [u8], bytes: &[u8], upper: bool)
+    requires { length cells.old ≡ 2 * length bytes.now }
+    ensures { cells.new ≡ flat_map (pair_of upper) bytes.now }
+{
+    for (i, byte) in bytes.iter().enumerate() {
+        cells[2 * i] = hex_digit(byte / 16, upper);
+        cells[2 * i + 1] = hex_digit(byte % 16, upper);
+    }
+}
+
+/// The binary digits of the values below 16.
+static NIBBLES: [[u8; 4]; 16] = [
+    *b"0000", *b"0001", *b"0010", *b"0011", *b"0100", *b"0101", *b"0110", *b"0111", *b"1000",
+    *b"1001", *b"1010", *b"1011", *b"1100", *b"1101", *b"1110", *b"1111",
+];
+
+/// The eight binary digits of a byte, the highest bit first.
+#[inline]
+fn bits(byte: u8) -> [u8; 8]
+    ensures { result ≡ bits_of byte }
+{
+    let [a, b, c, d] = NIBBLES[(byte / 16) as usize];
+    let [e, f, g, h] = NIBBLES[(byte % 16) as usize];
+    [a, b, c, d, e, f, g, h]
+}
+
+/// Puts the eight binary digits of each byte.
+pub fn put_bits(cells: &mut [u8], bytes: &[u8])
+    requires { length cells.old ≡ 8 * length bytes.now }
+    ensures { cells.new ≡ flat_map bits_of bytes.now }
+{
+    for (i, byte) in bytes.iter().enumerate() {
+        cells[8 * i..8 * i + 8].copy_from_slice(&bits(*byte));
+    }
+}
+
+/// Puts each piece of the cells, and a space after it.
+#[inline(always)]
+fn put_pieces(field: &mut [u8], cells: &[u8], piece: usize, count: usize)
+    requires room { length field.old ≡ (piece + 1) * count }
+    requires enough { piece * count ≤ length cells.now }
+    ensures { field.new ≡ flat_map (piece_at piece cells.now) (range_with_len 0 count) }
+{
+    for k in 0..count {
+        let at = (piece + 1) * k;
+        field[at..at + piece].copy_from_slice(&cells[piece * k..piece * k + piece]);
+        field[at + piece] = b' ';
+    }
+}
+
+/// The same, with code of its own for the sizes that are usual.
+#[inline]
+fn put_whole(field: &mut [u8], cells: &[u8], piece: usize, count: usize)
+    requires small { piece ≤ 4096 }
+    requires room { length field.old ≡ (piece + 1) * count }
+    requires enough { piece * count ≤ length cells.now }
+    ensures { field.new ≡ flat_map (piece_at piece cells.now) (range_with_len 0 count) }
+{
+    match piece {
+        2 => put_pieces(field, cells, 2, count),
+        4 => put_pieces(field, cells, 4, count),
+        8 => put_pieces(field, cells, 8, count),
+        16 => put_pieces(field, cells, 16, count),
+        _ => put_pieces(field, cells, piece, count),
+    }
+}
+
+/// Puts the cells in groups of `piece` characters, with a space after each whole group, and spaces up to the end.
+#[inline]
+fn put_grouped(field: &mut [u8], cells: &[u8], piece: usize, count: usize)
+    requires some { 0 < piece }
+    requires small { piece ≤ 4096 }
+    requires whole { count ≡ length cells.now / piece }
+    requires room { length cells.now + count ≤ length field.old }
+    ensures { field.new ≡ grouped piece cells.now (length field.old) }
+{
+    let (front, rest) = field.split_at_mut((piece + 1) * count);
+    put_whole(front, cells, piece, count);
+    let left = &cells[piece * count..];
+    let (last, gap) = rest.split_at_mut(left.len());
+    last.copy_from_slice(left);
+    blank(gap);
+}
+
+/// Puts an address of at least 8 digits at the front, and answers how long it is.
+#[inline]
+pub fn put_at(line: &mut [u8], at: u64) -> usize
+    requires { 22 ≤ length line.old }
+    ensures most { result ≤ 22 }
+    ensures text { take result line.new ≡ hex_text false 8 at }
+{
+    if at < 1 << 32 {
+        let (front, _) = line.split_at_mut(8);
+        put_address(front, at as u32);
+        return 8;
+    }
+    let field = hex_field(at, 8, false);
+    let text = field.as_bytes();
+    line[..text.len()].copy_from_slice(text);
+    text.len()
+}
+
+/// Puts what stands behind the address: the columns, with `width` characters, and the bytes as text.
+#[inline]
+pub fn put_body(
+    body: &mut [u8],
+    bytes: &[u8],
+    cells: &[u8],
+    width: usize,
+    piece: usize,
+    count: usize,
+)
+    requires some { 0 < piece }
+    requires small { piece ≤ 4096 }
+    requires whole { count ≡ length cells.now / piece }
+    requires room { length cells.now + count ≤ width }
+    requires long { length body.old ≡ width + length bytes.now + 4 }
+    ensures { body.new ≡ codes ": " ++ grouped piece cells.now width ++ codes " " ++ map shown_byte bytes.now ++ codes "\n" }
+{
+    let (colon, rest) = body.split_at_mut(2);
+    let (columns, rest) = rest.split_at_mut(width);
+    let (space, rest) = rest.split_at_mut(1);
+    let (text, end) = rest.split_at_mut(bytes.len());
+    colon.copy_from_slice(b": ");
+    put_grouped(columns, cells, piece, count);
+    space.copy_from_slice(b" ");
+    put_text(text, bytes);
+    end.copy_from_slice(b"\n");
+}

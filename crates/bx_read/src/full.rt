@@ -1,0 +1,105 @@
+//! Lines of xxd's default form that hold 16 bytes.
+ghost use Rattle.std.specs.Prelude.{◌≡◌, ◌+◌, ◌^◌, ◌<◌, ◌≤◌, ◌≢◌, ◌∷◌, ◌++◌, [], ℕ, List, length, take, drop, slice_index, All, IsTrue, IsFalse, ◌&&◌, Some, IfSome};
+ghost use Rattle.std.specs.Str.Parse.{digits_value};
+ghost use Rattle.bx_read.specs.Digits.{is_hex, pairs_of, pair_value};
+ghost use Rattle.bx_read.specs.Full.{IsFull};
+
+use crate::digits::{is_pair, pair, value_of};
+
+/// A line with its newline, by what it gives.
+#[derive(Clone, Copy)]
+pub struct FullLine {
+    pub at: u64,
+    pub bytes: [u8; 16],
+}
+
+/// How long such a line is with its newline.
+pub const FULL: usize = 68;
+
+/// The line that the text begins with, if it is one of 8 digits of address and 16 bytes.
+#[inline]
+pub fn full_line(text: &[u8]) -> Option<FullLine>
+    requires { 68 ≤ length text.now }
+    ensures { IfSome result (λ l. IsFull text.now l.at l.bytes) }
+{
+    let (address, rest) = text.split_at(8);
+    let (colon, rest) = rest.split_at(2);
+    let (columns, rest) = rest.split_at(39);
+    let (gap, rest) = rest.split_at(2);
+    let (shown, rest) = rest.split_at(16);
+    if colon[0] != b':'
+        || colon[1] != b' '
+        || gap[0] != b' '
+        || gap[1] != b' '
+        || rest[0] != b'\n'
+    {
+        return None;
+    }
+    let at = address_of(address)?;
+    let mut bytes = [0u8; 16];
+    if !put_columns(columns, &mut bytes) || has_newline(shown) {
+        return None;
+    }
+    Some(FullLine { at, bytes })
+}
+
+/// The number that 8 digits write.
+#[inline]
+fn address_of(digits: &[u8]) -> Option<u64>
+    requires { length digits.now ≡ 8 }
+    ensures { IfSome result (λ n. (n ≡ digits_value 16 digits.now) × (n < 2 ^ 32) × All (λ c. IsTrue (is_hex c)) digits.now) }
+{
+    let mut value = 0u64;
+    for digit in digits {
+        let more = value_of(*digit);
+        if more > 15 {
+            return None;
+        }
+        value = value * 16 + u64::from(more);
+    }
+    Some(value)
+}
+
+/// Puts the bytes of 8 groups of two pairs, and says whether that is what the text is.
+#[inline]
+fn put_columns(hex: &[u8], out: &mut [u8]) -> bool
+    requires digits { length hex.now ≡ 39 }
+    requires room { length out.old ≡ 16 }
+    ensures { IsTrue result → pairs_of hex.now ≡ Some out.new }
+{
+    for k in 0..7usize {
+        if !put_group(hex, 5 * k, out, 2 * k) || hex[5 * k + 4] != b' ' {
+            return false;
+        }
+    }
+    put_group(hex, 35, out, 14)
+}
+
+/// Puts the bytes of two pairs from place `at` on, and says whether they are pairs.
+#[inline]
+fn put_group(hex: &[u8], at: usize, out: &mut [u8], k: usize) -> bool
+    requires digits { at + 4 ≤ length hex.now }
+    requires room { k + 2 ≤ length out.old }
+    ensures first { IsTrue result → IsTrue (is_hex (slice_index hex.now at) && is_hex (slice_index hex.now (at + 1))) }
+    ensures second { IsTrue result → IsTrue (is_hex (slice_index hex.now (at + 2)) && is_hex (slice_index hex.now (at + 3))) }
+    ensures bytes { IsTrue result → take (k + 2) out.new ≡ take k out.old ++ pair_value (slice_index hex.now at) (slice_index hex.now (at + 1)) ∷ pair_value (slice_index hex.now (at + 2)) (slice_index hex.now (at + 3)) ∷ [] }
+{
+    if !is_pair(hex[at], hex[at + 1]) || !is_pair(hex[at + 2], hex[at + 3]) {
+        return false;
+    }
+    out[k] = pair(hex[at], hex[at + 1]);
+    out[k + 1] = pair(hex[at + 2], hex[at + 3]);
+    true
+}
+
+/// Whether a newline is among the bytes.
+#[inline]
+fn has_newline(bytes: &[u8]) -> bool
+    ensures { IsFalse result → All (λ c. c ≢ 10) bytes.now }
+{
+    let mut found = false;
+    for byte in bytes {
+        found |= *byte == b'\n';
+    }
+    found
+}
