@@ -1,6 +1,8 @@
 //! The program: files, standard streams and the exit status.
 #![tactic(auto)]
 
+mod files;
+mod images;
 mod run;
 #[cfg(test)]
 mod tests;

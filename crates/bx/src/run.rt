@@ -1,11 +1,19 @@
 //! One run of the program.
-use bx_cli::{Fault, HexdumpJob, Job, XxdJob, XxdLook, plan_words};
-use bx_dump::{hexdump_c, xxd_default};
-use bx_text::{Name, Words};
+use crate::files::input;
+use crate::images::{command, log};
+use bx_cli::{
+    Command, Done, Fault, HexdumpJob, Job, OdJob, Reply, RevertJob, StringsJob, XxdJob, plan_words,
+    run_dump,
+};
+use bx_text::{Bytes, Name, Source, Words, emit};
+use std::alloc::Global;
 use std::env;
 use std::fs::File;
 use std::io::{self, Read, Write};
 use std::rt::{Env, Files};
+
+/// The most bytes of a dump that is reverted.
+const MOST_INPUT: u64 = 1 << 40;
 
 pub fn run<R>(rt: &R) -> Result<(), Fault>
 where
@@ -26,6 +34,7 @@ fn words<R: Env + AllocGlobal>(rt: &R) -> Result<Words, Fault> {
     Ok(words)
 }
 
+/// Runs a job, and writes what it shows.
 pub fn perform<R>(rt: &R, job: &Job) -> Result<(), Fault>
 where
     R: Files<File = File> + Input + Print + Eprint + AllocGlobal,
@@ -33,10 +42,17 @@ where
     let mut out = io::writer(rt);
     let written = match job {
         Job::Help { text } => show(&mut out, text.as_str())?,
-        Job::Xxd(XxdJob { file, .. }) | Job::Hexdump(HexdumpJob { file, .. }) => {
-            dump_file(rt, job, file, &mut out)?
-        }
-        _ => return Err(Fault::Usage),
+        Job::Od(OdJob { file, .. })
+        | Job::Xxd(XxdJob { file, .. })
+        | Job::Hexdump(HexdumpJob { file, .. })
+        | Job::Strings(StringsJob { file, .. }) => dump_file(rt, job, file, &mut out)?,
+        Job::Revert(job) => revert(rt, job)?,
+        Job::Undo {
+            count,
+            image,
+            journal,
+        } => undo(rt, *count, image, journal, &mut out)?,
+        Job::Log { image, journal } => show(&mut out, log(rt, image, journal)?.as_str())?,
     };
     match out.flush() {
         Ok(()) => Ok(()),
@@ -45,14 +61,55 @@ where
 }
 
 fn show<W: Write>(out: &mut W, text: &str) -> Result<u64, Fault> {
-    match out.write_all(text.as_bytes()) {
-        Ok(()) => Ok(text.len() as u64),
-        Err(_) => Err(Fault::WriteFailed { written: 0 }),
-    }
+    emit(out, text.as_bytes())?;
+    Ok(text.len() as u64)
 }
 
-fn input<R: Files<File = File>>(rt: &R, name: &Name) -> Result<File, Fault> {
-    File::open(rt, name.as_str()).map_err(|_| Fault::OpenFailed)
+/// Puts the bytes of a dump onto the image: the whole dump is read first.
+fn revert<R>(rt: &R, job: &RevertJob) -> Result<u64, Fault>
+where
+    R: Files<File = File> + Input + Eprint + AllocGlobal,
+{
+    let text = match &job.dump {
+        Some(name) => whole(rt.alloc(), &mut input(rt, name)?)?,
+        None => whole(rt.alloc(), &mut rt.reader())?,
+    };
+    let text = Bytes::from_vec(text);
+    let asked = if job.plain {
+        Command::RevertPlain { text, at: job.at }
+    } else {
+        Command::Revert {
+            text,
+            offset: job.at,
+        }
+    };
+    command(rt, &job.image, &job.journal, true, asked)?;
+    Ok(0)
+}
+
+/// All that a reader gives.
+fn whole<I: Read>(alloc: Global, input: &mut I) -> Result<Vec<u8>, Fault> {
+    Ok(Source::new(input, MOST_INPUT).rest(alloc)?)
+}
+
+/// Takes changes back, and shows how many are left.
+fn undo<R, W: Write>(
+    rt: &R,
+    count: u32,
+    image: &Name,
+    journal: &Name,
+    out: &mut W,
+) -> Result<u64, Fault>
+where
+    R: Files<File = File> + Eprint + AllocGlobal,
+{
+    match command(rt, image, journal, false, Command::Undo { k: count })? {
+        Reply::Undone { left } => {
+            let line = format!(in rt.alloc(); "{left}\n")?;
+            show(out, line.as_str())
+        }
+        _ => Ok(0),
+    }
 }
 
 /// Dumps FILE, or standard input where there is none.
@@ -60,26 +117,9 @@ fn dump_file<R, W: Write>(rt: &R, job: &Job, file: &Option<Name>, out: &mut W) -
 where
     R: Files<File = File> + Input,
 {
-    match file {
-        Some(name) => dump(job, &mut input(rt, name)?, out),
-        None => dump(job, &mut rt.reader(), out),
-    }
-}
-
-fn dump<I: Read, W: Write>(job: &Job, input: &mut I, out: &mut W) -> Result<u64, Fault> {
-    match job {
-        Job::Xxd(xxd) if is_default(xxd) => Ok(xxd_default(input, out)?.written),
-        Job::Hexdump(hexdump) if hexdump.skip == 0 && hexdump.limit.is_none() => {
-            Ok(hexdump_c(input, out, hexdump.all)?)
-        }
-        _ => Err(Fault::Usage),
-    }
-}
-
-fn is_default(xxd: &XxdJob) -> bool {
-    xxd.look == XxdLook::Normal
-        && (xxd.cols, xxd.group) == (16, 2)
-        && (xxd.seek, xxd.shift) == (0, 0)
-        && xxd.limit.is_none()
-        && !xxd.upper
+    let Done::Dumped(count) = match file {
+        Some(name) => run_dump(job, &mut input(rt, name)?, out)?,
+        None => run_dump(job, &mut rt.reader(), out)?,
+    };
+    Ok(count)
 }

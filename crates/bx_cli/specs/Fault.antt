@@ -4,6 +4,10 @@ use Rattle.bx_cli.specs.declared.fault.Fault.{Fault}
 use Rattle.bx_cli.specs.declared.fault.Fault.TheVariants.{NoMemory, ReadFailed, WriteFailed, InputTooLong, SkipPastEnd, BadAddress, MissingColon, BadPair, NoData, TooWide, AddressTooLarge, OddDigits, UnknownOperand, BadNumber, NumberTooLarge, ZeroSize, Conflict, MissingCbs, Repeated, SeekWithoutOutput, TooLarge, DeviceFailed, Damaged, TooFew, JournalFull, Interrupted, Broken, LengthDiffers, Usage, OpenFailed}
 use Rattle.bx_text.specs.declared.fault.IoFault.{IoFault}
 use Rattle.bx_text.specs.declared.fault.IoFault.TheVariants.{NoMemory as IoNoMemory, ReadFailed as IoReadFailed, WriteFailed as IoWriteFailed, InputTooLong as IoInputTooLong, SkipPastEnd as IoSkipPastEnd}
+use Rattle.bx_read.specs.declared.fault.ReadFault.{ReadFault}
+use Rattle.bx_read.specs.declared.fault.ReadFault.TheVariants.{NoMemory as ReadNoMemory, BadAddress as ReadBadAddress, MissingColon as ReadMissingColon, BadPair as ReadBadPair, NoData as ReadNoData, TooWide as ReadTooWide, AddressTooLarge as ReadAddressTooLarge, OddDigits as ReadOddDigits}
+use Rattle.bx_journal.specs.declared.fault.SessionFault.{SessionFault}
+use Rattle.bx_journal.specs.declared.fault.SessionFault.TheVariants.{NoMemory as SessionNoMemory, TooLarge as SessionTooLarge, DeviceFailed as SessionDeviceFailed, Damaged as SessionDamaged, TooFew as SessionTooFew, JournalFull as SessionJournalFull, Interrupted as SessionInterrupted, Broken as SessionBroken, LengthDiffers as SessionLengthDiffers}
 
 -- the number of a fault
 abbrev pub number_of : Fault → ℕ
@@ -45,3 +49,26 @@ of_io IoReadFailed = ReadFailed
 of_io (IoWriteFailed n) = WriteFailed n
 of_io IoInputTooLong = InputTooLong
 of_io IoSkipPastEnd = SkipPastEnd
+
+-- the same fault, among those of all crates
+abbrev pub of_read : ReadFault → Fault
+of_read ReadNoMemory = NoMemory
+of_read (ReadBadAddress n) = BadAddress n
+of_read (ReadMissingColon n) = MissingColon n
+of_read (ReadBadPair n) = BadPair n
+of_read (ReadNoData n) = NoData n
+of_read (ReadTooWide n) = TooWide n
+of_read (ReadAddressTooLarge n) = AddressTooLarge n
+of_read (ReadOddDigits n) = OddDigits n
+
+-- the same fault, among those of all crates
+abbrev pub of_session : SessionFault → Fault
+of_session SessionNoMemory = NoMemory
+of_session SessionTooLarge = TooLarge
+of_session SessionDeviceFailed = DeviceFailed
+of_session (SessionDamaged n) = Damaged n
+of_session (SessionTooFew n) = TooFew n
+of_session SessionJournalFull = JournalFull
+of_session SessionInterrupted = Interrupted
+of_session SessionBroken = Broken
+of_session (SessionLengthDiffers n) = LengthDiffers n

@@ -1,2 +1,6 @@
+pub mod Command
 pub mod Fault
 pub mod Job
+pub mod Standing
+pub mod Run
+pub mod Laws

@@ -1,8 +1,10 @@
 //! The faults of all crates, with their numbers and texts.
 ghost use Rattle.std.specs.Prelude.{◌≡◌};
-ghost use Rattle.bx_cli.specs.Fault.{number_of, of_io};
+ghost use Rattle.bx_cli.specs.Fault.{number_of, of_io, of_read, of_session};
 ghost use Rattle.bx_cli.specs.declared.fault.Fault.TheVariants.{NoMemory as OutOfMemory};
 
+use bx_journal::SessionFault;
+use bx_read::ReadFault;
 use bx_text::{IoFault, NoMemory};
 use std::alloc::AllocError;
 use thiserror::Error;
@@ -138,6 +140,41 @@ impl From<IoFault> for Fault {
             IoFault::WriteFailed { written } => Fault::WriteFailed { written },
             IoFault::InputTooLong => Fault::InputTooLong,
             IoFault::SkipPastEnd => Fault::SkipPastEnd,
+        }
+    }
+}
+
+impl From<ReadFault> for Fault {
+    ghost from_gives = { λ e f. f ≡ of_read e };
+
+    fn from(fault: ReadFault) -> Self {
+        match fault {
+            ReadFault::NoMemory => Fault::NoMemory,
+            ReadFault::BadAddress { line } => Fault::BadAddress { line },
+            ReadFault::MissingColon { line } => Fault::MissingColon { line },
+            ReadFault::BadPair { line } => Fault::BadPair { line },
+            ReadFault::NoData { line } => Fault::NoData { line },
+            ReadFault::TooWide { line } => Fault::TooWide { line },
+            ReadFault::AddressTooLarge { line } => Fault::AddressTooLarge { line },
+            ReadFault::OddDigits { line } => Fault::OddDigits { line },
+        }
+    }
+}
+
+impl From<SessionFault> for Fault {
+    ghost from_gives = { λ e f. f ≡ of_session e };
+
+    fn from(fault: SessionFault) -> Self {
+        match fault {
+            SessionFault::NoMemory => Fault::NoMemory,
+            SessionFault::TooLarge => Fault::TooLarge,
+            SessionFault::DeviceFailed => Fault::DeviceFailed,
+            SessionFault::Damaged { line } => Fault::Damaged { line },
+            SessionFault::TooFew { have } => Fault::TooFew { have },
+            SessionFault::JournalFull => Fault::JournalFull,
+            SessionFault::Interrupted => Fault::Interrupted,
+            SessionFault::Broken => Fault::Broken,
+            SessionFault::LengthDiffers { expected } => Fault::LengthDiffers { expected },
         }
     }
 }

@@ -1,16 +1,26 @@
 //! From the words of a command line to a job, and lists of commands run on a session.
 #![tactic(auto)]
 
-mod commands;
+mod changes;
+mod command;
+mod dump;
 mod fault;
 mod job;
-mod number;
+mod laws;
+mod listing;
+mod options;
 mod plan;
+mod run;
 #[cfg(test)]
 mod tests;
 
+pub use command::{Command, Reply};
+pub use dump::{Done, run_dump};
 pub use fault::Fault;
 pub use job::{
     HexdumpJob, Job, NumForm, OdJob, OdKind, Radix, RevertJob, Size, StringsJob, XxdJob, XxdLook,
 };
+pub use laws::{runs_join, unfailed_runs};
+pub use listing::log_text;
 pub use plan::plan_words;
+pub use run::run_all;

@@ -1,18 +1,19 @@
 //! From words to a job.
 ghost use Rattle.std.specs.Prelude.{◌≤◌, ◌^◌, IfOk, IfSome};
 
-use crate::commands::program;
 use crate::fault::Fault;
 use crate::job::{
     HexdumpJob, Job, NumForm, OdJob, OdKind, Radix, RevertJob, Size, StringsJob, XxdJob, XxdLook,
 };
-use crate::number::{NumberStyle, read_number};
-use bx_text::{Name, Words};
+use crate::options::program;
+use bx_text::{Name, SizeStyle, Words, read_size};
 use clap::error::ErrorKind;
 use clap::{ArgMatches, Error};
 use std::alloc::Global;
 
 const MOST_COLUMNS: u64 = 256;
+
+const MOST_NUMBER: u64 = 1 << 62;
 
 const MOST_LEAST: u64 = 4096;
 
@@ -65,19 +66,19 @@ fn job_of(alloc: Global, name: &str, inner: &ArgMatches<'_>) -> Result<Job, Faul
     }
 }
 
-fn number(m: &ArgMatches<'_>, id: &str, style: NumberStyle) -> Result<Option<u64>, Fault>
+fn number(m: &ArgMatches<'_>, id: &str, style: SizeStyle) -> Result<Option<u64>, Fault>
     ensures { IfOk result (λ o. IfSome o (λ n. n ≤ 2 ^ 62)) }
 {
     match m.get_str(id) {
         None => Ok(None),
-        Some(text) => match read_number(text.as_bytes(), style) {
-            Some(n) => Ok(Some(n)),
-            None => Err(Fault::Usage),
+        Some(text) => match read_size(text.as_bytes(), style) {
+            Ok(n) if n <= MOST_NUMBER => Ok(Some(n)),
+            _ => Err(Fault::Usage),
         },
     }
 }
 
-fn number_or(m: &ArgMatches<'_>, id: &str, style: NumberStyle, default: u64) -> Result<u64, Fault>
+fn number_or(m: &ArgMatches<'_>, id: &str, style: SizeStyle, default: u64) -> Result<u64, Fault>
     requires { default ≤ 2 ^ 62 }
     ensures { IfOk result (λ n. n ≤ 2 ^ 62) }
 {
@@ -183,8 +184,8 @@ fn od(alloc: Global, m: &ArgMatches<'_>) -> Result<Job, Fault> {
     Ok(Job::Od(OdJob {
         address: radix(m.get_str("radix"), Radix::Octal, true)?,
         kind: kind(m)?,
-        skip: number_or(m, "skip", NumberStyle::Count, 0)?,
-        limit: number(m, "limit", NumberStyle::Count)?,
+        skip: number_or(m, "skip", SizeStyle::Count, 0)?,
+        limit: number(m, "limit", SizeStyle::Count)?,
         all: m.get_flag("all"),
         file: name(alloc, m, "file")?,
     }))
@@ -195,7 +196,7 @@ fn columns(m: &ArgMatches<'_>, default: u64) -> Result<u16, Fault>
     requires most { default ≤ 256 }
     ensures { IfOk result (λ n. (1 ≤ n) × (n ≤ 256)) }
 {
-    match number_or(m, "cols", NumberStyle::Bare, default)? {
+    match number_or(m, "cols", SizeStyle::Bare, default)? {
         n @ 1..=MOST_COLUMNS => Ok(n as u16),
         _ => Err(Fault::Usage),
     }
@@ -212,14 +213,14 @@ fn xxd(alloc: Global, m: &ArgMatches<'_>) -> Result<Job, Fault> {
         (XxdLook::Normal, 16, 2)
     };
     let cols = columns(m, cols)?;
-    let group = number_or(m, "group", NumberStyle::Bare, group)?.min(MOST_COLUMNS) as u16;
+    let group = number_or(m, "group", SizeStyle::Bare, group)?.min(MOST_COLUMNS) as u16;
     Ok(Job::Xxd(XxdJob {
         look,
         cols,
         group,
-        limit: number(m, "limit", NumberStyle::Bare)?,
-        seek: number_or(m, "seek", NumberStyle::Bare, 0)?,
-        shift: number_or(m, "shift", NumberStyle::Bare, 0)?,
+        limit: number(m, "limit", SizeStyle::Bare)?,
+        seek: number_or(m, "seek", SizeStyle::Bare, 0)?,
+        shift: number_or(m, "shift", SizeStyle::Bare, 0)?,
         upper: m.get_flag("upper"),
         file: name(alloc, m, "file")?,
     }))
@@ -231,8 +232,8 @@ fn hexdump(alloc: Global, m: &ArgMatches<'_>) -> Result<Job, Fault> {
         return Err(Fault::Usage);
     }
     Ok(Job::Hexdump(HexdumpJob {
-        skip: number_or(m, "skip", NumberStyle::Count, 0)?,
-        limit: number(m, "limit", NumberStyle::Count)?,
+        skip: number_or(m, "skip", SizeStyle::Count, 0)?,
+        limit: number(m, "limit", SizeStyle::Count)?,
         all: m.get_flag("all"),
         file: name(alloc, m, "file")?,
     }))
@@ -251,7 +252,7 @@ fn strings(alloc: Global, m: &ArgMatches<'_>) -> Result<Job, Fault> {
 }
 
 fn revert(alloc: Global, m: &ArgMatches<'_>) -> Result<Job, Fault> {
-    let at = number_or(m, "offset", NumberStyle::Bare, 0)?;
+    let at = number_or(m, "offset", SizeStyle::Bare, 0)?;
     let (image, journal) = pair(alloc, m)?;
     Ok(Job::Revert(RevertJob {
         dump: name(alloc, m, "dump")?,

@@ -4,5 +4,6 @@ pub mod ConvertLemmas
 pub mod TransferLemmas
 pub mod OperandsLemmas
 pub mod PlanLemmas
+pub mod WholeLemmas
 mod Rows
 mod MoreRows

@@ -304,7 +304,7 @@ mod_more a b n pos few =
     let e : a + b ≡ n * (a / n) + (a % n + b) = omega (arith, div-add-mod a n) in
     ap (λ k. k % n) e ∙ mul-add-mod_self_left n (a / n) (a % n + b) ∙ mod-eq_of_lt few
 
-mod_full : (a b n : ℕ) → 0 < n → a % n + b ≡ n → (a + b) % n ≡ 0
+pub mod_full : (a b n : ℕ) → 0 < n → a % n + b ≡ n → (a + b) % n ≡ 0
 mod_full a b n pos full =
     let e : a + b ≡ n * (a / n + 1) + 0 = omega (arith, div-add-mod a n) in
     ap (λ k. k % n) e ∙ mul-add-mod_self_left n (a / n + 1) 0 ∙ omega arith

@@ -12,6 +12,7 @@ mod operands;
 mod parsing;
 mod plan;
 mod records;
+mod whole;
 
 pub use convert::Convert;
 pub use copying::transfer;
@@ -20,6 +21,11 @@ pub use fault::DdFault;
 pub use form::{Form, Letters, Shape};
 pub use parsing::parse;
 pub use plan::Plan;
+pub use whole::convert_whole;
 
+#[cfg(test)]
+mod hostile_tests;
+#[cfg(test)]
+mod ration;
 #[cfg(test)]
 mod tests;

@@ -285,3 +285,33 @@ fn every_length(rt: HostRuntime) -> Result<(), Fail> {
     }
     Ok(())
 }
+
+const TEXT: &[u8] = b"one\ntwo  \n\na longer Line with  spaces   \nq\xe9\xff\0\n\nlast";
+
+// The converter, block by block, and the plain program over the whole input agree.
+fn agree(rt: &impl Abort, alloc: Global, operands: &[&str]) -> Result<(), Fail> {
+    let plan = plan(alloc, operands)?;
+    for n in 0..=TEXT.len() {
+        let mut reader = &TEXT[..n];
+        let fast = transfer(alloc, &mut reader, &plan)?;
+        let plain = convert_whole(alloc, plan.form(), &TEXT[..n])?;
+        assert!(rt; fast.bytes.as_slice() == plain.as_slice());
+    }
+    Ok(())
+}
+
+#[test]
+fn converter_and_plain_program(rt: HostRuntime) -> Result<(), Fail> {
+    let rows = [
+        ["ibs=3", "cbs=5", "conv=swab"],
+        ["ibs=7", "cbs=5", "conv=sync,ucase"],
+        ["ibs=1", "cbs=5", "conv=block"],
+        ["ibs=3", "cbs=5", "conv=block,sync,swab"],
+        ["ibs=16", "cbs=5", "conv=unblock,lcase"],
+        ["ibs=2", "cbs=3", "conv=unblock,sync"],
+    ];
+    for operands in &rows {
+        agree(&rt, rt.alloc(), operands)?;
+    }
+    Ok(())
+}

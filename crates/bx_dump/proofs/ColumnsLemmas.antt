@@ -6,7 +6,7 @@ use Rattle.std.proofs.lemmas.Nat.{div-mul-add}
 use Rattle.std.proofs.lemmas.List.{take_at, get_or_append_left, get_or-append_right, get_or-replicate, length-replicate, replicate-append-replicate, take_more, take_all, length-drop, get_or-drop}
 use Rattle.std.proofs.lemmas.List.FromFn.{fill_by_all, get_or-map-range_with_len}
 use Rattle.std.proofs.lemmas.Grind.{flat_map-append}
-use Rattle.std.proofs.Math.Nat.{mul-div-mul_left, div-add-mod, div-eq_of_lt}
+use Rattle.std.proofs.Math.Nat.{mul-le-mul_left, mul-div-mul_left, div-add-mod, div-eq_of_lt}
 use Rattle.std.specs.Prelude.{codes}
 use Rattle.std.proofs.Math.Seq.{take-append-add}
 use Rattle.bx_text.specs.Field.{char_at, laid_out, hex_text}
@@ -14,6 +14,7 @@ use Rattle.bx_text.specs.Dump.{shown_byte}
 use Rattle.bx_text.proofs.FieldLemmas.{char_at-inside, char_at-below, char_at-above, div_mono}
 use Rattle.bx_dump.specs.Cells.{piece_at, grouped}
 use Rattle.bx_dump.specs.Xxd.{columns_place, columns_width, columns, columns_line, cell_of, cell_width}
+use Rattle.bx_dump.specs.declared.xxd_columns.Columns.{Columns}
 use Rattle.bx_dump.specs.declared.xxd_columns.Digits.{Digits}
 use Rattle.bx_dump.specs.declared.xxd_columns.Digits.TheVariants.{Hexadecimal, Binary}
 use Rattle.bx_dump.proofs.LinesLemmas.{cells_len, cells_drop, cells_part}
@@ -194,17 +195,32 @@ digits_some (Hexadecimal upper) = omega arith
 digits_some Binary = omega arith
 
 -- a line by its parts
-pub line_parts : (digits : Digits) (cols group at front size : ℕ) (bytes cells address body tail : List ℕ) (field piece : ℕ) → 0 < group → columns_place (cell_width digits) group (length bytes) ≤ field →
-    field ≡ columns_width (cell_width digits) cols group → length address ≡ front → address ≡ hex_text false 8 at → length body ≡ size →
-    piece ≡ cell_width digits * group → cells ≡ flat_map (cell_of digits) bytes → body ≡ codes ": " ++ grouped piece cells field ++ codes " " ++ map shown_byte bytes ++ codes "\n" →
-    take (front + size) (address ++ (body ++ tail)) ≡ columns_line digits cols group at bytes
-line_parts digits cols group at front size bytes cells address body tail field piece some fits wide len is long whole digits_are text =
+pub line_whole : (digits : Digits) (cols group at : ℕ) (bytes cells address body : List ℕ) (field piece : ℕ) → 0 < group → columns_place (cell_width digits) group (length bytes) ≤ field →
+    field ≡ columns_width (cell_width digits) cols group → address ≡ hex_text false 8 at → piece ≡ cell_width digits * group → cells ≡ flat_map (cell_of digits) bytes →
+    body ≡ codes ": " ++ grouped piece cells field ++ codes " " ++ map shown_byte bytes ++ codes "\n" → address ++ body ≡ columns_line digits cols group at bytes
+line_whole digits cols group at bytes cells address body field piece some fits wide is whole digits_are text =
     let laid = grouped_laid (cell_of digits) (cell_width digits) group (digits_even digits) some bytes field (digits_some digits) fits in
-    let both : take (front + size) (address ++ (body ++ tail)) ≡ address ++ body =
-    ap (λ n. take (n + size) (address ++ (body ++ tail))) (sym len) ∙ take-append-add address (body ++ tail) size ∙ ap (λ t. address ++ t) (take_at body tail size long) in
-    both ∙ ap (λ t. t ++ body) is ∙ ap (λ t. hex_text false 8 at ++ t) text
-    ∙ ap (λ t. hex_text false 8 at ++ (codes ": " ++ t ++ codes " " ++ map shown_byte bytes ++ codes "\n")) (ap (λ n. grouped n cells field) whole ∙ ap (λ t. grouped (cell_width digits * group) t field) digits_are ∙ laid ∙ ap (λ n. columns digits group bytes n) wide)
+    ap (λ t. t ++ body) is ∙ ap (λ t. hex_text false 8 at ++ t) text
+    ∙ ap (λ t. hex_text false 8 at ++ (codes ": " ++ t ++ codes " " ++ map shown_byte bytes ++ codes "\n"))
+    (ap (λ n. grouped n cells field) whole ∙ ap (λ t. grouped (cell_width digits * group) t field) digits_are ∙ laid ∙ ap (λ n. columns digits group bytes n) wide)
     ∙ regroup (hex_text false 8 at) (codes ": ") (columns digits group bytes (columns_width (cell_width digits) cols group)) (codes " ") (map shown_byte bytes) (codes "\n")
   where
     regroup : (a b c d e f : List ℕ) → a ++ (b ++ c ++ d ++ e ++ f) ≡ a ++ b ++ c ++ d ++ e ++ f
     regroup a b c d e f = simp append_assoc
+
+-- the same at the front of a list
+pub line_parts : (digits : Digits) (cols group at front size : ℕ) (bytes cells address body tail : List ℕ) (field piece : ℕ) → 0 < group → columns_place (cell_width digits) group (length bytes) ≤ field →
+    field ≡ columns_width (cell_width digits) cols group → length address ≡ front → address ≡ hex_text false 8 at → length body ≡ size → piece ≡ cell_width digits * group →
+    cells ≡ flat_map (cell_of digits) bytes → body ≡ codes ": " ++ grouped piece cells field ++ codes " " ++ map shown_byte bytes ++ codes "\n" →
+    take (front + size) (address ++ (body ++ tail)) ≡ columns_line digits cols group at bytes
+line_parts digits cols group at front size bytes cells address body tail field piece some fits wide len is long whole digits_are text =
+    ap (λ n. take (n + size) (address ++ (body ++ tail))) (sym len) ∙ take-append-add address (body ++ tail) size ∙ ap (λ t. address ++ t) (take_at body tail size long)
+    ∙ line_whole digits cols group at bytes cells address body field piece some fits wide is whole digits_are text
+
+-- the digits of the bytes fit into the field
+pub place_fits : (p : Columns) (n : ℕ) → n ≤ p.cols → columns_place (cell_width p.digits) p.group n ≤ p.field
+place_fits p n few =
+    let w = cell_width p.digits in
+    let a : w * n ≤ w * p.cols = mul-le-mul_left {m = n} {n = p.cols} w few in
+    let b : n / p.group ≤ (p.cols + p.group - 1) / p.group = div_mono n (p.cols + p.group - 1) p.group p.some_group (omega (arith, p.some_group)) in
+    omega (arith, p.wide)

@@ -13,6 +13,7 @@ mod xxd_lines;
 mod xxd_names;
 mod xxd_options;
 mod xxd_rows;
+mod xxd_tables;
 mod xxd_whole;
 
 pub use folded::{Dumped, Form, dump};
@@ -22,7 +23,10 @@ pub use pages::{Pages, Part, dump_part};
 pub use printable::{StringsOptions, strings};
 pub use xxd_columns::{Columns, Digits};
 pub use xxd_dump::xxd;
-pub use xxd_lines::{LineForm, Lines};
+pub use xxd_lines::{LineForm, Lines, Put};
 pub use xxd_options::{XxdOptions, XxdStyle};
 pub use xxd_rows::{Items, Plain};
 pub use xxd_whole::xxd_default;
+
+#[cfg(test)]
+mod xxd_tests;

@@ -5,7 +5,8 @@ ghost use Rattle.bx_text.specs.Dump.{pair_of, shown_byte};
 ghost use Rattle.bx_text.specs.Field.{hex_text};
 ghost use Rattle.bx_dump.specs.Cells.{bits_of, piece_at, grouped};
 
-use bx_text::{blank, hex_digit, hex_field, put_address, put_text};
+use crate::xxd_tables::bits;
+use bx_text::{blank, digits_of, hex_digit, hex_field, put_text};
 
 /// Puts the two digits of each byte.
 pub fn put_pairs(cells: &mut [u8], bytes: &[u8], upper: bool)
@@ -18,29 +19,13 @@ pub fn put_pairs(cells: &mut [u8], bytes: &[u8], upper: bool)
     }
 }
 
-/// The binary digits of the values below 16.
-static NIBBLES: [[u8; 4]; 16] = [
-    *b"0000", *b"0001", *b"0010", *b"0011", *b"0100", *b"0101", *b"0110", *b"0111", *b"1000",
-    *b"1001", *b"1010", *b"1011", *b"1100", *b"1101", *b"1110", *b"1111",
-];
-
-/// The eight binary digits of a byte, the highest bit first.
-#[inline]
-fn bits(byte: u8) -> [u8; 8]
-    ensures { result ≡ bits_of byte }
-{
-    let [a, b, c, d] = NIBBLES[(byte / 16) as usize];
-    let [e, f, g, h] = NIBBLES[(byte % 16) as usize];
-    [a, b, c, d, e, f, g, h]
-}
-
 /// Puts the eight binary digits of each byte.
 pub fn put_bits(cells: &mut [u8], bytes: &[u8])
     requires { length cells.old ≡ 8 * length bytes.now }
     ensures { cells.new ≡ flat_map bits_of bytes.now }
 {
     for (i, byte) in bytes.iter().enumerate() {
-        cells[8 * i..8 * i + 8].copy_from_slice(&bits(*byte));
+        cells[8 * i..8 * i + 8].copy_from_slice(bits(*byte));
     }
 }
 
@@ -59,7 +44,7 @@ fn put_pieces(field: &mut [u8], cells: &[u8], piece: usize, count: usize)
 }
 
 /// The same, with code of its own for the sizes that are usual.
-#[inline]
+#[inline(always)]
 fn put_whole(field: &mut [u8], cells: &[u8], piece: usize, count: usize)
     requires small { piece ≤ 4096 }
     requires room { length field.old ≡ (piece + 1) * count }
@@ -76,7 +61,7 @@ fn put_whole(field: &mut [u8], cells: &[u8], piece: usize, count: usize)
 }
 
 /// Puts the cells in groups of `piece` characters, with a space after each whole group, and spaces up to the end.
-#[inline]
+#[inline(always)]
 fn put_grouped(field: &mut [u8], cells: &[u8], piece: usize, count: usize)
     requires some { 0 < piece }
     requires small { piece ≤ 4096 }
@@ -90,6 +75,24 @@ fn put_grouped(field: &mut [u8], cells: &[u8], piece: usize, count: usize)
     let (last, gap) = rest.split_at_mut(left.len());
     last.copy_from_slice(left);
     blank(gap);
+}
+
+/// Puts an address as 8 digits.
+#[inline(always)]
+pub fn put_address(field: &mut [u8], at: u32)
+    requires { length field.old ≡ 8 }
+    ensures { field.new ≡ hex_text false 8 at }
+{
+    let above = at / 256;
+    let higher = above / 256;
+    let highest = higher / 256;
+    let (first, rest) = field.split_at_mut(2);
+    let (second, rest) = rest.split_at_mut(2);
+    let (third, fourth) = rest.split_at_mut(2);
+    first.copy_from_slice(&digits_of((highest % 256) as u8));
+    second.copy_from_slice(&digits_of((higher % 256) as u8));
+    third.copy_from_slice(&digits_of((above % 256) as u8));
+    fourth.copy_from_slice(&digits_of((at % 256) as u8));
 }
 
 /// Puts an address of at least 8 digits at the front, and answers how long it is.
@@ -111,7 +114,7 @@ pub fn put_at(line: &mut [u8], at: u64) -> usize
 }
 
 /// Puts what stands behind the address: the columns, with `width` characters, and the bytes as text.
-#[inline]
+#[inline(always)]
 pub fn put_body(
     body: &mut [u8],
     bytes: &[u8],

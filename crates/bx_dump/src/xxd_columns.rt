@@ -1,9 +1,11 @@
 //! Lines of xxd with columns.
-ghost use Rattle.std.specs.Prelude.{◌≡◌, ℕ, ◌+◌, ◌-◌, ◌*◌, ◌/◌, ◌<◌, ◌≤◌, List, length};
+ghost use Rattle.std.specs.Prelude.{◌≡◌, ℕ, ◌+◌, ◌-◌, ◌*◌, ◌/◌, ◌^◌, ◌<◌, ◌≤◌, List, length, take};
+ghost use Rattle.std.specs.List.{flat_map};
+ghost use Rattle.bx_dump.specs.Lines.{in_lines};
 ghost use Rattle.bx_dump.specs.Xxd.{cell_of, cell_width, columns_width, columns_line};
 
-use crate::xxd_cells::{put_at, put_bits, put_body, put_pairs};
-use crate::xxd_lines::LineForm;
+use crate::xxd_cells::{put_address, put_at, put_bits, put_body, put_pairs};
+use crate::xxd_lines::{LineForm, Put};
 
 /// How a byte is written.
 #[derive(Clone, Copy, Debug, PartialEq, Eq)]
@@ -76,6 +78,79 @@ impl Columns {
     }
 }
 
+/// Puts a full line, for an address of 8 digits.
+#[inline(always)]
+fn put_fixed(
+    form: &Columns,
+    line: &mut [u8],
+    at: u32,
+    bytes: &[u8],
+    cells: &[u8],
+    field: usize,
+    piece: usize,
+    count: usize,
+)
+    requires full { length bytes.now ≡ form.now.cols }
+    requires cells { cells.now ≡ flat_map (cell_of form.now.digits) bytes.now }
+    requires field { field ≡ form.now.field }
+    requires piece { piece ≡ cell_width form.now.digits * form.now.group }
+    requires count { count ≡ form.now.whole }
+    requires long { length line.old ≡ field + length bytes.now + 12 }
+    ensures { line.new ≡ columns_line form.now.digits form.now.cols form.now.group at bytes.now }
+{
+    let (address, body) = line.split_at_mut(8);
+    put_address(address, at);
+    put_body(body, bytes, cells, field, piece, count);
+}
+
+/// Puts all full lines, for addresses of 8 digits. The numbers are those of the form, each written out at the call, so that
+/// the loop is made for them.
+#[inline(always)]
+fn put_full(
+    form: &Columns,
+    text: &mut [u8],
+    at: u32,
+    bytes: &[u8],
+    cells: &[u8],
+    cols: usize,
+    wide: usize,
+    field: usize,
+    piece: usize,
+    count: usize,
+) -> Put
+    requires cols { cols ≡ form.now.cols }
+    requires wide { wide ≡ cell_width form.now.digits * form.now.cols }
+    requires field { field ≡ form.now.field }
+    requires piece { piece ≡ cell_width form.now.digits * form.now.group }
+    requires count { count ≡ form.now.whole }
+    requires room { (field + cols + 26) * ((length bytes.now + cols - 1) / cols) ≤ length text.old }
+    requires address { at + length bytes.now < 2 ^ 32 }
+    requires cells { cells.now ≡ flat_map (cell_of form.now.digits) bytes.now }
+    requires long { length cells.now ≡ cell_width form.now.digits * length bytes.now }
+    ensures inside { form.now.cols * result.lines ≤ length bytes.now }
+    ensures most { result.used ≤ (form.now.field + form.now.cols + 26) * result.lines }
+    ensures text { take result.used text.new ≡ in_lines (columns_line form.now.digits form.now.cols form.now.group) form.now.cols at (take (form.now.cols * result.lines) bytes.now) }
+{
+    let lines = bytes.len() / cols;
+    let size = field + cols + 12;
+    for k in 0..lines {
+        put_fixed(
+            form,
+            &mut text[size * k..size * k + size],
+            at + (cols * k) as u32,
+            &bytes[cols * k..cols * k + cols],
+            &cells[wide * k..wide * k + wide],
+            field,
+            piece,
+            count,
+        );
+    }
+    Put {
+        lines,
+        used: size * lines,
+    }
+}
+
 impl LineForm for Columns {
     ghost line = { λ c. columns_line c.digits c.cols c.group };
 
@@ -116,6 +191,19 @@ impl LineForm for Columns {
         let piece = self.digits.width() * self.group;
         put_body(body, bytes, cells, self.field, piece, count);
         front + size
+    }
+
+    fn put_usual(&self, text: &mut [u8], at: u64, bytes: &[u8], cells: &[u8]) -> Put {
+        if at + bytes.len() as u64 >= 1 << 32 {
+            return Put { lines: 0, used: 0 };
+        }
+        let at = at as u32;
+        match (self.digits.width(), self.cols, self.group) {
+            (2, 16, 2) => put_full(self, text, at, bytes, cells, 16, 32, 40, 4, 8),
+            (2, 32, 4) => put_full(self, text, at, bytes, cells, 32, 64, 72, 8, 8),
+            (8, 6, 1) => put_full(self, text, at, bytes, cells, 6, 48, 54, 8, 6),
+            _ => Put { lines: 0, used: 0 },
+        }
     }
 
     fn even(&self) {}

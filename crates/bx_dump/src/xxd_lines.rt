@@ -5,6 +5,13 @@ ghost use Rattle.bx_dump.specs.Lines.{in_lines};
 
 use crate::pages::Pages;
 
+/// How many lines were put, and how long they are.
+#[derive(Clone, Copy)]
+pub struct Put {
+    pub lines: usize,
+    pub used: usize,
+}
+
 /// How a line is written.
 pub trait LineForm {
     /// The line for some bytes at an address.
@@ -55,6 +62,17 @@ pub trait LineForm {
         ensures most { result ≤ room self.now }
         ensures text { take result text.new ≡ line self.now at bytes.now };
 
+    /// Puts the first lines at the front, those of them for which there is code of their own.
+    fn put_usual(&self, text: &mut [u8], at: u64, bytes: &[u8], cells: &[u8]) -> Put
+        requires room { room self.now * ((length bytes.now + cols self.now - 1) / cols self.now) ≤ length text.old }
+        requires few { length bytes.now ≤ 16384 }
+        requires address { at ≤ 2 ^ 63 + 2 ^ 40 }
+        requires cells { cells.now ≡ flat_map (cell self.now) bytes.now }
+        requires long { length cells.now ≡ width self.now * length bytes.now }
+        ensures inside { cols self.now * result.lines ≤ length bytes.now }
+        ensures most { result.used ≤ room self.now * result.lines }
+        ensures text { take result.used text.new ≡ in_lines (line self.now) (cols self.now) at (take (cols self.now * result.lines) bytes.now) };
+
     /// Says that each byte has as many digits.
     fn even(&self)
         ensures { (b : ℕ) → length (cell self.now b) ≡ width self.now };
@@ -92,13 +110,15 @@ fn put_lines<F: LineForm>(form: &F, text: &mut [u8], at: u64, bytes: &[u8], cell
     requires few { length bytes.now ≤ 16384 }
     requires address { at ≤ 2 ^ 63 + 2 ^ 40 }
     requires cells { cells.now ≡ flat_map (F.cell form.now) bytes.now }
+    requires long { length cells.now ≡ F.width form.now * length bytes.now }
     ensures within { result ≤ length text.old }
     ensures text { take result text.new ≡ in_lines (F.line form.now) (F.cols form.now) at bytes.now }
 {
     let cols = form.line_len();
-    let mut used = 0;
+    let first = form.put_usual(text, at, bytes, cells);
+    let mut used = first.used;
     let count = (bytes.len() + cols - 1) / cols;
-    for k in 0..count {
+    for k in first.lines..count {
         used += put_next(form, &mut text[used..], at, bytes, cells, cols * k);
     }
     used

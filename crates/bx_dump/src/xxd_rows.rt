@@ -5,7 +5,7 @@ ghost use Rattle.bx_text.specs.Dump.{pair_of};
 ghost use Rattle.bx_dump.specs.Rows.{next_item, plain_line, include_line};
 
 use crate::xxd_cells::put_pairs;
-use crate::xxd_lines::LineForm;
+use crate::xxd_lines::{LineForm, Put};
 use bx_text::digits_of;
 
 /// Lines of hexadecimal digits alone.
@@ -61,6 +61,10 @@ impl LineForm for Plain {
         text[..cells.len()].copy_from_slice(cells);
         text[cells.len()] = b'\n';
         cells.len() + 1
+    }
+
+    fn put_usual(&self, _text: &mut [u8], _at: u64, _bytes: &[u8], _cells: &[u8]) -> Put {
+        Put { lines: 0, used: 0 }
     }
 
     fn even(&self) {}
@@ -136,6 +140,10 @@ impl LineForm for Items {
         }
         line.copy_from_slice(items);
         front + items.len()
+    }
+
+    fn put_usual(&self, _text: &mut [u8], _at: u64, _bytes: &[u8], _cells: &[u8]) -> Put {
+        Put { lines: 0, used: 0 }
     }
 
     fn even(&self) {}

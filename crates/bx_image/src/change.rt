@@ -9,17 +9,24 @@ use crate::{Device, DeviceFailed, TooLarge};
 use bx_text::{Piece, Pieces};
 use std::alloc::{Allocator, Global};
 
-/// The greatest length of an image.
+/// The greatest length of an image, in bytes: one less than 2 to the power of 48.
 pub const MAX_LEN: u64 = 281_474_976_710_655;
 
-/// With a base the image is first cut or lengthened to it. Then the writes are placed in order.
+/// A change of an image.
+///
+/// With a base the image is first cut to it, or lengthened to it with zeros. Then the writes are
+/// placed in order. A write past the end fills the gap with zeros, and an empty write does nothing,
+/// wherever it stands.
 #[derive(Drop)]
 pub struct Change<A: Allocator = Global> {
     pub base: Option<u64>,
     pub writes: Pieces<A>,
 }
 
-/// The length of an image of this length after the change.
+/// The length that an image of `len` bytes has after the change.
+///
+/// # Errors
+/// `TooLarge` exactly where `len`, the base, or the end of a write that isn't empty is over `MAX_LEN`.
 pub fn check<A: Allocator>(change: &Change<A>, len: u64) -> Result<u64, TooLarge>
     ensures exact { IsOk result ↔ Fits change.now len MAX_LEN }
     ensures len { (x : List ℕ) → length x ≡ len → IfOk result (λ n. n ≡ length (effect change.now x)) }
@@ -51,7 +58,15 @@ fn end_of_write<A: Allocator>(write: &Piece<A>) -> Result<u64, TooLarge>
     Ok(write.at + count)
 }
 
-/// Changes the image on a device.
+/// Changes the image on a device, by one `set_len` where there is a base, then one `write_at` for
+/// each write that isn't empty. It takes no memory.
+///
+/// Whatever it answers, what was saved of the image before gives it back. A change that restores a
+/// record can be applied again after a failure.
+///
+/// # Errors
+/// `DeviceFailed` at the first call that fails. Each address below the old length that the change
+/// doesn't touch is then below the new length and has its old byte.
 #[tactic(auto, using(crate::proofs::Devices::GoesOn_then))]
 pub fn apply<D: Device, A: Allocator>(
     device: &mut D,

@@ -84,7 +84,8 @@ pub fn assert_change<D: Device>(
     Ok(())
 }
 
-fn assert_on_memory(
+// In memory and in pages.
+fn assert_on_both(
     rt: &impl Abort,
     alloc: Global,
     image: &[u8],
@@ -94,7 +95,11 @@ fn assert_on_memory(
 ) -> Result<(), Fail> {
     let mut memory = MemImage::from_vec(image.to_vec(alloc)?);
     assert_change(rt, alloc, &mut memory, change, after, runs)?;
-    assert_eq!(rt; memory.faults(), 0);
+    let mut pages = PagedImage::new(alloc);
+    pages.reserve(image.len() as u64)?;
+    pages.write_at(0, image)?;
+    assert_change(rt, alloc, &mut pages, change, after, runs)?;
+    assert_eq!(rt; memory.faults() + pages.faults(), 0);
     Ok(())
 }
 
@@ -102,14 +107,14 @@ fn assert_on_memory(
 fn gap_and_undo(rt: HostRuntime) -> Result<(), Fail> {
     let alloc = rt.alloc();
     let change = change(alloc, None, &[(5, b"Z")])?;
-    assert_on_memory(&rt, alloc, b"AB", &change, b"AB\0\0\0Z", &[])
+    assert_on_both(&rt, alloc, b"AB", &change, b"AB\0\0\0Z", &[])
 }
 
 #[test]
 fn overlapping_lines(rt: HostRuntime) -> Result<(), Fail> {
     let alloc = rt.alloc();
     let change = change(alloc, None, &[(2, b"xy"), (3, b"zz")])?;
-    assert_on_memory(
+    assert_on_both(
         &rt,
         alloc,
         b"ABCDEFGH",
@@ -123,14 +128,14 @@ fn overlapping_lines(rt: HostRuntime) -> Result<(), Fail> {
 fn base_then_gap(rt: HostRuntime) -> Result<(), Fail> {
     let alloc = rt.alloc();
     let change = change(alloc, Some(2), &[(4, b"Z")])?;
-    assert_on_memory(&rt, alloc, b"ABCDE", &change, b"AB\0\0Z", &[(2, b"CDE")])
+    assert_on_both(&rt, alloc, b"ABCDE", &change, b"AB\0\0Z", &[(2, b"CDE")])
 }
 
 #[test]
 fn empty_write_past_the_end(rt: HostRuntime) -> Result<(), Fail> {
     let alloc = rt.alloc();
     let change = change(alloc, None, &[(1, b"xy"), (2, b"zz"), (100, b"")])?;
-    assert_on_memory(&rt, alloc, b"ABCDE", &change, b"AxzzE", &[(1, b"BCD")])
+    assert_on_both(&rt, alloc, b"ABCDE", &change, b"AxzzE", &[(1, b"BCD")])
 }
 
 #[test]
@@ -138,10 +143,10 @@ fn maximal_runs_out_of_order(rt: HostRuntime) -> Result<(), Fail> {
     let alloc = rt.alloc();
     let scattered = change(alloc, None, &[(8, b"X"), (2, b"XY"), (3, b"Z"), (4, b"[")])?;
     let runs: [(u64, &[u8]); 2] = [(2, b"CDE"), (8, b"I")];
-    assert_on_memory(&rt, alloc, b"ABCDEFGHIJ", &scattered, b"ABXZ[FGHXJ", &runs)?;
+    assert_on_both(&rt, alloc, b"ABCDEFGHIJ", &scattered, b"ABXZ[FGHXJ", &runs)?;
     let image = b"ABCDEFGHIJKLMNOPQRST";
     let halves = change(alloc, None, &[(10, b"0123456789"), (0, b"9876543210")])?;
-    assert_on_memory(
+    assert_on_both(
         &rt,
         alloc,
         image,

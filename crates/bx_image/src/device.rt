@@ -8,14 +8,17 @@ use bx_text::NoMemory;
 use std::alloc::{AllocError, AllocFailed};
 use thiserror::Error;
 
+/// A call of a device failed.
 #[derive(Clone, Copy, Debug, PartialEq, Eq, Error)]
 #[error("device failed")]
 pub struct DeviceFailed;
 
+/// An image would be longer than `MAX_LEN`.
 #[derive(Clone, Copy, Debug, PartialEq, Eq, Error)]
 #[error("image too large")]
 pub struct TooLarge;
 
+/// What stopped a call on an image.
 #[derive(Clone, Copy, Debug, PartialEq, Eq, Error)]
 pub enum ImageFault {
     #[error("out of memory")]
@@ -50,6 +53,11 @@ impl<T: Drop> From<AllocFailed<T>> for ImageFault {
     }
 }
 
+/// What holds the bytes of one image.
+///
+/// Each call that answers `DeviceFailed` adds one to `faults`, and no other call changes it.
+/// A device is honest after a call exactly if it was before, and its room never falls.
+/// What is said of the image is said of honest devices.
 pub trait Device {
     /// The bytes that an honest device has.
     ghost image: { Self → List ℕ };
@@ -63,12 +71,14 @@ pub trait Device {
     /// How many calls have answered `DeviceFailed`.
     ghost failures: { Self → ℕ };
 
+    /// The length of the image, which stays.
     fn len(&mut self) -> Result<u64, DeviceFailed>
         requires { failures self.old < u64.MAX }
         ensures len { honest self.old → IfOk result (λ n. n ≡ length (image self.old)) }
         ensures image { honest self.old → image self.new ≡ image self.old }
         ensures goes_on { GoesOn honest room failures (is_err result) self.old self.new };
 
+    /// Fills `buf` with the bytes from the address `at` on. They lie within the image, which stays.
     fn read_at(&mut self, at: u64, buf: &mut [u8]) -> Result<(), DeviceFailed>
         requires countable { failures self.old < u64.MAX }
         requires range { honest self.old → at + length buf.old ≤ length (image self.old) }
@@ -76,6 +86,10 @@ pub trait Device {
         ensures image { honest self.old → image self.new ≡ image self.old }
         ensures goes_on { GoesOn honest room failures (is_err result) self.old self.new };
 
+    /// Places the bytes at the address `at`, within the room. The image grows where they need it, and a gap is zeros.
+    ///
+    /// A write that failed leaves the bytes outside its range, a length from the old one up to the
+    /// greater of it and the range's end, and zeros in a gap.
     fn write_at(&mut self, at: u64, bytes: &[u8]) -> Result<(), DeviceFailed>
         requires countable { failures self.old < u64.MAX }
         requires range { at + length bytes.now ≤ room self.old }
@@ -83,6 +97,9 @@ pub trait Device {
         ensures failed { honest self.old → OnErr result (IsPartlyWritten at (length bytes.now) (image self.old) (image self.new)) }
         ensures goes_on { GoesOn honest room failures (is_err result) self.old self.new };
 
+    /// Cuts the image to `n` bytes, or fills it up with zeros, within the room.
+    ///
+    /// A call that failed leaves a length between the old one and `n`, and the bytes below both.
     fn set_len(&mut self, n: u64) -> Result<(), DeviceFailed>
         requires countable { failures self.old < u64.MAX }
         requires range { n ≤ room self.old }
@@ -90,15 +107,20 @@ pub trait Device {
         ensures failed { honest self.old → OnErr result (IsPartlyCut n (image self.old) (image self.new)) }
         ensures goes_on { GoesOn honest room failures (is_err result) self.old self.new };
 
+    /// Makes room for an image of `n` bytes. Writes within the room take no memory.
+    ///
+    /// A growth that is refused leaves the room. The image stays in any case.
     fn reserve(&mut self, n: u64) -> Result<(), NoMemory>
         ensures ok { OnOk result (n ≤ room self.new) }
         ensures err { OnErr result (room self.new ≡ room self.old) }
         ensures image { honest self.old → image self.new ≡ image self.old }
         ensures goes_on { GoesOn honest room failures false self.old self.new };
 
+    /// The room that there is.
     fn reserved(&self) -> u64
         ensures { result ≡ room self.now };
 
+    /// How many calls have answered `DeviceFailed`.
     fn faults(&self) -> u64
         ensures { result ≡ failures self.now };
 

@@ -33,3 +33,7 @@ mod growth_tests;
 mod pages_tests;
 #[cfg(test)]
 mod ration;
+#[cfg(test)]
+mod slow;
+#[cfg(test)]
+mod slow_tests;

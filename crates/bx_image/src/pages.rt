@@ -150,7 +150,7 @@ fn add_pages<A: Allocator + Clone>(
     Ok(())
 }
 
-// No list of pages is longer.
+// No memory has more bytes, so this is refused at once.
 const MOST: u64 = 1 << 62;
 
 /// An image in pages: it is always honest and never fails.

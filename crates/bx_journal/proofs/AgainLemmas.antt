@@ -1,21 +1,15 @@
 -- A text that is read again.
-use Rattle.std.proofs.Common.{◌≡◌, ℕ, zero, suc, ◌+◌, ◌-◌, ◌<◌, ◌≤◌, Bool, true, false, List, [], ◌∷◌, ◌++◌, length, map, take, drop, refl, ap, sym, ◌∙◌, subst, inl, inr, ◌⊎◌, arith, Option, Some, None, length-drop, get_or}
+use Rattle.std.proofs.Common.{◌≡◌, ℕ, zero, suc, ◌+◌, ◌<◌, ◌≤◌, List, [], ◌∷◌, ◌++◌, length, map, take, drop, refl, ap, sym, ◌∙◌, subst, inl, inr, arith, length-drop, get_or}
 use Rattle.bx_journal.specs.Kept.{run_of}
-use Rattle.bx_journal.specs.declared.version.Version.{Version}
 use Rattle.bx_journal.specs.declared.fault.SessionFault.{SessionFault}
-use Rattle.bx_journal.specs.declared.fault.SessionFault.TheVariants.{NoMemory, TooLarge, DeviceFailed, Damaged, TooFew, JournalFull, Interrupted, Broken, LengthDiffers}
+use Rattle.bx_journal.specs.declared.fault.SessionFault.TheVariants.{Damaged}
 use Rattle.bx_journal.specs.declared.journal.JournalRead.{JournalRead}
 use Rattle.bx_journal.specs.declared.reader.EntryRead.{EntryRead}
-use Rattle.bx_journal.specs.declared.reader.StageRead.{StageRead}
-use Rattle.bx_journal.specs.declared.reader.StageRead.TheVariants.{Between as BetweenRead, Saving as SavingRead, Ending as EndingRead}
-use Rattle.bx_journal.specs.Text.{Entry, Stage, Between, Saving, Ending, Reading, Reads, IsRest, IsAccepted, split, Split}
-use Rattle.bx_journal.specs.Mark.{IsMark}
-use Rattle.bx_journal.specs.Journal.{HasRead, HasPlaces}
-use Rattle.bx_journal.specs.Parsed.{entries_of, stage_of, reading_of, AreMarked, IsMarked}
-use Rattle.bx_journal.specs.Calls.{ReadFault}
-use Rattle.bx_journal.specs.Undoing.{IsFinished, HasCount, IsReadAgain, AgainFault, IsOutOfStep}
+use Rattle.bx_journal.specs.Text.{Entry, Between, Reading, Reads, split}
+use Rattle.bx_journal.specs.Journal.{HasRead}
+use Rattle.bx_journal.specs.Parsed.{entries_of, reading_of}
+use Rattle.bx_journal.specs.Undoing.{HasCount, IsReadAgain, AgainFault, IsOutOfStep}
 use Rattle.bx_journal.proofs.ReadLemmas.{length-entries_of}
-use Rattle.bx_journal.proofs.Tails.{rest_none}
 use Rattle.bx_journal.proofs.OpenLemmas.{read_once}
 use Rattle.bx_journal.proofs.Judged.{undamaged}
 use Rattle.std.specs.Prelude.{All}

@@ -1,12 +1,11 @@
 -- The steps of a change, over texts and images.
-use Rattle.std.proofs.Common.{◌≡◌, ℕ, suc, ◌+◌, ◌≤◌, List, [], ◌∷◌, ◌++◌, length, take, drop, refl, ap, sym, ◌∙◌, subst, inl, inr, ◌⊎◌, arith, append-nil}
+use Rattle.std.proofs.Common.{◌≡◌, ℕ, ◌≤◌, List, ◌∷◌, ◌++◌, length, take, drop, refl, ap, sym, ◌∙◌, subst}
 use Rattle.std.proofs.lemmas.List.{take-append-drop}
 use Rattle.std.specs.Prelude.{flat_map}
 use Rattle.bx_image.specs.declared.change.TheConstants.{MAX_LEN}
 use Rattle.bx_journal.specs.Kept.{Kept, kept_of}
 use Rattle.bx_image.specs.declared.change.Change.{Change}
-use Rattle.bx_image.specs.Change.{effect, saved, restore, Covers, IsOf, IsAsGood}
-use Rattle.bx_journal.specs.declared.version.Version.{Version}
+use Rattle.bx_image.specs.Change.{effect, saved, IsAsGood}
 use Rattle.bx_journal.specs.declared.version.Version.TheVariants.{Second}
 use Rattle.bx_journal.specs.Entry.{head_text, end_text, rows}
 use Rattle.bx_journal.specs.Text.{IsPrefix}
@@ -15,7 +14,7 @@ use Rattle.bx_journal.specs.Phase.{IsAtRest, IsOpen, in_rows, RecoversEither}
 use Rattle.bx_journal.specs.Step.{StartsEntry, EndsEntry, WritesEntry}
 use Rattle.bx_store.specs.Store.{IsPartlyAppended}
 use Rattle.bx_journal.proofs.RowLemmas.{restore_same, covers_same, all_rows_byte}
-use Rattle.bx_journal.proofs.Phases.{head_recovers, head_opens, end_recovers, end_rests, open_moves, open_recovers}
+use Rattle.bx_journal.proofs.Phases.{head_recovers, head_opens, end_recovers, end_rests, open_moves}
 
 front_of : (k : ℕ) (bytes text : List ℕ) → bytes ≡ text → IsPrefix (take k bytes) text
 front_of k bytes text is = (drop k bytes, sym is ∙ sym (take-append-drop k bytes))

@@ -1,9 +1,9 @@
 -- At which line a text is damaged.
-use Rattle.std.proofs.Common.{◌≡◌, ℕ, zero, suc, ◌+◌, ◌-◌, ◌<◌, ◌≤◌, Bool, true, false, cond, List, [], ◌∷◌, ◌++◌, length, take, drop, refl, ap, sym, ◌∙◌, subst, inl, inr, ◌⊎◌, arith, Option, Some, None, append-nil, append_assoc, length-append, length-drop}
-use Rattle.std.specs.Prelude.{option_and_then, nat_le, if◌then◌else◌, flat_map}
+use Rattle.std.proofs.Common.{◌≡◌, ℕ, zero, suc, ◌+◌, ◌<◌, ◌≤◌, List, [], ◌∷◌, ◌++◌, length, take, drop, refl, ap, sym, ◌∙◌, subst, arith, Option, Some, None, append-nil, append_assoc, length-append, length-drop}
+use Rattle.std.specs.Prelude.{option_and_then}
 use Rattle.std.proofs.lemmas.Grind.{common_steps}
 use Rattle.std.proofs.lemmas.List.{take-append-drop}
-use Rattle.std.proofs.Math.Seq.{take-add, take-append_seam, drop-append_seam}
+use Rattle.std.proofs.Math.Seq.{take-add}
 use Rattle.bx_journal.specs.Plain.{HasNoNewline}
 use Rattle.bx_journal.specs.Text.{Reading, Split, split, joined, start, next, after_lines, IsRest, Reads, IsAccepted, first_lines, IsDamagedAt}
 use Rattle.bx_journal.specs.Mark.{IsMark}

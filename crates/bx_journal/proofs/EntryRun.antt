@@ -1,7 +1,6 @@
 -- A written entry may be cut anywhere.
-use Rattle.std.proofs.Common.{◌≡◌, ℕ, zero, suc, ◌+◌, ◌-◌, ◌^◌, ◌<◌, ◌≤◌, Bool, true, false, cond, eqb, List, [], ◌∷◌, ◌++◌, length, length-append, refl, ap, sym, ◌∙◌, subst, inl, inr, ◌⊎◌, arith, append_assoc, append-nil, Option, Some, None, map}
-use Rattle.std.specs.Prelude.{◌==◌, ◌&&◌, IsTrue, flat_map, codes, option_and_then, option_map, nat_le, nat_lt, if◌then◌else◌}
-use Rattle.std.specs.Option.{option_or}
+use Rattle.std.proofs.Common.{◌≡◌, ℕ, suc, ◌+◌, ◌<◌, ◌≤◌, Bool, true, false, List, [], ◌∷◌, ◌++◌, length, length-append, refl, sym, subst, inl, inr, arith, append_assoc, append-nil, Some, None, map}
+use Rattle.std.specs.Prelude.{◌&&◌, flat_map, nat_le, nat_lt, if◌then◌else◌}
 use Rattle.std.specs.List.{list_all}
 use Rattle.std.specs.Str.{bytes_eq}
 use Rattle.std.proofs.lemmas.Grind.{common_steps}
@@ -10,15 +9,14 @@ use Rattle.bx_image.specs.declared.change.TheConstants.{MAX_LEN}
 use Rattle.bx_journal.specs.Kept.{Run}
 use Rattle.bx_journal.specs.Kept.{Kept}
 use Rattle.bx_journal.specs.declared.version.Version.{Version}
-use Rattle.bx_journal.specs.declared.version.Version.TheVariants.{First, Second}
+use Rattle.bx_journal.specs.declared.version.Version.TheVariants.{Second}
 use Rattle.bx_journal.specs.Hex.{hex_digits}
 use Rattle.bx_journal.specs.DumpLine.{dump_line, piece_of}
-use Rattle.bx_journal.specs.Plain.{HasNoNewline}
-use Rattle.bx_journal.specs.Line.{start_line, save_line, end_line, length_in, after_in, saved_in}
+use Rattle.bx_journal.specs.Line.{start_line, save_line, end_line, saved_in}
 use Rattle.bx_journal.specs.Entry.{rows, head_lines}
-use Rattle.bx_journal.specs.Text.{IsPrefix, Reading, Entry, Stage, Between, Saving, Ending, IsRest, next, next_at, begins, may_begin, after_lines, is_short, is_printable, begins_with_s}
+use Rattle.bx_journal.specs.Text.{IsPrefix, Reading, Entry, Between, Saving, Ending, IsRest, next, next_at, begins, may_begin, is_short, is_printable, begins_with_s}
 use Rattle.bx_journal.proofs.Written.{IsSavedLine, saved_line}
-use Rattle.bx_journal.proofs.Runs.{SafeRun, empty_rest}
+use Rattle.bx_journal.proofs.Runs.{SafeRun}
 use Rattle.bx_journal.proofs.RowLemmas.{AreRows}
 use Rattle.bx_journal.proofs.LineLemmas.{bytes_eq-same, start_reads, first_not_second, end_reads, plain_start, plain_save, plain_end, short_start, short_save, short_end}
 

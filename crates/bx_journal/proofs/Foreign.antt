@@ -1,12 +1,10 @@
 -- Lines that were read may be cut anywhere, if they are short.
-use Rattle.std.proofs.Common.{◌≡◌, ℕ, zero, suc, ◌+◌, ◌-◌, ◌*◌, ◌<◌, ◌≤◌, Bool, true, false, cond, eqb, List, [], ◌∷◌, ◌++◌, length, take, drop, refl, ap, sym, ◌∙◌, subst, inl, inr, ◌⊎◌, arith, append_assoc, append-nil, Option, Some, None}
-use Rattle.std.specs.Prelude.{◌==◌, ◌&&◌, IsTrue, option_and_then}
+use Rattle.std.proofs.Common.{◌≡◌, ℕ, suc, ◌+◌, ◌*◌, ◌≤◌, Bool, true, false, cond, eqb, List, [], ◌∷◌, length, refl, ap, sym, ◌∙◌, subst, inl, inr, arith, Some}
+use Rattle.std.specs.Prelude.{◌&&◌}
 use Rattle.std.specs.List.{list_all}
 use Rattle.std.proofs.lemmas.Grind.{common_steps}
-use Rattle.std.proofs.lemmas.Bool.{cases_lt}
 use Rattle.bx_journal.specs.Kept.{Kept}
 use Rattle.bx_journal.specs.declared.version.Version.{Version}
-use Rattle.bx_journal.specs.Plain.{HasNoNewline}
 use Rattle.bx_journal.specs.Text.{Split, split, with_front, joined, Reading, Entry, Stage, Between, Saving, Ending, next, next_at, after_lines, is_short}
 use Rattle.bx_journal.proofs.Splits.{AllPlain}
 use Rattle.bx_journal.proofs.Runs.{SafeRun}

@@ -1,19 +1,18 @@
 -- When a text may be a front of a line that ends in a number.
-use Rattle.std.proofs.Common.{◌≡◌, ℕ, zero, suc, ◌+◌, ◌-◌, ◌*◌, ◌/◌, ◌^◌, ◌<◌, ◌≤◌, ◌↔◌, Bool, true, false, List, [], ◌∷◌, ◌++◌, length, take, drop, refl, ap, sym, ◌∙◌, subst, inl, inr, ◌⊎◌, arith, append_assoc, append-nil, Option, Some, None, length-append}
-use Rattle.std.specs.Prelude.{◌==◌, ◌&&◌, IsTrue, nat_le, nat_lt, if◌then◌else◌, option_and_then, replicate}
+use Rattle.std.proofs.Common.{◌≡◌, ℕ, zero, suc, ◌+◌, ◌-◌, ◌*◌, ◌/◌, ◌^◌, ◌<◌, ◌≤◌, ◌↔◌, Bool, true, false, List, [], ◌∷◌, ◌++◌, length, take, drop, refl, ap, sym, ◌∙◌, subst, arith, append_assoc, Option, Some, None, length-append}
+use Rattle.std.specs.Prelude.{nat_le, option_and_then, replicate}
 use Rattle.std.proofs.lemmas.Grind.{common_steps}
 use Rattle.std.proofs.lemmas.List.{take-append-drop, length-replicate}
 use Rattle.std.specs.Str.{bytes_eq}
-use Rattle.std.proofs.Math.Seq.{take-append_seam, drop-append_seam, drop-cons}
+use Rattle.std.proofs.Math.Seq.{take-append_seam, drop-cons}
 use Rattle.std.proofs.Common.{get_or, add-one, not}
 use Rattle.std.specs.List.{list_all}
-use Rattle.bx_journal.specs.Text.{is_printable, is_short}
-use Rattle.std.proofs.Math.ListN.{drop_of_length-le}
-use Rattle.std.proofs.Math.Nat.{pow-suc, mul-le-mul_left, le-div_iff_mul-le}
+use Rattle.bx_journal.specs.Text.{is_printable}
+use Rattle.std.proofs.Math.Nat.{pow-suc, le-div_iff_mul-le}
 use Rattle.bx_image.specs.declared.change.TheConstants.{MAX_LEN}
-use Rattle.bx_journal.specs.Hex.{hex_digits, hex_value, number_after, number_of}
+use Rattle.bx_journal.specs.Hex.{hex_digits, hex_value, number_after}
 use Rattle.bx_journal.specs.Text.{IsPrefix, Entry, may_begin}
-use Rattle.bx_journal.specs.Front.{IsNumberFront, IsStartFront}
+use Rattle.bx_journal.specs.Front.{IsNumberFront}
 use Rattle.bx_journal.specs.Parsed.{told_by}
 use Rattle.bx_journal.proofs.HexLemmas.{number_after-append, number_after-hex_digits, length-hex_digits}
 use Rattle.bx_journal.proofs.Inverse.{bind_some, digits_after, below_after, same_bytes}

@@ -1,9 +1,9 @@
 -- A text that is accepted is damaged nowhere.
-use Rattle.std.proofs.Common.{◌≡◌, ℕ, suc, ◌+◌, ◌<◌, ◌≤◌, List, length, take, ap, sym, ◌∙◌, subst, inl, inr, ◌⊎◌, arith, Some}
+use Rattle.std.proofs.Common.{◌≡◌, ℕ, List, length, sym, subst, inl, inr}
 use Rattle.std.proofs.lemmas.Bool.{cases_lt}
 use Rattle.bx_journal.specs.declared.fault.SessionFault.{SessionFault}
 use Rattle.bx_journal.specs.declared.fault.SessionFault.TheVariants.{NoMemory, TooLarge, DeviceFailed, Damaged, TooFew, JournalFull, Interrupted, Broken, LengthDiffers}
-use Rattle.bx_journal.specs.Text.{Reading, Reads, IsAccepted, IsDamagedAt, split, start, first_lines}
+use Rattle.bx_journal.specs.Text.{Reading, Reads, IsAccepted, IsDamagedAt, split, start}
 use Rattle.bx_journal.specs.Calls.{ReadFault, OpenFault}
 use Rattle.bx_journal.specs.Opening.{RefusesLength}
 use Rattle.bx_journal.proofs.Damage.{front_read, accepts, first_all}

@@ -1,20 +1,17 @@
 -- The laws.
-use Rattle.std.proofs.Common.{◌≡◌, ℕ, zero, suc, ◌+◌, ◌<◌, ◌≤◌, Bool, true, false, List, [], ◌∷◌, ◌++◌, length, refl, ap, sym, ◌∙◌, subst, inl, inr, ◌⊎◌, arith, append_assoc, append-nil, Option, Some, None}
-use Rattle.std.specs.Prelude.{flat_map, IsTrue}
+use Rattle.std.proofs.Common.{◌≡◌, ℕ, suc, List, [], ◌∷◌, ◌++◌, length, refl, ap, sym, ◌∙◌, subst, inl, inr, arith, append_assoc, Some}
 use Rattle.std.proofs.lemmas.Bool.{cases_lt}
-use Rattle.bx_image.specs.declared.change.TheConstants.{MAX_LEN}
-use Rattle.bx_journal.specs.Kept.{Kept}
 use Rattle.bx_journal.specs.declared.version.Version.TheVariants.{Second}
-use Rattle.bx_journal.specs.Laws.{HasBytes, WrittenIsRead, StandsForOne, DamagedAtOne}
+use Rattle.bx_journal.specs.Laws.{WrittenIsRead, StandsForOne, DamagedAtOne, EmptyIsSound}
 use Rattle.bx_journal.specs.Line.{end_line}
-use Rattle.bx_journal.specs.Entry.{rows, head_lines, head_text, end_text, entry_text}
-use Rattle.bx_journal.specs.Text.{Entry, Stage, Between, Ending, Reading, Reads, IsRest, split, joined, start, after_lines, IsDamagedAt, IsAccepted}
-use Rattle.bx_journal.specs.Stack.{StandsFor, stack_of}
+use Rattle.bx_journal.specs.Entry.{head_lines, entry_text}
+use Rattle.bx_journal.specs.Text.{Entry, Between, Reading, Reads, IsRest, split, joined, start, after_lines}
+use Rattle.bx_journal.specs.Stack.{stack_of}
 use Rattle.bx_journal.specs.Phase.{in_rows}
 use Rattle.bx_journal.proofs.Splits.{split-append}
-use Rattle.bx_journal.proofs.Runs.{SafeRun, GoesAllBy, safe_all, after_lines-append, empty_rest}
+use Rattle.bx_journal.proofs.Runs.{SafeRun, GoesAllBy, safe_all, after_lines-append}
 use Rattle.bx_journal.proofs.RowLemmas.{all_rows_byte, all_rows_are}
-use Rattle.bx_journal.proofs.EntryRun.{head_run, end_run, saving, ending, between}
+use Rattle.bx_journal.proofs.EntryRun.{head_run, end_run, between}
 
 joined-append : (a b : List (List ℕ)) → joined (a ++ b) ≡ joined a ++ joined b
 joined-append [] b = refl
@@ -51,3 +48,10 @@ damaged_at_one text m n a b =
       | inl less ↦ absurd (a.damaged (b.least m less))
       | inr most ↦ elim (cases_lt n m) [ inl less ↦ absurd (b.damaged (a.least n less)) | inr least ↦ omega arith ]
     ]
+
+pub empty_is_sound : EmptyIsSound
+unfolding split after_lines stack_of
+empty_is_sound x = record {
+  stands = record { entries = []; reads = record { lines = refl; rest = inl refl }; whole = refl; lengths = tt; stack_is = refl };
+  sound = record { short = refl; unfinished = tt; finished = tt };
+}

@@ -1,9 +1,8 @@
 -- The lines that are written read as what they were made of.
-use Rattle.std.proofs.Common.{◌≡◌, ℕ, zero, suc, ◌+◌, ◌-◌, ◌*◌, ◌/◌, ◌%◌, ◌^◌, ◌<◌, ◌≤◌, Bool, true, false, cond, eqb, List, [], ◌∷◌, ◌++◌, length, take, drop, refl, ap, sym, ◌∙◌, subst, inl, inr, ◌⊎◌, arith, length-append, append_assoc, Option, Some, None, leb, rules}
-use Rattle.std.specs.Prelude.{◌==◌, ◌&&◌, nat_le, if◌then◌else◌, codes, option_and_then, option_map}
+use Rattle.std.proofs.Common.{◌≡◌, ℕ, ◌+◌, ◌^◌, ◌<◌, ◌≤◌, true, List, ◌++◌, length, refl, arith, length-append, Some, None, rules}
+use Rattle.std.specs.Prelude.{codes}
 use Rattle.std.specs.List.{list_all}
 use Rattle.std.specs.Str.{bytes_eq}
-use Rattle.std.specs.Bool.{Decides}
 use Rattle.std.proofs.lemmas.Grind.{common_steps}
 use Rattle.std.proofs.lemmas.List.Folds.{list_all-append}
 use Rattle.std.proofs.lemmas.Slice.Eq.{bytes_eq-Decides}
@@ -11,7 +10,7 @@ use Rattle.std.proofs.Math.Seq.{take-append_seam, drop-append_seam}
 use Rattle.bx_image.specs.declared.change.TheConstants.{MAX_LEN}
 use Rattle.bx_journal.specs.declared.version.Version.{Version}
 use Rattle.bx_journal.specs.declared.version.Version.TheVariants.{First, Second}
-use Rattle.bx_journal.specs.Hex.{hex_digits, number_of}
+use Rattle.bx_journal.specs.Hex.{hex_digits}
 use Rattle.bx_journal.specs.Line.{digits_of, start_head, start_line, save_line, end_head, end_line, behind, at_most, length_in, after_in}
 use Rattle.bx_journal.specs.Text.{is_printable, is_short}
 use Rattle.bx_journal.specs.Plain.{HasNoNewline}

@@ -1,14 +1,13 @@
 -- The rows of a log, and how many bytes saved lines have.
-use Rattle.std.proofs.Common.{◌≡◌, ℕ, zero, suc, ◌+◌, ◌-◌, ◌<◌, ◌≤◌, ◌^◌, Bool, true, false, List, [], ◌∷◌, ◌++◌, length, take, get_or, refl, ap, sym, ◌∙◌, subst, inl, inr, ◌⊎◌, arith, Option, Some, None, map, length-append}
-use Rattle.std.specs.Prelude.{sum, All, option_map}
+use Rattle.std.proofs.Common.{◌≡◌, ℕ, suc, ◌+◌, ◌<◌, ◌≤◌, List, [], ◌∷◌, ◌++◌, length, take, get_or, refl, ap, sym, ◌∙◌, arith, map}
+use Rattle.std.specs.Prelude.{sum}
 use Rattle.std.specs.List.{sum_by}
-use Rattle.std.proofs.lemmas.List.{take_more, length-take-le, map-append}
-use Rattle.std.proofs.lemmas.List.Sums.{sum-map, sum_by_more_le, sum_by-append, sum_by-cons}
+use Rattle.std.proofs.lemmas.List.{take_more, length-take-le}
+use Rattle.std.proofs.lemmas.List.Sums.{sum-map, sum_by_more_le}
 use Rattle.bx_text.specs.declared.pieces.Piece.{Piece}
 use Rattle.bx_journal.specs.Kept.{Run, run_of, kept_of}
 use Rattle.bx_journal.specs.declared.reader.EntryRead.{EntryRead}
 use Rattle.bx_journal.specs.declared.calls.LogRow.{LogRow}
-use Rattle.bx_journal.specs.Text.{Entry}
 use Rattle.bx_journal.specs.Calls.{rows_of}
 use Rattle.bx_journal.specs.Rows.{saved_length}
 use Rattle.bx_journal.specs.Parsed.{entry_of, entries_of}

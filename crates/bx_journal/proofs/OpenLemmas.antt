@@ -1,6 +1,6 @@
 -- What opening finds, from what was read.
-use Rattle.std.proofs.Common.{◌≡◌, ℕ, zero, suc, ◌+◌, ◌-◌, ◌<◌, ◌≤◌, Bool, true, false, List, [], ◌∷◌, ◌++◌, length, take, drop, refl, ap, sym, ◌∙◌, subst, inl, inr, ◌⊎◌, arith, Option, Some, None, Result, Ok, Err, length-drop}
-use Rattle.std.specs.Prelude.{◌==◌, IfSome, IfOk, IfErr, OnOk, OnErr, MatchResult}
+use Rattle.std.proofs.Common.{◌≡◌, ℕ, suc, ◌+◌, ◌≤◌, true, List, [], ◌∷◌, length, take, drop, refl, ap, sym, ◌∙◌, subst, inl, arith, Option, Some, None, length-drop}
+use Rattle.std.specs.Prelude.{IfSome}
 use Rattle.std.proofs.lemmas.Grind.{common_steps}
 use Rattle.bx_image.specs.declared.record.Saved.{Saved}
 use Rattle.bx_journal.specs.Kept.{kept_of}
@@ -11,18 +11,16 @@ use Rattle.bx_journal.specs.declared.calls.How.TheVariants.{Clean, Dropped, Rest
 use Rattle.bx_journal.specs.declared.fault.SessionFault.{SessionFault}
 use Rattle.bx_journal.specs.declared.fault.SessionFault.TheVariants.{NoMemory, TooLarge, DeviceFailed, Damaged, TooFew, JournalFull, Interrupted, Broken, LengthDiffers}
 use Rattle.bx_journal.specs.declared.journal.JournalRead.{JournalRead}
-use Rattle.bx_journal.specs.declared.reader.EntryRead.{EntryRead}
-use Rattle.bx_journal.specs.declared.reader.StageRead.{StageRead}
 use Rattle.bx_journal.specs.declared.reader.StageRead.TheVariants.{Between as BetweenRead, Saving as SavingRead, Ending as EndingRead}
-use Rattle.bx_journal.specs.Text.{Entry, Stage, Between, Saving, Ending, Reading, Reads, IsRest, split, Split, may_begin}
-use Rattle.bx_journal.specs.Stack.{StandsFor, HaveLengths, Recovers, image_at, recovered, stack_of}
+use Rattle.bx_journal.specs.Text.{Entry, Between, Reading, Reads, IsRest, split, may_begin}
+use Rattle.bx_journal.specs.Stack.{HaveLengths, Recovers, image_at, stack_of}
 use Rattle.bx_journal.specs.Mark.{IsMark}
-use Rattle.bx_journal.specs.Journal.{HasRead, HasPlaces}
-use Rattle.bx_journal.specs.Parsed.{entries_of, stage_of, reading_of, told_by, IsMarked}
+use Rattle.bx_journal.specs.Journal.{HasRead}
+use Rattle.bx_journal.specs.Parsed.{entries_of, stage_of, reading_of, told_by}
 use Rattle.bx_journal.specs.Calls.{how_of, Differs, OpenFault, AfterFaultOf}
 use Rattle.bx_journal.specs.Opening.{IsOpened, LookFault, RefusesLength, FaultCounts}
 use Rattle.bx_journal.proofs.ReadLemmas.{length-entries_of}
-use Rattle.bx_journal.proofs.Sane.{IsSane, AreSane, read_sane, have_lengths, length-restore}
+use Rattle.bx_journal.proofs.Sane.{IsSane, read_sane, have_lengths, length-restore}
 use Rattle.bx_journal.proofs.TailLemmas.{begins_at, begin_mark, tail_at, counted_at}
 use Rattle.bx_journal.proofs.Tails.{rest_none}
 

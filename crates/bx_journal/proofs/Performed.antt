@@ -1,15 +1,15 @@
 -- A change of a pair that need not be sound.
-use Rattle.std.proofs.Common.{◌≡◌, ℕ, zero, suc, ◌+◌, ◌<◌, ◌≤◌, Bool, true, false, eqb, cond, List, [], ◌∷◌, ◌++◌, length, refl, ap, sym, ◌∙◌, subst, arith, append_assoc, append-nil, Option, Some, None}
-use Rattle.std.specs.Prelude.{IfSome, IsTrue, ◌==◌}
+use Rattle.std.proofs.Common.{◌≡◌, ℕ, suc, ◌+◌, ◌≤◌, Bool, true, false, eqb, cond, List, [], ◌∷◌, ◌++◌, length, refl, ap, sym, ◌∙◌, subst, arith, append_assoc, append-nil}
+use Rattle.std.specs.Prelude.{IfSome}
 use Rattle.bx_image.specs.declared.change.TheConstants.{MAX_LEN}
 use Rattle.bx_journal.specs.Kept.{Kept, kept_of}
 use Rattle.bx_image.specs.declared.change.Change.{Change}
-use Rattle.bx_image.specs.Change.{effect, saved, restore, byte_in, IsOf, IsAsGood, Fits}
+use Rattle.bx_image.specs.Change.{effect, saved, restore, IsOf, IsAsGood}
 use Rattle.bx_journal.specs.declared.version.Version.TheVariants.{Second}
 use Rattle.bx_journal.specs.Laws.{HasBytes}
 use Rattle.bx_journal.specs.Line.{end_line}
 use Rattle.bx_journal.specs.Entry.{head_text, end_text, entry_text}
-use Rattle.bx_journal.specs.Text.{Entry, Stage, Between, Reading, Reads, Split, split, with_front, may_begin}
+use Rattle.bx_journal.specs.Text.{Entry, Between, Reads, Split, split, with_front}
 use Rattle.bx_journal.specs.Stack.{StandsFor, HaveLengths, stack_of}
 use Rattle.bx_journal.specs.Machine.{top}
 use Rattle.bx_journal.proofs.Phases.{may_begin_of, length-stack_of, whole_behind}

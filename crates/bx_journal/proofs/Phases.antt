@@ -1,25 +1,23 @@
 -- From phase to phase.
-use Rattle.std.proofs.Common.{◌≡◌, ℕ, zero, suc, ◌+◌, ◌-◌, ◌<◌, ◌≤◌, Bool, true, false, cond, List, [], ◌∷◌, ◌++◌, length, refl, ap, sym, ◌∙◌, subst, inl, inr, ◌⊎◌, arith, append_assoc, append-nil, Option, Some, None, map}
-use Rattle.std.specs.Prelude.{◌==◌, ◌&&◌, IsTrue, flat_map, IfSome, nat_eq}
+use Rattle.std.proofs.Common.{◌≡◌, ℕ, suc, ◌≤◌, true, List, [], ◌∷◌, ◌++◌, length, refl, ap, sym, ◌∙◌, subst, inl, inr, ◌⊎◌, arith, append-nil, Option, Some, None}
+use Rattle.std.specs.Prelude.{flat_map, IfSome}
 use Rattle.std.specs.List.{list_all}
 use Rattle.std.proofs.lemmas.Grind.{common_steps}
 use Rattle.std.proofs.lemmas.List.Folds.{list_all-append}
 use Rattle.bx_image.specs.declared.change.TheConstants.{MAX_LEN}
-use Rattle.bx_journal.specs.Kept.{Run}
 use Rattle.bx_journal.specs.Kept.{Kept}
-use Rattle.bx_image.specs.Change.{restore, byte_in, Covers, IsOf, IsAsGood}
+use Rattle.bx_image.specs.Change.{restore, IsOf, IsAsGood}
 use Rattle.bx_journal.specs.declared.version.Version.{Version}
-use Rattle.bx_journal.specs.declared.version.Version.TheVariants.{First, Second}
-use Rattle.bx_journal.specs.Plain.{HasNoNewline}
+use Rattle.bx_journal.specs.declared.version.Version.TheVariants.{Second}
 use Rattle.bx_journal.specs.Line.{end_line}
 use Rattle.bx_journal.specs.Entry.{rows, head_lines, head_text, end_text}
-use Rattle.bx_journal.specs.Text.{IsPrefix, Reading, Entry, Stage, Between, Saving, Ending, IsRest, Reads, Split, split, start, joined, may_begin, after_lines, is_short}
-use Rattle.bx_journal.specs.Stack.{stack_of, HaveLengths, AllCover, image_at, recovered, CoversAt, IsSound, StandsFor, Recovers}
+use Rattle.bx_journal.specs.Text.{IsPrefix, Reading, Entry, Ending, IsRest, split, start, may_begin, after_lines, is_short}
+use Rattle.bx_journal.specs.Stack.{stack_of, HaveLengths, AllCover, image_at, recovered, CoversAt, Recovers}
 use Rattle.bx_journal.specs.Phase.{IsAtRest, IsOpen, in_rows, RecoversEither}
 use Rattle.bx_journal.proofs.Splits.{split-append}
-use Rattle.bx_journal.proofs.Runs.{SafeRun, GoesBy, Goes, GoesAllBy, safe_prefix, safe_all, after_lines-append, empty_rest}
+use Rattle.bx_journal.proofs.Runs.{SafeRun, Goes, GoesAllBy, safe_prefix, safe_all, after_lines-append, empty_rest}
 use Rattle.bx_journal.proofs.RowLemmas.{all_rows_byte, restore_same, covers_same, all_rows_are}
-use Rattle.bx_journal.proofs.EntryRun.{head_run, end_run, saving, ending, between}
+use Rattle.bx_journal.proofs.EntryRun.{head_run, end_run, ending, between}
 
 -- what a reading has for an image and a stack
 pub record Fine (x : List ℕ) (stack : List (List ℕ)) (r : Reading) : Type 0 where

@@ -1,15 +1,14 @@
 -- What was read, with its places, when one more entry comes.
-use Rattle.std.proofs.Common.{◌≡◌, ℕ, suc, ◌+◌, ◌-◌, ◌<◌, ◌≤◌, Bool, true, false, List, [], ◌∷◌, ◌++◌, length, take, drop, refl, ap, sym, ◌∙◌, subst, inl, inr, ◌⊎◌, arith, Option, Some, None, length-append, length-take, length-drop}
+use Rattle.std.proofs.Common.{◌≡◌, ℕ, suc, ◌+◌, ◌-◌, ◌≤◌, List, [], ◌∷◌, ◌++◌, length, refl, ap, sym, ◌∙◌, arith, Option, Some, None, length-append}
 use Rattle.std.specs.Prelude.{option_and_then, slice_get}
 use Rattle.bx_image.specs.declared.record.Saved.{Saved}
 use Rattle.bx_journal.specs.declared.version.Version.{Version}
 use Rattle.bx_journal.specs.declared.reader.EntryRead.{EntryRead}
-use Rattle.bx_journal.specs.declared.reader.StageRead.{StageRead}
-use Rattle.bx_journal.specs.declared.reader.StageRead.TheVariants.{Between as BetweenRead, Saving as SavingRead, Ending as EndingRead}
+use Rattle.bx_journal.specs.declared.reader.StageRead.TheVariants.{Between as BetweenRead, Ending as EndingRead}
 use Rattle.bx_journal.specs.Line.{after_in}
-use Rattle.bx_journal.specs.Text.{Entry, Stage, Between, Saving, Ending, Reading, next, next_at, split, start, after_lines}
-use Rattle.bx_journal.specs.Mark.{IsMark, HasMarks}
-use Rattle.bx_journal.specs.Parsed.{entry_of, entries_onto, entries_of, stage_of, reading_of, told_by, AreMarked, IsMarked}
+use Rattle.bx_journal.specs.Text.{Entry, Between, next, next_at}
+use Rattle.bx_journal.specs.Mark.{HasMarks}
+use Rattle.bx_journal.specs.Parsed.{entry_of, entries_onto, entries_of, reading_of, told_by, AreMarked, IsMarked}
 
 pub onto-push : {A : Type 0} → (done : List Entry) (es : List (EntryRead A)) (e : EntryRead A) → entries_onto done (es ++ e ∷ []) ≡ entry_of e ∷ entries_onto done es
 onto-push done [] e = refl

@@ -1,15 +1,14 @@
 -- The loop over a journal's lines.
-use Rattle.std.proofs.Common.{◌≡◌, ℕ, zero, suc, ◌+◌, ◌-◌, ◌<◌, ◌≤◌, Bool, true, false, List, [], ◌∷◌, ◌++◌, length, take, drop, get_or, refl, ap, sym, ◌∙◌, subst, arith, Option, Some, None, length-take}
+use Rattle.std.proofs.Common.{◌≡◌, ℕ, zero, suc, ◌+◌, ◌<◌, ◌≤◌, Bool, true, false, List, [], ◌∷◌, ◌++◌, length, take, drop, get_or, refl, ap, sym, ◌∙◌, subst, arith, Option, Some, None, length-take}
 use Rattle.std.specs.Prelude.{slice_index, ◌==◌}
 use Rattle.std.proofs.lemmas.Grind.{common_steps}
 use Rattle.std.proofs.lemmas.List.{take-append-drop}
 use Rattle.std.proofs.Math.Seq.{drop-cons}
-use Rattle.memchr.specs.Find.{Nowhere, NoneBefore, Passes, is_byte}
 use Rattle.bx_journal.specs.declared.reader.EntryRead.{EntryRead}
 use Rattle.bx_journal.specs.declared.reader.StageRead.{StageRead}
 use Rattle.bx_journal.specs.declared.reader.StageRead.TheVariants.{Between as BetweenRead, Saving as SavingRead, Ending as EndingRead}
 use Rattle.bx_journal.specs.Plain.{HasNoNewline}
-use Rattle.bx_journal.specs.Text.{Reading, Split, split, start, next, after_lines, IsRest, Reads, IsDamagedAt}
+use Rattle.bx_journal.specs.Text.{Split, split, after_lines, IsRest, Reads, IsDamagedAt}
 use Rattle.bx_journal.specs.Mark.{IsMark}
 use Rattle.bx_journal.specs.Parsed.{entries_of, stage_of, reading_of, IsMarked, Leads, KeepsMarks, IsReadTo}
 use Rattle.bx_journal.proofs.LineLoop.{IsLine}

@@ -1,15 +1,15 @@
 -- What an entry takes, from what was read and prepared.
-use Rattle.std.proofs.Common.{◌≡◌, ℕ, suc, ◌+◌, ◌-◌, ◌<◌, ◌≤◌, List, [], ◌∷◌, ◌++◌, length, refl, ap, sym, ◌∙◌, subst, arith, append_assoc}
+use Rattle.std.proofs.Common.{◌≡◌, ℕ, suc, ◌+◌, ◌<◌, ◌≤◌, List, [], ◌∷◌, length, refl, ap, ◌∙◌, subst, arith}
 use Rattle.bx_image.specs.declared.change.TheConstants.{MAX_LEN}
 use Rattle.bx_journal.specs.Kept.{Kept, kept_of}
 use Rattle.bx_image.specs.declared.change.Change.{Change}
-use Rattle.bx_image.specs.Change.{effect, saved, IsOf, Fits}
-use Rattle.bx_journal.specs.Entry.{head_text, end_text, entry_text}
+use Rattle.bx_image.specs.Change.{effect, saved, IsOf}
+use Rattle.bx_journal.specs.Entry.{head_text, end_text}
 use Rattle.bx_journal.specs.Text.{Entry}
 use Rattle.bx_journal.specs.Stack.{stack_of}
-use Rattle.bx_journal.specs.Machine.{top, changes_of}
+use Rattle.bx_journal.specs.Machine.{top}
 use Rattle.bx_journal.specs.Phase.{IsAtRest}
-use Rattle.bx_journal.specs.Step.{StartsEntry, WritesEntry}
+use Rattle.bx_journal.specs.Step.{WritesEntry}
 
 pub top_of : (es : List Entry) (x : List ℕ) → top (stack_of es x) ≡ x
 unfolding stack_of

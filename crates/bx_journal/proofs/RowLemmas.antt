@@ -1,12 +1,11 @@
 -- Rows of 16 have the bytes of their runs.
-use Rattle.std.proofs.Common.{◌≡◌, ℕ, zero, suc, ◌+◌, ◌-◌, ◌*◌, ◌/◌, ◌<◌, ◌≤◌, min, Bool, true, false, cond, List, [], ◌∷◌, ◌++◌, length, take, drop, get_or, refl, ap, sym, ◌∙◌, subst, inl, inr, ◌⊎◌, arith, length-append, length-take, length-drop, get_or-take, get_or-drop, append_assoc, Option, Some, None, leb, ltb, rules, map}
-use Rattle.std.specs.Prelude.{◌==◌, ◌&&◌, nat_le, nat_lt, if◌then◌else◌, slice_index, unwrap_or, flat_map}
+use Rattle.std.proofs.Common.{◌≡◌, ℕ, zero, suc, ◌+◌, ◌-◌, ◌*◌, ◌/◌, ◌<◌, ◌≤◌, min, List, [], ◌∷◌, ◌++◌, length, take, drop, get_or, refl, ap, sym, ◌∙◌, arith, length-take, length-drop, get_or-take, get_or-drop, Option, Some, None, map}
+use Rattle.std.specs.Prelude.{◌&&◌, nat_le, nat_lt, if◌then◌else◌, slice_index, unwrap_or, flat_map}
 use Rattle.std.specs.Option.{option_or}
 use Rattle.std.specs.List.{range_with_len}
 use Rattle.std.proofs.lemmas.Grind.{common_steps}
 use Rattle.bx_journal.specs.Kept.{Run}
-use Rattle.bx_journal.specs.Kept.{Kept}
-use Rattle.bx_image.specs.Image.{image_of, is_within, end_of}
+use Rattle.bx_image.specs.Image.{image_of, end_of}
 use Rattle.bx_image.specs.Change.{byte_of, byte_in, restore, AllWithin, Covers, AreBytes, HaveBytes}
 use Rattle.bx_journal.specs.Entry.{row, rows}
 

@@ -1,10 +1,10 @@
 -- Reading a front of lines that may be cut anywhere.
-use Rattle.std.proofs.Common.{◌≡◌, ℕ, ◌+◌, ◌<◌, ◌≤◌, Bool, true, false, cond, eqb, List, [], ◌∷◌, ◌++◌, refl, ap, sym, ◌∙◌, subst, inl, inr, ◌⊎◌, arith, append_assoc, Option, Some, None}
-use Rattle.std.specs.Prelude.{◌==◌, flat_map, IsTrue, ◌&&◌, option_and_then}
+use Rattle.std.proofs.Common.{◌≡◌, ℕ, true, List, [], ◌∷◌, ◌++◌, refl, ap, subst, inl, inr, arith, append_assoc, Option, Some, None}
+use Rattle.std.specs.Prelude.{option_and_then}
 use Rattle.std.specs.List.{list_all}
-use Rattle.bx_journal.specs.Text.{split, Split, with_front, joined, ended, IsPrefix, Reading, Entry, Stage, Between, Saving, Ending, IsRest, next, next_at, after_lines, is_short}
+use Rattle.bx_journal.specs.Text.{split, Split, joined, IsPrefix, Reading, Entry, Stage, Between, Saving, Ending, IsRest, next, after_lines, is_short}
 use Rattle.bx_journal.specs.Plain.{HasNoNewline}
-use Rattle.bx_journal.proofs.Splits.{plain_front, split-ended, split-plain, front_cases, split-append}
+use Rattle.bx_journal.proofs.Splits.{plain_front, split-ended, split-plain, front_cases}
 
 pub after_lines-append : (r q : Reading) (a b : List (List ℕ)) → after_lines r a ≡ Some q → after_lines r (a ++ b) ≡ after_lines q b
 unfolding after_lines

@@ -1,14 +1,12 @@
 -- The saved lines of a text give no more bytes than it has.
-use Rattle.std.proofs.Common.{◌≡◌, ℕ, zero, suc, ◌+◌, ◌-◌, ◌<◌, ◌≤◌, Bool, true, false, List, [], ◌∷◌, ◌++◌, length, refl, ap, sym, ◌∙◌, subst, inl, inr, ◌⊎◌, arith, Option, Some, None, map, length-append}
-use Rattle.std.specs.Prelude.{sum, All, option_map, option_and_then, if◌then◌else◌, ◌&&◌, nat_le}
+use Rattle.std.proofs.Common.{◌≡◌, ℕ, suc, ◌+◌, ◌<◌, ◌≤◌, Bool, true, false, List, [], ◌∷◌, ◌++◌, length, refl, ap, sym, ◌∙◌, subst, arith, Some, None, map, length-append}
+use Rattle.std.specs.Prelude.{sum, All, option_map, if◌then◌else◌, ◌&&◌, nat_le}
 use Rattle.std.specs.Str.{bytes_eq}
 use Rattle.std.specs.List.{sum_by}
-use Rattle.std.proofs.lemmas.List.{map-append}
 use Rattle.std.proofs.lemmas.List.Elements.{All-nil, All-cons, All-weaker}
 use Rattle.std.proofs.lemmas.List.Sums.{sum-map, sum_by-append, sum_by-cons}
 use Rattle.bx_journal.specs.Kept.{Run}
-use Rattle.bx_journal.specs.Kept.{Kept, kept_of}
-use Rattle.bx_journal.specs.declared.version.Version.{Version}
+use Rattle.bx_journal.specs.Kept.{kept_of}
 use Rattle.bx_journal.specs.declared.reader.EntryRead.{EntryRead}
 use Rattle.bx_journal.specs.DumpLine.{piece_of}
 use Rattle.bx_journal.specs.Line.{save_line, saved_in}

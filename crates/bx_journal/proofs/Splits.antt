@@ -1,8 +1,7 @@
 -- How a text splits into lines.
-use Rattle.std.proofs.Common.{◌≡◌, ℕ, ◌+◌, Bool, true, false, cond, eqb, List, [], ◌∷◌, ◌++◌, refl, ap, sym, ◌∙◌, subst, inl, inr, ◌⊎◌, arith, append_assoc, Option, Some, None}
-use Rattle.std.specs.Prelude.{◌==◌, flat_map}
+use Rattle.std.proofs.Common.{◌≡◌, ℕ, Bool, true, false, cond, eqb, List, [], ◌∷◌, ◌++◌, refl, ap, ◌∙◌, inl, inr, ◌⊎◌}
 use Rattle.bx_journal.specs.Plain.{HasNoNewline}
-use Rattle.bx_journal.specs.Text.{split, Split, with_front, joined, ended, IsPrefix}
+use Rattle.bx_journal.specs.Text.{split, Split, with_front, IsPrefix}
 
 abbrev pub AllPlain : List (List ℕ) → Type 0
 AllPlain [] = Unit {0}

@@ -1,11 +1,11 @@
 -- What a line does, from what the tests on it say.
-use Rattle.std.proofs.Common.{◌≡◌, ℕ, suc, ◌+◌, Bool, true, false, List, [], ◌∷◌, ◌++◌, length, refl, ap, sym, ◌∙◌, subst, Option, Some, None}
+use Rattle.std.proofs.Common.{◌≡◌, ℕ, suc, Bool, true, false, List, [], ◌∷◌, ◌++◌, length, refl, Some, None}
 use Rattle.std.specs.Str.{bytes_eq}
 use Rattle.bx_journal.specs.Kept.{Run}
 use Rattle.bx_journal.specs.Kept.{Kept}
 use Rattle.bx_journal.specs.declared.version.Version.{Version}
 use Rattle.bx_journal.specs.Line.{save_line, saved_in}
-use Rattle.bx_journal.specs.Text.{Entry, Reading, Stage, Between, Saving, Ending, begins, next_at}
+use Rattle.bx_journal.specs.Text.{Entry, Stage, Between, Saving, Ending, begins, next_at}
 use Rattle.std.specs.Prelude.{◌<◌, ◌≤◌, nat_lt}
 use Rattle.std.proofs.Common.{arith}
 use Rattle.std.proofs.lemmas.Grind.{common_steps}

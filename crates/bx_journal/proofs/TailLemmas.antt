@@ -1,5 +1,5 @@
 -- The unfinished end of a text that was read.
-use Rattle.std.proofs.Common.{◌≡◌, ℕ, suc, ◌+◌, ◌≤◌, List, [], length, map, take, drop, refl, ap, sym, ◌∙◌, subst, arith}
+use Rattle.std.proofs.Common.{◌≡◌, ℕ, suc, List, [], length, map, ap, sym, ◌∙◌, subst}
 use Rattle.bx_image.specs.declared.record.Saved.{Saved}
 use Rattle.bx_journal.specs.Kept.{run_of}
 use Rattle.bx_image.specs.Change.{AllWithin}
@@ -8,12 +8,12 @@ use Rattle.bx_journal.specs.declared.journal.JournalRead.{JournalRead}
 use Rattle.bx_journal.specs.declared.reader.EntryRead.{EntryRead}
 use Rattle.bx_journal.specs.declared.reader.StageRead.{StageRead}
 use Rattle.bx_journal.specs.declared.reader.StageRead.TheVariants.{Between as BetweenRead, Saving as SavingRead, Ending as EndingRead}
-use Rattle.bx_journal.specs.Text.{Entry, Stage, Between, Saving, Ending, Reads, split}
-use Rattle.bx_journal.specs.Stack.{Recovers, image_at}
+use Rattle.bx_journal.specs.Text.{Entry, Stage, Between, Reads, split}
+use Rattle.bx_journal.specs.Stack.{Recovers}
 use Rattle.bx_journal.specs.Phase.{IsAtRest}
 use Rattle.bx_journal.specs.Step.{HasTail}
 use Rattle.bx_journal.specs.Mark.{IsMark}
-use Rattle.bx_journal.specs.Journal.{HasRead, HasPlaces}
+use Rattle.bx_journal.specs.Journal.{HasRead}
 use Rattle.bx_journal.specs.Parsed.{entries_of, stage_of, reading_of, IsMarked}
 use Rattle.bx_journal.proofs.ReadLemmas.{length-entries_of}
 use Rattle.bx_journal.proofs.Sane.{read_sane}

@@ -1,26 +1,24 @@
 -- A text whose unfinished end is cut off.
-use Rattle.std.proofs.Common.{◌≡◌, ℕ, zero, suc, ◌+◌, ◌-◌, ◌*◌, ◌<◌, ◌≤◌, min, Bool, true, false, cond, eqb, List, [], ◌∷◌, ◌++◌, length, take, drop, refl, ap, sym, ◌∙◌, subst, inl, inr, ◌⊎◌, arith, append_assoc, append-nil, length-take, length-append, Option, Some, None}
-use Rattle.std.specs.Prelude.{◌&&◌, ◌==◌, IsTrue}
+use Rattle.std.proofs.Common.{◌≡◌, ℕ, suc, ◌+◌, ◌-◌, Bool, true, false, cond, eqb, List, [], ◌∷◌, ◌++◌, length, take, drop, refl, ap, sym, ◌∙◌, subst, inl, inr, arith, append_assoc, append-nil, Some}
 use Rattle.std.specs.List.{list_all}
 use Rattle.std.proofs.lemmas.Bool.{cases_lt}
 use Rattle.std.proofs.lemmas.Grind.{common_steps}
 use Rattle.std.proofs.lemmas.List.{take-append-drop, take-append-le}
 use Rattle.std.proofs.lemmas.List.Folds.{list_all-append}
-use Rattle.std.proofs.Math.Seq.{take-add, take-append-add}
+use Rattle.std.proofs.Math.Seq.{take-append-add}
 use Rattle.bx_journal.specs.Kept.{Kept}
-use Rattle.bx_image.specs.Change.{restore, Covers, IsAsGood}
+use Rattle.bx_image.specs.Change.{IsAsGood}
 use Rattle.bx_journal.specs.declared.version.Version.{Version}
 use Rattle.bx_journal.specs.Plain.{HasNoNewline}
 use Rattle.bx_journal.specs.Text.{IsPrefix, Reading, Entry, Stage, Between, Saving, Ending, IsRest, Reads, Split, split, with_front, start, joined, after_lines, is_short, begins_with_s}
-use Rattle.bx_journal.specs.Stack.{stack_of, HaveLengths, AllCover, image_at, recovered, CoversAt, IsSound, StandsFor, Recovers}
+use Rattle.bx_journal.specs.Stack.{stack_of, HaveLengths, AllCover, image_at, recovered, IsSound, Recovers}
 use Rattle.bx_journal.specs.Phase.{IsAtRest}
 use Rattle.bx_journal.specs.Mark.{IsMark}
 use Rattle.bx_journal.specs.Step.{HasTail}
 use Rattle.bx_store.specs.Store.{IsPartlyCut}
-use Rattle.bx_journal.proofs.Splits.{AllPlain, split-append, split-plain, plain_front}
-use Rattle.bx_journal.proofs.Inverse.{front_moves}
+use Rattle.bx_journal.proofs.Splits.{split-append, split-plain, plain_front}
 use Rattle.bx_journal.proofs.EntryRun.{short_front}
-use Rattle.bx_journal.proofs.Runs.{SafeRun, GoesBy, GoesAllBy, Goes, safe_prefix, safe_all, after_lines-append, empty_rest}
+use Rattle.bx_journal.proofs.Runs.{SafeRun, GoesBy, GoesAllBy, Goes, safe_prefix, safe_all, after_lines-append}
 use Rattle.bx_journal.proofs.Foreign.{lines_plain, and_true, OnTheWay, foreign_run, IsEarly, way_in_tail}
 use Rattle.bx_journal.proofs.Phases.{Fine, IsWhole, ReadsShort, extends, length-stack_of}
 use Rattle.std.proofs.Math.ListN.{drop_of_length-le}

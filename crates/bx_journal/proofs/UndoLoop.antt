@@ -1,7 +1,6 @@
 -- The loop of an undo.
 use Rattle.std.proofs.Common.{◌≡◌, ℕ, zero, suc, ◌+◌, ◌≤◌, List, [], ◌∷◌, ◌++◌, length, map, take, drop, refl, ap, sym, ◌∙◌, subst, arith, Some, length-take}
 use Rattle.std.proofs.lemmas.List.{take-take}
-use Rattle.bx_journal.specs.declared.version.Version.{Version}
 use Rattle.bx_journal.specs.declared.reader.EntryRead.{EntryRead}
 use Rattle.bx_journal.specs.Text.{Entry, Between, Ending, Reading, split, start, after_lines}
 use Rattle.bx_journal.specs.Kept.{run_of, kept_of}

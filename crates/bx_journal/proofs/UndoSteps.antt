@@ -1,13 +1,12 @@
 -- The steps of taking an entry back, over texts and images.
-use Rattle.std.proofs.Common.{◌≡◌, ℕ, suc, ◌+◌, ◌≤◌, min, List, [], ◌∷◌, ◌++◌, length, take, drop, refl, ap, sym, ◌∙◌, subst, inl, inr, ◌⊎◌, arith, length-take}
+use Rattle.std.proofs.Common.{◌≡◌, ℕ, ◌≤◌, List, ◌∷◌, length, take, ap, sym, ◌∙◌, subst, arith, length-take}
 use Rattle.std.proofs.lemmas.List.{take-take}
-use Rattle.bx_journal.specs.Kept.{Kept}
 use Rattle.bx_image.specs.Change.{restore, Covers, IsAsGood}
 use Rattle.bx_journal.specs.declared.version.Version.{Version}
-use Rattle.bx_journal.specs.Text.{Entry, Stage, Between, Ending, Reading, split, start, after_lines}
+use Rattle.bx_journal.specs.Text.{Entry, Between, Reading}
 use Rattle.bx_journal.specs.Stack.{Recovers}
 use Rattle.bx_journal.specs.Phase.{IsAtRest, IsOpen, RecoversEither}
-use Rattle.bx_journal.specs.Mark.{IsMark, HasMarks}
+use Rattle.bx_journal.specs.Mark.{IsMark}
 use Rattle.bx_journal.specs.Step.{TakesBack}
 use Rattle.bx_store.specs.Store.{IsPartlyCut}
 use Rattle.bx_journal.proofs.Phases.{open_moves, open_recovers}

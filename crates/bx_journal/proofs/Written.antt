@@ -1,13 +1,11 @@
 -- What is written as a saved line reads so.
 use Rattle.bx_read.proofs.WrittenLemmas.{written}
-use Rattle.std.proofs.Common.{◌≡◌, ◌≢◌, ℕ, zero, suc, ◌+◌, ◌-◌, ◌^◌, ◌<◌, ◌≤◌, Bool, true, false, cond, List, [], ◌∷◌, ◌++◌, length, refl, ap, sym, ◌∙◌, arith, Option, Some, None}
+use Rattle.std.proofs.Common.{◌≡◌, ◌≢◌, ℕ, zero, suc, ◌+◌, ◌<◌, ◌≤◌, Bool, true, false, List, [], ◌∷◌, ◌++◌, length, refl, arith, Some}
 use Rattle.std.specs.Prelude.{slice_index, ◌==◌, ◌&&◌, nat_le}
 use Rattle.std.specs.List.{All, list_all}
-use Rattle.std.specs.Option.{option_map}
 use Rattle.std.proofs.lemmas.Grind.{common_steps}
 use Rattle.bx_image.specs.declared.change.TheConstants.{MAX_LEN}
 use Rattle.bx_image.specs.Change.{AreBytes}
-use Rattle.bx_read.specs.Line.{line_piece}
 use Rattle.bx_read.specs.Laws.{line_text, IsWritten}
 use Rattle.bx_journal.specs.Kept.{Run}
 use Rattle.bx_journal.specs.Plain.{HasNoNewline}

@@ -1,14 +1,13 @@
 -- What a session's calls answer.
-use Rattle.std.specs.Prelude.{◌≡◌, ◌⊎◌, ◌<◌, ◌≤◌, ℕ, suc, ◌+◌, ◌-◌, Option, None, Some, List, [], ◌∷◌, ◌++◌, length, drop, sum, map}
+use Rattle.std.specs.Prelude.{◌≡◌, ◌≤◌, ℕ, suc, Some, List, [], ◌∷◌, ◌++◌, length, drop, sum, map}
 use Rattle.bx_journal.specs.Kept.{Run}
-use Rattle.bx_journal.specs.Kept.{Kept}
 use Rattle.bx_journal.specs.declared.calls.LogRow.{LogRow}
 use Rattle.bx_journal.specs.declared.calls.How.{How}
 use Rattle.bx_journal.specs.declared.calls.How.TheVariants.{Clean, Dropped, Restored}
 use Rattle.bx_journal.specs.declared.fault.SessionFault.{SessionFault}
-use Rattle.bx_journal.specs.declared.fault.SessionFault.TheVariants.{NoMemory, TooLarge, DeviceFailed, Damaged, TooFew, JournalFull, Interrupted, Broken, LengthDiffers}
-use Rattle.bx_journal.specs.Text.{Entry, Stage, Between, Saving, Ending, Reading, Reads, IsDamagedAt}
-use Rattle.bx_journal.specs.Stack.{stack_of, image_at, Recovers}
+use Rattle.bx_journal.specs.declared.fault.SessionFault.TheVariants.{NoMemory, DeviceFailed, Damaged, Interrupted, LengthDiffers}
+use Rattle.bx_journal.specs.Text.{Entry, Stage, Between, Saving, Ending, Reading, IsDamagedAt}
+use Rattle.bx_journal.specs.Stack.{image_at, Recovers}
 
 -- a row for each entry, the oldest first
 abbrev pub rows_of : List Entry → List LogRow

@@ -1,9 +1,9 @@
 -- Fronts of lines that end in a number.
-use Rattle.std.specs.Prelude.{◌≡◌, ◌⊎◌, ◌<◌, ◌≤◌, ℕ, suc, ◌+◌, ◌^◌, IsTrue, List, [], ◌∷◌, ◌++◌, length}
+use Rattle.std.specs.Prelude.{◌<◌, ◌≤◌, ℕ, suc, ◌^◌, IsTrue, List, ◌++◌, length}
 use Rattle.bx_image.specs.declared.change.TheConstants.{MAX_LEN}
 use Rattle.bx_journal.specs.declared.version.Version.{Version}
 use Rattle.bx_journal.specs.Hex.{hex_digits}
-use Rattle.bx_journal.specs.Line.{digits_of, start_line, end_line}
+use Rattle.bx_journal.specs.Line.{digits_of, start_line}
 use Rattle.bx_journal.specs.Text.{Entry, IsPrefix, may_begin}
 
 -- a front of the head with a length in so many digits

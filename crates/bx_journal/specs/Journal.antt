@@ -1,8 +1,8 @@
 -- A text that was read, with its places.
-use Rattle.std.specs.Prelude.{◌≡◌, ◌≤◌, ℕ, List, [], length, take, drop}
+use Rattle.std.specs.Prelude.{◌≡◌, ℕ, List, drop}
 use Rattle.bx_journal.specs.declared.journal.JournalRead.{JournalRead}
 use Rattle.bx_journal.specs.Mark.{IsMark}
-use Rattle.bx_journal.specs.Text.{split, Split, Reads}
+use Rattle.bx_journal.specs.Text.{split, Reads}
 use Rattle.bx_journal.specs.Parsed.{IsMarked, entries_of, stage_of, reading_of}
 
 pub record HasPlaces {A : Type 0} (text : List ℕ) (j : JournalRead A) : Type 0 where

@@ -1,5 +1,5 @@
 -- Records as a journal's text gives them: lengths and runs of bytes, whatever memory holds them.
-use Rattle.std.specs.Prelude.{ℕ, List, map}
+use Rattle.std.specs.Prelude.{map}
 use Rattle.bx_text.specs.declared.pieces.Piece.{Piece}
 use Rattle.bx_image.specs.declared.record.Saved.{Saved}
 

@@ -1,11 +1,12 @@
 -- Laws of the journal.
-use Rattle.std.specs.Prelude.{◌≡◌, ◌<◌, ◌≤◌, ℕ, suc, ◌+◌, IsTrue, Some, List, [], ◌∷◌, ◌++◌, length}
+use Rattle.std.specs.Prelude.{◌≡◌, ◌<◌, ◌≤◌, ℕ, suc, IsTrue, Some, List, [], ◌∷◌, ◌++◌, length}
 use Rattle.bx_image.specs.declared.change.TheConstants.{MAX_LEN}
 use Rattle.bx_journal.specs.Kept.{Kept}
 use Rattle.bx_image.specs.Change.{byte_in, AllWithin, HaveBytes}
 use Rattle.bx_journal.specs.Entry.{entry_text}
-use Rattle.bx_journal.specs.Text.{Entry, Stage, Between, Reading, Reads, split, may_begin, IsDamagedAt, IsAccepted}
+use Rattle.bx_journal.specs.Text.{Entry, Between, Reads, split, may_begin, IsDamagedAt}
 use Rattle.bx_journal.specs.Stack.{StandsFor}
+use Rattle.bx_journal.specs.Phase.{IsAtRest}
 
 -- the entry has this length and these bytes
 pub record HasBytes (e : Entry) (s : Kept) (after : ℕ) : Type 0 where
@@ -28,3 +29,7 @@ StandsForOne = (text x : List ℕ) (s t : List (List ℕ)) → StandsFor text x 
 -- no text is damaged at two lines, and none is accepted and damaged
 abbrev pub DamagedAtOne : Type 0
 DamagedAtOne = (text : List ℕ) (m n : ℕ) → IsDamagedAt text m → IsDamagedAt text n → m ≡ n
+
+-- an empty text and an image stand for the image alone, and are sound
+abbrev pub EmptyIsSound : Type 0
+EmptyIsSound = (x : List ℕ) → IsAtRest [] x (x ∷ [])

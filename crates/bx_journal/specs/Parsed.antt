@@ -1,10 +1,10 @@
 -- What the reader has in hand, as a reading.
-use Rattle.std.specs.Prelude.{◌≡◌, ◌≤◌, ◌<◌, ℕ, suc, ◌+◌, Option, None, Some, List, [], ◌∷◌, ◌++◌, length, take, map}
+use Rattle.std.specs.Prelude.{◌≡◌, ◌≤◌, ◌<◌, ℕ, suc, Option, None, Some, List, [], ◌∷◌, length, take, map}
 use Rattle.bx_journal.specs.Kept.{run_of, kept_of}
 use Rattle.bx_journal.specs.declared.reader.EntryRead.{EntryRead}
 use Rattle.bx_journal.specs.declared.reader.StageRead.{StageRead}
 use Rattle.bx_journal.specs.declared.reader.StageRead.TheVariants.{Between as BetweenRead, Saving as SavingRead, Ending as EndingRead}
-use Rattle.bx_journal.specs.Text.{Entry, Stage, Between, Saving, Ending, Reading, Reads, Split, split, next, IsDamagedAt}
+use Rattle.bx_journal.specs.Text.{Entry, Stage, Between, Saving, Ending, Reading, split, next}
 use Rattle.bx_image.specs.Change.{AllWithin}
 use Rattle.bx_journal.specs.Mark.{IsMark, HasMarks}
 

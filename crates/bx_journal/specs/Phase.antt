@@ -1,9 +1,9 @@
 -- The phases of a change and of an undo.
-use Rattle.std.specs.Prelude.{◌≡◌, ◌⊎◌, ◌<◌, ◌≤◌, ℕ, suc, ◌+◌, Bool, false, List, [], ◌∷◌, ◌++◌, length, flat_map}
+use Rattle.std.specs.Prelude.{◌≡◌, ◌⊎◌, ℕ, List, [], flat_map}
 use Rattle.bx_journal.specs.Kept.{Kept}
-use Rattle.bx_image.specs.Change.{restore, Covers}
+use Rattle.bx_image.specs.Change.{restore}
 use Rattle.bx_journal.specs.declared.version.Version.{Version}
-use Rattle.bx_journal.specs.Text.{Entry, Stage, Between, Ending, Reading, Reads, split}
+use Rattle.bx_journal.specs.Text.{Entry, Between, Ending, Reads, split}
 use Rattle.bx_journal.specs.Entry.{rows}
 use Rattle.bx_journal.specs.Stack.{stack_of, StandsFor, IsSound, HaveLengths, Recovers}
 

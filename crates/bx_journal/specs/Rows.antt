@@ -1,5 +1,5 @@
 -- How many bytes saved lines have.
-use Rattle.std.specs.Prelude.{ℕ, List, length, map, sum}
+use Rattle.std.specs.Prelude.{ℕ, length, map, sum}
 use Rattle.bx_journal.specs.Kept.{Run}
 use Rattle.bx_journal.specs.Kept.{Kept}
 

@@ -1,5 +1,5 @@
 -- What a session over a device and a store is.
-use Rattle.std.specs.Prelude.{◌≡◌, ◌+◌, ℕ, suc, false, List, length}
+use Rattle.std.specs.Prelude.{◌≡◌, ℕ, suc, false, List, length}
 use Rattle.bx_journal.specs.declared.fault.SessionFault.{SessionFault}
 use Rattle.bx_journal.specs.declared.fault.SessionFault.TheVariants.{Interrupted}
 use Rattle.bx_journal.specs.declared.session.Session.{Session}

@@ -1,11 +1,8 @@
 -- The stack of images that a text and an image stand for. Stacks and entries have the newest first.
-use Rattle.std.specs.Prelude.{◌≡◌, ◌<◌, ◌≤◌, ℕ, suc, ◌+◌, ◌-◌, Option, None, Some, List, [], ◌∷◌, ◌++◌, length, drop, IfSome, IsTrue, Bool}
+use Rattle.std.specs.Prelude.{◌≡◌, ℕ, List, [], ◌∷◌, length, IfSome, IsTrue}
 use Rattle.std.specs.List.{list_all}
-use Rattle.bx_journal.specs.Kept.{Kept}
-use Rattle.bx_image.specs.declared.change.Change.{Change}
-use Rattle.bx_image.specs.declared.change.TheConstants.{MAX_LEN}
 use Rattle.bx_image.specs.Change.{restore, Covers}
-use Rattle.bx_journal.specs.Text.{Entry, Stage, Between, Saving, Ending, Reading, Reads, split, Split, is_short}
+use Rattle.bx_journal.specs.Text.{Entry, Stage, Between, Saving, Ending, Reading, Reads, split, is_short}
 
 -- the image, and those that undoing the entries gives, one after another
 unfoldable pub stack_of : List Entry → List ℕ → List (List ℕ)

@@ -1,5 +1,7 @@
 -- A session whose pair stands for a stack, be it sound or not.
 use Rattle.std.specs.Prelude.{◌≡◌, ℕ, suc, false, List, length}
+use Rattle.bx_journal.specs.declared.fault.SessionFault.{SessionFault}
+use Rattle.bx_journal.specs.declared.fault.SessionFault.TheVariants.{NoMemory, TooLarge, DeviceFailed, Damaged, TooFew, JournalFull, Interrupted, Broken, LengthDiffers}
 use Rattle.bx_journal.specs.declared.session.Session.{Session}
 use Rattle.bx_journal.specs.Stack.{StandsFor}
 
@@ -8,3 +10,15 @@ pub record IsStanding {D T A : Type 0} (image : D → List ℕ) (text : T → Li
   pub stands : StandsFor (text s.store) (image s.device) stack
   pub count : length stack ≡ suc s.count
   pub whole : s.is_broken ≡ false
+
+-- which fault a change may meet
+abbrev pub PerformFault : SessionFault → Type 0
+PerformFault (Damaged line) = ⊥
+PerformFault (TooFew have) = ⊥
+PerformFault (LengthDiffers expected) = ⊥
+PerformFault NoMemory = Unit {0}
+PerformFault TooLarge = Unit {0}
+PerformFault DeviceFailed = Unit {0}
+PerformFault JournalFull = Unit {0}
+PerformFault Interrupted = Unit {0}
+PerformFault Broken = Unit {0}

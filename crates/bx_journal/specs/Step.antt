@@ -1,13 +1,13 @@
 -- What the steps of a change start from.
-use Rattle.std.specs.Prelude.{◌≡◌, ◌≤◌, ◌<◌, ℕ, suc, ◌+◌, List, ◌∷◌, ◌++◌, length, Bool, false}
+use Rattle.std.specs.Prelude.{◌≡◌, ◌≤◌, ℕ, List, ◌∷◌, length}
 use Rattle.bx_journal.specs.Kept.{Kept, kept_of}
 use Rattle.bx_image.specs.declared.change.Change.{Change}
 use Rattle.bx_image.specs.declared.change.TheConstants.{MAX_LEN}
 use Rattle.bx_image.specs.Change.{effect, saved, IsOf}
 use Rattle.bx_journal.specs.declared.version.Version.TheVariants.{Second}
 use Rattle.bx_journal.specs.Entry.{head_text, end_text}
-use Rattle.bx_journal.specs.Phase.{IsAtRest, IsOpen, in_rows}
-use Rattle.bx_journal.specs.Text.{Entry, Stage, Between, Ending, Reads}
+use Rattle.bx_journal.specs.Phase.{IsAtRest, IsOpen}
+use Rattle.bx_journal.specs.Text.{Entry, Stage, Between, Reads}
 use Rattle.bx_journal.specs.Stack.{IsSound, HaveLengths, image_at, stack_of}
 use Rattle.bx_journal.specs.Mark.{IsMark, HasMarks}
 use Rattle.bx_journal.specs.declared.version.Version.{Version}

@@ -1,10 +1,9 @@
 -- How a journal's text is read, line by line.
-use Rattle.std.specs.Prelude.{◌≡◌, ◌⊎◌, ◌<◌, ◌≤◌, ℕ, zero, suc, ◌+◌, ◌^◌, ◌&&◌, Bool, true, false, IsTrue, nat_le, nat_lt, Option, None, Some, List, [], ◌∷◌, ◌++◌, length, take, if◌then◌else◌, ◌==◌, All, flat_map}
+use Rattle.std.specs.Prelude.{◌≡◌, ◌⊎◌, ◌<◌, ◌≤◌, ℕ, suc, ◌^◌, ◌&&◌, Bool, true, false, IsTrue, nat_le, nat_lt, Option, None, Some, List, [], ◌∷◌, ◌++◌, length, take, if◌then◌else◌, ◌==◌, flat_map}
 use Rattle.std.specs.Option.{option_and_then, option_map, option_or}
 use Rattle.std.specs.List.{list_all}
 use Rattle.std.specs.Str.{bytes_eq}
 use Rattle.bx_image.specs.declared.change.TheConstants.{MAX_LEN}
-use Rattle.bx_journal.specs.Kept.{Run}
 use Rattle.bx_journal.specs.Kept.{Kept}
 use Rattle.bx_journal.specs.declared.version.Version.{Version}
 use Rattle.bx_journal.specs.declared.version.Version.TheVariants.{First, Second}

@@ -1,5 +1,5 @@
 -- What undoing starts from and leaves.
-use Rattle.std.specs.Prelude.{◌≡◌, ◌⊎◌, ◌≤◌, ℕ, ◌-◌, List, [], length, drop}
+use Rattle.std.specs.Prelude.{◌≡◌, ◌⊎◌, ◌≤◌, ℕ, List, [], length}
 use Rattle.bx_journal.specs.declared.fault.SessionFault.{SessionFault}
 use Rattle.bx_journal.specs.declared.fault.SessionFault.TheVariants.{NoMemory, TooLarge, DeviceFailed, Damaged, TooFew, JournalFull, Interrupted, Broken, LengthDiffers}
 use Rattle.bx_journal.specs.declared.reader.EntryRead.{EntryRead}
@@ -44,3 +44,15 @@ AgainFault honest text count JournalFull = ⊥
 AgainFault honest text count Interrupted = ⊥
 AgainFault honest text count Broken = ⊥
 AgainFault honest text count (LengthDiffers expected) = ⊥
+
+-- which fault undoing may answer, where `count` changes stand
+abbrev pub UndoFault : ℕ → SessionFault → Type 0
+UndoFault count (TooFew have) = have ≡ count
+UndoFault count TooLarge = ⊥
+UndoFault count JournalFull = ⊥
+UndoFault count (LengthDiffers expected) = ⊥
+UndoFault count NoMemory = Unit {0}
+UndoFault count DeviceFailed = Unit {0}
+UndoFault count (Damaged line) = Unit {0}
+UndoFault count Interrupted = Unit {0}
+UndoFault count Broken = Unit {0}

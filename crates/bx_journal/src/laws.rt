@@ -1,5 +1,5 @@
 //! Laws over the definitions alone.
-ghost use Rattle.bx_journal.specs.Laws.{WrittenIsRead, StandsForOne, DamagedAtOne};
+ghost use Rattle.bx_journal.specs.Laws.{WrittenIsRead, StandsForOne, DamagedAtOne, EmptyIsSound};
 
 /// The entry that is written is read again, and gives its number, its record and its length.
 pub fn written_entry_is_read()
@@ -14,4 +14,9 @@ pub fn one_stack()
 /// A text is damaged at one line.
 pub fn one_damaged_line()
     ensures { DamagedAtOne }
+{}
+
+/// An empty text is sound with every image.
+pub fn empty_text_is_sound()
+    ensures { EmptyIsSound }
 {}

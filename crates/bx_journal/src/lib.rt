@@ -26,7 +26,7 @@ mod writer;
 
 pub use calls::{How, LogRow, Recovered};
 pub use fault::SessionFault;
-pub use laws::{one_damaged_line, one_stack, written_entry_is_read};
+pub use laws::{empty_text_is_sound, one_damaged_line, one_stack, written_entry_is_read};
 pub(crate) use reader::{EntryRead, StageRead};
 pub use session::Session;
 pub(crate) use version::Version;

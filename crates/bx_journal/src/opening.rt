@@ -16,6 +16,10 @@ impl<D: Device, T: TextStore, A: Allocator + Clone> Session<D, T, A> {
     ghost use Rattle.bx_journal.specs.Opening.{FaultCounts, IsOpened, RefusesLength, RefusesText};
 
     /// Opens a pair. An unfinished entry is dropped, or its change is taken back. An `Err` hands both back.
+    ///
+    /// The faults come in this order: `DeviceFailed` and `NoMemory` of reading, `Damaged`, `DeviceFailed` of the
+    /// image's length and `LengthDiffers`, `NoMemory` of reserving, and `Interrupted` from the first write on. Each but
+    /// the last changes nothing, and after that one the pair can be opened again.
     pub fn open(alloc: A, device: D, store: T) -> Result<(Self, Recovered), (D, T, SessionFault)>
         requires device_countable { D.failures device < u64.MAX }
         requires store_countable { T.failures store < u64.MAX }

@@ -16,6 +16,8 @@ use std::alloc::{Allocator, Global};
 
 const MOST_CHANGES: u32 = 65_535;
 
+/// An image and the journal of its changes. After a fault in the middle of writing it is broken: it answers
+/// `Broken` until the pair is opened again.
 #[derive(Drop)]
 pub struct Session<D: Device, T: TextStore, A: Allocator = Global> {
     pub(crate) alloc: A,
@@ -27,10 +29,14 @@ pub struct Session<D: Device, T: TextStore, A: Allocator = Global> {
 
 impl<D: Device, T: TextStore, A: Allocator + Clone> Session<D, T, A> {
     ghost use Rattle.bx_journal.specs.Session.{IsReady, IsSame, AfterFault};
-    ghost use Rattle.bx_journal.specs.Standing.{IsStanding};
+    ghost use Rattle.bx_journal.specs.Standing.{IsStanding, PerformFault};
     ghost use Rattle.bx_journal.specs.Opening.{FaultCounts};
 
-    /// Changes the image, and answers the change's number.
+    /// Changes the image, and answers the change's number, which is how many changes then stand.
+    ///
+    /// All memory is taken before the first write. The faults come in this order: `Broken`, `JournalFull`,
+    /// `DeviceFailed` of the length, `TooLarge`, then `DeviceFailed` and `NoMemory` of saving and reserving, and
+    /// `Interrupted` from the first write on. Each but the last changes nothing.
     pub fn perform(&mut self, change: &Change<A>) -> Result<u32, SessionFault>
         requires device_countable { D.failures self.old.device < u64.MAX }
         requires store_countable { T.failures self.old.store < u64.MAX }
@@ -55,6 +61,7 @@ impl<D: Device, T: TextStore, A: Allocator + Clone> Session<D, T, A> {
         ensures refused { D.honest self.old.device → T.honest self.old.store → IfErr result (λ e. AfterFault e (Unit {0}) (IsSame D.image T.text self.old self.new)) }
         ensures breaks { IsErrOf result SessionFault.Interrupted → (self.new.is_broken ≡ true) × (self.new.count ≡ self.old.count) }
 
+        ensures kind { IfErr result PerformFault }
         ensures broken { (self.old.is_broken ≡ true) ↔ IsErrOf result SessionFault.Broken }
         ensures untouched { IsErrOf result SessionFault.Broken → (self.new.device ≡ self.old.device) × (self.new.store ≡ self.old.store) }
         ensures full { IsErrOf result SessionFault.JournalFull ↔ ((self.old.is_broken ≡ false) × (65535 ≤ self.old.count)) }

@@ -53,9 +53,13 @@ impl<D: Device, T: TextStore, A: Allocator + Clone> Session<D, T, A> {
     ghost use Rattle.bx_journal.specs.Standing.{IsStanding};
     ghost use Rattle.bx_journal.specs.Calls.{RecoversBelow};
     ghost use Rattle.bx_journal.specs.Opening.{FaultCounts};
-    ghost use Rattle.bx_journal.specs.Undoing.{IsOutOfStep};
+    ghost use Rattle.bx_journal.specs.Undoing.{IsOutOfStep, UndoFault};
 
     /// Takes the last k changes back, the newest first, and answers how many are left.
+    ///
+    /// All memory is taken before the first write. The faults come in this order: `Broken`, `TooFew`, `DeviceFailed`
+    /// and `NoMemory` of reading, `Damaged` where the text was changed by others, `NoMemory` of reserving, and
+    /// `Interrupted` from the first write on. Each but the last changes nothing.
     pub fn undo(&mut self, k: u32) -> Result<u32, SessionFault>
         requires device_countable { D.failures self.old.device < u64.MAX }
         requires store_countable { T.failures self.old.store < u64.MAX }
@@ -79,6 +83,7 @@ impl<D: Device, T: TextStore, A: Allocator + Clone> Session<D, T, A> {
         ensures refused { D.honest self.old.device → T.honest self.old.store → IfErr result (λ e. AfterFault e (Unit {0}) (IsSame D.image T.text self.old self.new)) }
         ensures breaks { IsErrOf result SessionFault.Interrupted → (self.new.is_broken ≡ true) × (self.new.count ≡ self.old.count) }
 
+        ensures kind { IfErr result (UndoFault self.old.count) }
         ensures broken { (self.old.is_broken ≡ true) ↔ IsErrOf result SessionFault.Broken }
         ensures untouched { IsErrOf result SessionFault.Broken → (self.new.device ≡ self.old.device) × (self.new.store ≡ self.old.store) }
         ensures few { ((self.old.is_broken ≡ false) × (self.old.count < k)) ↔ IsErrOf result (SessionFault.TooFew self.old.count) }

@@ -13,7 +13,7 @@ ghost use Rattle.bx_journal.specs.Text.{ended, joined};
 use crate::Version;
 use crate::words::{Words, end_head, push_number, save_text, start_head};
 use bx_image::{MAX_LEN, Saved};
-use bx_text::{NoMemory, Piece, xxd_line};
+use bx_text::{NoMemory, Piece, full_line, xxd_line};
 use std::alloc::Allocator;
 
 /// The text of an entry up to and with its save line.
@@ -87,12 +87,40 @@ fn push_run<A: Allocator>(text: &mut Vec<u8, A>, run: &Piece<A>) -> Result<(), N
     Ok(())
 }
 
-#[tactic(auto, unfolding(crate::specs::DumpLine::dump_line))]
+/// Appends a saved line of at most 16 bytes.
 fn push_row<A: Allocator>(text: &mut Vec<u8, A>, at: u64, bytes: &[u8]) -> Result<(), NoMemory>
+    requires some { 0 < length bytes.now }
+    requires few { length bytes.now ≤ 16 }
+    ensures { OnOk result (text.new.items ≡ text.old.items ++ ended (dump_line at bytes.now)) }
+{
+    if at > u32::MAX as u64 {
+        return push_any_row(text, at, bytes);
+    }
+    match bytes.as_array::<16>() {
+        Some(full) => push_full_row(text, at as u32, full),
+        None => push_any_row(text, at, bytes),
+    }
+}
+
+#[tactic(auto, unfolding(crate::specs::DumpLine::dump_line))]
+fn push_any_row<A: Allocator>(text: &mut Vec<u8, A>, at: u64, bytes: &[u8]) -> Result<(), NoMemory>
     requires some { 0 < length bytes.now }
     requires few { length bytes.now ≤ 16 }
     ensures { OnOk result (text.new.items ≡ text.old.items ++ ended (dump_line at bytes.now)) }
 {
     let line = xxd_line(at, bytes);
     push_bytes(text, line.as_bytes())
+}
+
+/// The same for 16 bytes at an address of 8 digits, at fixed places.
+#[tactic(auto, unfolding(crate::specs::DumpLine::dump_line))]
+fn push_full_row<A: Allocator>(
+    text: &mut Vec<u8, A>,
+    at: u32,
+    bytes: &[u8; 16],
+) -> Result<(), NoMemory>
+    ensures { OnOk result (text.new.items ≡ text.old.items ++ ended (dump_line at bytes.now)) }
+{
+    let line = full_line(at, bytes);
+    push_bytes(text, &line)
 }

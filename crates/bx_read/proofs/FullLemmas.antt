@@ -1,9 +1,12 @@
 -- Lines of xxd's default form, group by group.
-use Rattle.std.proofs.Common.{◌≡◌, ◌≢◌, ℕ, ◌+◌, ◌^◌, ◌<◌, Bool, true, false, ◌&&◌, cond, eqb, Option, None, Some, List, [], ◌∷◌, ◌++◌, length, get_or, take, drop, refl, arith, sym, ap, ◌∙◌, append_assoc, inr}
+use Rattle.std.proofs.Common.{◌≡◌, ◌≢◌, ℕ, ◌+◌, ◌^◌, ◌*◌, ◌<◌, ◌≤◌, Bool, true, false, ◌&&◌, cond, eqb, Option, None, Some, List, [], ◌∷◌, ◌++◌, length, get_or, take, drop, refl, arith, sym, ap, ◌∙◌, append_assoc, inr}
 use Rattle.std.specs.Option.{option_map}
 use Rattle.std.specs.List.{All}
 use Rattle.std.specs.Str.Parse.{digits_value}
-use Rattle.std.proofs.lemmas.List.{length-append, take-append-drop}
+use Rattle.std.specs.Char.{digit_value}
+use Rattle.std.proofs.Math.ListN.{set}
+use Rattle.bx_read.proofs.DigitsLemmas.{digit_of, value_small}
+use Rattle.std.proofs.lemmas.List.{length-append, take-append-drop, take_more_set, length-set}
 use Rattle.std.proofs.lemmas.List.Elements.{All-cons, All-nil, All-append}
 use Rattle.bx_read.specs.Full.{IsFull}
 use Rattle.std.proofs.lemmas.Bool.{eqb-true}
@@ -144,3 +147,18 @@ module _ (address columns shown rest bytes : List ℕ) (at : ℕ) (digits : All 
 pub in_order : (text address colon columns gap shown r1 r2 r3 r4 r5 rest : List ℕ) → text ≡ address ++ r1 → r1 ≡ colon ++ r2 → r2 ≡ columns ++ r3 → r3 ≡ gap ++ r4 → r4 ≡ shown ++ r5 →
     colon ≡ 58 ∷ 32 ∷ [] → gap ≡ 32 ∷ 32 ∷ [] → r5 ≡ 10 ∷ rest → text ≡ address ++ 58 ∷ 32 ∷ (columns ++ 32 ∷ 32 ∷ (shown ++ 10 ∷ rest))
 in_order text address colon columns gap shown r1 r2 r3 r4 r5 rest a b c d e f g h = rw (a, b, c, d, e, f, g, h) refl
+
+-- the byte of two values below 16
+pub value_pair : (c d v w : ℕ) → v ≡ cond (is_hex c) (digit_value c) 255 → w ≡ cond (is_hex d) (digit_value d) 255 → v ≤ 15 → w ≤ 15 → v * 16 + w ≡ pair_value c d
+value_pair c d v w e f p q =
+    let one = (digit_of c v e (value_small c v e p)).0 in
+    let two = (digit_of d w f (value_small d w f q)).0 in
+    omega arith
+
+-- two bytes put one after the other
+pub two_put : (out : List ℕ) (k a b x y : ℕ) → a ≡ x → b ≡ y → k + 2 ≤ length out → take (k + 2) (set (set out k a) (k + 1) b) ≡ take k out ++ x ∷ y ∷ []
+two_put out k a b x y e f room =
+    let last : k + 1 + 1 ≡ k + 2 = omega arith in
+    let second : take (k + 1 + 1) (set (set out k a) (k + 1) b) ≡ take (k + 1) (set out k a) ++ b ∷ [] = take_more_set (set out k a) (k + 1) b (omega (arith, length-set out k a)) in
+    let first : take (k + 1) (set out k a) ≡ take k out ++ a ∷ [] = take_more_set out k a (omega arith) in
+    ap (λ n. take n (set (set out k a) (k + 1) b)) (sym last) ∙ second ∙ ap (λ l. l ++ b ∷ []) first ∙ append_assoc (take k out) (a ∷ []) (b ∷ []) ∙ rw (e, f) refl

@@ -10,5 +10,6 @@ pub mod AddressLemmas
 pub mod LineLemmas
 pub mod WrittenLemmas
 pub mod PlainLemmas
+pub mod HexLemmas
 pub mod FullLemmas
 pub mod FullLines

@@ -4,7 +4,7 @@ ghost use Rattle.std.specs.Str.Parse.{digits_value};
 ghost use Rattle.bx_read.specs.Digits.{is_hex, pairs_of, pair_value};
 ghost use Rattle.bx_read.specs.Full.{IsFull};
 
-use crate::digits::{is_pair, pair, value_of};
+use crate::digits::value_of;
 
 /// A line with its newline, by what it gives.
 #[derive(Clone, Copy)]
@@ -84,11 +84,15 @@ fn put_group(hex: &[u8], at: usize, out: &mut [u8], k: usize) -> bool
     ensures second { IsTrue result → IsTrue (is_hex (slice_index hex.now (at + 2)) && is_hex (slice_index hex.now (at + 3))) }
     ensures bytes { IsTrue result → take (k + 2) out.new ≡ take k out.old ++ pair_value (slice_index hex.now at) (slice_index hex.now (at + 1)) ∷ pair_value (slice_index hex.now (at + 2)) (slice_index hex.now (at + 3)) ∷ [] }
 {
-    if !is_pair(hex[at], hex[at + 1]) || !is_pair(hex[at + 2], hex[at + 3]) {
+    let first = value_of(hex[at]);
+    let second = value_of(hex[at + 1]);
+    let third = value_of(hex[at + 2]);
+    let fourth = value_of(hex[at + 3]);
+    if first.max(second).max(third).max(fourth) > 15 {
         return false;
     }
-    out[k] = pair(hex[at], hex[at + 1]);
-    out[k + 1] = pair(hex[at + 2], hex[at + 3]);
+    out[k] = first * 16 + second;
+    out[k + 1] = third * 16 + fourth;
     true
 }
 

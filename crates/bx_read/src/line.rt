@@ -1,10 +1,11 @@
 //! One line of a dump.
-ghost use Rattle.std.specs.Prelude.{◌≡◌, ◌+◌, ◌^◌, ◌<◌, ◌≤◌, if◌then◌else◌, length, take, drop, Some, None, Ok, Err, IsTrue, IfOk, IfErr, IfSome, IfNone, MatchResult, IsOkAnd, List, ℕ};
+ghost use Rattle.std.specs.Prelude.{◌≡◌, ◌+◌, ◌^◌, ◌<◌, ◌≤◌, ◌&&◌, if◌then◌else◌, length, take, drop, slice_index, Some, None, Ok, Err, IsTrue, IfOk, IfErr, IfSome, IfNone, MatchResult, IsOkAnd, List, ℕ};
 ghost use Rattle.std.specs.Option.{option_map};
-ghost use Rattle.bx_read.specs.Digits.{pairs_of, pair_count, few_pairs, data_of};
+ghost use Rattle.bx_read.specs.Digits.{is_hex, pair_value, pairs_of, pair_count, few_pairs, data_of};
 
-use crate::digits::{front_digits, is_pair, number_of, pair};
+use crate::digits::{front_digits, is_pair, number_of};
 use crate::fault::ReadFault;
+use hex::decode_to_slice;
 
 /// A line of a dump: its address, its text from the first digit of the pairs to the last, and its number from 1.
 /// It has 1 to 256 pairs.
@@ -135,7 +136,7 @@ fn decode_pairs(hex: &[u8], out: &mut [u8]) -> usize
     let mut at = 0;
     let mut count = 0;
     loop {
-        out[count] = pair(hex[at], hex[at + 1]);
+        out[count] = decoded(hex, at);
         count += 1;
         at += 2;
         if at == hex.len() {
@@ -145,4 +146,15 @@ fn decode_pairs(hex: &[u8], out: &mut [u8]) -> usize
             at += 1;
         }
     }
+}
+
+/// The byte of the two digits at a place.
+fn decoded(text: &[u8], at: usize) -> u8
+    requires within { at + 2 ≤ length text.now }
+    requires digits { IsTrue (is_hex (slice_index text.now at) && is_hex (slice_index text.now (at + 1))) }
+    ensures { result ≡ pair_value (slice_index text.now at) (slice_index text.now (at + 1)) }
+{
+    let mut byte = [0u8];
+    let _ = decode_to_slice(&text[at..at + 2], &mut byte);
+    byte[0]
 }

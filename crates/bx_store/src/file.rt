@@ -1,6 +1,7 @@
 //! A text in a file.
-ghost use Rattle.std.specs.Prelude.{◌≡◌, ◌↔◌, ◌+◌, ◌^◌, ◌-◌, ◌<◌, ◌≤◌, ◌++◌, length, take, IfOk, OnOk, OnErr, IsOk, if◌then◌else◌};
+ghost use Rattle.std.specs.Prelude.{◌≡◌, ◌↔◌, ◌+◌, ◌^◌, ◌-◌, ◌<◌, ◌≤◌, ◌++◌, length, take, IfOk, OnOk, OnErr, IsOk, false, if◌then◌else◌};
 ghost use Rattle.bx_image.specs.File.{IsCutOnTheWay};
+ghost use Rattle.bx_image.specs.Device.{GoesOn};
 ghost use Rattle.bx_store.specs.Store.{IsPartlyAppended, has_failed};
 
 use crate::{DeviceFailed, MOST, NoMemory, TextFault, TextStore};
@@ -88,7 +89,15 @@ impl<F: RandomAccess> TextStore for FileText<F> {
         counted(&mut self.failures, outcome)
     }
 
-    fn reserve(&mut self, n: u64) -> Result<(), NoMemory> {
+    fn reserve(&mut self, n: u64) -> Result<(), NoMemory>
+        // It takes no memory, so it is refused only past the limit.
+        ensures within { IsOk result ↔ (n ≤ MOST) }
+        ensures ok { OnOk result (n ≤ 2 ^ 64 - 1) }
+        ensures limit { OnOk result (n ≤ 2 ^ 62) }
+        ensures err { OnErr result ((2 ^ 64 - 1) ≡ (2 ^ 64 - 1)) }
+        ensures text { F.honest self.old.file → F.content self.new.file ≡ F.content self.old.file }
+        ensures goes_on { GoesOn (λ f. F.honest f.file) (λ _. 2 ^ 64 - 1) (λ f. f.failures) false self.old self.new }
+    {
         if n > MOST { Err(NoMemory) } else { Ok(()) }
     }
 

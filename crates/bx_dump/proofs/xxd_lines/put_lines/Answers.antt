@@ -3,19 +3,11 @@ use Rattle.std.proofs.lemmas.List.{length-drop, length-take-le}
 use Rattle.std.proofs.Math.Nat.{mul-le-mul_left}
 use Rattle.bx_text.proofs.KnownLemmas.{take-put_mid_more}
 use Rattle.bx_dump.specs.Lines.{in_lines}
-use Rattle.bx_dump.proofs.LinesLemmas.{in_lines-none, line_begin, line_end, lines_next_at, lines_all}
+use Rattle.bx_dump.proofs.LinesLemmas.{line_begin, line_end, lines_next_at, lines_all, lines_within}
 use Rattle.bx_dump.proofs.xxd_lines.put_lines.Goals as goal
 
 pub loop-k-init : goal.loop-k-init
-loop-k-init g c =
-    let C = g.F.LineForm.cols c.args.form.now in
-    let line = g.F.LineForm.line c.args.form.now in
-    let zero_more : C * 0 ≡ 0 = omega arith in
-    let pos = rw c.line_len-cols.ensures.value at c.line_len-cols.ensures.some in
-    record {
-      within = omega arith;
-      text = sym (ap (λ n. in_lines line C c.args.at (take n c.args.bytes.now)) zero_more ∙ in_lines-none line C c.args.at pos);
-    }
+loop-k-init g c = record { within = c.put_usual-first.ensures.most; text = c.put_usual-first.ensures.text }
 
 pub loop-k-preserved : goal.loop-k-preserved
 loop-k-preserved g c =
@@ -49,3 +41,26 @@ returns-clause-text g c =
     let bytes = c.args.bytes.now in
     let all = rw value at c.loop-k-test.false in
     lines_all line C c.args.at c.loop-k.k bytes _ (omega (arith, line_end (length bytes) C pos, mul-le-mul_left {m = (length bytes + C - 1) / C} {n = c.loop-k.k} C all)) c.loop-k.invariant.text
+
+pub overflow_add-used : goal.overflow_add-used
+overflow_add-used g c =
+    let C = g.F.LineForm.cols c.args.form.now in
+    let R = g.F.LineForm.room c.args.form.now in
+    let n = length c.args.bytes.now in
+    let below = rw c.line_len-cols.ensures.value at c.loop-k-test.true in
+    let count : R * (c.loop-k.k + 1) ≤ R * ((n + C - 1) / C) = mul-le-mul_left {m = c.loop-k.k + 1} {n = (n + C - 1) / C} R (omega arith) in
+    let few : c.loop-k.used + c.put_next-used.result ≤ 65536 = omega (arith, c.loop-k.invariant.within, c.put_next-used.ensures.most, c.requires.room, c.requires.small) in
+    omega arith
+
+pub returns-clause-within : goal.returns-clause-within
+returns-clause-within g c =
+    let C = g.F.LineForm.cols c.args.form.now in
+    let R = g.F.LineForm.room c.args.form.now in
+    let n = length c.args.bytes.now in
+    let value = c.line_len-cols.ensures.value in
+    let pos = rw value at c.line_len-cols.ensures.some in
+    let first : c.put_usual-first.result.lines ≤ (n + C - 1) / C = lines_within n C c.put_usual-first.result.lines pos c.put_usual-first.ensures.inside in
+    let end = rw value at c.loop-k.auto.k-end in
+    let last : c.loop-k.k ≤ (n + C - 1) / C = end first in
+    let count : R * c.loop-k.k ≤ R * ((n + C - 1) / C) = mul-le-mul_left {m = c.loop-k.k} {n = (n + C - 1) / C} R last in
+    omega (arith, c.loop-k.invariant.within, c.requires.room)

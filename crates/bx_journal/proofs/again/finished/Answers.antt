@@ -1,4 +1,4 @@
-use Rattle.std.proofs.Common.{◌≡◌, ℕ, length, arith}
+use Rattle.std.proofs.Common.{arith}
 use Rattle.bx_journal.proofs.AgainLemmas.{not_counted, not_whole}
 use Rattle.bx_journal.proofs.again.finished.Goals as goal
 

@@ -1,4 +1,4 @@
-use Rattle.std.proofs.Common.{◌≡◌, ◌∙◌, sym, subst}
+use Rattle.std.proofs.Common.{◌∙◌, sym, subst}
 use Rattle.bx_journal.specs.Undoing.{HasCount}
 use Rattle.bx_journal.proofs.AgainLemmas.{apart_of}
 use Rattle.bx_journal.proofs.again.read_again.Goals as goal

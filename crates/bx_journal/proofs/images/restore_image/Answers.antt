@@ -1,6 +1,6 @@
-use Rattle.std.proofs.Common.{◌≡◌, ◌≤◌, ◌∙◌, sym, ap, subst, arith, refl, length, [], Some}
+use Rattle.std.proofs.Common.{◌∙◌, sym, arith}
 use Rattle.std.proofs.lemmas.Result.{on_ok_weaker}
-use Rattle.bx_image.specs.Change.{effect, AllWithin, Restores}
+use Rattle.bx_image.specs.Change.{Restores}
 use Rattle.bx_journal.proofs.KeptLemmas.{within_out, same_restore, covers_out, good_in}
 use Rattle.bx_journal.proofs.images.restore_image.Goals as goal
 

@@ -1,6 +1,6 @@
-use Rattle.std.proofs.Common.{◌≡◌, ℕ, ◌+◌, ◌<◌, List, ◌∷◌, ◌++◌, length, take, drop, Option, ◌≤◌, Some, None, arith}
-use Rattle.std.specs.Prelude.{IfSome, IfNone, MatchOption}
-use Rattle.memchr.specs.Find.{Nowhere, NoneBefore, Passes, is_byte, IsFirstByte}
+use Rattle.std.proofs.Common.{◌≡◌, ℕ, ◌+◌, ◌<◌, List, ◌∷◌, ◌++◌, length, take, drop, Option, Some, None, arith}
+use Rattle.std.specs.Prelude.{IfSome, IfNone}
+use Rattle.memchr.specs.Find.{is_byte, IsFirstByte}
 use Rattle.bx_journal.specs.Plain.{HasNoNewline}
 use Rattle.bx_journal.proofs.ReadLoop.{plain_to, plain_all, parts_at}
 use Rattle.bx_journal.proofs.journal.line_end.Goals as goal

@@ -1,8 +1,7 @@
-use Rattle.std.proofs.Common.{◌≡◌, ℕ, suc, ◌+◌, ◌<◌, ◌≤◌, List, [], ◌∷◌, ◌++◌, length, take, drop, Option, Some, None, refl, ap, sym, ◌∙◌, subst, arith, true, false}
-use Rattle.bx_journal.specs.Parsed.{entries_of, stage_of, reading_of, told_by, Leads, KeepsMarks, IsReadTo, IsMarked}
-use Rattle.bx_journal.specs.Text.{IsRest}
+use Rattle.std.proofs.Common.{◌≡◌, ℕ, suc, ◌+◌, List, length, take, drop, Some, refl, ap, sym, ◌∙◌, subst, arith, true, false}
+use Rattle.bx_journal.specs.Parsed.{entries_of, reading_of, told_by, Leads, KeepsMarks, IsReadTo}
 use Rattle.bx_journal.proofs.ReadLemmas.{length-entries_of}
-use Rattle.bx_journal.proofs.ReadLoop.{drop_twice, start_read, marked_few, IsFound, read_on, read_stops, read_ends, rest_at_end, read_fails}
+use Rattle.bx_journal.proofs.ReadLoop.{drop_twice, start_read, IsFound, read_on, read_stops, read_ends, rest_at_end, read_fails}
 use Rattle.bx_journal.proofs.journal.read_journal.Goals as goal
 
 pub loop-i-init : goal.loop-i-init

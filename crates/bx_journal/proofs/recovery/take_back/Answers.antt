@@ -1,10 +1,7 @@
-use Rattle.std.proofs.Common.{◌≡◌, ℕ, List, ◌∙◌, sym, ap, subst, Result, Ok, Err}
-use Rattle.std.specs.Prelude.{OnErr, OnOk}
-use Rattle.bx_image.specs.Change.{restore, IsAsGood}
+use Rattle.std.proofs.Common.{◌∙◌, sym, Result, Ok, Err}
+use Rattle.std.specs.Prelude.{OnErr}
 use Rattle.bx_journal.specs.Kept.{kept_of}
 use Rattle.bx_journal.specs.Text.{Ending}
-use Rattle.bx_journal.specs.Step.{HasTail}
-use Rattle.bx_journal.specs.Phase.{IsAtRest}
 use Rattle.bx_journal.proofs.Tails.{tail_recovers, tail_moves}
 use Rattle.bx_journal.proofs.recovery.take_back.Goals as goal
 

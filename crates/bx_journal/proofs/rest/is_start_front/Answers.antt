@@ -1,7 +1,5 @@
-use Rattle.std.proofs.Common.{◌≡◌, ℕ, suc, List, ◌++◌, length, sym, ◌∙◌, ap, take, arith, Some, None, subst, true}
-use Rattle.bx_journal.specs.Text.{IsPrefix}
+use Rattle.std.proofs.Common.{◌≡◌, suc, length, sym, ◌∙◌, ap, None, subst, true}
 use Rattle.bx_journal.specs.Line.{start_head, start_line, digits_of}
-use Rattle.bx_journal.specs.Hex.{hex_digits}
 use Rattle.bx_journal.specs.Front.{IsNumberFront}
 use Rattle.bx_journal.specs.Parsed.{told_by}
 use Rattle.bx_journal.proofs.FrontLemmas.{told_none}

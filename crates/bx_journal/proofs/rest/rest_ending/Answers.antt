@@ -1,5 +1,4 @@
-use Rattle.std.proofs.Common.{◌≡◌, ℕ, suc, ◌≤◌, ◌<◌, ◌^◌, List, ◌++◌, length, sym, ◌∙◌, ap, arith, subst, true, refl}
-use Rattle.bx_image.specs.declared.change.TheConstants.{MAX_LEN}
+use Rattle.std.proofs.Common.{◌≡◌, ℕ, suc, length, sym, ◌∙◌, ap, arith, subst, true, refl}
 use Rattle.bx_journal.specs.declared.version.Version.TheVariants.{First, Second}
 use Rattle.bx_journal.specs.declared.version.Version.{Version}
 use Rattle.bx_journal.specs.Text.{IsPrefix}

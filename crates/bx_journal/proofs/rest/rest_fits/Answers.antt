@@ -1,8 +1,7 @@
-use Rattle.std.proofs.Common.{◌≡◌, ℕ, suc, List, length, map, sym, ap, subst, Bool, ◌↔◌}
+use Rattle.std.proofs.Common.{map, sym, subst, ◌↔◌}
 use Rattle.std.specs.Prelude.{IsTrue}
 use Rattle.bx_journal.specs.Kept.{run_of, kept_of}
-use Rattle.bx_journal.specs.declared.reader.StageRead.{StageRead}
-use Rattle.bx_journal.specs.Text.{Entry, IsRest}
+use Rattle.bx_journal.specs.Text.{IsRest}
 use Rattle.bx_journal.specs.Parsed.{stage_of}
 use Rattle.bx_journal.proofs.rest.rest_fits.Goals as goal
 

@@ -1,9 +1,7 @@
-use Rattle.std.proofs.Common.{◌≡◌, ℕ, suc, List, length, Some, None, refl, ap, sym, ◌∙◌, subst, arith, Option, Result, ◌+◌}
+use Rattle.std.proofs.Common.{◌≡◌, suc, length, ap, sym, ◌∙◌, subst, arith, ◌+◌}
 use Rattle.std.specs.Prelude.{IfOk}
-use Rattle.bx_journal.specs.declared.reader.StageRead.{StageRead}
-use Rattle.bx_journal.specs.declared.reader.StageRead.TheVariants.{Between as BetweenRead, Saving as SavingRead, Ending as EndingRead}
 use Rattle.bx_journal.specs.Mark.{IsMark}
-use Rattle.bx_journal.specs.Parsed.{told_by, entries_of, stage_of, reading_of, IsMarked, Leads, KeepsMarks}
+use Rattle.bx_journal.specs.Parsed.{told_by, entries_of, reading_of, IsMarked, Leads}
 use Rattle.bx_journal.proofs.ReadLemmas.{length-entries_of}
 use Rattle.bx_journal.proofs.step.take_line.Goals as goal
 

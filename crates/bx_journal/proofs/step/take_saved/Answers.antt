@@ -1,8 +1,8 @@
-use Rattle.std.proofs.Common.{◌≡◌, ℕ, suc, List, [], ◌∷◌, ◌++◌, length, map, ap, sym, ◌∙◌, Option, Some, arith, true, false, Bool, cond}
+use Rattle.std.proofs.Common.{◌≡◌, List, [], ◌∷◌, ◌++◌, map, ap, sym, ◌∙◌, Some, arith}
 use Rattle.std.specs.Option.{option_map}
 use Rattle.std.proofs.lemmas.Grind.{common_steps}
 use Rattle.bx_journal.specs.Kept.{Run, Kept, run_of}
-use Rattle.bx_journal.specs.Text.{Entry, Reading, Saving, next_at}
+use Rattle.bx_journal.specs.Text.{Saving, next_at}
 use Rattle.bx_journal.proofs.KeptLemmas.{runs_push}
 use Rattle.bx_journal.proofs.StepLemmas.{adds}
 use Rattle.bx_journal.proofs.step.take_saved.Goals as goal

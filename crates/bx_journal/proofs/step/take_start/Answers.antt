@@ -1,9 +1,9 @@
-use Rattle.std.proofs.Common.{◌≡◌, ℕ, ◌≤◌, suc, List, [], map, ap, sym, ◌∙◌, Option, Some, arith}
+use Rattle.std.proofs.Common.{◌≡◌, ℕ, List, [], map, ap, sym, ◌∙◌, Option, Some, arith}
 use Rattle.bx_text.specs.declared.pieces.Piece.{Piece}
 use Rattle.bx_journal.specs.Kept.{run_of}
 use Rattle.bx_journal.specs.declared.version.Version.{Version}
 use Rattle.bx_journal.specs.declared.version.Version.TheVariants.{First, Second}
-use Rattle.bx_journal.specs.Text.{Entry, Reading, Stage, Saving, next_at}
+use Rattle.bx_journal.specs.Text.{Entry, Reading, Saving}
 use Rattle.bx_journal.proofs.StepLemmas.{start_full, start_first, start_second, start_stops}
 use Rattle.bx_journal.proofs.step.take_start.Goals as goal
 

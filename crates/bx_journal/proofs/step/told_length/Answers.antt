@@ -1,5 +1,4 @@
-use Rattle.std.proofs.Common.{◌≡◌, Some, ap, sym, ◌∙◌}
-use Rattle.std.specs.Option.{option_copied}
+use Rattle.std.proofs.Common.{Some}
 use Rattle.bx_journal.proofs.ReadLemmas.{told-last}
 use Rattle.bx_journal.proofs.step.told_length.Goals as goal
 

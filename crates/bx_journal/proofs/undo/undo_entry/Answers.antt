@@ -1,9 +1,8 @@
-use Rattle.std.proofs.Common.{◌≡◌, ℕ, List, ◌∷◌, ◌∙◌, sym, ap, subst, inl, inr, take, Result, Ok, Err}
-use Rattle.std.specs.Prelude.{OnOk, OnErr}
+use Rattle.std.proofs.Common.{◌≡◌, ℕ, List, ◌∙◌, sym, ap, subst, inr, Result, Ok, Err}
+use Rattle.std.specs.Prelude.{OnErr}
 use Rattle.std.proofs.lemmas.Result.{on_ok_weaker, on_err_weaker}
 use Rattle.bx_journal.specs.Kept.{Kept, kept_of}
 use Rattle.bx_image.specs.Change.{restore, Covers, IsAsGood}
-use Rattle.bx_journal.specs.Step.{TakesBack}
 use Rattle.bx_journal.proofs.UndoSteps.{first_fault, covers, second_fault, third_fault, third_ok}
 use Rattle.bx_journal.proofs.undo.undo_entry.Goals as goal
 

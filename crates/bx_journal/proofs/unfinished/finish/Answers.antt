@@ -1,9 +1,7 @@
-use Rattle.std.proofs.Common.{◌≡◌, ℕ, suc, ◌+◌, List, length, refl, ap, sym, ◌∙◌, subst, arith, Result, Ok, Err}
+use Rattle.std.proofs.Common.{refl, arith, Result, Ok, Err}
 use Rattle.std.specs.Prelude.{OnErr}
 use Rattle.bx_journal.specs.declared.reader.StageRead.TheVariants.{Between as BetweenRead}
 use Rattle.bx_journal.specs.Text.{Between}
-use Rattle.bx_journal.specs.Stack.{Recovers}
-use Rattle.bx_journal.specs.Phase.{IsAtRest}
 use Rattle.bx_journal.proofs.TailLemmas.{tail_at, clean_at, ending_within}
 use Rattle.bx_journal.proofs.OpenLemmas.{opened_clean, opened_dropped, opened_saving, opened_ending}
 use Rattle.bx_journal.proofs.unfinished.finish.Goals as goal

@@ -1,4 +1,4 @@
-use Rattle.std.proofs.Common.{◌≡◌, ℕ, List, ap, sym, ◌∙◌}
+use Rattle.std.proofs.Common.{sym, ◌∙◌}
 use Rattle.bx_journal.proofs.Judged.{read_fault_opens, read_fault_refuses}
 use Rattle.bx_journal.proofs.unfinished.recover.Goals as goal
 

@@ -1,5 +1,5 @@
-use Rattle.std.proofs.Common.{◌≡◌, ℕ, suc, List, length, refl, ap, sym, ◌∙◌, subst, arith}
-use Rattle.bx_journal.specs.Text.{Reading, Reads}
+use Rattle.std.proofs.Common.{◌≡◌, ℕ, suc, List, refl, ap, sym, ◌∙◌, subst}
+use Rattle.bx_journal.specs.Text.{Reading}
 use Rattle.bx_journal.specs.Stack.{Recovers, image_at, HaveLengths}
 use Rattle.bx_journal.specs.Calls.{Differs}
 use Rattle.bx_journal.specs.Opening.{IsOpened}

@@ -1,5 +1,4 @@
-use Rattle.std.proofs.Common.{◌≡◌, ℕ, suc, ◌+◌, ◌*◌, ◌^◌, ◌<◌, ◌≤◌, List, [], ◌∷◌, length, get_or, drop, sym, ◌∙◌, Option, Some, None, arith, Fits, w64}
-use Rattle.bx_journal.specs.Hex.{hex_value, number_after}
+use Rattle.std.proofs.Common.{◌+◌, ◌*◌, ◌^◌, ◌<◌, get_or, sym, ◌∙◌, arith}
 use Rattle.bx_journal.proofs.Inverse.{digit_of}
 use Rattle.bx_journal.proofs.DigitLoop.{digit_on, digit_stops, digits_end, digit_fits, digit_bound}
 use Rattle.bx_journal.proofs.words.number.Goals as goal

@@ -1,4 +1,4 @@
-use Rattle.std.proofs.Common.{◌≡◌, ◌+◌, ◌≤◌, ◌∙◌, ◌++◌, sym, ap, arith, length, length-append, ℕ}
+use Rattle.std.proofs.Common.{◌≡◌, ◌∙◌, ◌++◌, ap, arith, length, length-append}
 use Rattle.bx_journal.specs.Hex.{hex_digits}
 use Rattle.bx_journal.proofs.FieldText.{field_digits}
 use Rattle.bx_journal.proofs.HexLemmas.{length-hex_digits}

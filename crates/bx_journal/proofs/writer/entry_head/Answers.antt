@@ -1,4 +1,4 @@
-use Rattle.std.proofs.Common.{◌≡◌, ◌≤◌, ◌<◌, ◌++◌, ap, sym, ◌∙◌, arith, length, get_or, take, map, [], refl}
+use Rattle.std.proofs.Common.{◌≡◌, ◌<◌, ◌++◌, ap, sym, ◌∙◌, arith, length, get_or, take, map, []}
 use Rattle.std.specs.Prelude.{flat_map}
 use Rattle.bx_journal.specs.Kept.{run_of, kept_of}
 use Rattle.bx_journal.specs.Text.{joined, ended}

@@ -1,6 +1,6 @@
-use Rattle.std.proofs.Common.{◌≡◌, ◌≤◌, ◌++◌, ap, sym, ◌∙◌, arith}
+use Rattle.std.proofs.Common.{arith}
 use Rattle.bx_journal.specs.Kept.{run_of}
-use Rattle.bx_journal.proofs.WriterLemmas.{row_written, rows_written, row_fits}
+use Rattle.bx_journal.proofs.WriterLemmas.{row_written, rows_written}
 use Rattle.bx_journal.proofs.writer.push_run.Goals as goal
 
 pub loop-k-preserved : goal.loop-k-preserved

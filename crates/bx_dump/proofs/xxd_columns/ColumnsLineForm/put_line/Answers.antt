@@ -10,7 +10,7 @@ use Rattle.bx_dump.specs.Cells.{grouped}
 use Rattle.bx_dump.specs.Xxd.{cell_of, cell_width, columns_place, columns_width, columns_line}
 use Rattle.bx_dump.specs.declared.xxd_columns.Columns.{Columns}
 use Rattle.bx_dump.proofs.LinesLemmas.{cells_len}
-use Rattle.bx_dump.proofs.ColumnsLemmas.{line_parts, digits_even, digits_some}
+use Rattle.bx_dump.proofs.ColumnsLemmas.{line_parts, place_fits, digits_even, digits_some}
 use Rattle.bx_dump.proofs.xxd_columns.ColumnsLineForm.put_line.Goals as goal
 
 pub put_body-requires-clause-whole : goal.put_body-requires-clause-whole
@@ -20,14 +20,6 @@ put_body-requires-clause-whole c =
     let n = length c.args.bytes.now in
     let size : length c.args.cells.now ≡ w * n = ap length c.requires.cells ∙ cells_len (cell_of p.digits) w (digits_even p.digits) c.args.bytes.now in
     rw (size, c.width.ensures) (c.groups_in-count.ensures ∙ sym (mul-div-mul_left {m = w} n p.group (digits_some p.digits)))
-
--- the digits of the bytes fit into the field
-place_fits : (p : Columns) (n : ℕ) → n ≤ p.cols → columns_place (cell_width p.digits) p.group n ≤ p.field
-place_fits p n few =
-    let w = cell_width p.digits in
-    let a : w * n ≤ w * p.cols = mul-le-mul_left {m = n} {n = p.cols} w few in
-    let b : n / p.group ≤ (p.cols + p.group - 1) / p.group = div_mono n (p.cols + p.group - 1) p.group p.some_group (omega (arith, p.some_group)) in
-    omega (arith, p.wide)
 
 pub put_body-requires-clause-room : goal.put_body-requires-clause-room
 put_body-requires-clause-room c =

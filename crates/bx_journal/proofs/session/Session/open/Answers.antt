@@ -1,4 +1,4 @@
-use Rattle.std.proofs.Common.{◌≡◌, ℕ, List, refl, ap, suc, sym, ◌∙◌}
+use Rattle.std.proofs.Common.{refl, ap, suc, sym, ◌∙◌}
 use Rattle.bx_journal.specs.Stack.{image_at}
 use Rattle.bx_journal.proofs.Phases.{length-stack_of}
 use Rattle.bx_journal.proofs.OpenLemmas.{recovers_same}

@@ -1,9 +1,9 @@
-use Rattle.std.proofs.Common.{◌≡◌, ℕ, suc, ◌+◌, ◌-◌, ◌<◌, ◌≤◌, List, [], ◌∷◌, ◌++◌, length, refl, ap, sym, ◌∙◌, subst, arith, append_assoc}
+use Rattle.std.proofs.Common.{◌≡◌, ℕ, suc, ◌+◌, List, ◌∷◌, ◌++◌, length, refl, ap, sym, ◌∙◌, subst, arith, append_assoc}
 use Rattle.bx_image.specs.declared.change.TheConstants.{MAX_LEN}
-use Rattle.bx_journal.specs.Kept.{Kept, kept_of}
+use Rattle.bx_journal.specs.Kept.{kept_of}
 use Rattle.bx_image.specs.Change.{effect, saved, IsOf, IsAsGood, Fits}
-use Rattle.bx_journal.specs.Entry.{head_text, end_text, entry_text}
-use Rattle.bx_journal.specs.Machine.{top, changes_of}
+use Rattle.bx_journal.specs.Entry.{head_text, end_text}
+use Rattle.bx_journal.specs.Machine.{top}
 use Rattle.bx_journal.specs.Phase.{IsAtRest, RecoversEither}
 use Rattle.bx_journal.specs.Session.{IsReady}
 use Rattle.bx_journal.specs.Stack.{StandsFor}

@@ -1,0 +1,70 @@
+//! The jobs that change an image or show its changes.
+ghost use Rattle.std.specs.Prelude.{◌≡◌, ◌≤◌, ◌^◌, IfOk};
+ghost use Rattle.bx_cli.specs.Command.{IsNear};
+
+use crate::files::pair;
+use bx_cli::{Command, Fault, Reply, log_text, run_all};
+use bx_image::{Device, FileImage};
+use bx_journal::{How, Session};
+use bx_store::{FileText, TextStore};
+use bx_text::Name;
+use std::fs::File;
+use std::rt::Files;
+
+type FileSession = Session<FileImage, FileText>;
+
+/// Opens the pair, and says on standard error what was recovered.
+fn open_session<R>(rt: &R, image: &Name, journal: &Name, make: bool) -> Result<FileSession, Fault>
+where
+    R: Files<File = File> + Eprint + AllocGlobal,
+    ensures device { IfOk result (λ s. ⟦<FileImage as Device>⟧.failures s.device ≡ 0) }
+    ensures store { IfOk result (λ s. ⟦<FileText as TextStore>⟧.failures s.store ≡ 0) }
+{
+    let (image, journal) = pair(rt, image, journal, make)?;
+    let opened = Session::open(rt.alloc(), FileImage::new(image), FileText::new(journal));
+    let (session, found) = match opened {
+        Ok(opened) => opened,
+        Err((_, _, fault)) => return Err(Fault::from(fault)),
+    };
+    match found.how {
+        How::Clean => {}
+        How::Dropped => {
+            let _ = eprintln!(rt; "bx: recovered: an unfinished entry was dropped");
+        }
+        How::Restored { number } => {
+            let _ = eprintln!(rt; "bx: recovered: change {number} was taken back");
+        }
+    }
+    Ok(session)
+}
+
+/// Runs one command on the pair.
+pub fn command<R>(
+    rt: &R,
+    image: &Name,
+    journal: &Name,
+    make: bool,
+    command: Command,
+) -> Result<Reply, Fault>
+where
+    R: Files<File = File> + Eprint + AllocGlobal,
+    requires { IsNear command }
+{
+    let mut session = open_session(rt, image, journal, make)?;
+    let replies = run_all(rt.alloc(), &mut session, &mut [command])?;
+    match replies.first() {
+        Some(Reply::Refused(fault)) => Err(*fault),
+        Some(reply) => Ok(*reply),
+        None => Err(Fault::NoMemory),
+    }
+}
+
+/// The changes of the pair as text, a line each, the oldest first.
+pub fn log<R>(rt: &R, image: &Name, journal: &Name) -> Result<String, Fault>
+where
+    R: Files<File = File> + Eprint + AllocGlobal,
+{
+    let mut session = open_session(rt, image, journal, false)?;
+    let rows = session.log()?;
+    log_text(rt.alloc(), rows.as_slice())
+}

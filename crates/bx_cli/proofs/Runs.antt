@@ -1,0 +1,105 @@
+-- Runs of commands, one command at a time.
+use Rattle.std.proofs.Common.{◌≡◌, ◌<◌, ◌≤◌, ◌+◌, ℕ, List, [], ◌∷◌, ◌++◌, length, drop, set, get_or, refl, sym, ◌∙◌, ap, subst, arith, All, zero, suc}
+use Rattle.std.proofs.lemmas.List.{append_assoc, append-nil, drop_more, drop-set-lt, length-set, get_or-set_other}
+use Rattle.std.proofs.lemmas.List.Elements.{All-append}
+use Rattle.bx_cli.specs.declared.command.Command.{Command}
+use Rattle.bx_cli.specs.declared.command.Reply.{Reply}
+use Rattle.bx_cli.specs.Standing.{Standing, CountsOn}
+use Rattle.bx_journal.specs.declared.session.Session.{Session}
+use Rattle.bx_cli.specs.Run.{CommandStep, CommandRun, Unfailed, HasFailed, IsCounted}
+
+-- each run of what is left makes a run of the whole list
+pub record LeadsTo {A : Type 0} (start : Standing) (whole : List (Command A)) (replies : List Reply) (now : Standing) (rest : List (Command A)) : Type 0 where
+  pub joins : (qs : List Reply) (after : Standing) → CommandRun now rest qs after → CommandRun start whole (replies ++ qs) after
+
+-- the replies so far, and a session that stands where they lead
+abbrev pub HasRun : {S A : Type 0} → (S → Standing → Type 0) → S → List (Command A) → List Reply → S → List (Command A) → Type 0
+HasRun holds first whole replies s rest =
+    (start : Standing) → holds first start → (now : Standing) × (holds s now × LeadsTo start whole replies now rest)
+
+pub has_run_none : {S A : Type 0} (holds : S → Standing → Type 0) (s : S) (whole : List (Command A)) → HasRun holds s whole [] s whole
+has_run_none holds s whole start h = (start, (h, record { joins = λ qs after r. r }))
+
+-- one command more
+pub leads_on : {A : Type 0} (start now next : Standing) (whole list : List (Command A)) (replies : List Reply) (i : ℕ) (d new : Command A) (reply : Reply)
+    → i < length list → CommandStep now (get_or list i d) reply next
+    → LeadsTo start whole replies now (drop i list)
+    → LeadsTo start whole (replies ++ reply ∷ []) next (drop (i + 1) (set list i new))
+leads_on {A = A} start now next whole list replies i d new reply within step leads = record {
+  joins = λ qs after run.
+      let Rest : List (Command A) → Type 0 = λ rest. CommandRun next rest qs after in
+      let tail = subst Rest (drop-set-lt (i + 1) list i new (omega arith)) run in
+      let Whole : List (Command A) → Type 0 = λ rest. CommandRun now rest (reply ∷ qs) after in
+      let Replies : List Reply → Type 0 = λ ps. CommandRun start whole ps after in
+      subst Replies (sym (append_assoc replies (reply ∷ []) qs)) (leads.joins (reply ∷ qs) after (subst Whole (sym (drop_more list i d within)) (next, step, tail)));
+}
+
+pub has_run_more : {S A : Type 0} (holds : S → Standing → Type 0) (first old next : S) (whole list : List (Command A)) (replies : List Reply) (i : ℕ) (d new : Command A) (reply : Reply)
+    → i < length list
+    → ((before : Standing) → holds old before → (after : Standing) × holds next after × CommandStep before (get_or list i d) reply after)
+    → HasRun holds first whole replies old (drop i list)
+    → HasRun holds first whole (replies ++ reply ∷ []) next (drop (i + 1) (set list i new))
+has_run_more holds first old next whole list replies i d new reply within step has start h =
+    let so_far = has start h in
+    let then_ = step so_far.0 so_far.1.0 in
+    (then_.0, (then_.1, leads_on start so_far.0 then_.0 whole list replies i d new reply within then_.2 so_far.1.1))
+
+-- at the end of the list
+pub has_run_all : {S A : Type 0} (holds : S → Standing → Type 0) (first s : S) (whole rest : List (Command A)) (replies : List Reply)
+    → rest ≡ [] → HasRun holds first whole replies s rest
+    → (start : Standing) → holds first start → (after : Standing) × holds s after × CommandRun start whole replies after
+has_run_all {A = A} holds first s whole rest replies none has start h =
+    let so_far = has start h in
+    let Rest : List (Command A) → Type 0 = λ list. CommandRun so_far.0 list [] so_far.0 in
+    let Replies : List Reply → Type 0 = λ ps. CommandRun start whole ps so_far.0 in
+    (so_far.0, so_far.1.0, subst Replies (append-nil replies) (so_far.1.1.joins [] so_far.0 (subst Rest (sym none) refl)))
+
+pub runs_join : {A : Type 0} (start middle after : Standing) (xs ys : List (Command A)) (ps qs : List Reply)
+    → CommandRun start xs ps middle → CommandRun middle ys qs after → CommandRun start (xs ++ ys) (ps ++ qs) after
+runs_join {A = A} start middle after [] ys [] qs first second =
+    let From : Standing → Type 0 = λ s. CommandRun s ys qs after in
+    subst From first second
+runs_join start middle after [] ys (p ∷ ps) qs first second = absurd first
+runs_join start middle after (x ∷ xs) ys [] qs first second = absurd first
+runs_join start middle after (x ∷ xs) ys (p ∷ ps) qs (now, step, rest) second =
+    (now, step, runs_join now middle after xs ys ps qs rest second)
+
+-- the elements from i on have P
+abbrev pub AllAhead : {X : Type 0} → (X → Type 0) → ℕ → List X → Type 0
+AllAhead {X = X} P i xs = (k : ℕ) (d : X) → i ≤ k → k < length xs → P (get_or xs k d)
+
+pub ahead_more : {X : Type 0} (P : X → Type 0) (xs : List X) (i : ℕ) (y : X) → AllAhead P i xs → AllAhead P (i + 1) (set xs i y)
+ahead_more P xs i y ahead k d above within =
+    let same = get_or-set_other xs i k y d (omega arith) in
+    let short : k < length xs = omega (arith, length-set xs i y) in
+    subst P (sym same) (ahead k d (omega arith) short)
+
+pub all_one : {X : Type 0} (P : X → Type 0) (x : X) → P x → All P (x ∷ [])
+all_one P x h zero d within = h
+all_one P x h (suc k) d within = absurd (omega arith)
+
+-- how the counts of failed calls stand after some commands
+pub record HasCounted {D T A : Type 0} (device_failures : D → ℕ) (store_failures : T → ℕ) (first now : Session D T A) (i : ℕ) (replies : List Reply) : Type 0 where
+  pub least : device_failures first.device + store_failures first.store ≤ device_failures now.device + store_failures now.store
+  pub most : device_failures now.device + store_failures now.store ≤ device_failures first.device + store_failures first.store + i
+  pub unfailed : device_failures now.device + store_failures now.store ≡ device_failures first.device + store_failures first.store → All Unfailed replies
+
+pub counted_none : {D T A : Type 0} (device_failures : D → ℕ) (store_failures : T → ℕ) (first : Session D T A) → HasCounted device_failures store_failures first first 0 []
+counted_none device_failures store_failures first = record {
+  least = omega arith;
+  most = omega arith;
+  unfailed = λ same k d within. absurd (omega arith);
+}
+
+pub counted_more : {D T A : Type 0} (device_failures : D → ℕ) (store_failures : T → ℕ) (first now next : Session D T A) (i : ℕ) (replies : List Reply) (reply : Reply)
+    → HasCounted device_failures store_failures first now i replies → CountsOn device_failures store_failures now next → IsCounted device_failures store_failures now next reply
+    → HasCounted device_failures store_failures first next (i + 1) (replies ++ reply ∷ [])
+counted_more device_failures store_failures first now next i replies reply has on failed = record {
+  least = let a = has.least in let b = on.least in omega arith;
+  most = let a = has.most in let b = on.most in omega arith;
+  unfailed = λ same.
+      let a = has.least in let b = on.least in
+      let before : device_failures now.device + store_failures now.store ≡ device_failures first.device + store_failures first.store = omega arith in
+      let last : Unfailed reply = λ f. let rises = failed f in absurd (omega arith) in
+      All-append Unfailed replies (reply ∷ []) (has.unfailed before) (all_one Unfailed reply last);
+}

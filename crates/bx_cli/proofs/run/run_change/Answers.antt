@@ -1,0 +1,30 @@
+use Rattle.std.proofs.Common.{refl, ap, subst, Ok, Err}
+use Rattle.bx_cli.specs.declared.command.Reply.TheVariants.{Refused}
+use Rattle.bx_cli.specs.declared.fault.Fault.{Fault}
+use Rattle.bx_cli.specs.Run.{HasFailed}
+use Rattle.bx_cli.proofs.Steps.{perform_ok, perform_err, counts_least, counts_most, counts_failed}
+use Rattle.bx_cli.proofs.run.run_change.Goals as goal
+
+pub returns-in-Ok-clause-step : goal.returns-in-Ok-clause-step
+returns-in-Ok-clause-step g c = λ before h.
+    let e = c.in-Ok.ensures in
+    let made = perform_ok g.D.Device.honest g.T.TextStore.honest g.D.Device.image g.T.TextStore.text c.args.session.now c.perform.new.self c.args.change.now c.in-Ok.number
+    e.accepted e.sound e.broken e.device_honesty e.store_honesty before h in
+    (made.0, made.1, (Ok c.in-Ok.number, refl, made.2))
+
+pub returns-in-Err-clause-step : goal.returns-in-Err-clause-step
+returns-in-Err-clause-step g c = λ before h.
+    let e = c.in-Err.ensures in
+    let made = perform_err g.D.Device.honest g.T.TextStore.honest g.D.Device.image g.T.TextStore.text c.args.session.now c.perform.new.self c.args.change.now c.in-Err.fault
+    e.fault e.broken e.full e.large e.kind e.refused e.breaks e.device_honesty e.store_honesty before h in
+    (made.0, made.1, (Err c.in-Err.fault, ap Refused c.from.ensures, made.2))
+
+pub returns-in-Err-clause-counts : goal.returns-in-Err-clause-counts
+returns-in-Err-clause-counts g c =
+    let counts = c.in-Err.ensures.counts in
+    record { least = counts_least c.in-Err.fault _ _ _ _ counts; most = counts_most c.in-Err.fault _ _ _ _ counts }
+
+pub returns-in-Err-clause-failed : goal.returns-in-Err-clause-failed
+returns-in-Err-clause-failed g c = λ failed.
+    let Fails : Fault → Type 0 = λ f. HasFailed (Refused f) in
+    counts_failed c.in-Err.fault _ _ _ _ c.in-Err.ensures.counts (subst Fails c.from.ensures failed)

@@ -1,0 +1,84 @@
+-- The machine of commands.
+use Rattle.std.specs.Prelude.{◌≡◌, ℕ, ◌+◌, ◌<◌, ◌⊎◌, Result, Ok, Err, List, [], ◌∷◌}
+use Rattle.bx_image.specs.declared.change.Change.{Change}
+use Rattle.bx_read.specs.declared.fault.ReadFault.{ReadFault}
+use Rattle.bx_journal.specs.declared.fault.SessionFault.{SessionFault}
+use Rattle.bx_read.specs.Plain.{plain_answer}
+use Rattle.bx_read.specs.Text.{dump_pieces}
+use Rattle.bx_cli.specs.declared.command.Command.{Command}
+use Rattle.bx_cli.specs.declared.command.Command.TheVariants.{Revert, RevertPlain, Undo}
+use Rattle.bx_cli.specs.declared.command.Reply.{Reply}
+use Rattle.bx_cli.specs.declared.command.Reply.TheVariants.{Changed, Undone, Refused}
+use Rattle.bx_read.specs.declared.fault.ReadFault.TheVariants.{NoMemory as ReadNoMemory}
+use Rattle.bx_cli.specs.declared.fault.Fault.TheVariants.{DeviceFailed, Interrupted}
+use Rattle.bx_journal.specs.declared.session.Session.{Session}
+use Rattle.bx_cli.specs.Command.{dump_change, plain_change}
+use Rattle.bx_cli.specs.Fault.{of_read, of_session}
+use Rattle.bx_cli.specs.Standing.{Standing, PerformFrom, UndoFrom}
+
+-- the reply that tells what the session answered
+abbrev pub changed : Result ℕ SessionFault → Reply
+changed (Ok n) = Changed n
+changed (Err e) = Refused (of_session e)
+
+abbrev pub undone : Result ℕ SessionFault → Reply
+undone (Ok n) = Undone n
+undone (Err e) = Refused (of_session e)
+
+-- a change, and the reply to it
+abbrev pub ChangeStep : {A : Type 0} → Standing → Change A → Reply → Standing → Type 0
+ChangeStep before c reply after = (r : Result ℕ SessionFault) × (reply ≡ changed r) × PerformFrom before c r after
+
+abbrev pub UndoesStep : Standing → ℕ → Reply → Standing → Type 0
+UndoesStep before k reply after = (r : Result ℕ SessionFault) × (reply ≡ undone r) × UndoFrom before k r after
+
+-- nothing is done for this fault of the command's own
+abbrev pub RefusesStep : Standing → ReadFault → Reply → Standing → Type 0
+RefusesStep before e reply after = (reply ≡ Refused (of_read e)) × (after ≡ before)
+
+-- A text that asks for a change, by what it reads as: a fault comes first
+abbrev pub ReadStep : {A B : Type 0} → Standing → (B → Change A) → Result B ReadFault → Reply → Standing → Type 0
+ReadStep before change (Ok read) reply after = ChangeStep before (change read) reply after
+ReadStep before change (Err e) reply after = RefusesStep before e reply after
+
+-- One command. Want of memory may take the place of reading its text.
+abbrev pub CommandStep : {A : Type 0} → Standing → Command A → Reply → Standing → Type 0
+CommandStep {A = A} before (Revert text offset) reply after =
+    RefusesStep before ReadNoMemory reply after ⊎ ReadStep before (dump_change {A = A} offset) (dump_pieces text) reply after
+CommandStep {A = A} before (RevertPlain text at) reply after =
+    RefusesStep before ReadNoMemory reply after ⊎ ReadStep before (plain_change {A = A} at) (plain_answer text) reply after
+CommandStep before (Undo k) reply after = UndoesStep before k reply after
+
+-- A list of commands: one reply each, in order; it goes on after a refusal
+abbrev pub CommandRun : {A : Type 0} → Standing → List (Command A) → List Reply → Standing → Type 0
+CommandRun before [] [] after = after ≡ before
+CommandRun before [] (p ∷ replies) after = ⊥
+CommandRun before (c ∷ list) [] after = ⊥
+CommandRun before (c ∷ list) (p ∷ replies) after =
+    (now : Standing) × CommandStep before c p now × CommandRun now list replies after
+
+-- whether a device's failure refused the command
+abbrev pub HasFailed : Reply → Type 0
+HasFailed (Refused DeviceFailed) = Unit {0}
+HasFailed (Refused Interrupted) = Unit {0}
+HasFailed p = ⊥
+
+-- a failure raised a count
+abbrev pub IsCounted : {D T A : Type 0} → (D → ℕ) → (T → ℕ) → Session D T A → Session D T A → Reply → Type 0
+IsCounted device_failures store_failures old new reply =
+    HasFailed reply → device_failures old.device + store_failures old.store < device_failures new.device + store_failures new.store
+
+-- no device's failure refused the command
+abbrev pub Unfailed : Reply → Type 0
+Unfailed p = HasFailed p → ⊥
+
+-- The same where no device fails: from stack to stack
+abbrev pub StackStep : {A : Type 0} → List (List ℕ) → Command A → Reply → List (List ℕ) → Type 0
+StackStep before c reply after = CommandStep (Standing.Up before) c reply (Standing.Up after) × Unfailed reply
+
+abbrev pub StackRun : {A : Type 0} → List (List ℕ) → List (Command A) → List Reply → List (List ℕ) → Type 0
+StackRun before [] [] after = after ≡ before
+StackRun before [] (p ∷ replies) after = ⊥
+StackRun before (c ∷ list) [] after = ⊥
+StackRun before (c ∷ list) (p ∷ replies) after =
+    (now : List (List ℕ)) × StackStep before c p now × StackRun now list replies after

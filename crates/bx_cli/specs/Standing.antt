@@ -1,0 +1,57 @@
+-- Where a session stands, and what one call of it makes of that. Stacks have the newest image first.
+use Rattle.std.specs.Prelude.{◌≡◌, ◌⊎◌, ◌<◌, ◌≤◌, ℕ, ◌+◌, true, Result, Ok, Err, List, [], ◌∷◌, drop}
+use Rattle.bx_image.specs.declared.change.Change.{Change}
+use Rattle.bx_image.specs.Change.{effect}
+use Rattle.bx_journal.specs.declared.session.Session.{Session}
+use Rattle.bx_journal.specs.declared.fault.SessionFault.{SessionFault}
+use Rattle.bx_journal.specs.declared.fault.SessionFault.TheVariants.{NoMemory, TooLarge, DeviceFailed, Damaged, TooFew, JournalFull, Interrupted, Broken, LengthDiffers}
+use Rattle.bx_journal.specs.Machine.{PerformStep, UndoStep, top, changes_of}
+use Rattle.bx_journal.specs.Session.{IsReady}
+use Rattle.bx_journal.specs.Stack.{Recovers}
+
+-- A session that goes on and stands for a stack; or one that was stopped, and opening its pair finds a stack
+pub data Standing : Type 0 where
+  Up : List (List ℕ) → Standing
+  Down : List (List ℕ) → Standing
+
+abbrev pub StandsAt : {D T A : Type 0} → (D → List ℕ) → (T → List ℕ) → Session D T A → Standing → Type 0
+StandsAt image text s (Up stack) = IsReady image text s stack
+StandsAt image text s (Down stack) = (s.is_broken ≡ true) × Recovers (text s.store) (image s.device) stack
+
+-- both devices are honest, and the session stands there
+pub record HoldsAt {D T A : Type 0} (device_honest : D → Type 0) (store_honest : T → Type 0) (image : D → List ℕ) (text : T → List ℕ)
+    (s : Session D T A) (standing : Standing) : Type 0 where
+  pub device : device_honest s.device
+  pub store : store_honest s.store
+  pub stands : StandsAt image text s standing
+
+-- A change from a stack. A device that fails before the first write refuses it; one that fails later stops the session,
+-- and opening finds the stack before or after the change.
+abbrev pub PerformUp : {A : Type 0} → List (List ℕ) → Change A → Result ℕ SessionFault → Standing → Type 0
+PerformUp old c (Ok n) after = (new : List (List ℕ)) × (after ≡ Up new) × PerformStep old c (Ok n) new
+PerformUp old c (Err DeviceFailed) after = after ≡ Up old
+PerformUp old c (Err JournalFull) after = (65535 ≤ changes_of old) × (after ≡ Up old)
+PerformUp old c (Err Interrupted) after = (after ≡ Down old) ⊎ (after ≡ Down (effect c (top old) ∷ old))
+PerformUp old c (Err e) after = (after ≡ Up old) × PerformStep old c (Err e) old
+
+-- A change: a stopped session refuses it
+abbrev pub PerformFrom : {A : Type 0} → Standing → Change A → Result ℕ SessionFault → Standing → Type 0
+PerformFrom (Up old) c r after = PerformUp old c r after
+PerformFrom (Down old) c r after = (r ≡ Err Broken) × (after ≡ Down old)
+
+-- An undo from a stack. Where a device stops it, opening finds the stack without some of the images.
+abbrev pub UndoUp : List (List ℕ) → ℕ → Result ℕ SessionFault → Standing → Type 0
+UndoUp old k (Ok left) after = (new : List (List ℕ)) × (after ≡ Up new) × UndoStep old k (Ok left) new
+UndoUp old k (Err DeviceFailed) after = after ≡ Up old
+UndoUp old k (Err Interrupted) after = (j : ℕ) × (j ≤ k) × (after ≡ Down (drop j old))
+UndoUp old k (Err e) after = (after ≡ Up old) × UndoStep old k (Err e) old
+
+-- An undo: a stopped session refuses it
+abbrev pub UndoFrom : Standing → ℕ → Result ℕ SessionFault → Standing → Type 0
+UndoFrom (Up old) k r after = UndoUp old k r after
+UndoFrom (Down old) k r after = (r ≡ Err Broken) × (after ≡ Down old)
+
+-- The counts of failed calls: one of them rises by one, or none does
+pub record CountsOn {D T A : Type 0} (device_failures : D → ℕ) (store_failures : T → ℕ) (old new : Session D T A) : Type 0 where
+  pub least : device_failures old.device + store_failures old.store ≤ device_failures new.device + store_failures new.store
+  pub most : device_failures new.device + store_failures new.store ≤ device_failures old.device + store_failures old.store + 1

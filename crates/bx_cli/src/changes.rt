@@ -1,0 +1,57 @@
+//! From the texts of commands to changes.
+ghost use Rattle.std.specs.Prelude.{◌≡◌, ◌⊎◌, ◌+◌, ◌^◌, ◌<◌, ◌≤◌, ℕ, List, [], ◌∷◌, map, None, Ok, Err, All, MatchResult};
+ghost use Rattle.bx_cli.specs.Command.{dump_change, plain_change, moved};
+ghost use Rattle.bx_read.specs.Plain.{plain_answer};
+ghost use Rattle.bx_read.specs.Text.{dump_pieces};
+
+use bx_image::Change;
+use bx_read::{ReadFault, read_dump, read_plain};
+use bx_text::{Bytes, Piece, Pieces};
+use std::alloc::Allocator;
+
+/// The change that puts each piece of a dump at its address plus `offset`. The whole text is read first.
+pub fn change_of_dump<A: Allocator + Clone>(
+    alloc: &A,
+    text: &[u8],
+    offset: u64,
+) -> Result<Change<A>, ReadFault>
+    requires { offset ≤ 2 ^ 62 }
+    ensures { MatchResult result (λ c. (pieces : List (ℕ × List ℕ)) × (dump_pieces text.now ≡ Ok pieces) × (c ≡ dump_change offset pieces)) (λ e. (e ≡ ReadFault.NoMemory) ⊎ (dump_pieces text.now ≡ Err e)) }
+{
+    let mut pieces = read_dump(alloc.clone()?, text)?;
+    move_pieces(pieces.as_mut_slice(), offset);
+    Ok(Change {
+        base: None,
+        writes: Pieces::from_vec(pieces),
+    })
+}
+
+/// Adds `offset` to the address of each piece.
+fn move_pieces<A: Allocator>(pieces: &mut [Piece<A>], offset: u64)
+    requires { All (λ p. p.at + offset < 2 ^ 64) pieces.old }
+    ensures { pieces.new ≡ map (moved offset) pieces.old }
+{
+    for piece in pieces.iter_mut() {
+        piece.at += offset;
+    }
+}
+
+/// The change that puts the bytes of plain hexadecimal at a place.
+pub fn change_of_plain<A: Allocator + Clone>(
+    alloc: &A,
+    text: &[u8],
+    at: u64,
+) -> Result<Change<A>, ReadFault>
+    ensures { MatchResult result (λ c. (bytes : List ℕ) × (plain_answer text.now ≡ Ok bytes) × (c ≡ plain_change at bytes)) (λ e. (e ≡ ReadFault.NoMemory) ⊎ (plain_answer text.now ≡ Err e)) }
+{
+    let bytes = read_plain(alloc.clone()?, text)?;
+    let mut writes = Vec::new(alloc.clone()?);
+    writes.push(Piece {
+        at,
+        bytes: Bytes::from_vec(bytes),
+    })?;
+    Ok(Change {
+        base: None,
+        writes: Pieces::from_vec(writes),
+    })
+}

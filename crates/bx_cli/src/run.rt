@@ -1,0 +1,132 @@
+//! Lists of commands, run in order on a session.
+ghost use Rattle.std.specs.Prelude.{◌≡◌, ◌↔◌, ◌⊎◌, ◌+◌, ◌^◌, ◌≤◌, ◌<◌, List, ℕ, length, IfOk, OnErr, All};
+ghost use Rattle.bx_journal.specs.Session.{IsReady};
+ghost use Rattle.bx_cli.specs.Standing.{Standing, HoldsAt, CountsOn};
+ghost use Rattle.bx_cli.specs.Command.{IsNear};
+ghost use Rattle.bx_cli.specs.Run.{ChangeStep, UndoesStep, ReadStep, CommandStep, CommandRun, StackRun, Unfailed, IsCounted};
+
+use crate::changes::{change_of_dump, change_of_plain};
+use crate::{Command, Fault, Reply};
+use bx_image::{Change, Device, NoMemory};
+use bx_journal::Session;
+use bx_read::ReadFault;
+use bx_store::TextStore;
+use std::alloc::Allocator;
+
+/// Makes the change.
+fn run_change<D: Device, T: TextStore, A: Allocator + Clone>(
+    session: &mut Session<D, T, A>,
+    change: &Change<A>,
+) -> Reply
+    requires device_countable { D.failures session.old.device < u64.MAX }
+    requires store_countable { T.failures session.old.store < u64.MAX }
+    ensures step { (before : Standing) → HoldsAt D.honest T.honest D.image T.text session.old before
+        → (after : Standing) × HoldsAt D.honest T.honest D.image T.text session.new after × ChangeStep before change.now result after }
+    ensures counts { CountsOn D.failures T.failures session.old session.new }
+    ensures failed { IsCounted D.failures T.failures session.old session.new result }
+{
+    match session.perform(change) {
+        Ok(number) => Reply::Changed { number },
+        Err(fault) => Reply::Refused(Fault::from(fault)),
+    }
+}
+
+/// Takes changes back.
+fn run_undo<D: Device, T: TextStore, A: Allocator + Clone>(
+    session: &mut Session<D, T, A>,
+    k: u32,
+) -> Reply
+    requires device_countable { D.failures session.old.device < u64.MAX }
+    requires store_countable { T.failures session.old.store < u64.MAX }
+    ensures step { (before : Standing) → HoldsAt D.honest T.honest D.image T.text session.old before
+        → (after : Standing) × HoldsAt D.honest T.honest D.image T.text session.new after × UndoesStep before k result after }
+    ensures counts { CountsOn D.failures T.failures session.old session.new }
+    ensures failed { IsCounted D.failures T.failures session.old session.new result }
+{
+    match session.undo(k) {
+        Ok(left) => Reply::Undone { left },
+        Err(fault) => Reply::Refused(Fault::from(fault)),
+    }
+}
+
+/// Reads the text that asks for a change, and makes the change.
+fn run_read<D: Device, T: TextStore, A: Allocator + Clone>(
+    session: &mut Session<D, T, A>,
+    read: Result<Change<A>, ReadFault>,
+) -> Reply
+    requires device_countable { D.failures session.old.device < u64.MAX }
+    requires store_countable { T.failures session.old.store < u64.MAX }
+    ensures step { (before : Standing) → HoldsAt D.honest T.honest D.image T.text session.old before
+        → (after : Standing) × HoldsAt D.honest T.honest D.image T.text session.new after × ReadStep before (λ change. change) read result after }
+    ensures counts { CountsOn D.failures T.failures session.old session.new }
+    ensures failed { IsCounted D.failures T.failures session.old session.new result }
+{
+    match read {
+        Ok(change) => run_change(session, &change),
+        Err(fault) => Reply::Refused(Fault::from(fault)),
+    }
+}
+
+/// Runs one command: a fault of its own comes before the session's.
+fn run_one<D: Device, T: TextStore, A: Allocator + Clone>(
+    alloc: &A,
+    session: &mut Session<D, T, A>,
+    command: &mut Command<A>,
+) -> Reply
+    requires device_countable { D.failures session.old.device < u64.MAX }
+    requires store_countable { T.failures session.old.store < u64.MAX }
+    requires near { IsNear command.old }
+    ensures step { (before : Standing) → HoldsAt D.honest T.honest D.image T.text session.old before
+        → (after : Standing) × HoldsAt D.honest T.honest D.image T.text session.new after × CommandStep before command.old result after }
+    ensures counts { CountsOn D.failures T.failures session.old session.new }
+    ensures failed { IsCounted D.failures T.failures session.old session.new result }
+{
+    match command {
+        Command::Revert { text, offset } => {
+            let change = change_of_dump(alloc, text.as_slice(), *offset);
+            run_read(session, change)
+        }
+        Command::RevertPlain { text, at } => {
+            let change = change_of_plain(alloc, text.as_slice(), *at);
+            run_read(session, change)
+        }
+        Command::Undo { k } => run_undo(session, *k),
+    }
+}
+
+/// Runs the commands in order, and goes on after a refusal. Room for all replies is made first: where it is refused, no
+/// command ran.
+pub fn run_all<D: Device, T: TextStore, A: Allocator + Clone>(
+    alloc: A,
+    session: &mut Session<D, T, A>,
+    list: &mut [Command<A>],
+) -> Result<Vec<Reply, A>, NoMemory>
+    requires countable { D.failures session.old.device + T.failures session.old.store + length list.old ≤ u64.MAX }
+    requires near { All IsNear list.old }
+
+    // Where no device fails, the replies and the final pair are a run of the machine, from the stack of whole images that
+    // the first pair stands for to the one that the final pair stands for.
+    ensures headline { D.honest session.old.device → T.honest session.old.store → (stack : List (List ℕ)) → IsReady D.image T.text session.old stack
+        → D.failures session.new.device ≡ D.failures session.old.device → T.failures session.new.store ≡ T.failures session.old.store
+        → IfOk result (λ replies. (top : List (List ℕ)) × IsReady D.image T.text session.new top × StackRun stack list.old replies.items top) }
+
+    // Whatever devices fail: up to the first failure after a write it is a run in which a device may refuse a command, and
+    // then each reply is the command's own fault or says that the session is broken.
+    ensures run { (before : Standing) → HoldsAt D.honest T.honest D.image T.text session.old before → IfOk result (λ replies.
+        (after : Standing) × HoldsAt D.honest T.honest D.image T.text session.new after × CommandRun before list.old replies.items after) }
+
+    // A device's failure raises its count.
+    ensures unfailed { D.failures session.new.device ≡ D.failures session.old.device → T.failures session.new.store ≡ T.failures session.old.store
+        → IfOk result (λ replies. All Unfailed replies.items) }
+    ensures refused { OnErr result (session.new ≡ session.old) }
+    ensures unread { OnErr result (list.new ≡ list.old) }
+{
+    let mut replies = Vec::with_capacity(alloc.clone().map_err(|_| NoMemory)?, list.len()).map_err(
+        |_| NoMemory,
+    )?;
+    for command in list.iter_mut() {
+        let reply = run_one(&alloc, session, command);
+        replies.push(reply).unwrap();
+    }
+    Ok(replies)
+}
