@@ -22,11 +22,11 @@ scan_text-append least o at run (b ∷ bs) ys =
     let place : at + 1 + length bs ≡ at + suc (length bs) = omega arith in
     elim (both (is_printable b)) [
       | inl holds ↦
-        let later = rw place at (scan_text-append least o (at + 1) (run ++ b ∷ []) bs ys) in
-        rw holds (ap (λ t. grown_text least o at run b ++ t) later ∙ sym (append_assoc (grown_text least o at run b) (scan_text least o (at + 1) (run ++ b ∷ []) bs) _))
+          let later = rw place at (scan_text-append least o (at + 1) (run ++ b ∷ []) bs ys) in
+          rw holds (ap (λ t. grown_text least o at run b ++ t) later ∙ sym (append_assoc (grown_text least o at run b) (scan_text least o (at + 1) (run ++ b ∷ []) bs) _))
       | inr fails ↦
-        let later = rw place at (scan_text-append least o (at + 1) [] bs ys) in
-        rw fails (ap (λ t. end_text least run ++ t) later ∙ sym (append_assoc (end_text least run) (scan_text least o (at + 1) [] bs) _))
+          let later = rw place at (scan_text-append least o (at + 1) [] bs ys) in
+          rw fails (ap (λ t. end_text least run ++ t) later ∙ sym (append_assoc (end_text least run) (scan_text least o (at + 1) [] bs) _))
     ]
 
 pub scan_run-append : (run xs ys : List ℕ) → scan_run run (xs ++ ys) ≡ scan_run (scan_run run xs) ys
@@ -64,14 +64,14 @@ scan_crossing least o at run (b ∷ bs) print short long =
     let size : length (run ++ b ∷ []) ≡ length run + 1 = length-append run (b ∷ []) in
     elim (cases_eq (length run + 1) least) [
       | inl e ↦
-        let same : (length run + 1 == least) ≡ true = eq-eqb (length run + 1) least e in
-        let rest = scan_long least o (at + 1) (run ++ b ∷ []) bs print.1 (omega arith) in
-        rw (print.0, holds, same, rest) (append_assoc (place_text o (at - length run)) (run ++ b ∷ []) bs ∙ ap (λ t. place_text o (at - length run) ++ t) (append_assoc run (b ∷ []) bs))
+          let same : (length run + 1 == least) ≡ true = eq-eqb (length run + 1) least e in
+          let rest = scan_long least o (at + 1) (run ++ b ∷ []) bs print.1 (omega arith) in
+          rw (print.0, holds, same, rest) (append_assoc (place_text o (at - length run)) (run ++ b ∷ []) bs ∙ ap (λ t. place_text o (at - length run) ++ t) (append_assoc run (b ∷ []) bs))
       | inr n ↦
-        let other : (length run + 1 == least) ≡ false = ne_eqb (length run + 1) least n in
-        let place : at + 1 - length (run ++ b ∷ []) ≡ at - length run = omega arith in
-        let rest = scan_crossing least o (at + 1) (run ++ b ∷ []) bs print.1 (omega arith) (omega arith) in
-        rw (print.0, holds, other) (rest ∙ rw place (ap (λ t. place_text o (at - length run) ++ t) (append_assoc run (b ∷ []) bs)))
+          let other : (length run + 1 == least) ≡ false = ne_eqb (length run + 1) least n in
+          let place : at + 1 - length (run ++ b ∷ []) ≡ at - length run = omega arith in
+          let rest = scan_crossing least o (at + 1) (run ++ b ∷ []) bs print.1 (omega arith) (omega arith) in
+          rw (print.0, holds, other) (rest ∙ rw place (ap (λ t. place_text o (at - length run) ++ t) (append_assoc run (b ∷ []) bs)))
     ]
 
 pub scan_run-print : (run more : List ℕ) → AllPrint more → scan_run run more ≡ run ++ more
@@ -155,7 +155,7 @@ cost_fits Hexadecimal n m le = omega arith
 cost_fits Without n m le = omega arith
 
 pub pending_most : (least count : ℕ) → pending least count ≤ count
-pending_most least count = elim (both (nat_lt count least)) [ | inl e ↦ rw e (omega arith) | inr e ↦ rw e (omega arith) ]
+pending_most least count = elim (both (nat_lt count least)) [ inl e ↦ rw e (omega arith) | inr e ↦ rw e (omega arith) ]
 
 -- what more bytes add to the text of all before
 pub scan_goes : (least : ℕ) (o : Address) (input chunk page : List ℕ) (at : ℕ) → length input ≡ at → page ≡ scan_text least o at (scan_run [] input) chunk →

@@ -30,10 +30,10 @@ first_line : (least : ℕ) (o : Address) (before : Bool) (first c : ℕ) (cs : L
     runs_text least o before first (c ∷ cs) ≡ line_at least o before first (c ∷ cs) 0 ++ runs_text least o (is_printable c) (first + 1) cs
 first_line least o before first c cs =
     let along = flat_map_along (line_at least o before first (c ∷ cs)) (line_at least o (is_printable c) (first + 1) cs) 1 0 (length cs) (λ k inside.
-      let e : 1 + k ≡ suc k = omega arith in
-      let z : 0 + k ≡ k = omega arith in
-      let place : first + suc k ≡ first + 1 + k = omega arith in
-      rw (e, z, same_start c before cs k, place) refl) in
+    let e : 1 + k ≡ suc k = omega arith in
+    let z : 0 + k ≡ k = omega arith in
+    let place : first + suc k ≡ first + 1 + k = omega arith in
+    rw (e, z, same_start c before cs k, place) refl) in
     ap (λ t. line_at least o before first (c ∷ cs) 0 ++ t) along
 
 none_first : (least : ℕ) (o : Address) (before : Bool) (first c : ℕ) (cs : List ℕ) → is_printable c ≡ false → line_at least o before first (c ∷ cs) 0 ≡ []
@@ -71,26 +71,26 @@ one_more least o at run c cs holds =
     let join : (run ++ c ∷ []) ++ front_of cs ≡ run ++ c ∷ front_of cs = append_assoc run (c ∷ []) (front_of cs) in
     elim (cases_lt (length run) least) [
       | inr long ↦
-        let a : nat_lt (length run) least ≡ false = grind (arith, nat_tests) in
-        let b : nat_le least (length run) ≡ true = grind (arith, nat_tests) in
-        let d : nat_le least (length run + 1) ≡ true = grind (arith, nat_tests) in
-        rw (a, b, size, d, front) refl
+          let a : nat_lt (length run) least ≡ false = grind (arith, nat_tests) in
+          let b : nat_le least (length run) ≡ true = grind (arith, nat_tests) in
+          let d : nat_le least (length run + 1) ≡ true = grind (arith, nat_tests) in
+          rw (a, b, size, d, front) refl
       | inl short ↦
-        let a : nat_lt (length run) least ≡ true = grind (arith, nat_tests) in
-        let b : nat_le least (length run) ≡ false = grind (arith, nat_tests) in
-        elim (cases_eq (length run + 1) least) [
-          | inl e ↦
-            let s : (length run + 1 == least) ≡ true = eq-eqb (length run + 1) least e in
-            let d : nat_le least (length run + 1) ≡ true = grind (arith, nat_tests) in
-            let f : nat_le least (length run + suc (length (front_of cs))) ≡ true = grind (arith, nat_tests) in
-            rw (a, b, s, size, d, front, f)
-            (append_assoc (place_text o (at - length run)) (run ++ c ∷ []) (front_of cs ++ codes "\n")
-             ∙ ap (λ t. place_text o (at - length run) ++ t) (sym (append_assoc (run ++ c ∷ []) (front_of cs) (codes "\n")) ∙ ap (λ t. t ++ codes "\n") join))
-          | inr n ↦
-            let s : (length run + 1 == least) ≡ false = ne_eqb (length run + 1) least n in
-            let d : nat_le least (length run + 1) ≡ false = grind (arith, nat_tests) in
-            rw (a, b, s, size, d, front, place, move, join) refl
-        ]
+          let a : nat_lt (length run) least ≡ true = grind (arith, nat_tests) in
+          let b : nat_le least (length run) ≡ false = grind (arith, nat_tests) in
+          elim (cases_eq (length run + 1) least) [
+            | inl e ↦
+                let s : (length run + 1 == least) ≡ true = eq-eqb (length run + 1) least e in
+                let d : nat_le least (length run + 1) ≡ true = grind (arith, nat_tests) in
+                let f : nat_le least (length run + suc (length (front_of cs))) ≡ true = grind (arith, nat_tests) in
+                rw (a, b, s, size, d, front, f)
+                (append_assoc (place_text o (at - length run)) (run ++ c ∷ []) (front_of cs ++ codes "\n")
+                ∙ ap (λ t. place_text o (at - length run) ++ t) (sym (append_assoc (run ++ c ∷ []) (front_of cs) (codes "\n")) ∙ ap (λ t. t ++ codes "\n") join))
+            | inr n ↦
+                let s : (length run + 1 == least) ≡ false = ne_eqb (length run + 1) least n in
+                let d : nat_le least (length run + 1) ≡ false = grind (arith, nat_tests) in
+                rw (a, b, s, size, d, front, place, move, join) refl
+          ]
     ]
 
 ends_run : (least : ℕ) (o : Address) (at : ℕ) (run x : List ℕ) → front_of x ≡ [] → bracket least o at run x ≡ end_text least run
@@ -109,15 +109,15 @@ abbrev IsBehind : ℕ → Address → ℕ → List ℕ → List ℕ → Type 0
 IsBehind least o at run x = scan_text least o at run x ++ end_text least (scan_run run x) ≡ bracket least o at run x ++ runs_text least o true at x
 
 joined : (least : ℕ) (o : Address) (at c : ℕ) (cs run : List ℕ) → is_printable c ≡ true → IsBehind least o (at + 1) (run ++ c ∷ []) cs →
-  {line : List ℕ} → grown_text least o at run c ++ bracket least o (at + 1) (run ++ c ∷ []) cs ≡ line →
-  scan_text least o at run (c ∷ cs) ++ end_text least (scan_run run (c ∷ cs)) ≡ line ++ runs_text least o true (at + 1) cs
+    {line : List ℕ} → grown_text least o at run c ++ bracket least o (at + 1) (run ++ c ∷ []) cs ≡ line →
+    scan_text least o at run (c ∷ cs) ++ end_text least (scan_run run (c ∷ cs)) ≡ line ++ runs_text least o true (at + 1) cs
 unfolding scan_text scan_run
 joined least o at c cs run holds is {line} e =
     let grown = grown_text least o at run c in
     rw holds (append_assoc grown (scan_text least o (at + 1) (run ++ c ∷ []) cs) (end_text least (scan_run (run ++ c ∷ []) cs))
-      ∙ ap (λ t. grown ++ t) is
-      ∙ sym (append_assoc grown (bracket least o (at + 1) (run ++ c ∷ []) cs) (runs_text least o true (at + 1) cs))
-      ∙ ap (λ t. t ++ runs_text least o true (at + 1) cs) e)
+    ∙ ap (λ t. grown ++ t) is
+    ∙ sym (append_assoc grown (bracket least o (at + 1) (run ++ c ∷ []) cs) (runs_text least o true (at + 1) cs))
+    ∙ ap (λ t. t ++ runs_text least o true (at + 1) cs) e)
 
 scans : (least : ℕ) (o : Address) (x : List ℕ) → 0 < least → ((at : ℕ) → IsFresh least o at x) × ((at : ℕ) (run : List ℕ) → IsBehind least o at run x)
 unfolding scan_text scan_run
@@ -131,27 +131,28 @@ scans least o (c ∷ cs) some =
     elim (both (is_printable c)) [
       | inr fails ↦ (
         (λ at.
-          let is : scan_text least o (at + 1) [] cs ++ end_text least (scan_run [] cs) ≡ runs_text least o false (at + 1) cs = later.0 (at + 1) in
-          let same : runs_text least o false at (c ∷ cs) ≡ runs_text least o false (at + 1) cs = first_line least o false at c cs ∙ rw (none_first least o false at c cs fails, fails) refl in
-          rw (fails, short) is ∙ sym same),
+            let is : scan_text least o (at + 1) [] cs ++ end_text least (scan_run [] cs) ≡ runs_text least o false (at + 1) cs = later.0 (at + 1) in
+            let same : runs_text least o false at (c ∷ cs) ≡ runs_text least o false (at + 1) cs = first_line least o false at c cs ∙ rw (none_first least o false at c cs fails, fails) refl in
+            rw (fails, short) is ∙ sym same),
         (λ at run.
-          let is : scan_text least o (at + 1) [] cs ++ end_text least (scan_run [] cs) ≡ runs_text least o false (at + 1) cs = later.0 (at + 1) in
-          let same : runs_text least o true at (c ∷ cs) ≡ runs_text least o false (at + 1) cs = first_line least o true at c cs ∙ rw (none_first least o true at c cs fails, fails) refl in
-          let ends : bracket least o at run (c ∷ cs) ≡ end_text least run = ends_run least o at run (c ∷ cs) (front_none c cs fails) in
-          rw (same, ends, fails) (append_assoc (end_text least run) (scan_text least o (at + 1) [] cs) (end_text least (scan_run [] cs)) ∙ ap (λ t. end_text least run ++ t) is)),
+            let is : scan_text least o (at + 1) [] cs ++ end_text least (scan_run [] cs) ≡ runs_text least o false (at + 1) cs = later.0 (at + 1) in
+            let same : runs_text least o true at (c ∷ cs) ≡ runs_text least o false (at + 1) cs = first_line least o true at c cs ∙ rw (none_first least o true at c cs fails, fails) refl in
+            let ends : bracket least o at run (c ∷ cs) ≡ end_text least run = ends_run least o at run (c ∷ cs) (front_none c cs fails) in
+            rw (same, ends, fails) (append_assoc (end_text least run) (scan_text least o (at + 1) [] cs) (end_text least (scan_run [] cs)) ∙ ap (λ t. end_text least run ++ t) is)),
       )
       | inl holds ↦ (
         (λ at.
-          let grown = grown_text least o at [] c in
-          let is = later.1 (at + 1) (c ∷ []) in
-          let line : grown ++ bracket least o (at + 1) (c ∷ []) cs ≡ line_at least o false at (c ∷ cs) 0 = one_more least o at [] c cs holds ∙ sym (starts_first least o at c cs some holds) in
-          let same : runs_text least o false at (c ∷ cs) ≡ line_at least o false at (c ∷ cs) 0 ++ runs_text least o true (at + 1) cs = first_line least o false at c cs ∙ ap (λ b. line_at least o false at (c ∷ cs) 0 ++ runs_text least o b (at + 1) cs) holds in
-          joined least o at c cs [] holds is line ∙ sym same),
+            let grown = grown_text least o at [] c in
+            let is = later.1 (at + 1) (c ∷ []) in
+            let line : grown ++ bracket least o (at + 1) (c ∷ []) cs ≡ line_at least o false at (c ∷ cs) 0 = one_more least o at [] c cs holds ∙ sym (starts_first least o at c cs some holds) in
+            let same : runs_text least o false at (c ∷ cs) ≡ line_at least o false at (c ∷ cs) 0 ++ runs_text least o true (at + 1) cs = first_line least o false at c cs ∙ ap (λ b. line_at least o false at (c ∷ cs) 0 ++ runs_text least o b (at + 1) cs) holds in
+            joined least o at c cs [] holds is line ∙ sym same),
         (λ at run.
-          let is = later.1 (at + 1) (run ++ c ∷ []) in
-          let same : runs_text least o true at (c ∷ cs) ≡ runs_text least o true (at + 1) cs = first_line least o true at c cs ∙ ap (λ t. t ++ runs_text least o (is_printable c) (at + 1) cs) (inside_first least o at c cs holds) ∙ ap (λ b. runs_text least o b (at + 1) cs) holds in
-          joined least o at c cs run holds is (one_more least o at run c cs holds) ∙ sym (ap (λ t. bracket least o at run (c ∷ cs) ++ t) same)),
+            let is = later.1 (at + 1) (run ++ c ∷ []) in
+            let same : runs_text least o true at (c ∷ cs) ≡ runs_text least o true (at + 1) cs = first_line least o true at c cs ∙ ap (λ t. t ++ runs_text least o (is_printable c) (at + 1) cs) (inside_first least o at c cs holds) ∙ ap (λ b. runs_text least o b (at + 1) cs) holds in
+            joined least o at c cs run holds is (one_more least o at run c cs holds) ∙ sym (ap (λ t. bracket least o at run (c ∷ cs) ++ t) same)),
       )
     ]
+
 pub strings_is : (least : ℕ) (o : Address) (x : List ℕ) → 0 < least → strings_text least o x ≡ scan_text least o 0 [] x ++ end_text least (scan_run [] x)
 strings_is least o x some = sym ((scans least o x some).0 0)

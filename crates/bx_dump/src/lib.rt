@@ -29,4 +29,6 @@ pub use xxd_rows::{Items, Plain};
 pub use xxd_whole::xxd_default;
 
 #[cfg(test)]
+mod printable_tests;
+#[cfg(test)]
 mod xxd_tests;

@@ -283,11 +283,7 @@ fn scan_pages<R: Read, W: Write>(
 ///
 /// The input may have 2^40 bytes. Nothing is allocated or flushed. After a fault a front of the text of the bytes that
 /// were read was written; `WriteFailed` counts it.
-pub fn strings<R: Read, W: Write>(
-    r: &mut R,
-    w: &mut W,
-    o: &StringsOptions,
-) -> Result<u64, IoFault>
+pub fn strings<R: Read, W: Write>(r: &mut R, w: &mut W, o: &StringsOptions) -> Result<u64, IoFault>
     requires some { 0 < o.now.least }
     requires few { o.now.least ≤ 4096 }
     ensures ok { IfOk result (λ n. (written : ℕ) × DumpsAll (strings_text o.now.least o.now.offsets) (R.remaining r.old) (R.remaining r.new) (W.contents w.old) (W.contents w.new) n written) }

@@ -30,7 +30,7 @@ returns-then-runs-clause-ok g c =
     let short : c.scan_pages.new.runs.count < o.least = omega (arith, c.if-runs.true, c.in-Ok.ensures.least, c.new-runs.ensures.least) in
     let run = d.run.short short in
     let e = strings_is o.least o.offsets d.input c.requires.some ∙ ap (λ t. scan_text o.least o.offsets 0 [] d.input ++ t) (short_end o.least (scan_run [] d.input) (omega (arith, run.0, short)))
-      ∙ append-nil (scan_text o.least o.offsets 0 [] d.input) in
+    ∙ append-nil (scan_text o.least o.offsets 0 [] d.input) in
     (c.in-Ok.done.written, (d.input, d.long, d.consumed, d.ended, rw e d.appended, ap length e ∙ d.size))
 
 pub returns-in-Ok-emit_after-clause-ok : goal.returns-in-Ok-emit_after-clause-ok
@@ -39,9 +39,17 @@ returns-in-Ok-emit_after-clause-ok g c =
     let d = rw (c.new-runs.ensures.least, c.new-runs.ensures.offsets) at c.in-Ok.ensures.ok in
     let long = d.run.long (omega (arith, c.if-runs.false, c.in-Ok.ensures.least, c.new-runs.ensures.least)) in
     let e : strings_text o.least o.offsets d.input ≡ scan_text o.least o.offsets 0 [] d.input ++ 10 ∷ [] =
-      strings_is o.least o.offsets d.input c.requires.some ∙ ap (λ t. scan_text o.least o.offsets 0 [] d.input ++ t) (long_end o.least (scan_run [] d.input) long) in
-    (c.in-Ok.done.written + 1, (d.input, d.long, d.consumed, d.ended, rw e (Appends-trans _ _ _ _ _ d.appended c.in-Ok-emit_after.ensures.ok),
-      ap length e ∙ length-append (scan_text o.least o.offsets 0 [] d.input) (10 ∷ []) ∙ ap (λ n. n + 1) d.size))
+    strings_is o.least o.offsets d.input c.requires.some ∙ ap (λ t. scan_text o.least o.offsets 0 [] d.input ++ t) (long_end o.least (scan_run [] d.input) long) in (
+      c.in-Ok.done.written + 1,
+      (
+        d.input,
+        d.long,
+        d.consumed,
+        d.ended,
+        rw e (Appends-trans _ _ _ _ _ d.appended c.in-Ok-emit_after.ensures.ok),
+        ap length e ∙ length-append (scan_text o.least o.offsets 0 [] d.input) (10 ∷ []) ∙ ap (λ n. n + 1) d.size,
+      ),
+    )
 
 pub returns-in-Err-emit_after-clause-err : goal.returns-in-Err-emit_after-clause-err
 returns-in-Err-emit_after-clause-err g c =
@@ -49,6 +57,6 @@ returns-in-Err-emit_after-clause-err g c =
     let d = rw (c.new-runs.ensures.least, c.new-runs.ensures.offsets) at c.in-Ok.ensures.ok in
     let long = d.run.long (omega (arith, c.if-runs.false, c.in-Ok.ensures.least, c.new-runs.ensures.least)) in
     let e : strings_text o.least o.offsets d.input ≡ scan_text o.least o.offsets 0 [] d.input ++ 10 ∷ [] =
-      strings_is o.least o.offsets d.input c.requires.some ∙ ap (λ t. scan_text o.least o.offsets 0 [] d.input ++ t) (long_end o.least (scan_run [] d.input) long) in
+    strings_is o.least o.offsets d.input c.requires.some ∙ ap (λ t. scan_text o.least o.offsets 0 [] d.input ++ t) (long_end o.least (scan_run [] d.input) long) in
     write_stop (strings_text o.least o.offsets) _ _ _ _ _ (scan_text o.least o.offsets 0 [] d.input) d.input (10 ∷ []) c.in-Ok.done.written c.in-Err-emit_after.fault
     d.consumed d.appended d.size e c.in-Err-emit_after.ensures.err

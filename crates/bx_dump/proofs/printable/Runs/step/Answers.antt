@@ -8,7 +8,7 @@ use Rattle.std.specs.Prelude.{nat_lt}
 use Rattle.bx_dump.proofs.printable.Runs.step.Goals as goal
 
 none_pending : (least : ℕ) → pending least 0 ≡ 0
-none_pending least = elim (both (nat_lt 0 least)) [ | inl e ↦ rw e refl | inr e ↦ rw e refl ]
+none_pending least = elim (both (nat_lt 0 least)) [ inl e ↦ rw e refl | inr e ↦ rw e refl ]
 
 some_cost : (o : Address) → 2 ≤ cost_of o
 some_cost Octal = omega arith
