@@ -2,9 +2,12 @@
 ghost use Rattle.std.specs.Prelude.{◌≤◌, ◌^◌, IfSome, length};
 
 use crate::{Fault, Job, XxdJob, XxdLook};
-use bx_dump::{XxdOptions, XxdStyle, hexdump_c, xxd};
+use bx_dump::{HexdumpOptions, XxdOptions, XxdStyle, hexdump_c, xxd};
 use bx_text::{IoFault, Name};
 use std::io::{Read, Write};
+
+/// The most bytes that are skipped.
+const MOST_SKIP: u64 = 1 << 62;
 
 /// The longest name that a C array is given.
 const MOST_NAME: usize = 1 << 62;
@@ -20,8 +23,13 @@ pub enum Done {
 pub fn run_dump<R: Read, W: Write>(job: &Job, r: &mut R, w: &mut W) -> Result<Done, Fault> {
     match job {
         Job::Xxd(job) => Ok(Done::Dumped(run_xxd(job, r, w)?)),
-        Job::Hexdump(job) if job.skip == 0 && job.limit.is_none() => {
-            Ok(Done::Dumped(hexdump_c(r, w, job.all)?))
+        Job::Hexdump(job) if job.skip <= MOST_SKIP => {
+            let options = HexdumpOptions {
+                skip: job.skip,
+                limit: job.limit,
+                all: job.all,
+            };
+            Ok(Done::Dumped(hexdump_c(r, w, &options)?))
         }
         _ => Err(Fault::Usage),
     }

@@ -6,4 +6,3 @@ pub mod OperandsLemmas
 pub mod PlanLemmas
 pub mod WholeLemmas
 mod Rows
-mod MoreRows

@@ -154,6 +154,28 @@ fn operand_faults(rt: HostRuntime) -> Result<(), Fail> {
 }
 
 #[test]
+fn fault_texts(rt: HostRuntime) -> Result<(), Fail> {
+    let rows = [
+        (DdFault::NoMemory, "out of memory"),
+        (DdFault::ReadFailed, "read failed"),
+        (DdFault::InputTooLong, "input too long"),
+        (DdFault::UnknownOperand(1), "operand 1: unknown"),
+        (DdFault::BadNumber(2), "operand 2: bad number"),
+        (DdFault::NumberTooLarge(3), "operand 3: number too large"),
+        (DdFault::ZeroSize(4), "operand 4: zero size"),
+        (DdFault::Conflict, "conflicting conversions"),
+        (DdFault::MissingCbs, "cbs is missing"),
+        (DdFault::Repeated(15), "operand 15: given twice"),
+        (DdFault::SeekWithoutOutput, "seek needs an output file"),
+    ];
+    for (fault, text) in rows {
+        let shown = fault.to_string(rt.alloc())?;
+        assert!(rt; shown.as_str() == text);
+    }
+    Ok(())
+}
+
+#[test]
 fn a_whole_plan(rt: HostRuntime) -> Result<(), Fail> {
     let operands = [
         "if=a=b",

@@ -100,3 +100,8 @@ pub lines_next : (line : ℕ → List ℕ → List ℕ) (all : Bool) (at : ℕ) 
 lines_next line all at bytes m =
     let z : 0 + m ≡ m = omega arith in
     flat_map_split (line_text line all at bytes) 0 m 1 ∙ rw (z, append-nil (line_text line all at bytes m)) refl
+
+-- none of no lines were taken
+pub none_taken : (all : Bool) (fold : Fold) → ((bytes : List ℕ) → HasTaken fold bytes 0) → IsTaken all fold [] 0
+none_taken true fold new = tt
+none_taken false fold new = new []

@@ -1,13 +1,14 @@
 //! Dumps of whole inputs, a page at a time.
-ghost use Rattle.std.specs.Prelude.{◌≡◌, ℕ, zero, suc, ◌+◌, ◌*◌, ◌/◌, ◌^◌, ◌<◌, ◌≤◌, Bool, true, false, List, ◌++◌, length, take, IfOk, IfErr, IsTrue, if◌then◌else◌};
+ghost use Rattle.std.specs.Prelude.{◌≡◌, ℕ, zero, suc, ◌+◌, ◌*◌, ◌/◌, ◌^◌, ◌<◌, ◌≤◌, Bool, true, false, List, [], ◌++◌, length, take, IfOk, IfErr, IsTrue, if◌then◌else◌};
 ghost use Rattle.bx_text.specs.Fold.{line_bytes, line_count, line_text, lines_to, folded, show_at, IsTaken};
 ghost use Rattle.bx_dump.specs.Dumped.{DumpsAll, DumpsFront};
 
+use crate::pages::{LIMIT, PAGE, Pages};
 use bx_text::{Fold, IoFault, Meter, Show, emit_after};
 use std::io::{Read, Write};
 
-/// The most bytes of an input.
-const LIMIT: u64 = 1 << 40;
+/// The bytes of whole lines that are put at once, for each of which a page has 128 bytes of room.
+const BLOCK: usize = 12288;
 
 /// The form of a dump's lines.
 pub trait Form {
@@ -16,10 +17,10 @@ pub trait Form {
 
     /// Puts the line for 1 to 16 bytes at the front, and answers how long it is.
     fn put(&self, page: &mut [u8], at: u64, bytes: &[u8]) -> usize
-        requires room { 96 ≤ length page.old }
+        requires room { 128 ≤ length page.old }
         requires some { 0 < length bytes.now }
         requires fits { length bytes.now ≤ 16 }
-        ensures most { result ≤ 96 }
+        ensures most { result ≤ 128 }
         ensures text { take result page.new ≡ line self.now at bytes.now };
 }
 
@@ -48,10 +49,10 @@ fn put_next<F: Form>(
     at: u64,
     bytes: &[u8],
 ) -> usize
-    requires room { 96 ≤ length page.old }
+    requires room { 128 ≤ length page.old }
     requires some { 0 < length bytes.now }
     requires fits { length bytes.now ≤ 16 }
-    ensures most { result ≤ 96 }
+    ensures most { result ≤ 128 }
     ensures text { (whole : List ℕ) (k start : ℕ) → at ≡ start + 16 * k → bytes.now ≡ line_bytes whole k → IsTaken all fold.old whole k →
         take result page.new ≡ line_text (F.line form.now) all start whole k }
     ensures taken { (whole : List ℕ) (k : ℕ) → bytes.now ≡ line_bytes whole k → IsTaken all fold.old whole k → length bytes.now ≡ 16 → IsTaken all fold.new whole (suc k) }
@@ -75,9 +76,9 @@ fn put_lines<F: Form>(
     at: u64,
     bytes: &[u8],
 ) -> usize
-    requires room { 96 * line_count bytes.now ≤ length page.old }
+    requires room { 128 * line_count bytes.now ≤ length page.old }
     requires address { at + length bytes.now + 15 < 2 ^ 64 }
-    ensures within { result ≤ 96 * line_count bytes.now }
+    ensures within { result ≤ 128 * line_count bytes.now }
     ensures text { (input : List ℕ) (n start : ℕ) → length input ≡ 16 * n → at ≡ start + 16 * n → IsTaken all fold.old input n →
         folded (F.line form.now) all start (input ++ bytes.now) ≡ folded (F.line form.now) all start input ++ take result page.new }
     ensures taken { (input : List ℕ) (n lines : ℕ) → length input ≡ 16 * n → length bytes.now ≡ 16 * lines → IsTaken all fold.old input n →
@@ -100,6 +101,59 @@ fn put_lines<F: Form>(
     used
 }
 
+/// Folded lines of a form, with what the next line is compared with, and the address of the first.
+#[derive(Drop)]
+pub struct FoldedPages<F: Form> {
+    form: F,
+    all: bool,
+    start: u64,
+    fold: Fold,
+    ghost low: { start ≤ 2 ^ 63 },
+}
+
+impl<F: Form> FoldedPages<F> {
+    /// Lines of which none was put.
+    pub fn new(form: F, all: bool, start: u64) -> Self
+        requires { start ≤ 2 ^ 63 }
+        ensures form { result.form ≡ form }
+        ensures all { result.all ≡ all }
+        ensures start { result.start ≡ start }
+        ensures fresh { IsTaken result.all result.fold [] 0 }
+    {
+        FoldedPages {
+            form,
+            all,
+            start,
+            fold: Fold::new(),
+        }
+    }
+}
+
+impl<F: Form> Pages for FoldedPages<F> {
+    ghost written = { λ p. folded (F.line p.form) p.all p.start };
+
+    ghost Seen = { λ p input. (k : ℕ) × (length input ≡ 16 * k) × IsTaken p.all p.fold input k };
+
+    ghost block = { λ _. 12288 };
+
+    fn block_len(&self) -> usize {
+        BLOCK
+    }
+
+    fn put(&mut self, page: &mut [u8], done: u64, bytes: &[u8]) -> usize {
+        put_lines(
+            page,
+            &self.form,
+            self.all,
+            &mut self.fold,
+            self.start + done,
+            bytes,
+        )
+    }
+
+    fn grows(&self) {}
+}
+
 /// How much was read and written.
 #[derive(Clone, Copy, Debug, PartialEq, Eq)]
 pub struct Dumped {
@@ -120,7 +174,7 @@ pub fn dump<R: Read, W: Write, F: Form>(
     ensures err { IfErr result (DumpsFront (folded (F.line form.now) all start) (R.remaining r.old) (R.remaining r.new) (W.contents w.old) (W.contents w.new)) }
     ensures few { IfOk result (λ d. d.written ≤ 2 ^ 44) }
 {
-    dump_pages(r, w, form, all, start, &mut [0; 16384], &mut [0; 98304])
+    dump_pages(r, w, form, all, start, &mut [0; BLOCK], &mut [0; PAGE])
 }
 
 /// The same, with working space.
@@ -134,8 +188,8 @@ fn dump_pages<R: Read, W: Write, F: Form>(
     page: &mut [u8],
 ) -> Result<Dumped, IoFault>
     requires start { start ≤ 2 ^ 62 }
-    requires block { length block.old ≡ 16384 }
-    requires page { length page.old ≡ 98304 }
+    requires block { length block.old ≡ BLOCK }
+    requires page { length page.old ≡ PAGE }
     ensures ok { IfOk result (λ d. DumpsAll (folded (F.line form.now) all start) (R.remaining r.old) (R.remaining r.new) (W.contents w.old) (W.contents w.new) d.read d.written) }
     ensures err { IfErr result (DumpsFront (folded (F.line form.now) all start) (R.remaining r.old) (R.remaining r.new) (W.contents w.old) (W.contents w.new)) }
     ensures few { IfOk result (λ d. d.written ≤ 2 ^ 44) }

@@ -1,9 +1,10 @@
 //! hexdump -C.
 ghost use Rattle.std.specs.Prelude.{◌≡◌, ℕ, ◌+◌, ◌-◌, ◌*◌, ◌/◌, ◌<◌, ◌≤◌, ◌^◌, length, IfOk, IfErr};
 ghost use Rattle.bx_dump.specs.Hexdump.{canon_columns, canon_place, canon_line, canon_end, hexdump_text};
-ghost use Rattle.bx_dump.specs.Dumped.{DumpsAll, DumpsFront};
+ghost use Rattle.bx_dump.specs.Pages.{WritesPart, WritesFrontOf, part_of};
 
-use crate::folded::{Form, dump};
+use crate::folded::{FoldedPages, Form};
+use crate::pages::dump_part;
 use bx_text::{
     IoFault, ShortText, blank, emit_after, hex_digit, hex_field, push_text, put_address, put_text,
 };
@@ -61,6 +62,7 @@ fn short_canon(at: u64, bytes: &[u8]) -> ShortText<96>
 }
 
 /// hexdump's lines.
+#[derive(Drop)]
 pub struct CanonLines;
 
 impl Form for CanonLines {
@@ -92,21 +94,43 @@ fn end_line(at: u64) -> ShortText<24>
     line
 }
 
-/// Writes the dump of all that the reader gives, and answers how many bytes that is.
-pub fn hexdump_c<R: Read, W: Write>(r: &mut R, w: &mut W, all: bool) -> Result<u64, IoFault>
-    ensures ok { IfOk result (λ n. (written : ℕ) × DumpsAll (hexdump_text all 0) (R.remaining r.old) (R.remaining r.new) (W.contents w.old) (W.contents w.new) n written) }
-    ensures err { IfErr result (DumpsFront (hexdump_text all 0) (R.remaining r.old) (R.remaining r.new) (W.contents w.old) (W.contents w.new)) }
+/// What hexdump shows.
+#[derive(Clone, Copy, Debug, PartialEq, Eq)]
+pub struct HexdumpOptions {
+    /// How many bytes are skipped: at most 2^62.
+    pub skip: u64,
+    /// The most bytes that are dumped.
+    pub limit: Option<u64>,
+    /// Whether lines that repeat the line before are shown too.
+    pub all: bool,
+}
+
+/// Writes the text of `hexdump -C` of the bytes from place `skip` on, at most `limit` of them, and answers how many they are.
+///
+/// Addresses count from the input's start. Where no byte is dumped nothing is written: for an empty input, a limit of 0, and
+/// a skip to the end of the input or past it. The input may have 2^40 bytes, those included that are skipped, and no more of
+/// it is read than is needed. Nothing is flushed. After a fault a front of the text of the bytes that were read was written;
+/// `WriteFailed` counts it.
+pub fn hexdump_c<R: Read, W: Write>(
+    r: &mut R,
+    w: &mut W,
+    o: &HexdumpOptions,
+) -> Result<u64, IoFault>
+    requires skip { o.now.skip ≤ 2 ^ 62 }
+    ensures ok { IfOk result (λ n. (written : ℕ) × WritesPart (λ input. hexdump_text o.now.all o.now.skip (part_of o.now.skip o.now.limit input)) o.now.skip o.now.limit (R.remaining r.old) (R.remaining r.new) (W.contents w.old) (W.contents w.new) n written) }
+    ensures err { IfErr result (WritesFrontOf (λ input. hexdump_text o.now.all o.now.skip (part_of o.now.skip o.now.limit input)) 0 0 (R.remaining r.old) (R.remaining r.new) (W.contents w.old) (W.contents w.new)) }
 {
-    let done = match dump(r, w, &CanonLines, all, 0) {
-        Ok(done) => done,
+    let mut pages = FoldedPages::new(CanonLines, o.all, o.skip);
+    let lines = match dump_part(r, w, &mut pages, o.skip, o.limit, 0) {
+        Ok(lines) => lines,
         Err(fault) => return Err(fault),
     };
-    if done.read == 0 {
+    if lines.read == 0 {
         return Ok(0);
     }
-    let line = end_line(done.read);
-    if let Err(fault) = emit_after(w, done.written, line.as_bytes()) {
+    let end = end_line(o.skip + lines.read);
+    if let Err(fault) = emit_after(w, lines.written, end.as_bytes()) {
         return Err(fault);
     }
-    Ok(done.read)
+    Ok(lines.read)
 }

@@ -3,7 +3,11 @@
 
 mod folded;
 mod hexdump;
-mod od;
+mod od_digits;
+mod od_dump;
+mod od_lines;
+mod od_options;
+mod od_values;
 mod pages;
 mod printable;
 mod xxd_cells;
@@ -16,9 +20,11 @@ mod xxd_rows;
 mod xxd_tables;
 mod xxd_whole;
 
-pub use folded::{Dumped, Form, dump};
-pub use hexdump::hexdump_c;
-pub use od::{Address, Kind, NumForm, Size};
+pub use folded::{Dumped, FoldedPages, Form, dump};
+pub use hexdump::{CanonLines, HexdumpOptions, hexdump_c};
+pub use od_dump::od;
+pub use od_lines::OdLines;
+pub use od_options::{Address, Kind, NumForm, OdOptions, Size};
 pub use pages::{Pages, Part, dump_part};
 pub use printable::{StringsOptions, strings};
 pub use xxd_columns::{Columns, Digits};

@@ -55,7 +55,7 @@ pub struct Part {
 }
 
 /// Reads bytes away, and answers whether there were so many.
-fn skip<R: Read>(
+pub fn skip<R: Read>(
     meter: &mut Meter,
     r: &mut R,
     count: u64,
@@ -97,7 +97,7 @@ fn next_len(size: usize, limit: Option<u64>, done: u64) -> usize
 }
 
 /// Writes the text of what comes next in the input, at most `limit` bytes of it.
-fn dump_pages<R: Read, W: Write, P: Pages>(
+pub fn dump_pages<R: Read, W: Write, P: Pages>(
     meter: &mut Meter,
     r: &mut R,
     w: &mut W,
@@ -117,6 +117,7 @@ fn dump_pages<R: Read, W: Write, P: Pages>(
     ensures ok { IfOk result (λ part. WritesRest (P.written pages.old) limit (R.remaining r.old) (R.remaining r.new) (W.contents w.old) (W.contents w.new) part.read part.written) }
     ensures err { IfErr result (WritesFrontOf (λ input. P.written pages.old (capped limit input)) meter.old.taken before (R.remaining r.old) (R.remaining r.new) (W.contents w.old) (W.contents w.new)) }
     ensures few { IfOk result (λ part. part.written ≤ 2 ^ 60) }
+    ensures count { IfOk result (λ part. part.read ≤ 2 ^ 40) }
 {
     let size = pages.block_len();
     let mut part = Part {
@@ -157,6 +158,7 @@ pub fn dump_part<R: Read, W: Write, P: Pages>(
     ensures ok { IfOk result (λ part. WritesPart (λ input. P.written pages.old (part_of from limit input)) from limit (R.remaining r.old) (R.remaining r.new) (W.contents w.old) (W.contents w.new) part.read part.written) }
     ensures err { IfErr result (WritesFrontOf (λ input. P.written pages.old (part_of from limit input)) 0 before (R.remaining r.old) (R.remaining r.new) (W.contents w.old) (W.contents w.new)) }
     ensures few { IfOk result (λ part. part.written ≤ 2 ^ 60) }
+    ensures count { IfOk result (λ part. part.read ≤ 2 ^ 40) }
 {
     let mut meter = Meter::new(LIMIT);
     let mut block = [0; BLOCK];

@@ -3,13 +3,9 @@ use Rattle.std.proofs.lemmas.List.{length-append, length-take-le}
 use Rattle.bx_text.specs.Fold.{folded, line_count, IsTaken, HasTaken}
 use Rattle.bx_text.specs.declared.fold.Fold.{Fold}
 use Rattle.bx_text.proofs.KnownLemmas.{Appends-trans, Consumes-trans, Appends-nil, Consumes-nil}
-use Rattle.bx_dump.proofs.FoldLemmas.{more_text}
+use Rattle.bx_dump.proofs.FoldLemmas.{more_text, none_taken}
 use Rattle.bx_dump.proofs.DumpLemmas.{read_stop, write_stop}
 use Rattle.bx_dump.proofs.folded.dump_pages.Goals as goal
-
-none_taken : (all : Bool) (fold : Fold) → ((bytes : List ℕ) → HasTaken fold bytes 0) → IsTaken all fold [] 0
-none_taken true fold new = tt
-none_taken false fold new = new []
 
 pub loop-n-init : goal.loop-n-init
 loop-n-init g c = record {
@@ -88,7 +84,7 @@ loop-n-preserved g c =
     let is = c.put_lines-used.ensures.text now.0 now.1 c.args.start len (omega (arith, now.3)) now.7 in
     let size : length page ≡ c.put_lines-used.result =
     length-take-le c.put_lines-used.result c.put_lines-used.new.page (omega (arith, c.put_lines-used.ensures.within, fill.bound, c.fill.auto.buf, before.block, c.put_lines-used.auto.page, before.page)) in
-    let whole : length chunk ≡ 16 * 1024 = omega (arith, fill.bound, c.fill.auto.buf, before.block, c.if-n-block.false) in
+    let whole : length chunk ≡ 16 * 768 = omega (arith, fill.bound, c.fill.auto.buf, before.block, c.if-n-block.false) in
     record {
       open_now = fill.full (omega (arith, c.fill.auto.buf, c.if-n-block.false)) ∙ before.open_now;
       limit = fill.limit ∙ before.limit;
@@ -97,12 +93,12 @@ loop-n-preserved g c =
       few = omega (arith, before.few, c.put_lines-used.ensures.within, whole, fill.taken, fill.bound);
       so_far = (
         now.0 ++ chunk,
-        now.1 + 1024,
+        now.1 + 768,
         omega (arith, length-append now.0 chunk, now.2, fill.taken, fill.bound.1),
         omega (arith, now.3, fill.taken, whole, fill.bound.1),
         Consumes-trans _ _ _ _ _ now.4 fill.bytes,
         rw is (Appends-trans _ _ _ _ _ now.5 c.in_default.ensures.ok),
         omega (arith, ap length is, length-append (text now.0) page, now.6, size),
-        c.put_lines-used.ensures.taken now.0 now.1 1024 len whole now.7,
+        c.put_lines-used.ensures.taken now.0 now.1 768 len whole now.7,
       );
     }

@@ -9,9 +9,9 @@ abbrev pub invariant-loop-n : goal.invariant-loop-n
 invariant-loop-n g l = record {
   open_now : l.meter.state ≡ Open;
   limit : l.meter.limit ≡ 2 ^ 40;
-  block : length l.block ≡ 16384;
+  block : length l.block ≡ 12288;
   page : length l.page ≡ 98304;
-  few : l.written ≤ 6 * l.meter.taken;
+  few : l.written ≤ 8 * l.meter.taken;
   so_far : (input : List ℕ) × (lines : ℕ) × (length input ≡ l.meter.taken) × (l.meter.taken ≡ 16 * lines)
       × Consumes (g.R.Read.remaining l.initial.r) (g.R.Read.remaining l.r) input
       × Appends (g.W.Write.contents l.initial.w) (g.W.Write.contents l.w) (folded (g.F.Form.line l.form) l.all l.start input)

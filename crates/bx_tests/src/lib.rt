@@ -1,0 +1,7 @@
+//! Rows that cross crates, on images and texts in memory. No product code.
+#![tactic(auto)]
+
+#[cfg(test)]
+mod rows;
+#[cfg(test)]
+mod session;
