@@ -5,9 +5,9 @@ use Rattle.std.specs.List.{flat_map, range_with_len, prefix_len}
 use Rattle.std.proofs.lemmas.Bool.{cases_lt, cases_eq, eq-eqb, ne_eqb}
 use Rattle.std.proofs.lemmas.Bool.Decides.{nat_tests}
 use Rattle.bx_dump.proofs.LinesLemmas.{flat_map_along}
-use Rattle.bx_dump.specs.declared.od.Address.{Address}
+use Rattle.bx_dump.specs.declared.od_options.Address.{Address}
 use Rattle.bx_dump.specs.Strings.{is_printable, place_text, is_run_start, run_at, line_at, runs_text, strings_text}
-use Rattle.bx_dump.specs.declared.od.Address.TheVariants.{Octal, Decimal, Hexadecimal, Without}
+use Rattle.bx_dump.specs.declared.od_options.Address.TheVariants.{Octal, Decimal, Hexadecimal, Without}
 use Rattle.bx_dump.specs.Scan.{scan_text, scan_run, grown_text, end_text, AllPrint, NonePrints, cost_of, pending, IsKept}
 
 pub both : (b : Bool) → (b ≡ true) ⊎ (b ≡ false)

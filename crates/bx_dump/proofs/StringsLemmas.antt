@@ -6,8 +6,12 @@ use Rattle.std.proofs.lemmas.Bool.{cases_lt, cases_eq, eq-eqb, ne_eqb}
 use Rattle.std.proofs.lemmas.Bool.Decides.{nat_tests}
 use Rattle.std.proofs.lemmas.List.Folds.{length-prefix_len}
 use Rattle.bx_dump.proofs.LinesLemmas.{flat_map_along}
+use Rattle.std.specs.Prelude.{Option}
+use Rattle.std.proofs.lemmas.List.{take-append-le}
+use Rattle.bx_text.specs.declared.fault.IoFault.{IoFault}
+use Rattle.bx_dump.specs.Dumped.{DumpsFront}
 use Rattle.bx_dump.proofs.ScanLemmas.{both}
-use Rattle.bx_dump.specs.declared.od.Address.{Address}
+use Rattle.bx_dump.specs.declared.od_options.Address.{Address}
 use Rattle.bx_dump.specs.Strings.{is_printable, place_text, is_run_start, run_at, line_at, runs_text, strings_text}
 use Rattle.bx_dump.specs.Scan.{scan_text, scan_run, grown_text, end_text}
 
@@ -156,3 +160,13 @@ scans least o (c ∷ cs) some =
 
 pub strings_is : (least : ℕ) (o : Address) (x : List ℕ) → 0 < least → strings_text least o x ≡ scan_text least o 0 [] x ++ end_text least (scan_run [] x)
 strings_is least o x some = sym ((scans least o x some).0 0)
+
+-- a front of what is known is a front of the whole
+pub front_known : (least : ℕ) (o : Address) (r0 r1 w0 w1 : Option (List ℕ)) (fault : IoFault) → 0 < least →
+    DumpsFront (scan_text least o 0 []) r0 r1 w0 w1 fault → DumpsFront (strings_text least o) r0 r1 w0 w1 fault
+front_known least o r0 r1 w0 w1 fault some d =
+    let text = scan_text least o 0 [] d.0 in
+    let tail = end_text least (scan_run [] d.0) in
+    let is = strings_is least o d.0 some in
+    let e : take d.1 (strings_text least o d.0) ≡ take d.1 text = ap (take d.1) is ∙ take-append-le d.1 text tail d.3 in
+    (d.0, d.1, d.2, omega (arith, d.3, ap length is, length-append text tail), rw e d.4, d.5)

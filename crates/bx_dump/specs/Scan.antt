@@ -1,8 +1,8 @@
 -- The text of strings as far as it is known behind each byte. `run` is what stands printable right before place `at`.
 use Rattle.std.specs.Prelude.{◌≡◌, ◌<◌, ◌≤◌, ℕ, zero, suc, ◌+◌, ◌-◌, ◌==◌, Bool, true, false, nat_le, nat_lt, if◌then◌else◌, List, [], ◌∷◌, ◌++◌, length, take, codes, Option}
 use Rattle.std.specs.Io.KnownBytes.{Appends, Consumes, IsAtEnd}
-use Rattle.bx_dump.specs.declared.od.Address.{Address}
-use Rattle.bx_dump.specs.declared.od.Address.TheVariants.{Octal, Decimal, Hexadecimal, Without}
+use Rattle.bx_dump.specs.declared.od_options.Address.{Address}
+use Rattle.bx_dump.specs.declared.od_options.Address.TheVariants.{Octal, Decimal, Hexadecimal, Without}
 use Rattle.bx_dump.specs.Strings.{is_printable, place_text}
 
 -- what is known with one more byte of a run: all of it once it is long enough, then each byte

@@ -2,8 +2,8 @@
 use Rattle.std.specs.Prelude.{ℕ, zero, suc, ◌+◌, ◌-◌, ◌==◌, Bool, true, false, ◌&&◌, not, nat_le, nat_lt, if◌then◌else◌, List, [], ◌∷◌, ◌++◌, length, take, drop, slice_index, codes}
 use Rattle.std.specs.List.{flat_map, range_with_len, prefix_len}
 use Rattle.std.specs.Fmt.{digits}
-use Rattle.bx_dump.specs.declared.od.Address.{Address}
-use Rattle.bx_dump.specs.declared.od.Address.TheVariants.{Octal, Decimal, Hexadecimal, Without}
+use Rattle.bx_dump.specs.declared.od_options.Address.{Address}
+use Rattle.bx_dump.specs.declared.od_options.Address.TheVariants.{Octal, Decimal, Hexadecimal, Without}
 
 -- whether a byte prints in ASCII
 abbrev pub is_printable : ℕ → Bool

@@ -6,7 +6,7 @@ ghost use Rattle.bx_dump.specs.Scan.{scan_text, scan_run, IsKept, ScansAll, pend
 ghost use Rattle.bx_dump.specs.Strings.{is_printable, place_text, strings_text};
 
 use crate::folded::Dumped;
-use crate::od::Address;
+use crate::od_options::Address;
 use bx_text::{IoFault, Meter, ShortText, State, dec_field, emit_after, hex_field, oct_field};
 use std::io::{Read, Write};
 

@@ -5,9 +5,8 @@ use Rattle.std.proofs.lemmas.List.{length-append}
 use Rattle.bx_text.proofs.KnownLemmas.{Appends-trans}
 use Rattle.bx_dump.specs.Scan.{scan_text, scan_run, end_text}
 use Rattle.bx_dump.specs.Strings.{strings_text}
-use Rattle.bx_dump.proofs.CanonLemmas.{front_more}
 use Rattle.bx_dump.proofs.DumpLemmas.{write_stop}
-use Rattle.bx_dump.proofs.StringsLemmas.{strings_is}
+use Rattle.bx_dump.proofs.StringsLemmas.{strings_is, front_known}
 use Rattle.bx_dump.proofs.printable.strings.Goals as goal
 
 long_end : (least : ℕ) (run : List ℕ) → least ≤ length run → end_text least run ≡ 10 ∷ []
@@ -19,9 +18,7 @@ short_end least run short = let e : nat_le least (length run) ≡ false = grind 
 pub returns-in-Err-clause-err : goal.returns-in-Err-clause-err
 returns-in-Err-clause-err g c =
     let o = c.args.o.now in
-    let is = λ (x : List ℕ). strings_is o.least o.offsets x c.requires.some in
-    let d = rw (c.new-runs.ensures.least, c.new-runs.ensures.offsets) at c.in-Err.ensures.err in
-    front_more (scan_text o.least o.offsets 0 []) (strings_text o.least o.offsets) (λ x. end_text o.least (scan_run [] x)) is _ _ _ _ c.in-Err.fault d
+    front_known o.least o.offsets _ _ _ _ c.in-Err.fault c.requires.some (rw (c.new-runs.ensures.least, c.new-runs.ensures.offsets) at c.in-Err.ensures.err)
 
 pub returns-then-runs-clause-ok : goal.returns-then-runs-clause-ok
 returns-then-runs-clause-ok g c =

@@ -1,7 +1,7 @@
 use Rattle.std.proofs.Common.{◌≡◌, ◌+◌, ◌<◌, ◌≤◌, ℕ, [], List, length, take, sym, refl, inl, inr, ◌∙◌, arith}
 use Rattle.std.proofs.lemmas.List.{length-take-le}
-use Rattle.bx_dump.specs.declared.od.Address.{Address}
-use Rattle.bx_dump.specs.declared.od.Address.TheVariants.{Octal, Decimal, Hexadecimal, Without}
+use Rattle.bx_dump.specs.declared.od_options.Address.{Address}
+use Rattle.bx_dump.specs.declared.od_options.Address.TheVariants.{Octal, Decimal, Hexadecimal, Without}
 use Rattle.bx_dump.specs.Scan.{pending, cost_of, AllPrint, NonePrints}
 use Rattle.bx_dump.proofs.ScanLemmas.{front_prints, front_none, front_some, scan_run-print, scan_run-none, scan_end, both}
 use Rattle.std.specs.Prelude.{nat_lt}
