@@ -1,13 +1,15 @@
 //! Dumps, as jobs ask for them.
 ghost use Rattle.std.specs.Prelude.{◌≡◌, ◌≤◌, ◌^◌, ℕ, IfOk, IfErr, length};
-ghost use Rattle.bx_cli.specs.JobDump.{DumpsJob, DumpsHexdump, DumpsOd};
+ghost use Rattle.bx_cli.specs.JobDump.{DumpsJob, DumpsHexdump, DumpsOd, DumpsStrings};
 ghost use Rattle.bx_cli.specs.Dump.{AreOptionsOf, IsStyleOf};
 ghost use Rattle.bx_dump.specs.declared.xxd_options.XxdOptions.{XxdOptions};
 ghost use Rattle.bx_dump.specs.Styles.{IsCountable, xxd_text};
 ghost use Rattle.bx_dump.specs.Pages.{WritesPart, WritesFrontOf};
 
-use crate::{Fault, HexdumpJob, Job, OdJob, XxdJob, XxdLook};
-use bx_dump::{HexdumpOptions, OdOptions, XxdOptions, XxdStyle, hexdump_c, od, xxd};
+use crate::{Fault, HexdumpJob, Job, OdJob, StringsJob, XxdJob, XxdLook};
+use bx_dump::{
+    HexdumpOptions, OdOptions, StringsOptions, XxdOptions, XxdStyle, hexdump_c, od, strings, xxd,
+};
 use bx_text::{IoFault, Name};
 use std::io::{Read, Write};
 
@@ -24,7 +26,7 @@ pub enum Done {
     Dumped(u64),
 }
 
-/// Dumps what the reader gives as the job asks. A job that this program can't run yet is a wrong argument.
+/// Dumps what the reader gives as the job asks. A job that is no dump is a wrong argument.
 pub fn run_dump<R: Read, W: Write>(job: &Job, r: &mut R, w: &mut W) -> Result<Done, Fault>
     ensures { IfOk result (DumpsJob job.now (R.remaining r.old) (R.remaining r.new) (W.contents w.old) (W.contents w.new)) }
 {
@@ -32,6 +34,7 @@ pub fn run_dump<R: Read, W: Write>(job: &Job, r: &mut R, w: &mut W) -> Result<Do
         Job::Od(job) => Ok(Done::Dumped(run_od(job, r, w)?)),
         Job::Xxd(job) => Ok(Done::Dumped(run_xxd(job, r, w)?)),
         Job::Hexdump(job) => Ok(Done::Dumped(run_hexdump(job, r, w)?)),
+        Job::Strings(job) => Ok(Done::Dumped(run_strings(job, r, w)?)),
         _ => Err(Fault::Usage),
     }
 }
@@ -104,4 +107,15 @@ fn run_od<R: Read, W: Write>(job: &OdJob, r: &mut R, w: &mut W) -> Result<u64, I
         all: job.all,
     };
     od(r, w, &options)
+}
+
+/// Writes the printable runs.
+fn run_strings<R: Read, W: Write>(job: &StringsJob, r: &mut R, w: &mut W) -> Result<u64, IoFault>
+    ensures { IfOk result (DumpsStrings job.now (R.remaining r.old) (R.remaining r.new) (W.contents w.old) (W.contents w.new)) }
+{
+    let options = StringsOptions {
+        least: job.least,
+        offsets: job.offsets,
+    };
+    strings(r, w, &options)
 }
