@@ -1,17 +1,17 @@
 -- The text of od.
 use Rattle.std.specs.Prelude.{ℕ, ◌+◌, ◌-◌, ◌*◌, ◌/◌, ◌^◌, Bool, false, ◌&&◌, nat_le, nat_lt, ◌==◌, if◌then◌else◌, List, [], ◌∷◌, ◌++◌, length, take, drop, codes}
-use Rattle.std.specs.List.{flat_map, range_with_len}
 use Rattle.std.specs.Fmt.{digits}
 use Rattle.bx_text.specs.Field.{left_filled}
 use Rattle.bx_text.specs.Fold.{folded}
-use Rattle.bx_dump.specs.declared.od.Address.{Address}
-use Rattle.bx_dump.specs.declared.od.Address.TheVariants.{Octal, Decimal, Hexadecimal, Without}
-use Rattle.bx_dump.specs.declared.od.NumForm.{NumForm}
-use Rattle.bx_dump.specs.declared.od.NumForm.TheVariants as form
-use Rattle.bx_dump.specs.declared.od.Size.{Size}
-use Rattle.bx_dump.specs.declared.od.Size.TheVariants.{One, Two, Four, Eight}
-use Rattle.bx_dump.specs.declared.od.Kind.{Kind}
-use Rattle.bx_dump.specs.declared.od.Kind.TheVariants.{Chars, Number}
+use Rattle.bx_dump.specs.Lines.{in_lines}
+use Rattle.bx_dump.specs.declared.od_options.Address.{Address}
+use Rattle.bx_dump.specs.declared.od_options.Address.TheVariants.{Octal, Decimal, Hexadecimal, Without}
+use Rattle.bx_dump.specs.declared.od_options.NumForm.{NumForm}
+use Rattle.bx_dump.specs.declared.od_options.NumForm.TheVariants as form
+use Rattle.bx_dump.specs.declared.od_options.Size.{Size}
+use Rattle.bx_dump.specs.declared.od_options.Size.TheVariants.{One, Two, Four, Eight}
+use Rattle.bx_dump.specs.declared.od_options.Kind.{Kind}
+use Rattle.bx_dump.specs.declared.od_options.Kind.TheVariants.{Chars, Number}
 
 -- the value of bytes of which the lowest comes first; those that are absent count as 0
 abbrev pub value_of : List ℕ → ℕ
@@ -35,12 +35,19 @@ by_size Eight a b c d = d
 abbrev pub signed_text : ℕ → ℕ → List ℕ
 signed_text size v = if nat_lt v (2 ^ (8 * size - 1)) then digits 10 false v else 45 ∷ digits 10 false (2 ^ (8 * size) - v)
 
+-- how wide the field of a value is
+abbrev pub number_width : NumForm → Size → ℕ
+number_width form.Hexadecimal size = by_size size 2 4 8 16
+number_width form.Octal size = by_size size 3 6 11 22
+number_width form.Unsigned size = by_size size 3 5 10 20
+number_width form.Signed size = by_size size 4 6 11 20
+
 -- a value, filled up to its width
 abbrev pub number_text : NumForm → Size → ℕ → List ℕ
-number_text form.Hexadecimal size v = left_filled 48 (by_size size 2 4 8 16) (digits 16 false v)
-number_text form.Octal size v = left_filled 48 (by_size size 3 6 11 22) (digits 8 false v)
-number_text form.Unsigned size v = left_filled 32 (by_size size 3 5 10 20) (digits 10 false v)
-number_text form.Signed size v = left_filled 32 (by_size size 4 6 11 20) (signed_text (size_of size) v)
+number_text form.Hexadecimal size v = left_filled 48 (number_width form.Hexadecimal size) (digits 16 false v)
+number_text form.Octal size v = left_filled 48 (number_width form.Octal size) (digits 8 false v)
+number_text form.Unsigned size v = left_filled 32 (number_width form.Unsigned size) (digits 10 false v)
+number_text form.Signed size v = left_filled 32 (number_width form.Signed size) (signed_text (size_of size) v)
 
 -- a byte as a character: by its name where it has one, itself where it prints, else in octal
 abbrev pub char_text : ℕ → List ℕ
@@ -54,10 +61,19 @@ abbrev pub width_of : Kind → ℕ
 width_of Chars = 1
 width_of (Number form size) = size_of size
 
+-- how wide its field is
+abbrev pub field_width : Kind → ℕ
+field_width Chars = 3
+field_width (Number form size) = number_width form size
+
 -- the field for the bytes of one value
 abbrev pub field_text : Kind → List ℕ → List ℕ
 field_text Chars bytes = left_filled 32 3 (char_text (value_of bytes))
 field_text (Number form size) bytes = number_text form size (value_of bytes)
+
+-- a space and the field, wherever it stands
+abbrev pub value_text : Kind → ℕ → List ℕ → List ℕ
+value_text kind at bytes = 32 ∷ field_text kind bytes
 
 abbrev pub address_text : Address → ℕ → List ℕ
 address_text Octal at = left_filled 48 7 (digits 8 false at)
@@ -69,8 +85,7 @@ address_text Without at = []
 abbrev pub od_line : Address → Kind → ℕ → List ℕ → List ℕ
 od_line address kind at bytes =
     address_text address at
-    ++ flat_map (λ j. 32 ∷ field_text kind (take (width_of kind) (drop (width_of kind * j) bytes))) (range_with_len 0 ((length bytes + width_of kind - 1) / width_of kind))
-    ++ codes "\n"
+    ++ in_lines (value_text kind) (width_of kind) 0 bytes ++ codes "\n"
 
 -- the address behind the last byte, on a line of its own
 abbrev pub od_end : Address → ℕ → List ℕ

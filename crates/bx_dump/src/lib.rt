@@ -3,8 +3,13 @@
 
 mod folded;
 mod hexdump;
-mod od;
+mod od_digits;
+mod od_dump;
+mod od_lines;
+mod od_options;
+mod od_values;
 mod pages;
+mod printable;
 mod xxd_cells;
 mod xxd_columns;
 mod xxd_dump;
@@ -17,8 +22,11 @@ mod xxd_whole;
 
 pub use folded::{Dumped, FoldedPages, Form, dump};
 pub use hexdump::{CanonLines, HexdumpOptions, hexdump_c};
-pub use od::{Address, Kind, NumForm, Size};
+pub use od_dump::od;
+pub use od_lines::OdLines;
+pub use od_options::{Address, Kind, NumForm, OdOptions, Size};
 pub use pages::{Pages, Part, dump_part};
+pub use printable::{StringsOptions, strings};
 pub use xxd_columns::{Columns, Digits};
 pub use xxd_dump::xxd;
 pub use xxd_lines::{LineForm, Lines, Put};
@@ -26,5 +34,7 @@ pub use xxd_options::{XxdOptions, XxdStyle};
 pub use xxd_rows::{Items, Plain};
 pub use xxd_whole::xxd_default;
 
+#[cfg(test)]
+mod printable_tests;
 #[cfg(test)]
 mod xxd_tests;

@@ -55,7 +55,7 @@ pub struct Part {
 }
 
 /// Reads bytes away, and answers whether there were so many.
-fn skip<R: Read>(
+pub fn skip<R: Read>(
     meter: &mut Meter,
     r: &mut R,
     count: u64,
@@ -97,7 +97,7 @@ fn next_len(size: usize, limit: Option<u64>, done: u64) -> usize
 }
 
 /// Writes the text of what comes next in the input, at most `limit` bytes of it.
-fn dump_pages<R: Read, W: Write, P: Pages>(
+pub fn dump_pages<R: Read, W: Write, P: Pages>(
     meter: &mut Meter,
     r: &mut R,
     w: &mut W,

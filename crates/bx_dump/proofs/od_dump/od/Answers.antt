@@ -1,0 +1,54 @@
+use Rattle.std.proofs.Common.{◌≡◌, ℕ, ◌+◌, ◌≤◌, List, ◌++◌, length, arith, refl, sym, ap, ◌∙◌, inl, inr}
+use Rattle.std.proofs.lemmas.List.{length-append}
+use Rattle.bx_text.proofs.KnownLemmas.{Consumes-trans}
+use Rattle.bx_text.specs.Fold.{folded}
+use Rattle.bx_dump.specs.Od.{od_line, od_end, od_text}
+use Rattle.bx_dump.specs.Pages.{part_of, capped}
+use Rattle.bx_dump.proofs.PagesLemmas.{part_whole, part_then, stop_then, front_then, front_behind}
+use Rattle.bx_dump.proofs.od_dump.od.Goals as goal
+
+pub returns-in-Err-dump_lines-clause-err : goal.returns-in-Err-dump_lines-clause-err
+returns-in-Err-dump_lines-clause-err g c =
+    let o = c.args.o.now in
+    let lines = folded (od_line o.address o.kind) o.all o.skip in
+    let text = λ (xs : List ℕ). lines (part_of o.skip o.limit xs) in
+    let other = λ (xs : List ℕ). od_text o.address o.kind o.all o.skip (part_of o.skip o.limit xs) in
+    let rest = rw c.in_default.ensures.open.1 at c.in-Err-dump_lines.ensures.err in
+    inr (front_then text other 0 0 _ _ _ _ c.in-Err-dump_lines.fault (λ xs. (od_end o.address (o.skip + length (part_of o.skip o.limit xs)), refl))
+    (front_behind lines o.skip o.limit 0 _ _ _ _ _ c.in-Err-dump_lines.fault c.in_default.ensures.ok rest))
+
+pub returns-in-Err-emit_after-clause-err : goal.returns-in-Err-emit_after-clause-err
+returns-in-Err-emit_after-clause-err g c =
+    let o = c.args.o.now in
+    let lines = folded (od_line o.address o.kind) o.all o.skip in
+    let text = λ (xs : List ℕ). lines (part_of o.skip o.limit xs) in
+    let other = λ (xs : List ℕ). od_text o.address o.kind o.all o.skip (part_of o.skip o.limit xs) in
+    let done = c.in-Ok.lines in
+    let whole = part_whole lines o.skip o.limit _ _ _ _ _ done.read done.written c.in_default.ensures.ok c.in-Ok.ensures.ok in
+    let line = rw (c.as_bytes.ensures.value, c.end_line-end.ensures) at c.in-Err-emit_after.ensures.err in
+    let none : 0 + done.written ≡ done.written = omega arith in
+    inr (stop_then text other o.skip o.limit _ _ _ _ _ done.read done.written (od_end o.address (o.skip + done.read))
+    (λ xs e. ap (λ n. text xs ++ od_end o.address (o.skip + n)) e) whole 0 c.in-Err-emit_after.fault (rw none line))
+
+pub returns-clause-ok : goal.returns-clause-ok
+returns-clause-ok g c =
+    let o = c.args.o.now in
+    let lines = folded (od_line o.address o.kind) o.all o.skip in
+    let text = λ (xs : List ℕ). lines (part_of o.skip o.limit xs) in
+    let other = λ (xs : List ℕ). od_text o.address o.kind o.all o.skip (part_of o.skip o.limit xs) in
+    let done = c.in-Ok.lines in
+    let whole = part_whole lines o.skip o.limit _ _ _ _ _ done.read done.written c.in_default.ensures.ok c.in-Ok.ensures.ok in
+    let line = rw (c.as_bytes.ensures.value, c.end_line-end.ensures) at c.in_default-emit_after.ensures.ok in (
+      done.written + length (od_end o.address (o.skip + done.read)),
+      part_then text other o.skip o.limit _ _ _ _ _ done.read done.written (od_end o.address (o.skip + done.read))
+          (λ xs e. ap (λ n. text xs ++ od_end o.address (o.skip + n)) e) whole line,
+    )
+
+pub returns-clause-reached : goal.returns-clause-reached
+returns-clause-reached g c =
+    let front = c.in_default.ensures.ok in
+    let rest = c.in-Ok.ensures.ok in (
+      front.input ++ rest.input,
+      Consumes-trans _ _ _ front.input rest.input front.consumed rest.consumed,
+      omega (arith, length-append front.input rest.input, front.whole refl),
+    )

@@ -1,0 +1,18 @@
+-- What od reads, and why it stops.
+use Rattle.std.specs.Prelude.{◌≡◌, ℕ, ◌^◌, ◌≤◌, ◌⊎◌, false, List, length, Option}
+use Rattle.std.specs.Io.KnownBytes.{Consumes}
+use Rattle.bx_text.specs.declared.fault.IoFault.{IoFault}
+use Rattle.bx_text.specs.declared.fault.IoFault.TheVariants.{SkipPastEnd}
+use Rattle.bx_dump.specs.Pages.{WritesFrontOf, Skips, StopsAt}
+
+-- at least so many bytes were read
+abbrev pub Reaches : ℕ → Option (List ℕ) → Option (List ℕ) → Type 0
+Reaches count r0 r1 = (input : List ℕ) × Consumes r0 r1 input × (count ≤ length input)
+
+-- the input ended among the bytes to skip, or a read stopped
+abbrev pub StopsShort : ℕ → Option (List ℕ) → Option (List ℕ) → IoFault → Type 0
+StopsShort count r0 r1 fault = (fault ≡ SkipPastEnd) × Skips false count r0 r1 ⊎ StopsAt (2 ^ 40) r0 r1 fault
+
+-- the input ended among the bytes to skip and nothing was written, or a front of the text was written
+abbrev pub StopsOd : (List ℕ → List ℕ) → ℕ → Option (List ℕ) → Option (List ℕ) → Option (List ℕ) → Option (List ℕ) → IoFault → Type 0
+StopsOd text skip r0 r1 w0 w1 fault = (fault ≡ SkipPastEnd) × Skips false skip r0 r1 × (w1 ≡ w0) ⊎ WritesFrontOf text 0 0 r0 r1 w0 w1 fault

@@ -1,0 +1,142 @@
+//! Numbers in fields of a fixed width.
+ghost use Rattle.std.specs.Prelude.{◌≡◌, false, ◌&&◌, nat_le, if◌then◌else◌, ℕ, ◌+◌, ◌-◌, ◌*◌, ◌^◌, ◌<◌, ◌≤◌, List, [], ◌∷◌, ◌++◌, length, take, IfSome, None};
+ghost use Rattle.std.specs.Fmt.{digits};
+ghost use Rattle.bx_text.specs.Field.{left_filled};
+ghost use Rattle.bx_dump.specs.Od.{size_of, number_width, number_text, signed_text, char_text};
+
+use crate::od_options::{NumForm, Size};
+use bx_text::hex_digit;
+
+/// Puts `v` in digits at the end of the field, and answers where they begin.
+#[inline(always)]
+fn put_digits(field: &mut [u8], v: u64, base: u64) -> usize
+    requires least { 2 ≤ base }
+    requires most { base ≤ 16 }
+    requires some { 0 < length field.old }
+    requires few { length field.old ≤ 22 }
+    requires room { v < base ^ length field.old }
+    ensures first { result + length (digits base false v) ≡ length field.old }
+    ensures digits { field.new ≡ take result field.old ++ digits base false v }
+{
+    let mut at = field.len();
+    let mut rest = v;
+    loop {
+        at -= 1;
+        field[at] = hex_digit((rest % base) as u8, false);
+        rest /= base;
+        if rest == 0 {
+            return at;
+        }
+    }
+}
+
+/// Puts `v` in digits at the end of the field and `fill` in front of them, and answers where they begin.
+#[inline(always)]
+fn put_filled(field: &mut [u8], v: u64, base: u64, fill: u8) -> usize
+    requires least { 2 ≤ base }
+    requires most { base ≤ 16 }
+    requires some { 0 < length field.old }
+    requires few { length field.old ≤ 22 }
+    requires room { v < base ^ length field.old }
+    ensures first { result + length (digits base false v) ≡ length field.old }
+    ensures text { field.new ≡ left_filled fill (length field.old) (digits base false v) }
+{
+    field.fill(fill);
+    put_digits(field, v, base)
+}
+
+/// The least number that is negative in two's complement.
+#[inline(always)]
+fn half_of(size: Size) -> u64
+    ensures { result ≡ 2 ^ (8 * size_of size - 1) }
+{
+    match size {
+        Size::One => 1 << 7,
+        Size::Two => 1 << 15,
+        Size::Four => 1 << 31,
+        Size::Eight => 1 << 63,
+    }
+}
+
+/// Puts a minus and the digits of `v`, with spaces in front.
+#[inline(always)]
+fn put_minus(field: &mut [u8], v: u64)
+    requires some { 1 < length field.old }
+    requires few { length field.old ≤ 22 }
+    requires room { v < 10 ^ (length field.old - 1) }
+    ensures { field.new ≡ left_filled 32 (length field.old) (45 ∷ digits 10 false v) }
+{
+    let (space, rest) = field.split_at_mut(1);
+    space.copy_from_slice(b" ");
+    let first = put_filled(rest, v, 10, b' ');
+    field[first] = b'-';
+}
+
+/// Puts `v`, read in two's complement, with spaces in front.
+#[inline(always)]
+fn put_signed(field: &mut [u8], size: Size, v: u64)
+    requires width { length field.old ≡ number_width NumForm.Signed size }
+    requires small { v < 2 ^ (8 * size_of size) }
+    ensures { field.new ≡ number_text NumForm.Signed size v }
+{
+    let half = half_of(size);
+    if v < half {
+        put_filled(field, v, 10, b' ');
+    } else {
+        put_minus(field, half - (v - half));
+    }
+}
+
+/// Puts a number.
+#[inline(always)]
+pub fn put_number(field: &mut [u8], form: NumForm, size: Size, v: u64)
+    requires width { length field.old ≡ number_width form size }
+    requires small { v < 2 ^ (8 * size_of size) }
+    ensures { field.new ≡ number_text form size v }
+{
+    match form {
+        NumForm::Signed => put_signed(field, size, v),
+        NumForm::Octal => {
+            put_filled(field, v, 8, b'0');
+        }
+        NumForm::Unsigned => {
+            put_filled(field, v, 10, b' ');
+        }
+        NumForm::Hexadecimal => {
+            put_filled(field, v, 16, b'0');
+        }
+    }
+}
+
+/// The letter behind the backslash, for a byte that has an escape.
+fn escape_of(byte: u8) -> Option<u8>
+    ensures some { IfSome result (λ letter. char_text byte ≡ 92 ∷ letter ∷ []) }
+    ensures none { result ≡ None → char_text byte ≡ (if nat_le 32 byte && nat_le byte 126 then byte ∷ [] else left_filled 48 3 (digits 8 false byte)) }
+{
+    match byte {
+        0 => Some(b'0'),
+        7 => Some(b'a'),
+        8 => Some(b'b'),
+        9 => Some(b't'),
+        10 => Some(b'n'),
+        11 => Some(b'v'),
+        12 => Some(b'f'),
+        13 => Some(b'r'),
+        _ => None,
+    }
+}
+
+/// Puts a byte as a character.
+#[inline(always)]
+pub fn put_char(field: &mut [u8], byte: u8)
+    requires { length field.old ≡ 3 }
+    ensures { field.new ≡ left_filled 32 3 (char_text byte) }
+{
+    if let Some(letter) = escape_of(byte) {
+        field.copy_from_slice(&[b' ', b'\\', letter]);
+    } else if 32 <= byte && byte <= 126 {
+        field.copy_from_slice(&[b' ', b' ', byte]);
+    } else {
+        put_filled(field, byte as u64, 8, b'0');
+    }
+}
