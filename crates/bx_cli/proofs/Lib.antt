@@ -2,3 +2,4 @@ pub mod Moves
 pub mod Steps
 pub mod Runs
 pub mod Unfailed
+pub mod Stands

@@ -1,12 +1,12 @@
 -- Runs of commands, one command at a time.
-use Rattle.std.proofs.Common.{◌≡◌, ◌<◌, ◌≤◌, ◌+◌, ℕ, List, [], ◌∷◌, ◌++◌, length, drop, set, get_or, refl, sym, ◌∙◌, ap, subst, arith, All, zero, suc}
+use Rattle.std.proofs.Common.{◌≡◌, ◌<◌, ◌≤◌, ◌+◌, ℕ, List, [], ◌∷◌, ◌++◌, length, drop, set, get_or, refl, sym, subst, arith, All, zero, suc}
 use Rattle.std.proofs.lemmas.List.{append_assoc, append-nil, drop_more, drop-set-lt, length-set, get_or-set_other}
 use Rattle.std.proofs.lemmas.List.Elements.{All-append}
 use Rattle.bx_cli.specs.declared.command.Command.{Command}
 use Rattle.bx_cli.specs.declared.command.Reply.{Reply}
 use Rattle.bx_cli.specs.Standing.{Standing, CountsOn}
 use Rattle.bx_journal.specs.declared.session.Session.{Session}
-use Rattle.bx_cli.specs.Run.{CommandStep, CommandRun, Unfailed, HasFailed, IsCounted}
+use Rattle.bx_cli.specs.Run.{CommandStep, CommandRun, Unfailed, IsCounted}
 
 -- each run of what is left makes a run of the whole list
 pub record LeadsTo {A : Type 0} (start : Standing) (whole : List (Command A)) (replies : List Reply) (now : Standing) (rest : List (Command A)) : Type 0 where

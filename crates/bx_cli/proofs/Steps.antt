@@ -1,5 +1,5 @@
 -- From the contract of a session's call to a step of the machine.
-use Rattle.std.proofs.Common.{◌≡◌, ◌↔◌, ◌⊎◌, inl, inr, ◌<◌, ◌≤◌, ℕ, suc, ◌+◌, ◌-◌, Bool, true, false, Result, Ok, Err, List, [], ◌∷◌, length, drop, refl, sym, ◌∙◌, ap, subst, arith}
+use Rattle.std.proofs.Common.{◌≡◌, ◌↔◌, inl, inr, ◌<◌, ◌≤◌, ℕ, suc, ◌+◌, true, false, Result, Ok, Err, List, ◌∷◌, length, drop, refl, sym, ◌∙◌, ap, subst, arith}
 use Rattle.std.specs.Result.{IsErrOf}
 use Rattle.bx_image.specs.declared.change.Change.{Change}
 use Rattle.bx_image.specs.declared.change.TheConstants.{MAX_LEN}
@@ -20,7 +20,7 @@ use Rattle.bx_journal.proofs.Ready.{top_of_rest}
 use Rattle.bx_cli.specs.declared.command.Reply.TheVariants.{Refused}
 use Rattle.bx_cli.specs.Fault.{of_session}
 use Rattle.bx_cli.specs.Run.{HasFailed}
-use Rattle.bx_cli.specs.Standing.{Standing, HoldsAt, StandsAt, PerformFrom, UndoFrom}
+use Rattle.bx_cli.specs.Standing.{Standing, HoldsAt, PerformFrom, UndoFrom}
 
 -- image, text and count are what they were: the session is where it was
 pub ready_same : {D T A : Type 0} (image : D → List ℕ) (text : T → List ℕ) (old new : Session D T A) (stack : List (List ℕ))
@@ -60,7 +60,7 @@ perform_ok hd ht image text old new c n accepted sound broken device store (Stan
 perform_ok hd ht image text old new c n accepted sound broken device store (Standing.Down stack) h =
     let bad : Ok n ≡ Err Broken = broken.0 h.stands.0 in absurd (cc)
 
-abbrev refusal : SessionFault → Result ℕ SessionFault
+abbrev pub refusal : SessionFault → Result ℕ SessionFault
 refusal e = Err e
 
 -- a stopped session refuses all, and stays

@@ -1,5 +1,5 @@
 -- Runs in which no device fails.
-use Rattle.std.proofs.Common.{◌≡◌, ◌⊎◌, inl, inr, ◌<◌, ℕ, zero, suc, ◌+◌, Result, Ok, Err, List, [], ◌∷◌, length, get_or, drop, refl, sym, ◌∙◌, ap, subst, arith, All}
+use Rattle.std.proofs.Common.{◌≡◌, inl, inr, ℕ, suc, Result, Ok, Err, List, [], ◌∷◌, refl, subst, arith, All}
 use Rattle.bx_image.specs.declared.change.Change.{Change}
 use Rattle.bx_read.specs.declared.fault.ReadFault.{ReadFault}
 use Rattle.bx_journal.specs.declared.fault.SessionFault.{SessionFault}
@@ -10,7 +10,7 @@ use Rattle.bx_cli.specs.declared.command.Reply.{Reply}
 use Rattle.bx_journal.specs.declared.session.Session.{Session}
 use Rattle.bx_journal.specs.Session.{IsReady}
 use Rattle.bx_cli.specs.Standing.{Standing, HoldsAt, PerformFrom, UndoFrom}
-use Rattle.bx_cli.specs.Run.{changed, undone, ChangeStep, UndoesStep, ReadStep, RefusesStep, CommandStep, CommandRun, StackStep, StackRun, HasFailed, Unfailed}
+use Rattle.bx_cli.specs.Run.{changed, undone, ChangeStep, ReadStep, CommandStep, CommandRun, StackRun, Unfailed}
 use Rattle.bx_cli.specs.Command.{dump_change, plain_change}
 use Rattle.bx_read.specs.Plain.{plain_answer}
 use Rattle.bx_read.specs.Text.{dump_pieces}

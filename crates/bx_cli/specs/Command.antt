@@ -1,5 +1,5 @@
 -- The changes that commands ask for.
-use Rattle.std.specs.Prelude.{◌≡◌, ◌≤◌, ◌^◌, ℕ, ◌+◌, None, List, [], ◌∷◌, map}
+use Rattle.std.specs.Prelude.{◌≤◌, ◌^◌, ℕ, ◌+◌, None, List, [], ◌∷◌, map}
 use Rattle.bx_text.specs.declared.pieces.Piece.{Piece}
 use Rattle.bx_cli.specs.declared.command.Command.{Command}
 use Rattle.bx_cli.specs.declared.command.Command.TheVariants.{Revert, RevertPlain, Undo}

@@ -1,5 +1,5 @@
 -- The options of a dump that a job asks for.
-use Rattle.std.specs.Prelude.{◌≡◌, ◌⊎◌, ◌<◌, ◌^◌, ℕ, Option, None, Some, List, length}
+use Rattle.std.specs.Prelude.{◌≡◌, ◌<◌, ◌^◌, ℕ, Option, None, Some, List, length}
 use Rattle.bx_dump.specs.declared.xxd_options.XxdOptions.{XxdOptions}
 use Rattle.bx_dump.specs.declared.xxd_options.XxdStyle.{XxdStyle}
 use Rattle.bx_dump.specs.declared.xxd_options.XxdStyle.TheVariants as style

@@ -14,6 +14,7 @@ use Rattle.bx_cli.specs.declared.fault.Fault.TheVariants.{DeviceFailed, Interrup
 use Rattle.bx_journal.specs.declared.session.Session.{Session}
 use Rattle.bx_cli.specs.Command.{dump_change, plain_change}
 use Rattle.bx_cli.specs.Fault.{of_read, of_session}
+use Rattle.bx_journal.specs.Standing.{IsStanding}
 use Rattle.bx_cli.specs.Standing.{Standing, PerformFrom, UndoFrom}
 
 -- the reply that tells what the session answered
@@ -82,3 +83,7 @@ StackRun before [] (p ∷ replies) after = ⊥
 StackRun before (c ∷ list) [] after = ⊥
 StackRun before (c ∷ list) (p ∷ replies) after =
     (now : List (List ℕ)) × StackStep before c p now × StackRun now list replies after
+
+-- the session's pair stands for a stack to which the step leads
+abbrev pub StandsThen : {D T A : Type 0} → (D → List ℕ) → (T → List ℕ) → Session D T A → (List (List ℕ) → Type 0) → Type 0
+StandsThen image text s Step = (top : List (List ℕ)) × IsStanding image text s top × Step top

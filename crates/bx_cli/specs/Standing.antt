@@ -1,10 +1,10 @@
 -- Where a session stands, and what one call of it makes of that. Stacks have the newest image first.
-use Rattle.std.specs.Prelude.{◌≡◌, ◌⊎◌, ◌<◌, ◌≤◌, ℕ, ◌+◌, true, Result, Ok, Err, List, [], ◌∷◌, drop}
+use Rattle.std.specs.Prelude.{◌≡◌, ◌⊎◌, ◌≤◌, ℕ, ◌+◌, true, Result, Ok, Err, List, ◌∷◌, drop}
 use Rattle.bx_image.specs.declared.change.Change.{Change}
 use Rattle.bx_image.specs.Change.{effect}
 use Rattle.bx_journal.specs.declared.session.Session.{Session}
 use Rattle.bx_journal.specs.declared.fault.SessionFault.{SessionFault}
-use Rattle.bx_journal.specs.declared.fault.SessionFault.TheVariants.{NoMemory, TooLarge, DeviceFailed, Damaged, TooFew, JournalFull, Interrupted, Broken, LengthDiffers}
+use Rattle.bx_journal.specs.declared.fault.SessionFault.TheVariants.{DeviceFailed, JournalFull, Interrupted, Broken}
 use Rattle.bx_journal.specs.Machine.{PerformStep, UndoStep, top, changes_of}
 use Rattle.bx_journal.specs.Session.{IsReady}
 use Rattle.bx_journal.specs.Stack.{Recovers}

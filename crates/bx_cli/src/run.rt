@@ -1,9 +1,10 @@
 //! Lists of commands, run in order on a session.
 ghost use Rattle.std.specs.Prelude.{◌≡◌, ◌↔◌, ◌⊎◌, ◌+◌, ◌^◌, ◌≤◌, ◌<◌, List, ℕ, length, IfOk, OnErr, All};
 ghost use Rattle.bx_journal.specs.Session.{IsReady};
+ghost use Rattle.bx_journal.specs.Standing.{IsStanding};
 ghost use Rattle.bx_cli.specs.Standing.{Standing, HoldsAt, CountsOn};
 ghost use Rattle.bx_cli.specs.Command.{IsNear};
-ghost use Rattle.bx_cli.specs.Run.{ChangeStep, UndoesStep, ReadStep, CommandStep, CommandRun, StackRun, Unfailed, IsCounted};
+ghost use Rattle.bx_cli.specs.Run.{ChangeStep, UndoesStep, ReadStep, CommandStep, CommandRun, StackRun, StandsThen, StackStep, Unfailed, IsCounted};
 
 use crate::changes::{change_of_dump, change_of_plain};
 use crate::{Command, Fault, Reply};
@@ -22,6 +23,10 @@ fn run_change<D: Device, T: TextStore, A: Allocator + Clone>(
     requires store_countable { T.failures session.old.store < u64.MAX }
     ensures step { (before : Standing) → HoldsAt D.honest T.honest D.image T.text session.old before
         → (after : Standing) × HoldsAt D.honest T.honest D.image T.text session.new after × ChangeStep before change.now result after }
+    ensures stands { D.honest session.old.device → T.honest session.old.store → (stack : List (List ℕ)) → IsStanding D.image T.text session.old stack → Unfailed result
+        → StandsThen D.image T.text session.new (λ top. ChangeStep (Standing.Up stack) change.now result (Standing.Up top)) }
+    ensures device_honesty { D.honest session.new.device ↔ D.honest session.old.device }
+    ensures store_honesty { T.honest session.new.store ↔ T.honest session.old.store }
     ensures counts { CountsOn D.failures T.failures session.old session.new }
     ensures failed { IsCounted D.failures T.failures session.old session.new result }
 {
@@ -40,6 +45,10 @@ fn run_undo<D: Device, T: TextStore, A: Allocator + Clone>(
     requires store_countable { T.failures session.old.store < u64.MAX }
     ensures step { (before : Standing) → HoldsAt D.honest T.honest D.image T.text session.old before
         → (after : Standing) × HoldsAt D.honest T.honest D.image T.text session.new after × UndoesStep before k result after }
+    ensures stands { D.honest session.old.device → T.honest session.old.store → (stack : List (List ℕ)) → IsStanding D.image T.text session.old stack → Unfailed result
+        → StandsThen D.image T.text session.new (λ top. UndoesStep (Standing.Up stack) k result (Standing.Up top)) }
+    ensures device_honesty { D.honest session.new.device ↔ D.honest session.old.device }
+    ensures store_honesty { T.honest session.new.store ↔ T.honest session.old.store }
     ensures counts { CountsOn D.failures T.failures session.old session.new }
     ensures failed { IsCounted D.failures T.failures session.old session.new result }
 {
@@ -58,6 +67,10 @@ fn run_read<D: Device, T: TextStore, A: Allocator + Clone>(
     requires store_countable { T.failures session.old.store < u64.MAX }
     ensures step { (before : Standing) → HoldsAt D.honest T.honest D.image T.text session.old before
         → (after : Standing) × HoldsAt D.honest T.honest D.image T.text session.new after × ReadStep before (λ change. change) read result after }
+    ensures stands { D.honest session.old.device → T.honest session.old.store → (stack : List (List ℕ)) → IsStanding D.image T.text session.old stack → Unfailed result
+        → StandsThen D.image T.text session.new (λ top. ReadStep (Standing.Up stack) (λ change. change) read result (Standing.Up top)) }
+    ensures device_honesty { D.honest session.new.device ↔ D.honest session.old.device }
+    ensures store_honesty { T.honest session.new.store ↔ T.honest session.old.store }
     ensures counts { CountsOn D.failures T.failures session.old session.new }
     ensures failed { IsCounted D.failures T.failures session.old session.new result }
 {
@@ -78,6 +91,10 @@ fn run_one<D: Device, T: TextStore, A: Allocator + Clone>(
     requires near { IsNear command.old }
     ensures step { (before : Standing) → HoldsAt D.honest T.honest D.image T.text session.old before
         → (after : Standing) × HoldsAt D.honest T.honest D.image T.text session.new after × CommandStep before command.old result after }
+    ensures stands { D.honest session.old.device → T.honest session.old.store → (stack : List (List ℕ)) → IsStanding D.image T.text session.old stack → Unfailed result
+        → StandsThen D.image T.text session.new (λ top. CommandStep (Standing.Up stack) command.old result (Standing.Up top)) }
+    ensures device_honesty { D.honest session.new.device ↔ D.honest session.old.device }
+    ensures store_honesty { T.honest session.new.store ↔ T.honest session.old.store }
     ensures counts { CountsOn D.failures T.failures session.old session.new }
     ensures failed { IsCounted D.failures T.failures session.old session.new result }
 {
@@ -106,7 +123,12 @@ pub fn run_all<D: Device, T: TextStore, A: Allocator + Clone>(
 
     // Where no device fails, the replies and the final pair are a run of the machine, from the stack of whole images that
     // the first pair stands for to the one that the final pair stands for.
-    ensures headline { D.honest session.old.device → T.honest session.old.store → (stack : List (List ℕ)) → IsReady D.image T.text session.old stack
+    ensures headline { D.honest session.old.device → T.honest session.old.store → (stack : List (List ℕ)) → IsStanding D.image T.text session.old stack
+        → D.failures session.new.device ≡ D.failures session.old.device → T.failures session.new.store ≡ T.failures session.old.store
+        → IfOk result (λ replies. StandsThen D.image T.text session.new (λ top. StackRun stack list.old replies.items top)) }
+
+    // From a sound pair it leaves a sound one.
+    ensures sound { D.honest session.old.device → T.honest session.old.store → (stack : List (List ℕ)) → IsReady D.image T.text session.old stack
         → D.failures session.new.device ≡ D.failures session.old.device → T.failures session.new.store ≡ T.failures session.old.store
         → IfOk result (λ replies. (top : List (List ℕ)) × IsReady D.image T.text session.new top × StackRun stack list.old replies.items top) }
 

@@ -1,4 +1,4 @@
-use Rattle.std.proofs.Common.{rules, ◌≡◌, ◌∙◌, map, length, ap, None, Option, ℕ}
+use Rattle.std.proofs.Common.{rules, ◌≡◌, ◌∙◌, map, length, ap, None}
 use Rattle.std.proofs.lemmas.List.{length-map}
 use Rattle.bx_image.specs.declared.change.Change.{Change}
 use Rattle.bx_read.specs.Text.{contents}

@@ -3,6 +3,10 @@ use Rattle.bx_cli.specs.declared.command.Reply.TheVariants.{Refused}
 use Rattle.bx_cli.specs.declared.fault.Fault.{Fault}
 use Rattle.bx_cli.specs.Run.{HasFailed}
 use Rattle.bx_cli.proofs.Steps.{perform_ok, perform_err, counts_least, counts_most, counts_failed}
+use Rattle.std.specs.Prelude.{◌∷◌}
+use Rattle.bx_image.specs.Change.{effect}
+use Rattle.bx_journal.specs.Machine.{top}
+use Rattle.bx_cli.proofs.Stands.{perform_refused}
 use Rattle.bx_cli.proofs.run.run_change.Goals as goal
 
 pub returns-in-Ok-clause-step : goal.returns-in-Ok-clause-step
@@ -28,3 +32,17 @@ pub returns-in-Err-clause-failed : goal.returns-in-Err-clause-failed
 returns-in-Err-clause-failed g c = λ failed.
     let Fails : Fault → Type 0 = λ f. HasFailed (Refused f) in
     counts_failed c.in-Err.fault _ _ _ _ c.in-Err.ensures.counts (subst Fails c.from.ensures failed)
+
+pub returns-in-Ok-clause-stands : goal.returns-in-Ok-clause-stands
+returns-in-Ok-clause-stands g c = λ device store stack standing unfailed.
+    let made = c.in-Ok.ensures.accepted device store stack standing in
+    let new = effect c.args.change.now (top stack) ∷ stack in
+    (new, made.1, (Ok c.in-Ok.number, refl, (new, refl, made.0)))
+
+pub returns-in-Err-clause-stands : goal.returns-in-Err-clause-stands
+returns-in-Err-clause-stands g c = λ device store stack standing unfailed.
+    let e = c.in-Err.ensures in
+    let Fails : Fault → Type 0 = λ f. HasFailed (Refused f) → ⊥ in
+    let made = perform_refused (g.D.Device.honest c.args.session.now.device) (g.T.TextStore.honest c.args.session.now.store) g.D.Device.image g.T.TextStore.text c.args.session.now c.perform.new.self c.args.change.now c.in-Err.fault
+    e.broken e.full e.large e.kind e.refused device store stack standing (subst Fails c.from.ensures unfailed) in
+    (made.0, made.1, (Err c.in-Err.fault, ap Refused c.from.ensures, made.2))
