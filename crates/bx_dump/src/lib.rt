@@ -33,4 +33,6 @@ pub use xxd_rows::{Items, Plain};
 pub use xxd_whole::xxd_default;
 
 #[cfg(test)]
+mod od_tests;
+#[cfg(test)]
 mod xxd_tests;
