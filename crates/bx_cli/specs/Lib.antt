@@ -4,3 +4,5 @@ pub mod Job
 pub mod Standing
 pub mod Run
 pub mod Laws
+pub mod Dump
+pub mod JobDump

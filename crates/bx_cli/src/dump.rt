@@ -1,8 +1,15 @@
 //! Dumps, as jobs ask for them.
-ghost use Rattle.std.specs.Prelude.{◌≤◌, ◌^◌, IfSome, length};
+ghost use Rattle.std.specs.Prelude.{◌≡◌, ◌≤◌, ◌^◌, ℕ, IfOk, IfErr, length};
+ghost use Rattle.bx_cli.specs.JobDump.{DumpsJob, DumpsHexdump, DumpsOd, DumpsStrings};
+ghost use Rattle.bx_cli.specs.Dump.{AreOptionsOf, IsStyleOf};
+ghost use Rattle.bx_dump.specs.declared.xxd_options.XxdOptions.{XxdOptions};
+ghost use Rattle.bx_dump.specs.Styles.{IsCountable, xxd_text};
+ghost use Rattle.bx_dump.specs.Pages.{WritesPart, WritesFrontOf};
 
-use crate::{Fault, Job, XxdJob, XxdLook};
-use bx_dump::{HexdumpOptions, XxdOptions, XxdStyle, hexdump_c, xxd};
+use crate::{Fault, HexdumpJob, Job, OdJob, StringsJob, XxdJob, XxdLook};
+use bx_dump::{
+    HexdumpOptions, OdOptions, StringsOptions, XxdOptions, XxdStyle, hexdump_c, od, strings, xxd,
+};
 use bx_text::{IoFault, Name};
 use std::io::{Read, Write};
 
@@ -19,47 +26,96 @@ pub enum Done {
     Dumped(u64),
 }
 
-/// Dumps what the reader gives as the job asks. A job that this program can't run yet is a wrong argument.
-pub fn run_dump<R: Read, W: Write>(job: &Job, r: &mut R, w: &mut W) -> Result<Done, Fault> {
+/// Dumps what the reader gives as the job asks. A job that is no dump is a wrong argument.
+pub fn run_dump<R: Read, W: Write>(job: &Job, r: &mut R, w: &mut W) -> Result<Done, Fault>
+    ensures { IfOk result (DumpsJob job.now (R.remaining r.old) (R.remaining r.new) (W.contents w.old) (W.contents w.new)) }
+{
     match job {
+        Job::Od(job) => Ok(Done::Dumped(run_od(job, r, w)?)),
         Job::Xxd(job) => Ok(Done::Dumped(run_xxd(job, r, w)?)),
-        Job::Hexdump(job) if job.skip <= MOST_SKIP => {
-            let options = HexdumpOptions {
-                skip: job.skip,
-                limit: job.limit,
-                all: job.all,
-            };
-            Ok(Done::Dumped(hexdump_c(r, w, &options)?))
-        }
+        Job::Hexdump(job) => Ok(Done::Dumped(run_hexdump(job, r, w)?)),
+        Job::Strings(job) => Ok(Done::Dumped(run_strings(job, r, w)?)),
         _ => Err(Fault::Usage),
     }
 }
 
-fn run_xxd<R: Read, W: Write>(job: &XxdJob, r: &mut R, w: &mut W) -> Result<u64, IoFault> {
-    let style = match job.look {
-        XxdLook::Normal => XxdStyle::Normal,
-        XxdLook::Plain => XxdStyle::Plain,
-        XxdLook::Bits => XxdStyle::Bits,
-        XxdLook::Include => XxdStyle::Include(array_name(&job.file)),
-    };
-    let options = XxdOptions {
-        style,
+/// The options of the job.
+fn xxd_options(job: &XxdJob) -> XxdOptions<'_>
+    ensures options { AreOptionsOf job.now result }
+    ensures countable { IsCountable result.style }
+{
+    XxdOptions {
+        style: xxd_style(job.look, &job.file),
         cols: job.cols,
         group: job.group,
         limit: job.limit,
         seek: job.seek,
         shift: job.shift,
         upper: job.upper,
-    };
+    }
+}
+
+fn xxd_style(look: XxdLook, file: &Option<Name>) -> XxdStyle<'_>
+    ensures style { IsStyleOf look file.now result }
+    ensures countable { IsCountable result }
+{
+    match look {
+        XxdLook::Normal => XxdStyle::Normal,
+        XxdLook::Plain => XxdStyle::Plain,
+        XxdLook::Bits => XxdStyle::Bits,
+        XxdLook::Include => match file {
+            Some(name) if name.as_str().len() <= MOST_NAME => {
+                XxdStyle::Include(Some(name.as_str()))
+            }
+            _ => XxdStyle::Include(None),
+        },
+    }
+}
+
+/// Writes the text that the job's options ask for, of what the reader gives.
+fn run_xxd<R: Read, W: Write>(job: &XxdJob, r: &mut R, w: &mut W) -> Result<u64, IoFault>
+    ensures ok { IfOk result (λ n. (o : XxdOptions) × AreOptionsOf job.now o
+        × ((written : ℕ) × WritesPart (xxd_text o) o.seek o.limit (R.remaining r.old) (R.remaining r.new) (W.contents w.old) (W.contents w.new) n written)) }
+    ensures err { IfErr result (λ e. (o : XxdOptions) × AreOptionsOf job.now o
+        × WritesFrontOf (xxd_text o) 0 0 (R.remaining r.old) (R.remaining r.new) (W.contents w.old) (W.contents w.new) e) }
+{
+    let options = xxd_options(job);
     xxd(r, w, &options)
 }
 
-/// The name of the array that holds a file's bytes: the file's name.
-fn array_name(file: &Option<Name>) -> Option<&str>
-    ensures { IfSome result (λ name. length name.now ≤ 2 ^ 62) }
+/// Writes the lines and the end of `hexdump -C`.
+fn run_hexdump<R: Read, W: Write>(job: &HexdumpJob, r: &mut R, w: &mut W) -> Result<u64, IoFault>
+    ensures { IfOk result (DumpsHexdump job.now (R.remaining r.old) (R.remaining r.new) (W.contents w.old) (W.contents w.new)) }
 {
-    match file {
-        Some(name) if name.as_str().len() <= MOST_NAME => Some(name.as_str()),
-        _ => None,
-    }
+    let options = HexdumpOptions {
+        skip: job.skip,
+        limit: job.limit,
+        all: job.all,
+    };
+    hexdump_c(r, w, &options)
+}
+
+/// Writes the lines and the end of `od`.
+fn run_od<R: Read, W: Write>(job: &OdJob, r: &mut R, w: &mut W) -> Result<u64, IoFault>
+    ensures { IfOk result (DumpsOd job.now (R.remaining r.old) (R.remaining r.new) (W.contents w.old) (W.contents w.new)) }
+{
+    let options = OdOptions {
+        address: job.address,
+        kind: job.kind,
+        skip: job.skip,
+        limit: job.limit,
+        all: job.all,
+    };
+    od(r, w, &options)
+}
+
+/// Writes the printable runs.
+fn run_strings<R: Read, W: Write>(job: &StringsJob, r: &mut R, w: &mut W) -> Result<u64, IoFault>
+    ensures { IfOk result (DumpsStrings job.now (R.remaining r.old) (R.remaining r.new) (W.contents w.old) (W.contents w.new)) }
+{
+    let options = StringsOptions {
+        least: job.least,
+        offsets: job.offsets,
+    };
+    strings(r, w, &options)
 }

@@ -1,41 +1,8 @@
 //! What a command line asks for.
 ghost use Rattle.std.specs.Prelude.{◌≡◌, ◌≤◌, ◌^◌};
 
+use bx_dump::{Address, Kind};
 use bx_text::Name;
-
-/// How addresses are shown.
-#[derive(Clone, Copy, Debug, PartialEq, Eq)]
-pub enum Radix {
-    Octal,
-    Decimal,
-    Hexadecimal,
-    Without,
-}
-
-/// How a number is shown.
-#[derive(Clone, Copy, Debug, PartialEq, Eq)]
-pub enum NumForm {
-    Signed,
-    Octal,
-    Unsigned,
-    Hexadecimal,
-}
-
-/// How many bytes a number has.
-#[derive(Clone, Copy, Debug, PartialEq, Eq)]
-pub enum Size {
-    One,
-    Two,
-    Four,
-    Eight,
-}
-
-/// What `od` shows of the bytes.
-#[derive(Clone, Copy, Debug, PartialEq, Eq)]
-pub enum OdKind {
-    Chars,
-    Number { form: NumForm, size: Size },
-}
 
 /// The style of an `xxd` dump.
 #[derive(Clone, Copy, Debug, PartialEq, Eq)]
@@ -49,8 +16,8 @@ pub enum XxdLook {
 /// `od`: how and what it dumps.
 #[derive(Drop)]
 pub struct OdJob {
-    pub address: Radix,
-    pub kind: OdKind,
+    pub address: Address,
+    pub kind: Kind,
     pub skip: u64,
     pub limit: Option<u64>,
     pub all: bool,
@@ -90,7 +57,7 @@ pub struct HexdumpJob {
 #[derive(Drop)]
 pub struct StringsJob {
     pub least: u16,
-    pub offsets: Radix,
+    pub offsets: Address,
     pub file: Option<Name>,
     ghost some: { 1 ≤ least },
     ghost short: { least ≤ 4096 },

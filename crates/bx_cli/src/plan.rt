@@ -2,10 +2,9 @@
 ghost use Rattle.std.specs.Prelude.{◌≤◌, ◌^◌, IfOk, IfSome};
 
 use crate::fault::Fault;
-use crate::job::{
-    HexdumpJob, Job, NumForm, OdJob, OdKind, Radix, RevertJob, Size, StringsJob, XxdJob, XxdLook,
-};
+use crate::job::{HexdumpJob, Job, OdJob, RevertJob, StringsJob, XxdJob, XxdLook};
 use crate::options::program;
+use bx_dump::{Address, Kind, NumForm, Size};
 use bx_text::{Name, SizeStyle, Words, read_size};
 use clap::error::ErrorKind;
 use clap::{ArgMatches, Error};
@@ -131,20 +130,20 @@ fn pair(alloc: Global, m: &ArgMatches<'_>) -> Result<(Name, Name), Fault> {
     Ok((name_of(alloc, image)?, Name::from_string(journal)))
 }
 
-fn radix(text: Option<&str>, none: Radix, with_n: bool) -> Result<Radix, Fault> {
+fn radix(text: Option<&str>, none: Address, with_n: bool) -> Result<Address, Fault> {
     match text {
         None => Ok(none),
-        Some("d") => Ok(Radix::Decimal),
-        Some("o") => Ok(Radix::Octal),
-        Some("x") => Ok(Radix::Hexadecimal),
-        Some("n") if with_n => Ok(Radix::Without),
+        Some("d") => Ok(Address::Decimal),
+        Some("o") => Ok(Address::Octal),
+        Some("x") => Ok(Address::Hexadecimal),
+        Some("n") if with_n => Ok(Address::Without),
         Some(_) => Err(Fault::Usage),
     }
 }
 
-fn kind_word(text: &str) -> Result<OdKind, Fault> {
+fn kind_word(text: &str) -> Result<Kind, Fault> {
     let (form, size) = match text.as_bytes() {
-        [b'c'] => return Ok(OdKind::Chars),
+        [b'c'] => return Ok(Kind::Chars),
         [form, size] => (*form, *size),
         _ => return Err(Fault::Usage),
     };
@@ -162,10 +161,10 @@ fn kind_word(text: &str) -> Result<OdKind, Fault> {
         b'8' => Size::Eight,
         _ => return Err(Fault::Usage),
     };
-    Ok(OdKind::Number { form, size })
+    Ok(Kind::Number { form, size })
 }
 
-fn kind(m: &ArgMatches<'_>) -> Result<OdKind, Fault> {
+fn kind(m: &ArgMatches<'_>) -> Result<Kind, Fault> {
     if let Some(text) = m.get_str("kind") {
         return kind_word(text);
     }
@@ -175,14 +174,14 @@ fn kind(m: &ArgMatches<'_>) -> Result<OdKind, Fault> {
         }
     }
     if m.get_flag("chars") {
-        return Ok(OdKind::Chars);
+        return Ok(Kind::Chars);
     }
     kind_word("o2")
 }
 
 fn od(alloc: Global, m: &ArgMatches<'_>) -> Result<Job, Fault> {
     Ok(Job::Od(OdJob {
-        address: radix(m.get_str("radix"), Radix::Octal, true)?,
+        address: radix(m.get_str("radix"), Address::Octal, true)?,
         kind: kind(m)?,
         skip: number_or(m, "skip", SizeStyle::Count, 0)?,
         limit: number(m, "limit", SizeStyle::Count)?,
@@ -246,7 +245,7 @@ fn strings(alloc: Global, m: &ArgMatches<'_>) -> Result<Job, Fault> {
     }
     Ok(Job::Strings(StringsJob {
         least,
-        offsets: radix(m.get_str("offsets"), Radix::Without, false)?,
+        offsets: radix(m.get_str("offsets"), Address::Without, false)?,
         file: name(alloc, m, "file")?,
     }))
 }

@@ -1,4 +1,5 @@
-use crate::{Fault, Job, OdKind, XxdLook, plan_words};
+use crate::{Fault, Job, XxdLook, plan_words};
+use bx_dump::Kind;
 use bx_text::Words;
 use std::alloc::Global;
 use std::test::Fail;
@@ -107,7 +108,7 @@ fn planned_values(rt: HostRuntime) -> Result<(), Fail> {
     let Job::Od(od) = plan(rt.alloc(), "od -c -j 0x10b -N 2k")? else {
         return Err(Fault::Usage)?;
     };
-    assert!(rt; od.kind == OdKind::Chars);
+    assert!(rt; od.kind == Kind::Chars);
     assert_eq!(rt; (od.skip, od.limit), (267, Some(2048)));
     let Job::Undo { count, journal, .. } = plan(rt.alloc(), "undo i")? else {
         return Err(Fault::Usage)?;

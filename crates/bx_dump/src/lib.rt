@@ -9,6 +9,7 @@ mod od_lines;
 mod od_options;
 mod od_values;
 mod pages;
+mod printable;
 mod xxd_cells;
 mod xxd_columns;
 mod xxd_dump;
@@ -25,6 +26,7 @@ pub use od_dump::od;
 pub use od_lines::OdLines;
 pub use od_options::{Address, Kind, NumForm, OdOptions, Size};
 pub use pages::{Pages, Part, dump_part};
+pub use printable::{StringsOptions, strings};
 pub use xxd_columns::{Columns, Digits};
 pub use xxd_dump::xxd;
 pub use xxd_lines::{LineForm, Lines, Put};
@@ -34,5 +36,7 @@ pub use xxd_whole::xxd_default;
 
 #[cfg(test)]
 mod od_tests;
+#[cfg(test)]
+mod printable_tests;
 #[cfg(test)]
 mod xxd_tests;

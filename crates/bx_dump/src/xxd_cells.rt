@@ -29,6 +29,23 @@ pub fn put_bits(cells: &mut [u8], bytes: &[u8])
     }
 }
 
+/// Puts each piece of `N` cells, and a space after it.
+#[inline(always)]
+fn put_fixed_pieces<const N: usize>(field: &mut [u8], cells: &[u8], count: usize)
+    requires small { N ≤ 4096 }
+    requires room { length field.old ≡ (N + 1) * count }
+    requires enough { N * count ≤ length cells.now }
+    ensures { field.new ≡ flat_map (piece_at N cells.now) (range_with_len 0 count) }
+{
+    for k in 0..count {
+        let at = (N + 1) * k;
+        let mut part = [0; N];
+        part.copy_from_slice(&cells[N * k..N * k + N]);
+        field[at..at + N].copy_from_slice(&part);
+        field[at + N] = b' ';
+    }
+}
+
 /// Puts each piece of the cells, and a space after it.
 #[inline(always)]
 fn put_pieces(field: &mut [u8], cells: &[u8], piece: usize, count: usize)
@@ -52,10 +69,10 @@ fn put_whole(field: &mut [u8], cells: &[u8], piece: usize, count: usize)
     ensures { field.new ≡ flat_map (piece_at piece cells.now) (range_with_len 0 count) }
 {
     match piece {
-        2 => put_pieces(field, cells, 2, count),
-        4 => put_pieces(field, cells, 4, count),
-        8 => put_pieces(field, cells, 8, count),
-        16 => put_pieces(field, cells, 16, count),
+        2 => put_fixed_pieces::<2>(field, cells, count),
+        4 => put_fixed_pieces::<4>(field, cells, count),
+        8 => put_fixed_pieces::<8>(field, cells, count),
+        16 => put_fixed_pieces::<16>(field, cells, count),
         _ => put_pieces(field, cells, piece, count),
     }
 }

@@ -1,5 +1,7 @@
 //! A text store that fails on purpose, for tests.
-ghost use Rattle.std.specs.Prelude.{◌≡◌, ◌↔◌, ◌+◌, ◌-◌, ◌/◌, ◌<◌, ◌≤◌, length, is_err, if◌then◌else◌};
+ghost use Rattle.std.specs.Prelude.{◌≡◌, ◌↔◌, ◌+◌, ◌-◌, ◌/◌, ◌<◌, ◌≤◌, length, is_err, if◌then◌else◌, ◌++◌, OnOk, take};
+ghost use Rattle.bx_image.specs.Fuse.{part_of, reached};
+ghost use Rattle.bx_image.specs.declared.fuse.Part.TheVariants.{Half};
 ghost use Rattle.bx_image.specs.Device.{GoesOn};
 ghost use Rattle.bx_image.specs.declared.fuse.Fuse.TheVariants.{Never, After, Once};
 ghost use Rattle.bx_store.specs.Store.{IsPartlyAppended, IsPartlyCut};
@@ -21,6 +23,7 @@ fn failed(failures: &mut u64) -> DeviceFailed
 fn append_partly<T: TextStore>(store: &mut T, bytes: &[u8], part: Part) -> Result<(), DeviceFailed>
     requires countable { T.failures store.old < u64.MAX }
     requires fits { T.honest store.old → length (T.text store.old) + length bytes.now ≤ T.room store.old }
+    ensures part { T.honest store.old → OnOk result (T.text store.new ≡ T.text store.old ++ take (part_of part (length bytes.now)) bytes.now) }
     ensures appended { T.honest store.old → IsPartlyAppended bytes.now (T.text store.old) (T.text store.new) }
     ensures goes_on { GoesOn T.honest T.room T.failures (is_err result) store.old store.new }
 {
@@ -35,6 +38,7 @@ fn append_partly<T: TextStore>(store: &mut T, bytes: &[u8], part: Part) -> Resul
 fn cut_half<T: TextStore>(store: &mut T, n: u64) -> Result<(), DeviceFailed>
     requires countable { T.failures store.old < u64.MAX }
     requires within { T.honest store.old → n ≤ length (T.text store.old) }
+    ensures part { T.honest store.old → OnOk result (T.text store.new ≡ take (reached Half (length (T.text store.old)) n) (T.text store.old)) }
     ensures cut { T.honest store.old → IsPartlyCut n (T.text store.old) (T.text store.new) }
     ensures goes_on { GoesOn T.honest T.room T.failures (is_err result) store.old store.new }
 {
@@ -50,6 +54,7 @@ fn cut_half<T: TextStore>(store: &mut T, n: u64) -> Result<(), DeviceFailed>
 fn cut_partly<T: TextStore>(store: &mut T, n: u64, part: Part) -> Result<(), DeviceFailed>
     requires countable { T.failures store.old < u64.MAX }
     requires within { T.honest store.old → n ≤ length (T.text store.old) }
+    ensures part { T.honest store.old → OnOk result (T.text store.new ≡ take (reached part (length (T.text store.old)) n) (T.text store.old)) }
     ensures cut { T.honest store.old → IsPartlyCut n (T.text store.old) (T.text store.new) }
     ensures goes_on { GoesOn T.honest T.room T.failures (is_err result) store.old store.new }
 {

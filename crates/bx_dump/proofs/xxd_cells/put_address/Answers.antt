@@ -1,5 +1,5 @@
-use Rattle.std.proofs.Common.{◌≡◌, ℕ, suc, ◌+◌, ◌*◌, ◌/◌, ◌%◌, ◌^◌, ◌<◌, ◌≤◌, false, List, [], ◌∷◌, ◌++◌, refl, sym, ap, ◌∙◌, arith, append-nil}
-use Rattle.std.specs.Fmt.{digits, digit_glyph}
+use Rattle.std.proofs.Common.{◌≡◌, ℕ, suc, ◌/◌, ◌%◌, ◌^◌, ◌<◌, false, List, [], ◌++◌, refl, sym, ap, ◌∙◌, arith}
+use Rattle.std.specs.Fmt.{digits}
 use Rattle.bx_text.specs.Field.{left_filled, hex_text}
 use Rattle.bx_text.specs.Dump.{pair_of}
 use Rattle.bx_text.proofs.FixedLemmas.{fixed_onto, fixed_text}

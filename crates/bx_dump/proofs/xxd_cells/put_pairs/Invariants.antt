@@ -1,4 +1,4 @@
-use Rattle.std.proofs.Common.{◌≡◌, ◌*◌, length, take}
+use Rattle.std.proofs.Common.{◌≡◌, ◌*◌, take}
 use Rattle.std.specs.List.{flat_map}
 use Rattle.bx_text.specs.Dump.{pair_of}
 use Rattle.bx_dump.proofs.xxd_cells.put_pairs.Given as goal

@@ -1,4 +1,4 @@
-use Rattle.std.proofs.Common.{◌≡◌, ◌*◌, ◌+◌, length, take}
+use Rattle.std.proofs.Common.{◌≡◌, ◌*◌, ◌+◌, take}
 use Rattle.std.specs.List.{flat_map, range_with_len}
 use Rattle.bx_dump.specs.Cells.{piece_at}
 use Rattle.bx_dump.proofs.xxd_cells.put_pieces.Given as goal

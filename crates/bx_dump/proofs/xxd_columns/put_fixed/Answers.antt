@@ -1,4 +1,4 @@
-use Rattle.std.proofs.Common.{◌≡◌, ℕ, ◌+◌, ◌*◌, ◌/◌, ◌≤◌, List, length, arith, sym, ap, ◌∙◌}
+use Rattle.std.proofs.Common.{◌≡◌, ◌*◌, ◌/◌, ◌≤◌, length, arith, sym, ap, ◌∙◌}
 use Rattle.std.proofs.Math.Nat.{mul-div-mul_left}
 use Rattle.bx_dump.specs.Xxd.{cell_of, cell_width, columns_place}
 use Rattle.bx_dump.proofs.LinesLemmas.{cells_len}

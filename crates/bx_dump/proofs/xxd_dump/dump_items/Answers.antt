@@ -1,12 +1,12 @@
-use Rattle.std.proofs.Common.{◌≡◌, ℕ, ◌+◌, ◌<◌, List, [], ◌∷◌, ◌++◌, length, arith, refl, sym, ap, ◌∙◌, append-nil, append_assoc}
+use Rattle.std.proofs.Common.{◌≡◌, ℕ, ◌+◌, ◌<◌, List, [], ◌∷◌, ◌++◌, length, arith, refl, sym, ◌∙◌, append-nil}
 use Rattle.std.specs.Prelude.{codes}
 use Rattle.bx_text.proofs.KnownLemmas.{Appends-nil}
 use Rattle.bx_dump.proofs.LinesLemmas.{in_lines-none}
 use Rattle.bx_dump.specs.Lines.{in_lines}
 use Rattle.bx_dump.specs.Pages.{part_of}
 use Rattle.bx_dump.specs.Rows.{include_line}
-use Rattle.bx_dump.specs.Styles.{include_items, include_head, include_tail, named_text}
-use Rattle.bx_dump.proofs.PagesLemmas.{part_then, stop_then, front_then, part_after, front_after, front_head}
+use Rattle.bx_dump.specs.Styles.{include_items}
+use Rattle.bx_dump.proofs.PagesLemmas.{part_then, stop_then, front_then}
 use Rattle.bx_dump.proofs.xxd_dump.dump_items.Goals as goal
 
 -- the lines are a front of the items

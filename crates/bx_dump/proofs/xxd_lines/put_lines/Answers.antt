@@ -1,8 +1,7 @@
-use Rattle.std.proofs.Common.{◌≡◌, ℕ, ◌+◌, ◌-◌, ◌*◌, ◌/◌, ◌<◌, ◌≤◌, List, [], ◌++◌, length, take, drop, min, arith, sym, ap, ◌∙◌, refl}
+use Rattle.std.proofs.Common.{◌≡◌, ◌+◌, ◌-◌, ◌*◌, ◌/◌, ◌≤◌, length, drop, arith, ap, ◌∙◌}
 use Rattle.std.proofs.lemmas.List.{length-drop, length-take-le}
 use Rattle.std.proofs.Math.Nat.{mul-le-mul_left}
 use Rattle.bx_text.proofs.KnownLemmas.{take-put_mid_more}
-use Rattle.bx_dump.specs.Lines.{in_lines}
 use Rattle.bx_dump.proofs.LinesLemmas.{line_begin, line_end, lines_next_at, lines_all, lines_within}
 use Rattle.bx_dump.proofs.xxd_lines.put_lines.Goals as goal
 

@@ -1,7 +1,5 @@
-use Rattle.std.proofs.Common.{◌≡◌, ℕ, ◌+◌, ◌-◌, List, [], ◌++◌, map, length, take, drop, Ok, Err, arith, refl, sym, ap, ◌∙◌}
-use Rattle.std.specs.Prelude.{codes}
-use Rattle.std.specs.Fmt.{digits}
-use Rattle.bx_dump.specs.Styles.{c_name, name_front, name_byte}
+use Rattle.std.proofs.Common.{◌≡◌, ◌+◌, ◌-◌, map, take, drop, arith, refl, ap, ◌∙◌}
+use Rattle.bx_dump.specs.Styles.{name_byte}
 use Rattle.bx_dump.proofs.NamesLemmas.{mapped_more, mapped_stops}
 use Rattle.std.proofs.lemmas.List.{length-append}
 use Rattle.bx_text.proofs.KnownLemmas.{Appends-trans}

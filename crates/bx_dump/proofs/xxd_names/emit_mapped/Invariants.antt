@@ -1,4 +1,4 @@
-use Rattle.std.proofs.Common.{◌≡◌, ◌+◌, ◌-◌, ◌≤◌, length, map, take}
+use Rattle.std.proofs.Common.{◌≡◌, ◌-◌, ◌≤◌, length, map, take}
 use Rattle.std.specs.Io.KnownBytes.{Appends}
 use Rattle.bx_dump.specs.Styles.{name_byte}
 use Rattle.bx_dump.proofs.xxd_names.emit_mapped.Given as goal

@@ -1,8 +1,6 @@
-use Rattle.std.proofs.Common.{◌≡◌, ℕ, ◌+◌, List, ◌++◌, map, length, take, Ok, Err, arith, refl, sym, ap, ◌∙◌}
-use Rattle.std.specs.Prelude.{codes}
-use Rattle.std.specs.Fmt.{digits}
-use Rattle.bx_dump.specs.Styles.{c_name, name_front, name_byte}
-use Rattle.bx_dump.proofs.NamesLemmas.{emits_both, emits_first}
+use Rattle.std.proofs.Common.{map}
+use Rattle.bx_dump.specs.Styles.{name_front, name_byte}
+use Rattle.bx_dump.proofs.NamesLemmas.{emits_both}
 use Rattle.bx_dump.proofs.xxd_names.emit_name.Goals as goal
 
 pub returns-in-Ok-clause-emits : goal.returns-in-Ok-clause-emits

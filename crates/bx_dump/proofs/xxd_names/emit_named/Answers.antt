@@ -1,7 +1,5 @@
-use Rattle.std.proofs.Common.{◌≡◌, ℕ, ◌+◌, List, ◌++◌, map, length, take, Ok, Err, arith, refl, sym, ap, ◌∙◌}
-use Rattle.std.specs.Prelude.{codes}
-use Rattle.std.specs.Fmt.{digits}
-use Rattle.bx_dump.specs.Styles.{c_name, name_front, name_byte}
+use Rattle.std.proofs.Common.{◌++◌, Ok, Err}
+use Rattle.bx_dump.specs.Styles.{c_name}
 use Rattle.bx_dump.proofs.NamesLemmas.{emits_both, emits_first}
 use Rattle.bx_dump.proofs.xxd_names.emit_named.Goals as goal
 

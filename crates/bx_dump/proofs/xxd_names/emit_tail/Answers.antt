@@ -1,7 +1,7 @@
-use Rattle.std.proofs.Common.{◌≡◌, false, ℕ, ◌+◌, List, ◌++◌, map, length, take, Ok, Err, arith, refl, sym, ap, ◌∙◌}
+use Rattle.std.proofs.Common.{◌≡◌, false, ℕ, ◌+◌, List, ◌++◌, length, arith, ◌∙◌}
 use Rattle.std.specs.Prelude.{codes}
 use Rattle.std.specs.Fmt.{digits}
-use Rattle.bx_dump.specs.Styles.{c_name, name_front, name_byte}
+use Rattle.bx_dump.specs.Styles.{c_name}
 use Rattle.bx_dump.proofs.NamesLemmas.{emits_both, emits_first}
 use Rattle.std.proofs.lemmas.List.{length-append}
 use Rattle.bx_dump.proofs.xxd_names.emit_tail.Goals as goal

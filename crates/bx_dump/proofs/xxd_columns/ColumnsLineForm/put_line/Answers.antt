@@ -1,14 +1,8 @@
-use Rattle.std.proofs.Common.{◌≡◌, ℕ, ◌+◌, ◌-◌, ◌*◌, ◌/◌, ◌<◌, ◌≤◌, List, ◌++◌, map, false, length, take, get_or, arith, sym, ap, ◌∙◌, append_assoc}
-use Rattle.std.specs.Prelude.{codes}
-use Rattle.std.specs.List.{flat_map}
-use Rattle.std.proofs.lemmas.List.{take_at, take-append-le, length-append}
-use Rattle.std.proofs.Math.Nat.{mul-div-mul_left, mul-le-mul_left}
-use Rattle.bx_text.proofs.FieldLemmas.{div_mono}
+use Rattle.std.proofs.Common.{◌≡◌, ◌+◌, ◌*◌, false, length, take, arith, sym, ap, ◌∙◌}
+use Rattle.std.proofs.lemmas.List.{take_at}
+use Rattle.std.proofs.Math.Nat.{mul-div-mul_left}
 use Rattle.bx_text.specs.Field.{hex_text}
-use Rattle.bx_text.specs.Dump.{shown_byte}
-use Rattle.bx_dump.specs.Cells.{grouped}
-use Rattle.bx_dump.specs.Xxd.{cell_of, cell_width, columns_place, columns_width, columns_line}
-use Rattle.bx_dump.specs.declared.xxd_columns.Columns.{Columns}
+use Rattle.bx_dump.specs.Xxd.{cell_of, cell_width}
 use Rattle.bx_dump.proofs.LinesLemmas.{cells_len}
 use Rattle.bx_dump.proofs.ColumnsLemmas.{line_parts, place_fits, digits_even, digits_some}
 use Rattle.bx_dump.proofs.xxd_columns.ColumnsLineForm.put_line.Goals as goal

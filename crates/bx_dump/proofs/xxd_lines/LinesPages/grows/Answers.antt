@@ -1,4 +1,4 @@
-use Rattle.std.proofs.Common.{ℕ, ◌+◌, length}
+use Rattle.std.proofs.Common.{◌+◌, length}
 use Rattle.bx_dump.specs.Lines.{in_lines}
 use Rattle.bx_dump.proofs.LinesLemmas.{in_lines-append}
 use Rattle.bx_dump.proofs.xxd_lines.LinesPages.grows.Goals as goal

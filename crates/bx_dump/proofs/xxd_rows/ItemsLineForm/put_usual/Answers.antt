@@ -1,4 +1,4 @@
-use Rattle.bx_dump.specs.Rows.{plain_line, include_line}
+use Rattle.bx_dump.specs.Rows.{include_line}
 use Rattle.bx_dump.proofs.LinesLemmas.{lines_zero}
 use Rattle.bx_dump.proofs.xxd_rows.ItemsLineForm.put_usual.Goals as goal
 

@@ -1,2 +1,0 @@
-use Rattle.std.proofs.Common.{◌≡◌}
-use Rattle.bx_dump.proofs.xxd_rows.PlainLineForm.put_line.Goals as goal

@@ -1,0 +1,39 @@
+-- The printable runs of an input, and the text of strings (POSIX strings).
+use Rattle.std.specs.Prelude.{ℕ, zero, suc, ◌+◌, ◌-◌, ◌==◌, Bool, true, false, ◌&&◌, not, nat_le, nat_lt, if◌then◌else◌, List, [], ◌∷◌, ◌++◌, length, take, drop, slice_index, codes}
+use Rattle.std.specs.List.{flat_map, range_with_len, prefix_len}
+use Rattle.std.specs.Fmt.{digits}
+use Rattle.bx_dump.specs.declared.od_options.Address.{Address}
+use Rattle.bx_dump.specs.declared.od_options.Address.TheVariants.{Octal, Decimal, Hexadecimal, Without}
+
+-- whether a byte prints in ASCII
+abbrev pub is_printable : ℕ → Bool
+is_printable b = nat_le 32 b && nat_le b 126
+
+-- Whether a printable run begins at a place: its byte prints, and the one before doesn't. `before` is whether the byte in front of x prints
+abbrev pub is_run_start : Bool → List ℕ → ℕ → Bool
+is_run_start before x zero = is_printable (slice_index x 0) && not before
+is_run_start before x (suc a) = is_printable (slice_index x (suc a)) && not (is_printable (slice_index x a))
+
+-- the printable bytes from a place up to the next byte that doesn't print, or up to the end
+abbrev pub run_at : List ℕ → ℕ → List ℕ
+run_at x a = take (prefix_len is_printable (drop a x)) (drop a x)
+
+-- the place of a run, and a space
+abbrev pub place_text : Address → ℕ → List ℕ
+place_text Octal at = digits 8 false at ++ codes " "
+place_text Decimal at = digits 10 false at ++ codes " "
+place_text Hexadecimal at = digits 16 false at ++ codes " "
+place_text Without at = []
+
+-- the line of a run, where one of at least so many bytes begins at place a
+abbrev pub line_at : ℕ → Address → Bool → ℕ → List ℕ → ℕ → List ℕ
+line_at least offsets before first x a =
+    if is_run_start before x a && nat_le least (length (run_at x a)) then place_text offsets (first + a) ++ (run_at x a ++ codes "\n") else []
+
+-- the lines of the runs that begin in bytes which stand from place `first` on
+abbrev pub runs_text : ℕ → Address → Bool → ℕ → List ℕ → List ℕ
+runs_text least offsets before first x = flat_map (line_at least offsets before first x) (range_with_len 0 (length x))
+
+-- all maximal runs of at least so many printable bytes, by rising place, each on a line
+abbrev pub strings_text : ℕ → Address → List ℕ → List ℕ
+strings_text least offsets x = runs_text least offsets false 0 x
