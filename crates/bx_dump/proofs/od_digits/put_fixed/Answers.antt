@@ -1,4 +1,4 @@
-use Rattle.std.proofs.Common.{◌≡◌, ◌-◌, ◌+◌, refl, ◌∙◌, arith, ℕ, length}
+use Rattle.std.proofs.Common.{◌≡◌, ◌-◌, ◌+◌, refl, ◌∙◌, arith, length}
 use Rattle.std.proofs.lemmas.List.{length-set}
 use Rattle.bx_dump.proofs.OdFixed.{based_step, based_start}
 use Rattle.bx_dump.proofs.od_digits.put_fixed.Goals as goal

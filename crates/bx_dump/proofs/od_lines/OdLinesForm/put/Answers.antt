@@ -1,8 +1,5 @@
-use Rattle.std.proofs.Common.{◌≡◌, ℕ, ◌+◌, ◌-◌, ◌≤◌, List, ◌++◌, length, take, drop, arith, ap, ◌∙◌, sym}
-use Rattle.std.proofs.lemmas.List.{length-drop, length-take-le, length-append}
-use Rattle.bx_text.proofs.KnownLemmas.{take-put_mid_more}
-use Rattle.bx_dump.specs.Od.{address_text, value_text, width_of}
-use Rattle.bx_dump.specs.Lines.{in_lines}
+use Rattle.std.proofs.Common.{◌≡◌, ◌-◌, length, drop, arith, ◌∙◌}
+use Rattle.std.proofs.lemmas.List.{length-drop, length-take-le}
 use Rattle.bx_dump.proofs.OdLemmas.{line_parts}
 use Rattle.bx_dump.proofs.od_lines.OdLinesForm.put.Goals as goal
 
