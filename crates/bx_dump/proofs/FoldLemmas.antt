@@ -1,14 +1,13 @@
 -- Folded lines, one after another.
-use Rattle.std.proofs.Common.{◌≡◌, ℕ, zero, suc, ◌+◌, ◌-◌, ◌*◌, ◌/◌, ◌<◌, ◌≤◌, Bool, true, false, List, [], ◌++◌, length, min, take, drop, refl, sym, ap, ◌∙◌, arith, add-one, add-zero, append-nil, length-append, cond, ◌⊎◌, ⊎_elim, inl, inr}
+use Rattle.std.proofs.Common.{◌≡◌, ℕ, zero, suc, ◌+◌, ◌-◌, ◌*◌, ◌/◌, ◌<◌, ◌≤◌, Bool, true, false, List, [], ◌++◌, length, min, take, drop, refl, sym, ap, ◌∙◌, arith, add-zero, append-nil, length-append, cond, ◌⊎◌, ⊎_elim, inl, inr}
 use Rattle.std.specs.Prelude.{bytes_eq}
 use Rattle.std.specs.List.{flat_map, range_with_len}
 use Rattle.std.proofs.lemmas.List.{drop-append-le, take-append-le, length-drop, take_all}
 use Rattle.std.proofs.lemmas.Bool.{cases_order}
 use Rattle.std.proofs.lemmas.Slice.Eq.{bytes_eq-Decides}
-use Rattle.std.proofs.Math.Nat.{mul-add-div, div-eq_of_lt}
+use Rattle.std.proofs.Math.Nat.{mul-add-div}
 use Rattle.std.proofs.Math.Seq.{drop-append-add}
 use Rattle.bx_text.specs.declared.fold.Fold.{Fold}
-use Rattle.bx_text.specs.declared.fold.Show.{Show}
 use Rattle.bx_text.specs.declared.fold.Show.TheVariants.{Line, Star, Nothing}
 use Rattle.bx_text.specs.Fold.{line_bytes, is_hidden, was_hidden, show_at, line_text, lines_to, line_count, folded, HasTaken, IsTaken}
 use Rattle.bx_dump.proofs.LinesLemmas.{flat_map_along, flat_map_split}

@@ -35,6 +35,8 @@ pub use xxd_rows::{Items, Plain};
 pub use xxd_whole::xxd_default;
 
 #[cfg(test)]
+mod od_tests;
+#[cfg(test)]
 mod printable_tests;
 #[cfg(test)]
 mod xxd_tests;

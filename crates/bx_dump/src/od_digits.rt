@@ -45,6 +45,24 @@ fn put_filled(field: &mut [u8], v: u64, base: u64, fill: u8) -> usize
     put_digits(field, v, base)
 }
 
+/// Puts `v` in as many digits as the field has, zeros in front.
+#[inline(always)]
+pub fn put_fixed(field: &mut [u8], v: u64, base: u64)
+    requires least { 2 ≤ base }
+    requires most { base ≤ 16 }
+    requires some { 0 < length field.old }
+    requires few { length field.old ≤ 22 }
+    requires room { v < base ^ length field.old }
+    ensures { field.new ≡ left_filled 48 (length field.old) (digits base false v) }
+{
+    let last = field.len() - 1;
+    let mut rest = v;
+    for i in 0..field.len() {
+        field[last - i] = hex_digit((rest % base) as u8, false);
+        rest /= base;
+    }
+}
+
 /// The least number that is negative in two's complement.
 #[inline(always)]
 fn half_of(size: Size) -> u64
@@ -96,15 +114,11 @@ pub fn put_number(field: &mut [u8], form: NumForm, size: Size, v: u64)
 {
     match form {
         NumForm::Signed => put_signed(field, size, v),
-        NumForm::Octal => {
-            put_filled(field, v, 8, b'0');
-        }
+        NumForm::Octal => put_fixed(field, v, 8),
         NumForm::Unsigned => {
             put_filled(field, v, 10, b' ');
         }
-        NumForm::Hexadecimal => {
-            put_filled(field, v, 16, b'0');
-        }
+        NumForm::Hexadecimal => put_fixed(field, v, 16),
     }
 }
 
@@ -137,6 +151,6 @@ pub fn put_char(field: &mut [u8], byte: u8)
     } else if 32 <= byte && byte <= 126 {
         field.copy_from_slice(&[b' ', b' ', byte]);
     } else {
-        put_filled(field, byte as u64, 8, b'0');
+        put_fixed(field, byte as u64, 8);
     }
 }

@@ -5,7 +5,7 @@ ghost use Rattle.bx_dump.specs.Od.{address_text, od_line, od_end, value_text, wi
 
 use crate::folded::Form;
 use crate::od_options::{Address, Kind};
-use crate::od_values::put_values;
+use crate::od_values::put_any;
 use bx_text::{ShortText, dec_field, hex_field, oct_field};
 
 /// An address in digits.
@@ -56,7 +56,7 @@ impl Form for OdLines {
 
     fn put(&self, page: &mut [u8], at: u64, bytes: &[u8]) -> usize {
         let start = put_start(page, self.address, at);
-        let used = put_values(&mut page[start..], self.kind, bytes);
+        let used = put_any(&mut page[start..], self.kind, bytes);
         page[start + used] = b'\n';
         start + used + 1
     }

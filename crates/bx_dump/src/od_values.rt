@@ -4,7 +4,7 @@ ghost use Rattle.bx_dump.specs.Lines.{in_lines};
 ghost use Rattle.bx_dump.specs.Od.{value_of, width_of, field_width, field_text, value_text};
 
 use crate::od_digits::{put_char, put_number};
-use crate::od_options::Kind;
+use crate::od_options::{Kind, NumForm, Size};
 
 /// The value of bytes of which the lowest comes first.
 #[inline(always)]
@@ -55,7 +55,7 @@ fn put_next(text: &mut [u8], kind: Kind, bytes: &[u8], begin: usize) -> usize
 
 /// Puts the values of a line, and answers how long their text is.
 #[inline(always)]
-pub fn put_values(text: &mut [u8], kind: Kind, bytes: &[u8]) -> usize
+fn put_values(text: &mut [u8], kind: Kind, bytes: &[u8]) -> usize
     requires room { 80 ≤ length text.old }
     requires few { length bytes.now ≤ 16 }
     ensures most { result ≤ 80 }
@@ -68,4 +68,77 @@ pub fn put_values(text: &mut [u8], kind: Kind, bytes: &[u8]) -> usize
         used += put_next(&mut text[used..], kind, bytes, width * k);
     }
     used
+}
+
+/// Puts the numbers of a full line, with a loop of its own for each size.
+#[inline(always)]
+fn put_form(text: &mut [u8], form: NumForm, size: Size, bytes: &[u8; 16]) -> usize
+    requires room { 80 ≤ length text.old }
+    ensures most { result ≤ 80 }
+    ensures text { take result text.new ≡ in_lines (value_text (Kind.Number form size)) (width_of (Kind.Number form size)) 0 bytes.now }
+{
+    match size {
+        Size::One => put_values(
+            text,
+            Kind::Number {
+                form,
+                size: Size::One,
+            },
+            bytes,
+        ),
+        Size::Two => put_values(
+            text,
+            Kind::Number {
+                form,
+                size: Size::Two,
+            },
+            bytes,
+        ),
+        Size::Four => put_values(
+            text,
+            Kind::Number {
+                form,
+                size: Size::Four,
+            },
+            bytes,
+        ),
+        Size::Eight => put_values(
+            text,
+            Kind::Number {
+                form,
+                size: Size::Eight,
+            },
+            bytes,
+        ),
+    }
+}
+
+/// Puts the values of a full line, with a loop of its own for each kind.
+pub fn put_full(text: &mut [u8], kind: Kind, bytes: &[u8; 16]) -> usize
+    requires room { 80 ≤ length text.old }
+    ensures most { result ≤ 80 }
+    ensures text { take result text.new ≡ in_lines (value_text kind) (width_of kind) 0 bytes.now }
+{
+    match kind {
+        Kind::Chars => put_values(text, Kind::Chars, bytes),
+        Kind::Number { form, size } => match form {
+            NumForm::Signed => put_form(text, NumForm::Signed, size, bytes),
+            NumForm::Octal => put_form(text, NumForm::Octal, size, bytes),
+            NumForm::Unsigned => put_form(text, NumForm::Unsigned, size, bytes),
+            NumForm::Hexadecimal => put_form(text, NumForm::Hexadecimal, size, bytes),
+        },
+    }
+}
+
+/// Puts the values of a line that may be short.
+pub fn put_any(text: &mut [u8], kind: Kind, bytes: &[u8]) -> usize
+    requires room { 80 ≤ length text.old }
+    requires few { length bytes.now ≤ 16 }
+    ensures most { result ≤ 80 }
+    ensures text { take result text.new ≡ in_lines (value_text kind) (width_of kind) 0 bytes.now }
+{
+    match bytes.first_chunk::<16>() {
+        Some(full) => put_full(text, kind, full),
+        None => put_values(text, kind, bytes),
+    }
 }

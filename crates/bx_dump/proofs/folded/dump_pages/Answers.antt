@@ -1,7 +1,6 @@
-use Rattle.std.proofs.Common.{◌≡◌, [], ◌+◌, ◌-◌, ◌*◌, ◌/◌, ◌^◌, ◌<◌, ◌≤◌, ℕ, List, ◌++◌, length, take, arith, ap, ◌∙◌, sym, refl, Bool, true, false}
+use Rattle.std.proofs.Common.{◌≡◌, [], ◌+◌, ◌*◌, ◌<◌, ◌++◌, length, take, arith, ap, ◌∙◌, sym, refl}
 use Rattle.std.proofs.lemmas.List.{length-append, length-take-le}
-use Rattle.bx_text.specs.Fold.{folded, line_count, IsTaken, HasTaken}
-use Rattle.bx_text.specs.declared.fold.Fold.{Fold}
+use Rattle.bx_text.specs.Fold.{folded}
 use Rattle.bx_text.proofs.KnownLemmas.{Appends-trans, Consumes-trans, Appends-nil, Consumes-nil}
 use Rattle.bx_dump.proofs.FoldLemmas.{more_text, none_taken}
 use Rattle.bx_dump.proofs.DumpLemmas.{read_stop, write_stop}

@@ -1,6 +1,4 @@
-use Rattle.std.proofs.Common.{◌≡◌, ◌+◌, ◌-◌, ℕ, length, arith, false, ap, ◌∙◌, sym, ◌∷◌}
-use Rattle.std.specs.Fmt.{digits}
-use Rattle.bx_text.specs.Field.{left_filled}
+use Rattle.std.proofs.Common.{◌≡◌, ◌+◌, length, arith}
 use Rattle.bx_dump.proofs.OdLemmas.{minus_front}
 use Rattle.bx_dump.proofs.od_digits.put_minus.Goals as goal
 

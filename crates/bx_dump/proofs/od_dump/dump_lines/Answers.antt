@@ -1,4 +1,4 @@
-use Rattle.std.proofs.Common.{refl, ℕ, ◌≡◌, ◌*◌, List}
+use Rattle.std.proofs.Common.{refl}
 use Rattle.bx_dump.proofs.od_dump.dump_lines.Goals as goal
 
 pub dump_pages-requires-clause-seen : goal.dump_pages-requires-clause-seen

@@ -1,9 +1,9 @@
-use Rattle.std.proofs.Common.{◌≡◌, ℕ, ◌+◌, ◌≤◌, List, ◌++◌, length, arith, refl, sym, ap, ◌∙◌, inl, inr}
+use Rattle.std.proofs.Common.{◌≡◌, ℕ, ◌+◌, List, ◌++◌, length, arith, refl, ap, inr}
 use Rattle.std.proofs.lemmas.List.{length-append}
 use Rattle.bx_text.proofs.KnownLemmas.{Consumes-trans}
 use Rattle.bx_text.specs.Fold.{folded}
 use Rattle.bx_dump.specs.Od.{od_line, od_end, od_text}
-use Rattle.bx_dump.specs.Pages.{part_of, capped}
+use Rattle.bx_dump.specs.Pages.{part_of}
 use Rattle.bx_dump.proofs.PagesLemmas.{part_whole, part_then, stop_then, front_then, front_behind}
 use Rattle.bx_dump.proofs.od_dump.od.Goals as goal
 

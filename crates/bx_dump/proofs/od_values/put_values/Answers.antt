@@ -1,9 +1,9 @@
-use Rattle.std.proofs.Common.{◌≡◌, ℕ, ◌+◌, ◌-◌, ◌*◌, ◌/◌, ◌<◌, ◌≤◌, List, ◌++◌, length, take, drop, min, arith, sym, ap, ◌∙◌, refl}
+use Rattle.std.proofs.Common.{◌≡◌, ◌+◌, ◌-◌, ◌*◌, ◌/◌, ◌≤◌, length, drop, arith, ap, ◌∙◌}
 use Rattle.std.proofs.lemmas.List.{length-drop, length-take-le}
 use Rattle.std.proofs.Math.Nat.{mul-le-mul_left}
 use Rattle.bx_text.proofs.KnownLemmas.{take-put_mid_more}
 use Rattle.bx_dump.specs.Od.{width_of, field_width, value_text}
-use Rattle.bx_dump.proofs.LinesLemmas.{line_begin, line_end, lines_next_at, lines_all}
+use Rattle.bx_dump.proofs.LinesLemmas.{line_begin, lines_next_at}
 use Rattle.bx_dump.proofs.OdLemmas.{values_fit}
 use Rattle.bx_dump.proofs.od_values.put_values.Goals as goal
 

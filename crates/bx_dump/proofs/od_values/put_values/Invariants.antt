@@ -1,4 +1,4 @@
-use Rattle.std.proofs.Common.{◌≡◌, ◌+◌, ◌*◌, ◌≤◌, take}
+use Rattle.std.proofs.Common.{◌≡◌, ◌+◌, ◌*◌, take}
 use Rattle.bx_dump.specs.Lines.{in_lines}
 use Rattle.bx_dump.specs.Od.{width_of, field_width, value_text}
 use Rattle.bx_dump.proofs.od_values.put_values.Given as goal

@@ -1,7 +1,6 @@
-use Rattle.std.proofs.Common.{◌≡◌, ◌+◌, ◌-◌, ◌*◌, ◌^◌, ◌<◌, ◌≤◌, length, drop, arith, ◌∙◌, ap}
-use Rattle.std.proofs.lemmas.List.{drop_more}
+use Rattle.std.proofs.Common.{◌-◌, ◌^◌, ◌<◌, length, drop, arith}
 use Rattle.bx_dump.specs.Od.{value_of}
-use Rattle.bx_dump.proofs.OdLemmas.{value_below, value_from}
+use Rattle.bx_dump.proofs.OdLemmas.{value_from}
 use Rattle.bx_dump.proofs.od_values.value_of.Goals as goal
 
 pub overflow_mul-value : goal.overflow_mul-value

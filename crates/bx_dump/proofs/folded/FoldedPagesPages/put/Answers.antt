@@ -1,4 +1,4 @@
-use Rattle.std.proofs.Common.{◌≡◌, ℕ, ◌+◌, ◌*◌, length, arith, ◌∙◌}
+use Rattle.std.proofs.Common.{◌+◌, arith}
 use Rattle.std.proofs.lemmas.List.{length-append}
 use Rattle.bx_dump.proofs.folded.FoldedPagesPages.put.Goals as goal
 

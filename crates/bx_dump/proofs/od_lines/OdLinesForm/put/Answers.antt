@@ -1,19 +1,16 @@
-use Rattle.std.proofs.Common.{◌≡◌, ℕ, ◌+◌, ◌-◌, ◌≤◌, List, ◌++◌, length, take, drop, arith, ap, ◌∙◌, sym}
-use Rattle.std.proofs.lemmas.List.{length-drop, length-take-le, length-append}
-use Rattle.bx_text.proofs.KnownLemmas.{take-put_mid_more}
-use Rattle.bx_dump.specs.Od.{address_text, value_text, width_of}
-use Rattle.bx_dump.specs.Lines.{in_lines}
+use Rattle.std.proofs.Common.{◌≡◌, ◌-◌, length, drop, arith, ◌∙◌}
+use Rattle.std.proofs.lemmas.List.{length-drop, length-take-le}
 use Rattle.bx_dump.proofs.OdLemmas.{line_parts}
 use Rattle.bx_dump.proofs.od_lines.OdLinesForm.put.Goals as goal
 
 pub returns-clause-text : goal.returns-clause-text
 returns-clause-text c =
     let page = c.put_start-start.new.page in
-    let rest = c.put_values-used.new.text in
+    let rest = c.put_any-used.new.text in
     let start = c.put_start-start.result in
-    let used = c.put_values-used.result in
+    let used = c.put_any-used.result in
     let long : length page ≡ length c.args.page.now = c.put_start-start.auto.page in
     let first = c.put_start-start.ensures in
-    let next = c.put_values-used.ensures in
-    let room : length rest ≡ length page - start = c.put_values-used.auto.text ∙ length-take-le (length page - start) (drop start page) (omega (arith, length-drop start page)) in
+    let next = c.put_any-used.ensures in
+    let room : length rest ≡ length page - start = c.put_any-used.auto.text ∙ length-take-le (length page - start) (drop start page) (omega (arith, length-drop start page)) in
     line_parts page rest start used (length page - start) _ _ (omega (arith, first.most, long, c.requires.room)) (omega (arith, first.most, long, c.requires.room, next.most, room)) (omega (arith, first.most, long, c.requires.room)) first.text next.text
