@@ -139,7 +139,7 @@ def differs(tool, rng, bx, folder):
     path = os.path.join(folder, "in.bin")
     with open(path, "wb") as out:
         out.write(data)
-    named = rng.randrange(2) == 0 or (tool == "xxd" and "-s" in ours)
+    named = rng.randrange(2) == 0 or (tool in ("xxd", "hexdump") and "-s" in ours)
     if tool == "dd":
         mine = run([bx, "dd", *ours], data)
         theirs = run(["dd", *real], data)
