@@ -45,11 +45,13 @@ row 1  'hexdump -C, zeros' -- "$BX" hexdump -C few          -- hexdump -C few
 row 4  'strings, random'   -- "$BX" strings random          -- strings random
 row 4  'strings, text'     -- "$BX" strings text            -- strings text
 row 4  'strings, zeros'    -- "$BX" strings zeros           -- strings zeros
-row 0.5 'dd'               -- "$BX" dd if=random            -- dd if=random
-row 1  'dd conv=ucase'     -- "$BX" dd if=random conv=ucase -- dd if=random conv=ucase
-row 0.5 'dd conv=swab'     -- "$BX" dd if=random conv=swab  -- dd if=random conv=swab
-row 1  'dd conv=block'     -- "$BX" dd if=text conv=block cbs=80   -- dd if=text conv=block cbs=80
-row 1  'dd conv=unblock'   -- "$BX" dd if=random conv=unblock cbs=80 -- dd if=random conv=unblock cbs=80
+if "$BX" dd --help > /dev/null 2>&1; then # bx has no dd yet
+  row 0.5 'dd'               -- "$BX" dd if=random            -- dd if=random
+  row 1  'dd conv=ucase'     -- "$BX" dd if=random conv=ucase -- dd if=random conv=ucase
+  row 0.5 'dd conv=swab'     -- "$BX" dd if=random conv=swab  -- dd if=random conv=swab
+  row 1  'dd conv=block'     -- "$BX" dd if=text conv=block cbs=80   -- dd if=text conv=block cbs=80
+  row 1  'dd conv=unblock'   -- "$BX" dd if=random conv=unblock cbs=80 -- dd if=random conv=unblock cbs=80
+fi
 
 xxd less > dump; xxd -p less > plain
 row 8 'revert against xxd -r' -- sh -c "rm -f image image.bxj; '$BX' revert -f dump image" -- sh -c 'xxd -r dump'

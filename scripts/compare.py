@@ -166,7 +166,7 @@ def main():
     bad = 0
     with tempfile.TemporaryDirectory() as folder:
         os.chdir(folder)
-        for tool in options.tools or CASES:
+        for tool in options.tools or [t for t in CASES if run([bx, t, "--help"], b"")[2] == 0]:
             rng = random.Random(f"{tool} {options.seed}")
             found = [d for d in (differs(tool, rng, bx, folder) for _ in range(options.rounds)) if d]
             for d in found[:3]:
