@@ -4,11 +4,13 @@ use Rattle.std.specs.Prelude.{nat_lt, nat_le, ◌==◌, not, codes}
 use Rattle.std.specs.List.{flat_map, range_with_len, prefix_len}
 use Rattle.std.proofs.lemmas.Bool.{cases_lt, cases_eq, eq-eqb, ne_eqb}
 use Rattle.std.proofs.lemmas.Bool.Decides.{nat_tests}
+use Rattle.std.specs.Prelude.{slice_index}
+use Rattle.std.proofs.Math.Seq.{take-add}
 use Rattle.bx_dump.proofs.LinesLemmas.{flat_map_along}
 use Rattle.bx_dump.specs.declared.od_options.Address.{Address}
 use Rattle.bx_dump.specs.Strings.{is_printable, place_text, is_run_start, run_at, line_at, runs_text, strings_text}
 use Rattle.bx_dump.specs.declared.od_options.Address.TheVariants.{Octal, Decimal, Hexadecimal, Without}
-use Rattle.bx_dump.specs.Scan.{scan_text, scan_run, grown_text, end_text, AllPrint, NonePrints, cost_of, pending, IsKept}
+use Rattle.bx_dump.specs.Scan.{scan_text, scan_run, grown_text, end_text, AllPrint, NonePrints, cost_of, pending, IsKept, EndsQuiet, IsQuiet}
 
 pub both : (b : Bool) → (b ≡ true) ⊎ (b ≡ false)
 both true = inl refl
@@ -170,3 +172,55 @@ scan_grows least o input more = (scan_text least o (0 + length input) (scan_run 
 pub kept_none : (least : ℕ) (kept : List ℕ) (count : ℕ) → count ≡ 0 → 0 < least → IsKept least count kept (scan_run [] [])
 unfolding scan_run
 kept_none least kept count e some = record { most = omega arith; short = λ lt. (sym e, rw e refl); long = λ le. absurd (omega arith) }
+
+-- bytes that end in one that doesn't print leave no run
+quiet_run : (run : List ℕ) (b : ℕ) (bs : List ℕ) → EndsQuiet (b ∷ bs) → scan_run run (b ∷ bs) ≡ []
+unfolding scan_run
+quiet_run run b [] quiet = rw quiet refl
+quiet_run run b (c ∷ bs) quiet = elim (both (is_printable b)) [
+  | inl holds ↦ rw holds (quiet_run (run ++ b ∷ []) c bs quiet)
+  | inr fails ↦ rw fails (quiet_run [] c bs quiet)
+]
+
+-- at most as many bytes as a run needs, of which the last doesn't print, make none known
+window_quiet : (least : ℕ) (o : Address) (at : ℕ) (run : List ℕ) (b : ℕ) (bs : List ℕ) → EndsQuiet (b ∷ bs) → length run + length (b ∷ bs) ≤ least →
+    scan_text least o at run (b ∷ bs) ≡ []
+unfolding scan_text
+window_quiet least o at run b [] quiet fits =
+    let none : nat_le least (length run) ≡ false = grind (arith, nat_tests) in
+    rw (quiet, none) refl
+window_quiet least o at run b (c ∷ bs) quiet fits = elim (both (is_printable b)) [
+  | inl holds ↦
+      let first : nat_lt (length run) least ≡ true = grind (arith, nat_tests) in
+      let other : (length run + 1 == least) ≡ false = ne_eqb (length run + 1) least (λ e. omega arith) in
+      rw (holds, first, other) (window_quiet least o (at + 1) (run ++ b ∷ []) c bs quiet (omega (arith, length-append run (b ∷ []))))
+  | inr fails ↦
+      let none : nat_le least (length run) ≡ false = grind (arith, nat_tests) in
+      rw (fails, none) (window_quiet least o (at + 1) [] c bs quiet (omega arith))
+]
+
+pub none_quiet : (least : ℕ) → IsQuiet least []
+unfolding scan_text scan_run
+none_quiet least = record { text = λ o at. refl; run = refl }
+
+pub one_quiet : (least : ℕ) (bytes : List ℕ) → EndsQuiet bytes → length bytes ≤ least → IsQuiet least bytes
+one_quiet least [] quiet fits = none_quiet least
+one_quiet least (b ∷ bs) quiet fits = record { text = λ o at. window_quiet least o at [] b bs quiet (omega arith); run = quiet_run [] b bs quiet }
+
+pub more_quiet : (least : ℕ) (xs ys : List ℕ) → IsQuiet least xs → IsQuiet least ys → IsQuiet least (xs ++ ys)
+more_quiet least xs ys a b = record {
+  text = λ o at. scan_text-append least o at [] xs ys ∙ rw (a.text o at, a.run) (b.text o (at + length xs));
+  run = scan_run-append [] xs ys ∙ rw a.run b.run;
+}
+
+pub ends_quiet : (xs : List ℕ) (k : ℕ) → k < length xs → is_printable (slice_index xs k) ≡ false → EndsQuiet (take (suc k) xs)
+ends_quiet [] k inside quiet = absurd (omega arith)
+ends_quiet (b ∷ bs) zero inside quiet = quiet
+ends_quiet (b ∷ []) (suc k) inside quiet = absurd (omega arith)
+ends_quiet (b ∷ c ∷ bs) (suc k) inside quiet = ends_quiet (c ∷ bs) k (omega arith) quiet
+
+-- one window more
+pub quiet_step : (least : ℕ) (xs part : List ℕ) (done more : ℕ) → IsQuiet least (take done xs) → EndsQuiet part → length part ≤ least → part ≡ take more (drop done xs) →
+    IsQuiet least (take (done + more) xs)
+quiet_step least xs part done more before quiet fits is =
+    rw (take-add done more xs, ← is) (more_quiet least (take done xs) part before (one_quiet least part quiet fits))

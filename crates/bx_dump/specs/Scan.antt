@@ -37,6 +37,17 @@ abbrev pub NonePrints : List ℕ → Type 0
 NonePrints [] = Unit {0}
 NonePrints (b ∷ bs) = (is_printable b ≡ false) × NonePrints bs
 
+-- the last byte, if there is one, doesn't print
+abbrev pub EndsQuiet : List ℕ → Type 0
+EndsQuiet [] = Unit {0}
+EndsQuiet (b ∷ []) = is_printable b ≡ false
+EndsQuiet (b ∷ c ∷ bs) = EndsQuiet (c ∷ bs)
+
+-- behind a byte that doesn't print, nothing is known of these, and no run is left
+pub record IsQuiet (least : ℕ) (bytes : List ℕ) : Type 0 where
+  pub text : (offsets : Address) (at : ℕ) → scan_text least offsets at [] bytes ≡ []
+  pub run : scan_run [] bytes ≡ []
+
 -- a run as it is kept: its bytes while it is short, and that it is long enough from then on
 pub record IsKept (least count : ℕ) (kept run : List ℕ) : Type 0 where
   pub most : count ≤ least

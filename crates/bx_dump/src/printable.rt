@@ -2,7 +2,7 @@
 ghost use Rattle.std.specs.Prelude.{◌≡◌, ℕ, ◌+◌, ◌-◌, ◌*◌, ◌^◌, ◌<◌, ◌≤◌, [], List, ◌++◌, length, take, drop, not, IfOk, IfErr};
 ghost use Rattle.std.specs.List.{prefix_len};
 ghost use Rattle.bx_dump.specs.Dumped.{DumpsAll, DumpsFront};
-ghost use Rattle.bx_dump.specs.Scan.{scan_text, scan_run, IsKept, ScansAll, pending, cost_of, end_text, AllPrint};
+ghost use Rattle.bx_dump.specs.Scan.{scan_text, scan_run, IsKept, ScansAll, pending, cost_of, end_text, AllPrint, EndsQuiet, IsQuiet};
 ghost use Rattle.bx_dump.specs.Strings.{is_printable, place_text, strings_text};
 
 use crate::folded::Dumped;
@@ -53,6 +53,36 @@ fn other_len(bytes: &[u8]) -> usize
     ensures within { result ≤ length bytes.now }
 {
     bytes.iter().take_while(|byte| !prints(**byte)).count()
+}
+
+/// How many bytes there are up to the last one that doesn't print.
+fn last_other(bytes: &[u8]) -> usize
+    ensures other { EndsQuiet (take result bytes.now) }
+    ensures within { result ≤ length bytes.now }
+{
+    let mut end = bytes.len();
+    while end > 0 && prints(bytes[end - 1]) {
+        end -= 1;
+    }
+    end
+}
+
+/// How many bytes in front have no run that is long enough, and leave none. Whole windows of `least` bytes are skipped
+/// from their last byte that doesn't print.
+fn quiet_len(bytes: &[u8], least: usize) -> usize
+    requires { 0 < least }
+    ensures quiet { IsQuiet least (take result bytes.now) }
+    ensures within { result ≤ length bytes.now }
+{
+    let mut done = 0;
+    while bytes.len() - done >= least {
+        let more = last_other(&bytes[done..done + least]);
+        if more == 0 {
+            return done;
+        }
+        done += more;
+    }
+    done
 }
 
 /// The place of a run, and a space.
@@ -185,6 +215,12 @@ impl Runs {
         ensures within { self.new.count ≤ self.new.least }
         ensures cost { result.used + pending self.new.least self.new.count + 2 ≤ pending self.old.least self.old.count + result.taken + cost_of self.old.offsets }
     {
+        if self.count == 0 {
+            let taken = quiet_len(bytes, self.least);
+            if taken > 0 {
+                return Step { taken, used: 0 };
+            }
+        }
         let run = printable_len(bytes);
         if run > 0 {
             let used = self.grow(page, at, &bytes[..run]);
