@@ -8,6 +8,7 @@ ghost use Rattle.bx_journal.specs.Kept.{kept_of};
 ghost use Rattle.bx_journal.specs.Stack.{Recovers};
 ghost use Rattle.bx_journal.specs.Phase.{IsAtRest, IsOpen, as_read, RecoversEither};
 ghost use Rattle.bx_journal.specs.Step.{StartsEntry, EndsEntry, WritesEntry};
+ghost use Rattle.bx_journal.specs.Opening.{OneMore};
 
 use crate::images::change_image;
 use bx_image::{Change, Device, DeviceFailed};
@@ -66,7 +67,7 @@ pub fn write_entry<D: Device, T: TextStore, A: Allocator>(
     ensures device_honesty { D.honest device.new ↔ D.honest device.old }
     ensures store_honesty { T.honest store.new ↔ T.honest store.old }
     ensures no_failure { OnOk result ((D.failures device.new ≡ D.failures device.old) × (T.failures store.new ≡ T.failures store.old)) }
-    ensures failure { OnErr result (D.failures device.new + T.failures store.new ≡ D.failures device.old + T.failures store.old + 1) }
+    ensures failure { OnErr result (OneMore (D.failures device.old) (T.failures store.old) (D.failures device.new) (T.failures store.new)) }
 {
     append_head(store, head)?;
     change_image(device, change)?;
