@@ -3,3 +3,5 @@ pub mod Steps
 pub mod Runs
 pub mod Unfailed
 pub mod Stands
+pub mod XxdRows
+pub mod XxdReverts

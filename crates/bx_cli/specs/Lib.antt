@@ -6,3 +6,4 @@ pub mod Run
 pub mod Laws
 pub mod Dump
 pub mod JobDump
+pub mod XxdLaws
