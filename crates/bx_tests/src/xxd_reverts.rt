@@ -10,7 +10,8 @@ use std::process::Abort;
 use std::test::Fail;
 
 /// What `xxd -c 9 -g 4 -u -s 3 -l 20 -o 4` writes of the bytes 00 to 27.
-const PART: &str = "00000007: 03040506 0708090A 0B  .........\n00000010: 0C0D0E0F 10111213 14  .........\n00000019: 1516                 ..\n";
+const PART: &str =
+    "00000007: 03040506 0708090A 0B  .........\n00000010: 0C0D0E0F 10111213 14  .........\n00000019: 1516                  ..\n";
 
 /// The bytes 00, 01 and on; 00 follows ff.
 fn rising(alloc: Global, count: u16) -> Result<Vec<u8>, AllocError> {
@@ -110,9 +111,11 @@ fn xxd_part_reverts(rt: HostRuntime) -> Result<(), Fail> {
     };
     let text = text_of(rt.alloc(), bytes.as_slice(), &options)?;
     assert!(rt; text.as_slice() == PART.as_bytes());
-    let part = b"\0\0\0\0\0\0\0\x03\x04\x05\x06\x07\x08\x09\x0a\x0b\x0c\x0d\x0e\x0f\x10\x11\x12\x13\x14\x15\x16";
+    let part =
+        b"\0\0\0\0\0\0\0\x03\x04\x05\x06\x07\x08\x09\x0a\x0b\x0c\x0d\x0e\x0f\x10\x11\x12\x13\x14\x15\x16";
     expect_reverted(&rt, text.as_slice(), b"", part)?;
     let around = b"abcdefghijklmnopqrstuvwxyz0123456789";
-    let inside = b"abcdefg\x03\x04\x05\x06\x07\x08\x09\x0a\x0b\x0c\x0d\x0e\x0f\x10\x11\x12\x13\x14\x15\x16123456789";
+    let inside =
+        b"abcdefg\x03\x04\x05\x06\x07\x08\x09\x0a\x0b\x0c\x0d\x0e\x0f\x10\x11\x12\x13\x14\x15\x16123456789";
     expect_reverted(&rt, text.as_slice(), around, inside)
 }
