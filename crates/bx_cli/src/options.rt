@@ -284,7 +284,7 @@ fn changer<'a>(
     let image = Arg::new(alloc, "image")
         .value_name("IMAGE")
         .required(true)
-        .help("File that is changed");
+        .help("Image, a file");
     with_rows(alloc, command, rows)?.arg(image)
 }
 
