@@ -44,4 +44,4 @@ bench: all
 	bench/run.sh
 
 clean:
-	rm -rf bx crates/*/out
+	rm -rf bx bench/out crates/*/out
