@@ -3,6 +3,7 @@
 
 mod folded;
 mod hexdump;
+mod lanes;
 mod od_digits;
 mod od_dump;
 mod od_lines;
