@@ -2,6 +2,7 @@
 #![tactic(auto)]
 
 mod folded;
+mod hex_lanes;
 mod hexdump;
 mod lanes;
 mod od_digits;
