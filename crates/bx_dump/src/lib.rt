@@ -2,6 +2,7 @@
 #![tactic(auto)]
 
 mod folded;
+mod hex_lanes;
 mod hexdump;
 mod lanes;
 mod od_digits;
@@ -19,9 +20,8 @@ mod xxd_names;
 mod xxd_options;
 mod xxd_rows;
 mod xxd_tables;
-mod xxd_whole;
 
-pub use folded::{Dumped, FoldedPages, Form, dump};
+pub use folded::{FoldedPages, Form};
 pub use hexdump::{CanonLines, HexdumpOptions, hexdump_c};
 pub use od_dump::od;
 pub use od_lines::OdLines;
@@ -33,7 +33,6 @@ pub use xxd_dump::xxd;
 pub use xxd_lines::{LineForm, Lines, Put};
 pub use xxd_options::{XxdOptions, XxdStyle};
 pub use xxd_rows::{Items, Plain};
-pub use xxd_whole::xxd_default;
 
 #[cfg(test)]
 mod od_tests;
