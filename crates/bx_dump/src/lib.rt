@@ -5,6 +5,7 @@ mod folded;
 mod hex_lanes;
 mod hexdump;
 mod lanes;
+mod laws;
 mod od_digits;
 mod od_dump;
 mod od_lines;
@@ -23,6 +24,7 @@ mod xxd_tables;
 
 pub use folded::{FoldedPages, Form};
 pub use hexdump::{CanonLines, HexdumpOptions, hexdump_c};
+pub use laws::shows_maximal_runs;
 pub use od_dump::od;
 pub use od_lines::OdLines;
 pub use od_options::{Address, Kind, NumForm, OdOptions, Size};
