@@ -80,13 +80,15 @@ all_one P x h (suc k) d within = absurd (omega arith)
 
 -- how the counts of failed calls stand after some commands
 pub record HasCounted {D T A : Type 0} (device_failures : D → ℕ) (store_failures : T → ℕ) (first now : Session D T A) (i : ℕ) (replies : List Reply) : Type 0 where
-  pub least : device_failures first.device + store_failures first.store ≤ device_failures now.device + store_failures now.store
+  pub device_least : device_failures first.device ≤ device_failures now.device
+  pub store_least : store_failures first.store ≤ store_failures now.store
   pub most : device_failures now.device + store_failures now.store ≤ device_failures first.device + store_failures first.store + i
   pub unfailed : device_failures now.device + store_failures now.store ≡ device_failures first.device + store_failures first.store → All Unfailed replies
 
 pub counted_none : {D T A : Type 0} (device_failures : D → ℕ) (store_failures : T → ℕ) (first : Session D T A) → HasCounted device_failures store_failures first first 0 []
 counted_none device_failures store_failures first = record {
-  least = omega arith;
+  device_least = omega arith;
+  store_least = omega arith;
   most = omega arith;
   unfailed = λ same k d within. absurd (omega arith);
 }
@@ -95,10 +97,11 @@ pub counted_more : {D T A : Type 0} (device_failures : D → ℕ) (store_failure
     → HasCounted device_failures store_failures first now i replies → CountsOn device_failures store_failures now next → IsCounted device_failures store_failures now next reply
     → HasCounted device_failures store_failures first next (i + 1) (replies ++ reply ∷ [])
 counted_more device_failures store_failures first now next i replies reply has on failed = record {
-  least = let a = has.least in let b = on.least in omega arith;
+  device_least = let a = has.device_least in let b = on.device_least in omega arith;
+  store_least = let a = has.store_least in let b = on.store_least in omega arith;
   most = let a = has.most in let b = on.most in omega arith;
   unfailed = λ same.
-      let a = has.least in let b = on.least in
+      let d = has.device_least in let t = has.store_least in let e = on.device_least in let u = on.store_least in
       let before : device_failures now.device + store_failures now.store ≡ device_failures first.device + store_failures first.store = omega arith in
       let last : Unfailed reply = λ f. let rises = failed f in absurd (omega arith) in
       All-append Unfailed replies (reply ∷ []) (has.unfailed before) (all_one Unfailed reply last);

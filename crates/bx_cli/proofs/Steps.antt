@@ -204,16 +204,16 @@ undo_err hd ht image text old new k (Damaged line) fault broken few kind undamag
 undo_err hd ht image text old new k (LengthDiffers expected) fault broken few kind undamaged refused breaks device store (Standing.Up stack) h = absurd kind
 
 -- how the counts go on where a call failed
-pub counts_least : (e : SessionFault) (d t d_new t_new : ℕ) → FaultCounts e d t d_new t_new → d + t ≤ d_new + t_new
-counts_least NoMemory d t d_new t_new c = omega arith
-counts_least TooLarge d t d_new t_new c = omega arith
-counts_least DeviceFailed d t d_new t_new c = omega arith
-counts_least (Damaged line) d t d_new t_new c = omega arith
-counts_least (TooFew have) d t d_new t_new c = omega arith
-counts_least JournalFull d t d_new t_new c = omega arith
-counts_least Interrupted d t d_new t_new c = omega arith
-counts_least Broken d t d_new t_new c = omega arith
-counts_least (LengthDiffers expected) d t d_new t_new c = omega arith
+pub counts_least : (e : SessionFault) (d t d_new t_new : ℕ) → FaultCounts e d t d_new t_new → (d ≤ d_new) × (t ≤ t_new)
+counts_least NoMemory d t d_new t_new c = (omega arith, omega arith)
+counts_least TooLarge d t d_new t_new c = (omega arith, omega arith)
+counts_least DeviceFailed d t d_new t_new c = (omega arith, omega arith)
+counts_least (Damaged line) d t d_new t_new c = (omega arith, omega arith)
+counts_least (TooFew have) d t d_new t_new c = (omega arith, omega arith)
+counts_least JournalFull d t d_new t_new c = (omega arith, omega arith)
+counts_least Interrupted d t d_new t_new c = (omega arith, omega arith)
+counts_least Broken d t d_new t_new c = (omega arith, omega arith)
+counts_least (LengthDiffers expected) d t d_new t_new c = (omega arith, omega arith)
 
 pub counts_most : (e : SessionFault) (d t d_new t_new : ℕ) → FaultCounts e d t d_new t_new → d_new + t_new ≤ d + t + 1
 counts_most NoMemory d t d_new t_new c = omega arith

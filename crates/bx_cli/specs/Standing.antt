@@ -51,7 +51,8 @@ abbrev pub UndoFrom : Standing → ℕ → Result ℕ SessionFault → Standing 
 UndoFrom (Up old) k r after = UndoUp old k r after
 UndoFrom (Down old) k r after = (r ≡ Err Broken) × (after ≡ Down old)
 
--- The counts of failed calls: one of them rises by one, or none does
+-- The counts of failed calls: one of them rises by one and the other stays, or none rises
 pub record CountsOn {D T A : Type 0} (device_failures : D → ℕ) (store_failures : T → ℕ) (old new : Session D T A) : Type 0 where
-  pub least : device_failures old.device + store_failures old.store ≤ device_failures new.device + store_failures new.store
+  pub device_least : device_failures old.device ≤ device_failures new.device
+  pub store_least : store_failures old.store ≤ store_failures new.store
   pub most : device_failures new.device + store_failures new.store ≤ device_failures old.device + store_failures old.store + 1

@@ -157,7 +157,8 @@ pub fn run_all<D: Device, T: TextStore, R: Read, A: Allocator + Clone>(
     session: &mut Session<D, T, A>,
     list: &mut [Command<R, A>],
 ) -> Result<Vec<Reply, A>, NoMemory>
-    requires countable { D.failures session.old.device + T.failures session.old.store + length list.old ≤ u64.MAX }
+    requires device_countable { D.failures session.old.device + length list.old ≤ u64.MAX }
+    requires store_countable { T.failures session.old.store + length list.old ≤ u64.MAX }
     requires near { All IsNear list.old }
 
     // Where no device fails, the replies and the final pair are a run of the machine, from the stack of whole images that

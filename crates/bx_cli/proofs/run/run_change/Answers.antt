@@ -26,7 +26,8 @@ returns-in-Err-clause-step g c = λ before h.
 pub returns-in-Err-clause-counts : goal.returns-in-Err-clause-counts
 returns-in-Err-clause-counts g c =
     let counts = c.in-Err.ensures.counts in
-    record { least = counts_least c.in-Err.fault _ _ _ _ counts; most = counts_most c.in-Err.fault _ _ _ _ counts }
+    let least = counts_least c.in-Err.fault _ _ _ _ counts in
+    record { device_least = least.0; store_least = least.1; most = counts_most c.in-Err.fault _ _ _ _ counts }
 
 pub returns-in-Err-clause-failed : goal.returns-in-Err-clause-failed
 returns-in-Err-clause-failed g c = λ failed.
