@@ -3,6 +3,8 @@
 
 mod folded;
 mod hexdump;
+mod od_bytes;
+mod od_decimal;
 mod od_digits;
 mod od_dump;
 mod od_lines;
