@@ -189,6 +189,12 @@ one_digit d below =
     (bytes_eq-Decides ((48 + d) ∷ []) (left_filled 48 1 (digits 10 false d))).0
     (agree_below_at (λ i. bytes_eq ((48 + i) ∷ []) (left_filled 48 1 (digits 10 false i))) (λ _. true) 10 d refl below)
 
+pub one_octal : (d : ℕ) → d < 8 → (48 + d) ∷ [] ≡ left_filled 48 1 (digits 8 false d)
+unfolding digits
+one_octal d below =
+    (bytes_eq-Decides ((48 + d) ∷ []) (left_filled 48 1 (digits 8 false d))).0
+    (agree_below_at (λ i. bytes_eq ((48 + i) ∷ []) (left_filled 48 1 (digits 8 false i))) (λ _. true) 8 d refl below)
+
 pub plus_digit : (d : ℕ) → d < 10 → 32 ∷ (48 + d) ∷ [] ≡ left_filled 32 2 (digits 10 false d)
 unfolding digits
 plus_digit d below =
@@ -229,6 +235,14 @@ fixed_two j k n p e pos front more some le whole =
     let rest : n % p < 10 ^ k = rw (← e) (mod-lt n pos) in
     let parts : n / p * 10 ^ k + n % p ≡ n = rw (← e) (quotient n p) in
     sym (rw parts at (fixed_parts 10 two k j 64 (n / p) (n % p) refl (omega arith) rest some more front (rw parts whole)))
+
+pub octal_two : (j k n p : ℕ) → p ≡ 8 ^ k → 0 < p → n / p < 8 ^ j → 0 < j → 0 < k → j + k ≤ 64 → n < 8 ^ (j + k) →
+    left_filled 48 j (digits 8 false (n / p)) ++ left_filled 48 k (digits 8 false (n % p)) ≡ left_filled 48 (j + k) (digits 8 false n)
+octal_two j k n p e pos front more some le whole =
+    let two : 2 ≤ 8 = omega arith in
+    let rest : n % p < 8 ^ k = rw (← e) (mod-lt n pos) in
+    let parts : n / p * 8 ^ k + n % p ≡ n = rw (← e) (quotient n p) in
+    sym (rw parts at (fixed_parts 8 two k j 64 (n / p) (n % p) refl (omega arith) rest some more front (rw parts whole)))
 
 -- spaces and a sign in front, where the front isn't 0
 pub led_two : (w k n p : ℕ) (sign : List ℕ) → p ≡ 10 ^ k → 0 < p → 0 < n / p → 0 < k → k ≤ 44 → n < 10 ^ 20 →

@@ -8,6 +8,7 @@ mod od_decimal;
 mod od_digits;
 mod od_dump;
 mod od_lines;
+mod od_octal;
 mod od_options;
 mod od_values;
 mod pages;

@@ -9,6 +9,7 @@ use crate::od_decimal::{
     put_signed_eight, put_signed_four, put_signed_two, put_unsigned_eight, put_unsigned_four,
     put_unsigned_two,
 };
+use crate::od_octal::put_six;
 use crate::od_options::{NumForm, Size};
 use bx_text::hex_digit;
 
@@ -134,7 +135,7 @@ fn put_signed(field: &mut [u8], size: Size, v: u64)
     ensures { field.new ≡ number_text NumForm.Signed size v }
 {
     if size == Size::One {
-        field.copy_from_slice(&signed_of(v as u8));
+        field.copy_from_slice(signed_of(v as u8));
         return;
     }
     let half = half_of(size);
@@ -163,7 +164,7 @@ fn put_unsigned(field: &mut [u8], size: Size, v: u64)
     ensures { field.new ≡ number_text NumForm.Unsigned size v }
 {
     match size {
-        Size::One => field.copy_from_slice(&unsigned_of(v as u8)),
+        Size::One => field.copy_from_slice(unsigned_of(v as u8)),
         Size::Two if v >= 1000 => put_unsigned_two(field, v as u32),
         Size::Four if v >= 100000000 => put_unsigned_four(field, v as u32),
         Size::Eight if v >= 10000000000000000 => put_unsigned_eight(field, v),
@@ -180,6 +181,7 @@ pub fn put_number(field: &mut [u8], form: NumForm, size: Size, v: u64)
 {
     match form {
         NumForm::Signed => put_signed(field, size, v),
+        NumForm::Octal if size == Size::Two => put_six(field, v as u32),
         NumForm::Octal => put_fixed(field, v, 8),
         NumForm::Unsigned => put_unsigned(field, size, v),
         NumForm::Hexadecimal => put_fixed(field, v, 16),
