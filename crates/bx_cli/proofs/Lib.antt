@@ -3,3 +3,4 @@ pub mod Steps
 pub mod Runs
 pub mod Unfailed
 pub mod Stands
+pub mod Copying

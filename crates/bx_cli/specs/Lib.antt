@@ -1,4 +1,5 @@
 pub mod Command
+pub mod Copy
 pub mod Fault
 pub mod Job
 pub mod Standing

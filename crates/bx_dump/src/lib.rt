@@ -2,7 +2,9 @@
 #![tactic(auto)]
 
 mod folded;
+mod hex_lanes;
 mod hexdump;
+mod lanes;
 mod od_bytes;
 mod od_decimal;
 mod od_digits;

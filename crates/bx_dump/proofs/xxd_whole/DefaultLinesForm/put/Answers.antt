@@ -1,4 +1,4 @@
-use Rattle.std.proofs.Common.{◌≡◌, ℕ, ◌+◌, ◌≤◌, List, ◌++◌, length, take, drop, ap, ◌∙◌, sym, arith}
+use Rattle.std.proofs.Common.{◌≡◌, ℕ, List, ◌++◌, length, take, ap, ◌∙◌}
 use Rattle.std.proofs.lemmas.List.{take_at, take_all}
 use Rattle.bx_text.specs.Dump.{default_line}
 use Rattle.bx_dump.proofs.xxd_whole.DefaultLinesForm.put.Goals as goal

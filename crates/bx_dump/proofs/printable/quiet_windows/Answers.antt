@@ -1,8 +1,8 @@
-use Rattle.std.proofs.Common.{◌≡◌, ◌+◌, ◌-◌, ◌<◌, ◌≤◌, ℕ, List, length, take, drop, sym, ◌∙◌, refl, arith}
+use Rattle.std.proofs.Common.{◌≡◌, ◌+◌, ◌-◌, ◌≤◌, length, take, drop, refl, arith}
 use Rattle.std.proofs.lemmas.List.{take-take, length-take-le, length-drop}
 use Rattle.bx_dump.specs.Scan.{EndsQuiet}
 use Rattle.bx_dump.proofs.ScanLemmas.{none_quiet, quiet_step}
-use Rattle.bx_dump.proofs.printable.quiet_len.Goals as goal
+use Rattle.bx_dump.proofs.printable.quiet_windows.Goals as goal
 
 pub loop-done-init : goal.loop-done-init
 loop-done-init c = record { inside = omega arith; quiet = none_quiet c.args.least }
