@@ -95,24 +95,24 @@ static SIGNED: [[u8; 4]; 256] = [
 
 /// A space and a byte as a character.
 #[inline(always)]
-pub fn char_of(byte: u8) -> &'static [u8; 4]
-    ensures { result.now ≡ 32 ∷ left_filled 32 3 (char_text byte) }
+pub fn char_of(byte: u8) -> [u8; 4]
+    ensures { result ≡ 32 ∷ left_filled 32 3 (char_text byte) }
 {
-    &CHARS[byte as usize]
+    CHARS[byte as usize]
 }
 
 /// A byte as a number.
 #[inline(always)]
-pub fn unsigned_of(byte: u8) -> &'static [u8; 3]
-    ensures { result.now ≡ left_filled 32 3 (digits 10 false byte) }
+pub fn unsigned_of(byte: u8) -> [u8; 3]
+    ensures { result ≡ left_filled 32 3 (digits 10 false byte) }
 {
-    &UNSIGNED[byte as usize]
+    UNSIGNED[byte as usize]
 }
 
 /// A byte as a number in two's complement.
 #[inline(always)]
-pub fn signed_of(byte: u8) -> &'static [u8; 4]
-    ensures { result.now ≡ left_filled 32 4 (signed_text 1 byte) }
+pub fn signed_of(byte: u8) -> [u8; 4]
+    ensures { result ≡ left_filled 32 4 (signed_text 1 byte) }
 {
-    &SIGNED[byte as usize]
+    SIGNED[byte as usize]
 }

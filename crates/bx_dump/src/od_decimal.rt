@@ -49,30 +49,30 @@ static SIGNED_LEADS: [[u8; 3]; 200] = [
 
 /// A number below 100 in two digits.
 #[inline(always)]
-fn two_of(v: u32) -> &'static [u8; 2]
+fn two_of(v: u32) -> [u8; 2]
     requires { v < 100 }
-    ensures { result.now ≡ left_filled 48 2 (digits 10 false v) }
+    ensures { result ≡ left_filled 48 2 (digits 10 false v) }
 {
-    &TWO[v as usize]
+    TWO[v as usize]
 }
 
 /// A number below 100 in two characters.
 #[inline(always)]
-fn lead_of(v: u32) -> &'static [u8; 2]
+fn lead_of(v: u32) -> [u8; 2]
     requires { v < 100 }
-    ensures { result.now ≡ left_filled 32 2 (digits 10 false v) }
+    ensures { result ≡ left_filled 32 2 (digits 10 false v) }
 {
-    &LEADS[v as usize]
+    LEADS[v as usize]
 }
 
 /// A number below 100 in three characters, with its sign.
 #[inline(always)]
-fn signed_lead_of(negative: bool, v: u32) -> &'static [u8; 3]
+fn signed_lead_of(negative: bool, v: u32) -> [u8; 3]
     requires { v < 100 }
-    ensures { result.now ≡ left_filled 32 3 ((if negative then 45 ∷ [] else []) ++ digits 10 false v) }
+    ensures { result ≡ left_filled 32 3 ((if negative then 45 ∷ [] else []) ++ digits 10 false v) }
 {
     let at = if negative { 100 + v } else { v };
-    &SIGNED_LEADS[at as usize]
+    SIGNED_LEADS[at as usize]
 }
 
 /// Puts a number in two digits.
@@ -82,7 +82,7 @@ fn put_two(field: &mut [u8], v: u32)
     requires small { v < 100 }
     ensures { field.new ≡ left_filled 48 2 (digits 10 false v) }
 {
-    field.copy_from_slice(two_of(v));
+    field.copy_from_slice(&two_of(v));
 }
 
 /// Puts a number in four digits.
@@ -140,7 +140,7 @@ pub fn put_lead(field: &mut [u8], v: u32)
     requires small { v < 100 }
     ensures { field.new ≡ left_filled 32 2 (digits 10 false v) }
 {
-    field.copy_from_slice(lead_of(v));
+    field.copy_from_slice(&lead_of(v));
 }
 
 /// Puts a number below 100 and its sign in three characters.
@@ -150,7 +150,7 @@ pub fn put_signed_lead(field: &mut [u8], negative: bool, v: u32)
     requires small { v < 100 }
     ensures { field.new ≡ left_filled 32 3 ((if negative then 45 ∷ [] else []) ++ digits 10 false v) }
 {
-    field.copy_from_slice(signed_lead_of(negative, v));
+    field.copy_from_slice(&signed_lead_of(negative, v));
 }
 
 /// Puts a number below 10,000 in four characters.

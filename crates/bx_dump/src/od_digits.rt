@@ -135,7 +135,7 @@ fn put_signed(field: &mut [u8], size: Size, v: u64)
     ensures { field.new ≡ number_text NumForm.Signed size v }
 {
     if size == Size::One {
-        field.copy_from_slice(signed_of(v as u8));
+        field.copy_from_slice(&signed_of(v as u8));
         return;
     }
     let half = half_of(size);
@@ -164,7 +164,7 @@ fn put_unsigned(field: &mut [u8], size: Size, v: u64)
     ensures { field.new ≡ number_text NumForm.Unsigned size v }
 {
     match size {
-        Size::One => field.copy_from_slice(unsigned_of(v as u8)),
+        Size::One => field.copy_from_slice(&unsigned_of(v as u8)),
         Size::Two if v >= 1000 => put_unsigned_two(field, v as u32),
         Size::Four if v >= 100000000 => put_unsigned_four(field, v as u32),
         Size::Eight if v >= 10000000000000000 => put_unsigned_eight(field, v),

@@ -14,11 +14,11 @@ static PAIRS: [[u8; 2]; 64] = [
 
 /// A number below 64 in two digits.
 #[inline(always)]
-fn pair_of(v: u32) -> &'static [u8; 2]
+fn pair_of(v: u32) -> [u8; 2]
     requires { v < 64 }
-    ensures { result.now ≡ left_filled 48 2 (digits 8 false v) }
+    ensures { result ≡ left_filled 48 2 (digits 8 false v) }
 {
-    &PAIRS[v as usize]
+    PAIRS[v as usize]
 }
 
 /// Puts a number in two digits.
@@ -28,7 +28,7 @@ fn put_pair(field: &mut [u8], v: u32)
     requires small { v < 8 ^ 2 }
     ensures { field.new ≡ left_filled 48 2 (digits 8 false v) }
 {
-    field.copy_from_slice(pair_of(v));
+    field.copy_from_slice(&pair_of(v));
 }
 
 /// Puts a number in four digits.

@@ -32,7 +32,7 @@ fn put_value(text: &mut [u8], kind: Kind, bytes: &[u8])
 {
     let value = value_of(bytes);
     match kind {
-        Kind::Chars => text.copy_from_slice(char_of(value as u8)),
+        Kind::Chars => text.copy_from_slice(&char_of(value as u8)),
         Kind::Number { form, size } => {
             let (space, field) = text.split_at_mut(1);
             space.copy_from_slice(b" ");
