@@ -5,6 +5,7 @@ mod folded;
 mod hex_lanes;
 mod hexdump;
 mod lanes;
+mod laws;
 mod od_bytes;
 mod od_decimal;
 mod od_digits;
@@ -23,10 +24,10 @@ mod xxd_names;
 mod xxd_options;
 mod xxd_rows;
 mod xxd_tables;
-mod xxd_whole;
 
-pub use folded::{Dumped, FoldedPages, Form, dump};
+pub use folded::{FoldedPages, Form};
 pub use hexdump::{CanonLines, HexdumpOptions, hexdump_c};
+pub use laws::shows_maximal_runs;
 pub use od_dump::od;
 pub use od_lines::OdLines;
 pub use od_options::{Address, Kind, NumForm, OdOptions, Size};
@@ -37,7 +38,6 @@ pub use xxd_dump::xxd;
 pub use xxd_lines::{LineForm, Lines, Put};
 pub use xxd_options::{XxdOptions, XxdStyle};
 pub use xxd_rows::{Items, Plain};
-pub use xxd_whole::xxd_default;
 
 #[cfg(test)]
 mod od_tests;

@@ -1,10 +1,8 @@
-use Rattle.std.proofs.Common.{◌≡◌, ℕ, ◌+◌, ◌-◌, ◌*◌, ◌/◌, ◌<◌, ◌≤◌, ◌++◌, ◌∷◌, [], length, take, drop, min, arith, refl, sym, ap, ◌∙◌}
+use Rattle.std.proofs.Common.{◌≡◌, ◌+◌, ◌-◌, ◌*◌, ◌≤◌, ◌++◌, ◌∷◌, [], length, take, drop, min, arith, refl, ap, ◌∙◌}
 use Rattle.std.specs.List.{flat_map}
 use Rattle.std.proofs.lemmas.Slice.{take-put_mid}
 use Rattle.std.proofs.lemmas.List.{length-take-le, length-drop}
-use Rattle.std.proofs.Math.Nat.{mul-div-le, mul-le-mul_left}
 use Rattle.bx_text.specs.Dump.{pair_of}
-use Rattle.bx_text.proofs.FieldLemmas.{div_mono}
 use Rattle.bx_dump.specs.Rows.{plain_line}
 use Rattle.bx_dump.proofs.LinesLemmas.{cells_part, lines_next_at}
 use Rattle.bx_dump.proofs.xxd_rows.put_thirties.Goals as goal

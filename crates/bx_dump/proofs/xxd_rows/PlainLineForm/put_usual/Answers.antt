@@ -1,4 +1,3 @@
-use Rattle.std.proofs.Common.{◌≡◌, ◌+◌, ◌-◌, ◌*◌, ◌/◌, ◌≤◌, length, take, arith, ap, ◌∙◌}
 use Rattle.bx_dump.specs.Rows.{plain_line}
 use Rattle.bx_dump.proofs.LinesLemmas.{lines_zero}
 use Rattle.bx_dump.proofs.xxd_rows.PlainLineForm.put_usual.Goals as goal
