@@ -5,9 +5,11 @@ Usage: scripts/check-options.py [--bx PATH]
 
 What bx takes is found by trying every letter as an option, and the names of GNU dd as operands.
 Compared both ways: subcommands; options, and whether they have a value; operands and words of dd;
-and the texts of faults with their numbers. It exits 1 where two lists differ.
+and the texts of faults with their numbers. Each name in docs/PROMISES.md has to stand in the crates.
+It exits 1 where two lists differ.
 """
 import argparse
+import glob
 import os
 import re
 import string
@@ -137,6 +139,12 @@ def fault_texts(source):
     return {int(number): texts[name] for name, number in re.findall(r"Fault::(\w+)(?: \{ \.\. \})? => (\d+),", source)}
 
 
+def sources():
+    """The code and the definitions of all crates."""
+    files = glob.glob("crates/*/src/*.rt") + glob.glob("crates/*/specs/*.antt") + ["crates.txt"]
+    return "\n".join(read(name) for name in files)
+
+
 class Report:
     def __init__(self):
         self.bad = 0
@@ -186,6 +194,9 @@ def main():
     faults = fault_texts(read("crates/bx_cli/src/fault.rt"))
     table = {int(n): text for n, text in re.findall(r"^\| (\d+) \| `(.*?)` \|$", read("docs/FORMATS.md"), re.M)}
     report.same("faults in docs/FORMATS.md", faults, table)
+    names = set(re.findall(r"[A-Za-z_]+", sources()))
+    words = re.findall(r"`((?:\w+::)?\w+)`", read("docs/PROMISES.md"))
+    report.same("names in docs/PROMISES.md", set(), {word for word in words if not set(word.split("::")) <= names})
     report.same("faults in the man page", faults, {int(n): t for n, t in re.findall(r"^\.It (\d+)  (.*)$", man, re.M)})
     print(f"{', '.join(sorted(commands))}: {report.bad} differences")
     sys.exit(1 if report.bad else 0)
