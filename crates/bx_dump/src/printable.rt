@@ -5,7 +5,6 @@ ghost use Rattle.bx_dump.specs.Dumped.{DumpsAll, DumpsFront};
 ghost use Rattle.bx_dump.specs.Scan.{scan_text, scan_run, IsKept, ScansAll, pending, cost_of, end_text, AllPrint, EndsQuiet, IsQuiet};
 ghost use Rattle.bx_dump.specs.Strings.{is_printable, place_text, strings_text};
 
-use crate::folded::Dumped;
 use crate::lanes::{four_in, printing_in};
 use crate::od_options::Address;
 use bx_text::{IoFault, Meter, ShortText, State, dec_field, emit_after, hex_field, oct_field};
@@ -32,6 +31,13 @@ struct Runs {
 struct Step {
     taken: usize,
     used: usize,
+}
+
+/// How much was read, and how much text was written.
+#[derive(Clone, Copy)]
+struct Dumped {
+    read: u64,
+    written: u64,
 }
 
 fn prints(byte: u8) -> bool
