@@ -96,8 +96,16 @@ with_run-sum size is (run ∷ []) p = by (p.at == run.at + length run.bytes)
     by true = omega (arith, is run, is (together run p), length-append run.bytes p.bytes)
     by false = omega (arith, is p)
 with_run-sum size is (run ∷ next ∷ runs) p =
-    omega (arith, with_run-sum size is (next ∷ runs) p, sum-map size (run ∷ with_run (next ∷ runs) p), sum_by-cons size run (with_run (next ∷ runs) p), sum-map size (with_run (next ∷ runs) p),
-    sum-map size (run ∷ next ∷ runs), sum_by-cons size run (next ∷ runs), sum-map size (next ∷ runs))
+    omega (
+      arith,
+      with_run-sum size is (next ∷ runs) p,
+      sum-map size (run ∷ with_run (next ∷ runs) p),
+      sum_by-cons size run (with_run (next ∷ runs) p),
+      sum-map size (with_run (next ∷ runs) p),
+      sum-map size (run ∷ next ∷ runs),
+      sum_by-cons size run (next ∷ runs),
+      sum-map size (next ∷ runs),
+    )
 
 -- What a list of pieces is as runs, after one more line. It is the first one
 pub push_first : {A : Type 0} → (old rest new : List (Piece A)) (p : Run) → length rest ≡ 0 → old ≡ rest ++ [] → map run_of new ≡ map run_of rest ++ p ∷ [] → map run_of new ≡ with_run (map run_of old) p

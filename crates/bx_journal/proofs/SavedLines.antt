@@ -22,6 +22,7 @@ saved_stops len line p is past = rw is (fails (nat_le (length p.bytes) 16) (nat_
   where
     fails : (a b : Bool) → (a && b) ≡ false → (if a && b then Some p else None) ≡ None
     fails a b e = rw e refl
+
     both : (n m : ℕ) → (n ≤ 16 → len < m) → (nat_le n 16 && nat_le m len) ≡ false
     both n m past = grind (arith, common_steps)
 

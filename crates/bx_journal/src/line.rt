@@ -93,7 +93,11 @@ pub struct SavedLine {
 fn full_in(line: &[u8]) -> Option<FullLine>
     ensures { IfSome result (λ l. piece_of line.now ≡ Some (record { at = l.at; bytes = l.bytes })) }
 {
-    if line.len() == 67 { full_text(line) } else { None }
+    if line.len() == 67 {
+        full_text(line)
+    } else {
+        None
+    }
 }
 
 /// The line, where it lies within this length.
