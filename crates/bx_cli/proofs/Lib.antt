@@ -4,3 +4,5 @@ pub mod Runs
 pub mod Unfailed
 pub mod Stands
 pub mod Copying
+pub mod XxdRows
+pub mod XxdReverts

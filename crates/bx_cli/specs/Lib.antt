@@ -7,3 +7,4 @@ pub mod Run
 pub mod Laws
 pub mod Dump
 pub mod JobDump
+pub mod XxdLaws

@@ -5,3 +5,5 @@
 mod rows;
 #[cfg(test)]
 mod session;
+#[cfg(test)]
+mod xxd_reverts;
