@@ -1,6 +1,6 @@
 # make: builds ./bx (its proof comes first) · make test: proves and tests everything
 PREFIX ?= /usr/local
-.PHONY: all test install uninstall compare bench clean
+.PHONY: all test install uninstall compare hostile bench clean
 
 all: bx
 
@@ -21,6 +21,10 @@ uninstall:
 # The real tools beside bx, on random inputs and options; no part of the gate.
 compare: all
 	scripts/compare.py --bx ./bx
+
+# Bad texts, full devices, closed pipes, and each memory request, read and write failing in turn; no part of the gate.
+hostile: all
+	scripts/hostile.sh ./bx
 
 bench: all
 	bench/run.sh
