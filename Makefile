@@ -1,6 +1,10 @@
 # make: builds ./bx (its proof comes first) · make test: proves and tests everything
 PREFIX ?= /usr/local
-.PHONY: all test install uninstall compare hostile bench clean
+man = $(DESTDIR)$(PREFIX)/share/man/man1
+bash = $(DESTDIR)$(PREFIX)/share/bash-completion/completions
+fish = $(DESTDIR)$(PREFIX)/share/fish/vendor_completions.d
+zsh = $(DESTDIR)$(PREFIX)/share/zsh/$(if $(filter /usr,$(PREFIX)),vendor-completions,site-functions)
+.PHONY: all test install uninstall tour check-docs compare hostile bench clean
 
 all: bx
 
@@ -14,15 +18,29 @@ test:
 
 install: all
 	install -D -m 755 bx $(DESTDIR)$(PREFIX)/bin/bx
+	install -D -m 644 man/bx.1 $(man)/bx.1
+	install -D -m 644 completions/bx.bash $(bash)/bx
+	install -D -m 644 completions/_bx $(zsh)/_bx
+	install -D -m 644 completions/bx.fish $(fish)/bx.fish
 
 uninstall:
-	rm -f $(DESTDIR)$(PREFIX)/bin/bx
+	rm -f $(DESTDIR)$(PREFIX)/bin/bx $(man)/bx.1 $(bash)/bx $(zsh)/_bx $(fish)/bx.fish
 
-# The real tools beside bx, on random inputs and options; no part of the gate.
+# What follows is run by hand and is no part of the gate.
+
+# The commands of README.md, and what they write.
+tour: all
+	scripts/tour.py --bx ./bx
+
+# The options of bx beside those of its help, man page, completions and README.md.
+check-docs: all
+	scripts/check-options.py --bx ./bx
+
+# The real tools beside bx, on random inputs and options.
 compare: all
 	scripts/compare.py --bx ./bx
 
-# Bad texts, full devices, closed pipes, and each memory request, read and write failing in turn; no part of the gate.
+# Bad texts, full devices, closed pipes, and each memory request, read and write failing in turn.
 hostile: all
 	scripts/hostile.sh ./bx
 
@@ -30,4 +48,4 @@ bench: all
 	bench/run.sh
 
 clean:
-	rm -rf bx crates/*/out
+	rm -rf bx bench/out crates/*/out

@@ -4,6 +4,7 @@
 # Standard tools only; run by hand, no part of the gate. BX names the program (default ./bx).
 set -euo pipefail
 BX=$(realpath "${BX:-./bx}")
+top=$(realpath "$(dirname "$0")/..")
 big=256; mid=64
 [ "${1:-}" = quick ] && { big=32; mid=32; }
 work=$(mktemp -d); trap 'rm -rf "$work"' EXIT; cd "$work"
@@ -56,3 +57,44 @@ fi
 xxd less > dump; xxd -p less > plain
 row 8 'revert against xxd -r' -- sh -c "rm -f image image.bxj; '$BX' revert -f dump image" -- sh -c 'xxd -r dump'
 row 8 'revert -p against xxd -r -p' -- sh -c "rm -f image image.bxj; '$BX' revert -p -f plain image" -- sh -c 'xxd -r -p plain'
+
+# Single calls of the libraries, which bx makes only together with others: bench/calls.rt.in is proved and built in a
+# folder of its own over copies of three crates, since the gate proves every crate that stands in the repository. The
+# program stays in bench/out.
+build_calls() {
+  local crates=(bx_text bx_read bx_image) crate
+  if [ -x "$calls" ] && [ -z "$(find "$top/bench/calls.rt.in" "${crates[@]/#/$top/crates/}" -name '*.rt*' -newer "$calls")" ]; then return; fi
+  mkdir -p room/crates/calls/src "${calls%/*}"
+  cp "$top/HANDLES" room; cp "$top/bench/calls.rt.in" room/crates/calls/src/main.rt
+  for crate in "${crates[@]}"; do
+    cp -r "$top/crates/$crate" room/crates; grep "^$crate:" "$top/crates.txt" >> room/crates.txt
+  done
+  echo 'calls: bx_text bx_read bx_image anyhow' >> room/crates.txt
+  (cd room/crates/calls && rt run -- none > ../../log 2>&1) || { cat room/log; return 1; }
+  cp room/crates/calls/out/calls "$calls"
+}
+library_calls() {
+  local calls=$top/bench/out/calls
+  build_calls
+  line() { # line GOAL NAME TIME REAL
+    printf '%-34s bx %9s us   real %10s us   ratio %7s   goal %s\n' "$2" "$3" "$4" "$(awk "BEGIN{printf \"%.2f\", $4/$3}")" "$1"
+  }
+  field() { awk -v word="$1" '$1 == word { print $NF; exit }' report; }
+  memory() { # kilobytes that the call took at most
+    awk '$1 == "before" && $2 == "VmRSS:" { from = $3 } $1 == "after" && $2 == "VmHWM:" { to = $3 } END { print to - from }' report
+  }
+  "$calls" dump dump > report
+  line 8 'read_dump against xxd -r' "$(field call)" "$(best xxd -r dump)"
+  echo "read_dump, memory: $(awk "BEGIN{printf \"%.1f\", ($(memory) * 1024 - $(stat -c %s less)) / $(field units)}") bytes a line beside the bytes   goal at most 96"
+  "$calls" plain plain > report
+  line 8 'read_plain against xxd -r -p' "$(field call)" "$(best xxd -r -p plain)"
+  "$calls" apply applied less > report
+  line 0.67 'apply against a plain write' "$(field call)" "$(field plain)"
+  "$calls" save applied less > report
+  line 0.5 'save against a plain read' "$(field call)" "$(field plain)"
+  shuf -i "0-$((mid * 1024 * 1024 - 1))" -n 1000000 > addresses
+  "$calls" scatter applied addresses > report
+  line 0.5 'save, 1,000,000 writes, sort -n' "$(field call)" "$(best sort -n addresses)"
+  echo "save, 1,000,000 writes, memory: $(awk "BEGIN{printf \"%.1f\", $(memory) * 1024 / $(field writes)}") bytes a write   goal below 200"
+}
+library_calls

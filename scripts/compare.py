@@ -122,6 +122,38 @@ def dd_case(rng):
     return data, args, args
 
 
+def dd_differs(rng, bx, folder):
+    """dd to standard output, or onto a file that both tools find; bx then takes the change back."""
+    data, ours, real = dd_case(rng)
+    source = rng.randrange(2) == 0
+    onto = rng.randrange(2) == 0
+    mine, theirs, old = os.path.join(folder, "mine.img"), os.path.join(folder, "theirs.img"), some_bytes(rng)
+    extra = ["if=in.bin"] if source else []
+    if onto:
+        conv = [w for w in real if w.startswith("conv=")]
+        extra += ["seek=%d" % rng.randrange(4)] if rng.randrange(2) else []
+        if rng.randrange(2):
+            real = [w for w in real if w not in conv] + [(conv[0] + "," if conv else "conv=") + "notrunc"]
+        for path in (mine, theirs):
+            with open(path, "wb") as out:
+                out.write(old)
+    words = real + extra
+    rng.shuffle(words)
+    given = None if source else data
+    with open(os.path.join(folder, "in.bin"), "wb") as out:
+        out.write(data)
+    a = run([bx, "dd", *words, *(["of=" + mine] if onto else [])], given)
+    b = run(["dd", *words, *(["of=" + theirs] if onto else [])], given)
+    same = a[0] == b[0] and dd_report(a[1]) == dd_report(b[1]) and a[2] == b[2]
+    if onto:
+        files = [open(path, "rb").read() for path in (mine, theirs)]
+        undone = run([bx, "undo", mine], b"")
+        same = same and files[0] == files[1] and undone[0] == b"0\n" and open(mine, "rb").read() == old
+        for path in (mine, mine + ".bxj", theirs):
+            os.remove(path)
+    return None if same else f"dd {' '.join(words)} on {data!r}, {'onto' if onto else 'not onto'} {old!r}\n  bx:   {a}\n  real: {b}"
+
+
 def same_strings(a, b):
     """GNU strings pads an offset to seven places; bx doesn't."""
     return [line.lstrip(b" ") for line in a.split(b"\n")] == [line.lstrip(b" ") for line in b.split(b"\n")]
@@ -135,21 +167,18 @@ CASES = {"xxd": xxd_case, "od": od_case, "hexdump": hexdump_case, "strings": str
 
 
 def differs(tool, rng, bx, folder):
+    if tool == "dd":
+        return dd_differs(rng, bx, folder)
     data, ours, real = CASES[tool](rng)
     path = os.path.join(folder, "in.bin")
     with open(path, "wb") as out:
         out.write(data)
     named = rng.randrange(2) == 0 or (tool in ("xxd", "hexdump") and "-s" in ours)
-    if tool == "dd":
-        mine = run([bx, "dd", *ours], data)
-        theirs = run(["dd", *real], data)
-        same = mine[0] == theirs[0] and dd_report(mine[1]) == dd_report(theirs[1]) and mine[2] == theirs[2]
-    else:
-        tail = ["in.bin"] if named else []
-        mine = run([bx, tool, *ours, *tail], None if named else data)
-        theirs = run([tool, *real, *tail], None if named else data)
-        equal = same_strings if tool == "strings" else (lambda a, b: a == b)
-        same = equal(mine[0], theirs[0]) and (mine[2] == 0) == (theirs[2] == 0)
+    tail = ["in.bin"] if named else []
+    mine = run([bx, tool, *ours, *tail], None if named else data)
+    theirs = run([tool, *real, *tail], None if named else data)
+    equal = same_strings if tool == "strings" else (lambda a, b: a == b)
+    same = equal(mine[0], theirs[0]) and (mine[2] == 0) == (theirs[2] == 0)
     if same:
         return None
     return f"{tool} {' '.join(real)} on {data!r}\n  bx:   {mine}\n  real: {theirs}"

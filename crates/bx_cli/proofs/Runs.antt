@@ -1,5 +1,5 @@
 -- Runs of commands, one command at a time.
-use Rattle.std.proofs.Common.{◌≡◌, ◌<◌, ◌≤◌, ◌+◌, ℕ, List, [], ◌∷◌, ◌++◌, length, drop, set, get_or, refl, sym, subst, arith, All, zero, suc}
+use Rattle.std.proofs.Common.{◌≡◌, ◌<◌, ◌≤◌, ◌+◌, ℕ, List, [], ◌∷◌, ◌++◌, length, drop, set, get_or, refl, sym, subst, arith, All, zero, suc, Option}
 use Rattle.std.proofs.lemmas.List.{append_assoc, append-nil, drop_more, drop-set-lt, length-set, get_or-set_other}
 use Rattle.std.proofs.lemmas.List.Elements.{All-append}
 use Rattle.bx_cli.specs.declared.command.Command.{Command}
@@ -9,60 +9,60 @@ use Rattle.bx_journal.specs.declared.session.Session.{Session}
 use Rattle.bx_cli.specs.Run.{CommandStep, CommandRun, Unfailed, IsCounted}
 
 -- each run of what is left makes a run of the whole list
-pub record LeadsTo {A : Type 0} (start : Standing) (whole : List (Command A)) (replies : List Reply) (now : Standing) (rest : List (Command A)) : Type 0 where
-  pub joins : (qs : List Reply) (after : Standing) → CommandRun now rest qs after → CommandRun start whole (replies ++ qs) after
+pub record LeadsTo {R A : Type 0} (remaining : R → Option (List ℕ)) (start : Standing) (whole : List (Command R A)) (replies : List Reply) (now : Standing) (rest : List (Command R A)) : Type 0 where
+  pub joins : (qs : List Reply) (after : Standing) → CommandRun remaining now rest qs after → CommandRun remaining start whole (replies ++ qs) after
 
 -- the replies so far, and a session that stands where they lead
-abbrev pub HasRun : {S A : Type 0} → (S → Standing → Type 0) → S → List (Command A) → List Reply → S → List (Command A) → Type 0
-HasRun holds first whole replies s rest =
-    (start : Standing) → holds first start → (now : Standing) × (holds s now × LeadsTo start whole replies now rest)
+abbrev pub HasRun : {S R A : Type 0} → (R → Option (List ℕ)) → (S → Standing → Type 0) → S → List (Command R A) → List Reply → S → List (Command R A) → Type 0
+HasRun remaining holds first whole replies s rest =
+    (start : Standing) → holds first start → (now : Standing) × (holds s now × LeadsTo remaining start whole replies now rest)
 
-pub has_run_none : {S A : Type 0} (holds : S → Standing → Type 0) (s : S) (whole : List (Command A)) → HasRun holds s whole [] s whole
-has_run_none holds s whole start h = (start, (h, record { joins = λ qs after r. r }))
+pub has_run_none : {S R A : Type 0} (remaining : R → Option (List ℕ)) (holds : S → Standing → Type 0) (s : S) (whole : List (Command R A)) → HasRun remaining holds s whole [] s whole
+has_run_none remaining holds s whole start h = (start, (h, record { joins = λ qs after r. r }))
 
 -- one command more
-pub leads_on : {A : Type 0} (start now next : Standing) (whole list : List (Command A)) (replies : List Reply) (i : ℕ) (d new : Command A) (reply : Reply)
-    → i < length list → CommandStep now (get_or list i d) reply next
-    → LeadsTo start whole replies now (drop i list)
-    → LeadsTo start whole (replies ++ reply ∷ []) next (drop (i + 1) (set list i new))
-leads_on {A = A} start now next whole list replies i d new reply within step leads = record {
+pub leads_on : {R A : Type 0} (remaining : R → Option (List ℕ)) (start now next : Standing) (whole list : List (Command R A)) (replies : List Reply) (i : ℕ) (d new : Command R A) (reply : Reply)
+    → i < length list → CommandStep remaining now (get_or list i d) reply next
+    → LeadsTo remaining start whole replies now (drop i list)
+    → LeadsTo remaining start whole (replies ++ reply ∷ []) next (drop (i + 1) (set list i new))
+leads_on {R = R} {A = A} remaining start now next whole list replies i d new reply within step leads = record {
   joins = λ qs after run.
-      let Rest : List (Command A) → Type 0 = λ rest. CommandRun next rest qs after in
+      let Rest : List (Command R A) → Type 0 = λ rest. CommandRun remaining next rest qs after in
       let tail = subst Rest (drop-set-lt (i + 1) list i new (omega arith)) run in
-      let Whole : List (Command A) → Type 0 = λ rest. CommandRun now rest (reply ∷ qs) after in
-      let Replies : List Reply → Type 0 = λ ps. CommandRun start whole ps after in
+      let Whole : List (Command R A) → Type 0 = λ rest. CommandRun remaining now rest (reply ∷ qs) after in
+      let Replies : List Reply → Type 0 = λ ps. CommandRun remaining start whole ps after in
       subst Replies (sym (append_assoc replies (reply ∷ []) qs)) (leads.joins (reply ∷ qs) after (subst Whole (sym (drop_more list i d within)) (next, step, tail)));
 }
 
-pub has_run_more : {S A : Type 0} (holds : S → Standing → Type 0) (first old next : S) (whole list : List (Command A)) (replies : List Reply) (i : ℕ) (d new : Command A) (reply : Reply)
+pub has_run_more : {S R A : Type 0} (remaining : R → Option (List ℕ)) (holds : S → Standing → Type 0) (first old next : S) (whole list : List (Command R A)) (replies : List Reply) (i : ℕ) (d new : Command R A) (reply : Reply)
     → i < length list
-    → ((before : Standing) → holds old before → (after : Standing) × holds next after × CommandStep before (get_or list i d) reply after)
-    → HasRun holds first whole replies old (drop i list)
-    → HasRun holds first whole (replies ++ reply ∷ []) next (drop (i + 1) (set list i new))
-has_run_more holds first old next whole list replies i d new reply within step has start h =
+    → ((before : Standing) → holds old before → (after : Standing) × holds next after × CommandStep remaining before (get_or list i d) reply after)
+    → HasRun remaining holds first whole replies old (drop i list)
+    → HasRun remaining holds first whole (replies ++ reply ∷ []) next (drop (i + 1) (set list i new))
+has_run_more remaining holds first old next whole list replies i d new reply within step has start h =
     let so_far = has start h in
     let then_ = step so_far.0 so_far.1.0 in
-    (then_.0, (then_.1, leads_on start so_far.0 then_.0 whole list replies i d new reply within then_.2 so_far.1.1))
+    (then_.0, (then_.1, leads_on remaining start so_far.0 then_.0 whole list replies i d new reply within then_.2 so_far.1.1))
 
 -- at the end of the list
-pub has_run_all : {S A : Type 0} (holds : S → Standing → Type 0) (first s : S) (whole rest : List (Command A)) (replies : List Reply)
-    → rest ≡ [] → HasRun holds first whole replies s rest
-    → (start : Standing) → holds first start → (after : Standing) × holds s after × CommandRun start whole replies after
-has_run_all {A = A} holds first s whole rest replies none has start h =
+pub has_run_all : {S R A : Type 0} (remaining : R → Option (List ℕ)) (holds : S → Standing → Type 0) (first s : S) (whole rest : List (Command R A)) (replies : List Reply)
+    → rest ≡ [] → HasRun remaining holds first whole replies s rest
+    → (start : Standing) → holds first start → (after : Standing) × holds s after × CommandRun remaining start whole replies after
+has_run_all {R = R} {A = A} remaining holds first s whole rest replies none has start h =
     let so_far = has start h in
-    let Rest : List (Command A) → Type 0 = λ list. CommandRun so_far.0 list [] so_far.0 in
-    let Replies : List Reply → Type 0 = λ ps. CommandRun start whole ps so_far.0 in
+    let Rest : List (Command R A) → Type 0 = λ list. CommandRun remaining so_far.0 list [] so_far.0 in
+    let Replies : List Reply → Type 0 = λ ps. CommandRun remaining start whole ps so_far.0 in
     (so_far.0, so_far.1.0, subst Replies (append-nil replies) (so_far.1.1.joins [] so_far.0 (subst Rest (sym none) refl)))
 
-pub runs_join : {A : Type 0} (start middle after : Standing) (xs ys : List (Command A)) (ps qs : List Reply)
-    → CommandRun start xs ps middle → CommandRun middle ys qs after → CommandRun start (xs ++ ys) (ps ++ qs) after
-runs_join {A = A} start middle after [] ys [] qs first second =
-    let From : Standing → Type 0 = λ s. CommandRun s ys qs after in
+pub runs_join : {R A : Type 0} (remaining : R → Option (List ℕ)) (start middle after : Standing) (xs ys : List (Command R A)) (ps qs : List Reply)
+    → CommandRun remaining start xs ps middle → CommandRun remaining middle ys qs after → CommandRun remaining start (xs ++ ys) (ps ++ qs) after
+runs_join remaining start middle after [] ys [] qs first second =
+    let From : Standing → Type 0 = λ s. CommandRun remaining s ys qs after in
     subst From first second
-runs_join start middle after [] ys (p ∷ ps) qs first second = absurd first
-runs_join start middle after (x ∷ xs) ys [] qs first second = absurd first
-runs_join start middle after (x ∷ xs) ys (p ∷ ps) qs (now, step, rest) second =
-    (now, step, runs_join now middle after xs ys ps qs rest second)
+runs_join remaining start middle after [] ys (p ∷ ps) qs first second = absurd first
+runs_join remaining start middle after (x ∷ xs) ys [] qs first second = absurd first
+runs_join remaining start middle after (x ∷ xs) ys (p ∷ ps) qs (now, step, rest) second =
+    (now, step, runs_join remaining now middle after xs ys ps qs rest second)
 
 -- the elements from i on have P
 abbrev pub AllAhead : {X : Type 0} → (X → Type 0) → ℕ → List X → Type 0

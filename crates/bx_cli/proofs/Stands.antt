@@ -1,5 +1,5 @@
 -- Steps of a session whose pair stands for a stack, be it sound or not, where no device fails; and runs of such steps.
-use Rattle.std.proofs.Common.{◌≡◌, ◌↔◌, inl, inr, ◌<◌, ◌≤◌, ℕ, suc, ◌+◌, true, false, Result, Ok, Err, List, [], ◌∷◌, ◌++◌, length, get_or, set, drop, refl, sym, ◌∙◌, ap, subst, arith, All}
+use Rattle.std.proofs.Common.{◌≡◌, ◌↔◌, inl, inr, ◌<◌, ◌≤◌, ℕ, suc, ◌+◌, true, false, Option, None, Result, Ok, Err, List, [], ◌∷◌, ◌++◌, length, get_or, set, drop, refl, sym, ◌∙◌, ap, subst, arith, All}
 use Rattle.std.specs.Result.{IsErrOf}
 use Rattle.std.proofs.Math.ListN.{get_or-append}
 use Rattle.std.proofs.Math.Seq.{get_or-append_seam}
@@ -114,16 +114,16 @@ abbrev pub AreHonest : {D T A : Type 0} → (D → Type 0) → (T → Type 0) �
 AreHonest device store s = device s.device × store s.store
 
 -- each run of what is left, from stack to stack, makes a run of the whole list
-pub record StackLeadsTo {A : Type 0} (start : List (List ℕ)) (whole : List (Command A)) (replies : List Reply) (now : List (List ℕ)) (rest : List (Command A)) : Type 0 where
-  pub joins : (qs : List Reply) (after : List (List ℕ)) → StackRun now rest qs after → StackRun start whole (replies ++ qs) after
+pub record StackLeadsTo {R A : Type 0} (remaining : R → Option (List ℕ)) (start : List (List ℕ)) (whole : List (Command R A)) (replies : List Reply) (now : List (List ℕ)) (rest : List (Command R A)) : Type 0 where
+  pub joins : (qs : List Reply) (after : List (List ℕ)) → StackRun remaining now rest qs after → StackRun remaining start whole (replies ++ qs) after
 
 -- the replies so far tell of no failure: then the session stands where they lead, and its devices are honest
-abbrev pub HasStackRun : {S A : Type 0} → (S → List (List ℕ) → Type 0) → (S → Type 0) → S → List (Command A) → List Reply → S → List (Command A) → Type 0
-HasStackRun stands honest first whole replies s rest =
-    honest first → (start : List (List ℕ)) → stands first start → All Unfailed replies → honest s × ((now : List (List ℕ)) × (stands s now × StackLeadsTo start whole replies now rest))
+abbrev pub HasStackRun : {S R A : Type 0} → (R → Option (List ℕ)) → (S → List (List ℕ) → Type 0) → (S → Type 0) → S → List (Command R A) → List Reply → S → List (Command R A) → Type 0
+HasStackRun remaining stands honest first whole replies s rest =
+    honest first → (start : List (List ℕ)) → stands first start → All Unfailed replies → honest s × ((now : List (List ℕ)) × (stands s now × StackLeadsTo remaining start whole replies now rest))
 
-pub has_stack_run_none : {S A : Type 0} (stands : S → List (List ℕ) → Type 0) (honest : S → Type 0) (s : S) (whole : List (Command A)) → HasStackRun stands honest s whole [] s whole
-has_stack_run_none stands honest s whole device start h unfailed = (device, (start, (h, record { joins = λ qs after r. r })))
+pub has_stack_run_none : {S R A : Type 0} (remaining : R → Option (List ℕ)) (stands : S → List (List ℕ) → Type 0) (honest : S → Type 0) (s : S) (whole : List (Command R A)) → HasStackRun remaining stands honest s whole [] s whole
+has_stack_run_none remaining stands honest s whole device start h unfailed = (device, (start, (h, record { joins = λ qs after r. r })))
 
 all_front : {X : Type 0} (P : X → Type 0) (xs : List X) (y : X) → All P (xs ++ y ∷ []) → All P xs × P y
 all_front {X = X} P xs y all = (
@@ -131,13 +131,13 @@ all_front {X = X} P xs y all = (
   subst P (get_or-append_seam xs y [] y) (all (length xs) y (omega (arith, length-append xs (y ∷ [])))),
 )
 
-pub has_stack_run_more : {S A : Type 0} (stands : S → List (List ℕ) → Type 0) (honest : S → Type 0) (first old next : S) (whole list : List (Command A)) (replies : List Reply) (i : ℕ) (d new : Command A) (reply : Reply)
+pub has_stack_run_more : {S R A : Type 0} (remaining : R → Option (List ℕ)) (stands : S → List (List ℕ) → Type 0) (honest : S → Type 0) (first old next : S) (whole list : List (Command R A)) (replies : List Reply) (i : ℕ) (d new : Command R A) (reply : Reply)
     → i < length list
     → (honest old → honest next)
-    → (honest old → (stack : List (List ℕ)) → stands old stack → Unfailed reply → (top : List (List ℕ)) × stands next top × CommandStep (Standing.Up stack) (get_or list i d) reply (Standing.Up top))
-    → HasStackRun stands honest first whole replies old (drop i list)
-    → HasStackRun stands honest first whole (replies ++ reply ∷ []) next (drop (i + 1) (set list i new))
-has_stack_run_more {A = A} stands honest first old next whole list replies i d new reply within keeps step has device start h unfailed =
+    → (honest old → (stack : List (List ℕ)) → stands old stack → Unfailed reply → (top : List (List ℕ)) × stands next top × CommandStep remaining (Standing.Up stack) (get_or list i d) reply (Standing.Up top))
+    → HasStackRun remaining stands honest first whole replies old (drop i list)
+    → HasStackRun remaining stands honest first whole (replies ++ reply ∷ []) next (drop (i + 1) (set list i new))
+has_stack_run_more {R = R} {A = A} remaining stands honest first old next whole list replies i d new reply within keeps step has device start h unfailed =
     let parts = all_front Unfailed replies reply unfailed in
     let so_far = has device start h parts.0 in
     let then_ = step so_far.0 so_far.1.0 so_far.1.1.0 parts.1 in (
@@ -148,23 +148,23 @@ has_stack_run_more {A = A} stands honest first old next whole list replies i d n
           then_.1,
           record {
             joins = λ qs after run.
-                let Rest : List (Command A) → Type 0 = λ rest. StackRun then_.0 rest qs after in
+                let Rest : List (Command R A) → Type 0 = λ rest. StackRun remaining then_.0 rest qs after in
                 let tail = subst Rest (drop-set-lt (i + 1) list i new (omega arith)) run in
-                let Whole : List (Command A) → Type 0 = λ rest. StackRun so_far.1.0 rest (reply ∷ qs) after in
-                let Replies : List Reply → Type 0 = λ ps. StackRun start whole ps after in
+                let Whole : List (Command R A) → Type 0 = λ rest. StackRun remaining so_far.1.0 rest (reply ∷ qs) after in
+                let Replies : List Reply → Type 0 = λ ps. StackRun remaining start whole ps after in
                 subst Replies (sym (append_assoc replies (reply ∷ []) qs)) (so_far.1.1.1.joins (reply ∷ qs) after (subst Whole (sym (drop_more list i d within)) (then_.0, (then_.2, parts.1), tail)));
           },
         ),
       ),
     )
 
-pub has_stack_run_all : {S A : Type 0} (stands : S → List (List ℕ) → Type 0) (honest : S → Type 0) (first s : S) (whole rest : List (Command A)) (replies : List Reply)
-    → rest ≡ [] → HasStackRun stands honest first whole replies s rest → honest first → (start : List (List ℕ)) → stands first start → All Unfailed replies
-    → (top : List (List ℕ)) × stands s top × StackRun start whole replies top
-has_stack_run_all {A = A} stands honest first s whole rest replies none has device start h unfailed =
+pub has_stack_run_all : {S R A : Type 0} (remaining : R → Option (List ℕ)) (stands : S → List (List ℕ) → Type 0) (honest : S → Type 0) (first s : S) (whole rest : List (Command R A)) (replies : List Reply)
+    → rest ≡ [] → HasStackRun remaining stands honest first whole replies s rest → honest first → (start : List (List ℕ)) → stands first start → All Unfailed replies
+    → (top : List (List ℕ)) × stands s top × StackRun remaining start whole replies top
+has_stack_run_all {R = R} {A = A} remaining stands honest first s whole rest replies none has device start h unfailed =
     let so_far = (has device start h unfailed).1 in
-    let Rest : List (Command A) → Type 0 = λ list. StackRun so_far.0 list [] so_far.0 in
-    let Replies : List Reply → Type 0 = λ ps. StackRun start whole ps so_far.0 in
+    let Rest : List (Command R A) → Type 0 = λ list. StackRun remaining so_far.0 list [] so_far.0 in
+    let Replies : List Reply → Type 0 = λ ps. StackRun remaining start whole ps so_far.0 in
     (so_far.0, so_far.1.0, subst Replies (append-nil replies) (so_far.1.1.joins [] so_far.0 (subst Rest (sym none) refl)))
 
 -- a text that was read as a change, or refused
@@ -173,7 +173,7 @@ pub read_step : {A B : Type 0} (make : B → Change A) (answer : Result B ReadFa
     → ReadStep before (λ c. c) read reply after → RefusesStep before ReadNoMemory reply after ⊎ ReadStep before make answer reply after
 read_step {A} {B} make answer (Ok c) before after reply is step =
     let Answer : Result B ReadFault → Type 0 = λ a. ReadStep before make a reply after in
-    let Changed : Change A → Type 0 = λ d. ChangeStep before d reply after in
+    let Changed : Change A → Type 0 = λ d. ChangeStep before d None reply after in
     inr (subst Answer (sym is.1) (subst Changed is.2 step))
 read_step {A} {B} make answer (Err e) before after reply (inl none) step =
     let Fault : ReadFault → Type 0 = λ f. RefusesStep before f reply after in

@@ -1,5 +1,5 @@
 -- From the contract of a session's call to a step of the machine.
-use Rattle.std.proofs.Common.{◌≡◌, ◌↔◌, inl, inr, ◌<◌, ◌≤◌, ℕ, suc, ◌+◌, true, false, Result, Ok, Err, List, ◌∷◌, length, drop, refl, sym, ◌∙◌, ap, subst, arith}
+use Rattle.std.proofs.Common.{◌≡◌, ◌↔◌, inl, inr, ◌<◌, ◌≤◌, ℕ, suc, ◌+◌, true, false, Option, None, Some, Result, Ok, Err, List, ◌∷◌, length, drop, refl, sym, ◌∙◌, ap, subst, arith}
 use Rattle.std.specs.Result.{IsErrOf}
 use Rattle.bx_image.specs.declared.change.Change.{Change}
 use Rattle.bx_image.specs.declared.change.TheConstants.{MAX_LEN}
@@ -19,7 +19,8 @@ use Rattle.bx_journal.proofs.Phases.{length-stack_of}
 use Rattle.bx_journal.proofs.Ready.{top_of_rest}
 use Rattle.bx_cli.specs.declared.command.Reply.TheVariants.{Refused}
 use Rattle.bx_cli.specs.Fault.{of_session}
-use Rattle.bx_cli.specs.Run.{HasFailed}
+use Rattle.bx_dd.specs.declared.counts.Counts.{Counts}
+use Rattle.bx_cli.specs.Run.{HasFailed, made_reply}
 use Rattle.bx_cli.specs.Standing.{Standing, HoldsAt, PerformFrom, UndoFrom}
 
 -- image, text and count are what they were: the session is where it was
@@ -235,3 +236,8 @@ counts_failed JournalFull d t d_new t_new c f = absurd f
 counts_failed Interrupted d t d_new t_new c f = omega arith
 counts_failed Broken d t d_new t_new c f = absurd f
 counts_failed (LengthDiffers expected) d t d_new t_new c f = absurd f
+
+-- a change that was made tells of no failure
+pub made_unfailed : (counts : Option Counts) (n : ℕ) → HasFailed (made_reply counts n) → ⊥
+made_unfailed None n f = f
+made_unfailed (Some counts) n f = f

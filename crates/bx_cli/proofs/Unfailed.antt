@@ -1,16 +1,19 @@
 -- Runs in which no device fails.
-use Rattle.std.proofs.Common.{◌≡◌, inl, inr, ℕ, suc, Result, Ok, Err, List, [], ◌∷◌, refl, subst, arith, All}
+use Rattle.std.proofs.Common.{◌≡◌, inl, inr, ℕ, suc, Option, None, Some, Result, Ok, Err, List, [], ◌∷◌, refl, subst, arith, All}
 use Rattle.bx_image.specs.declared.change.Change.{Change}
 use Rattle.bx_read.specs.declared.fault.ReadFault.{ReadFault}
 use Rattle.bx_journal.specs.declared.fault.SessionFault.{SessionFault}
 use Rattle.bx_journal.specs.declared.fault.SessionFault.TheVariants.{NoMemory, TooLarge, DeviceFailed, Damaged, TooFew, JournalFull, Interrupted, Broken, LengthDiffers}
 use Rattle.bx_cli.specs.declared.command.Command.{Command}
-use Rattle.bx_cli.specs.declared.command.Command.TheVariants.{Revert, RevertPlain, Undo}
+use Rattle.bx_cli.specs.declared.command.Command.TheVariants.{Revert, RevertPlain, Dd, Undo}
 use Rattle.bx_cli.specs.declared.command.Reply.{Reply}
 use Rattle.bx_journal.specs.declared.session.Session.{Session}
 use Rattle.bx_journal.specs.Session.{IsReady}
 use Rattle.bx_cli.specs.Standing.{Standing, HoldsAt, PerformFrom, UndoFrom}
-use Rattle.bx_cli.specs.Run.{changed, undone, ChangeStep, ReadStep, CommandStep, CommandRun, StackRun, Unfailed}
+use Rattle.bx_dd.specs.declared.counts.Counts.{Counts}
+use Rattle.bx_dd.specs.declared.fault.DdFault.{DdFault}
+use Rattle.bx_cli.specs.declared.changes.DdChange.{DdChange}
+use Rattle.bx_cli.specs.Run.{changed, undone, ChangeStep, ReadStep, DdStep, CommandStep, CommandRun, StackRun, Unfailed}
 use Rattle.bx_cli.specs.Command.{dump_change, plain_change}
 use Rattle.bx_read.specs.Plain.{plain_answer}
 use Rattle.bx_read.specs.Text.{dump_pieces}
@@ -22,17 +25,17 @@ IsUp s = (top : List (List ℕ)) × (s ≡ Standing.Up top)
 told : (reply other : Reply) → reply ≡ other → Unfailed reply → Unfailed other
 told reply other e h = subst Unfailed e h
 
-perform_up : {A : Type 0} (old : List (List ℕ)) (c : Change A) (r : Result ℕ SessionFault) (after : Standing) → Unfailed (changed r) → PerformFrom (Standing.Up old) c r after → IsUp after
-perform_up old c (Ok n) after unfailed p = (p.0, p.1)
-perform_up old c (Err NoMemory) after unfailed p = (old, p.0)
-perform_up old c (Err TooLarge) after unfailed p = (old, p.0)
-perform_up old c (Err DeviceFailed) after unfailed p = (old, p)
-perform_up old c (Err (Damaged line)) after unfailed p = (old, p.0)
-perform_up old c (Err (TooFew have)) after unfailed p = (old, p.0)
-perform_up old c (Err JournalFull) after unfailed p = (old, p.1)
-perform_up old c (Err Interrupted) after unfailed p = absurd (unfailed tt)
-perform_up old c (Err Broken) after unfailed p = (old, p.0)
-perform_up old c (Err (LengthDiffers expected)) after unfailed p = (old, p.0)
+perform_up : {A : Type 0} (old : List (List ℕ)) (c : Change A) (counts : Option Counts) (r : Result ℕ SessionFault) (after : Standing) → Unfailed (changed counts r) → PerformFrom (Standing.Up old) c r after → IsUp after
+perform_up old c counts (Ok n) after unfailed p = (p.0, p.1)
+perform_up old c counts (Err NoMemory) after unfailed p = (old, p.0)
+perform_up old c counts (Err TooLarge) after unfailed p = (old, p.0)
+perform_up old c counts (Err DeviceFailed) after unfailed p = (old, p)
+perform_up old c counts (Err (Damaged line)) after unfailed p = (old, p.0)
+perform_up old c counts (Err (TooFew have)) after unfailed p = (old, p.0)
+perform_up old c counts (Err JournalFull) after unfailed p = (old, p.1)
+perform_up old c counts (Err Interrupted) after unfailed p = absurd (unfailed tt)
+perform_up old c counts (Err Broken) after unfailed p = (old, p.0)
+perform_up old c counts (Err (LengthDiffers expected)) after unfailed p = (old, p.0)
 
 undo_up : (old : List (List ℕ)) (k : ℕ) (r : Result ℕ SessionFault) (after : Standing) → Unfailed (undone r) → UndoFrom (Standing.Up old) k r after → IsUp after
 undo_up old k (Ok left) after unfailed p = (p.0, p.1)
@@ -46,50 +49,56 @@ undo_up old k (Err Interrupted) after unfailed p = absurd (unfailed tt)
 undo_up old k (Err Broken) after unfailed p = (old, p.0)
 undo_up old k (Err (LengthDiffers expected)) after unfailed p = (old, p.0)
 
-change_up : {A : Type 0} (old : List (List ℕ)) (c : Change A) (reply : Reply) (after : Standing) → Unfailed reply → ChangeStep (Standing.Up old) c reply after → IsUp after
-change_up old c reply after unfailed step = perform_up old c step.0 after (told reply (changed step.0) step.1 unfailed) step.2
+change_up : {A : Type 0} (old : List (List ℕ)) (c : Change A) (counts : Option Counts) (reply : Reply) (after : Standing) → Unfailed reply → ChangeStep (Standing.Up old) c counts reply after → IsUp after
+change_up old c counts reply after unfailed step = perform_up old c counts step.0 after (told reply (changed counts step.0) step.1 unfailed) step.2
 
 read_up : {A B : Type 0} (old : List (List ℕ)) (change : B → Change A) (r : Result B ReadFault) (reply : Reply) (after : Standing)
     → Unfailed reply → ReadStep (Standing.Up old) change r reply after → IsUp after
-read_up old change (Ok read) reply after unfailed step = change_up old (change read) reply after unfailed step
+read_up old change (Ok read) reply after unfailed step = change_up old (change read) None reply after unfailed step
 read_up old change (Err e) reply after unfailed step = (old, step.1)
 
-pub step_up : {A : Type 0} (old : List (List ℕ)) (c : Command A) (reply : Reply) (after : Standing) → Unfailed reply → CommandStep (Standing.Up old) c reply after → IsUp after
-step_up {A = A} old (Revert text offset) reply after unfailed step = elim step as (λ _. IsUp after) [
+dd_up : {A : Type 0} (old : List (List ℕ)) (r : Result (DdChange A) DdFault) (reply : Reply) (after : Standing)
+    → Unfailed reply → DdStep (Standing.Up old) r reply after → IsUp after
+dd_up old (Ok made) reply after unfailed step = change_up old made.change (Some made.counts) reply after unfailed step
+dd_up old (Err e) reply after unfailed step = (old, step.1)
+
+pub step_up : {R A : Type 0} (remaining : R → Option (List ℕ)) (old : List (List ℕ)) (c : Command R A) (reply : Reply) (after : Standing) → Unfailed reply → CommandStep remaining (Standing.Up old) c reply after → IsUp after
+step_up {A = A} remaining old (Revert text offset) reply after unfailed step = elim step as (λ _. IsUp after) [
   | inl refused ↦ (old, refused.1)
   | inr read ↦ read_up old (dump_change {A = A} offset) (dump_pieces text) reply after unfailed read
 ]
-step_up {A = A} old (RevertPlain text at) reply after unfailed step = elim step as (λ _. IsUp after) [
+step_up {A = A} remaining old (RevertPlain text at) reply after unfailed step = elim step as (λ _. IsUp after) [
   | inl refused ↦ (old, refused.1)
   | inr read ↦ read_up old (plain_change {A = A} at) (plain_answer text) reply after unfailed read
 ]
-step_up old (Undo k) reply after unfailed step = undo_up old k step.0 after (told reply (undone step.0) step.1 unfailed) step.2
+step_up remaining old (Dd operands input) reply after unfailed step = dd_up old step.1.0 reply after unfailed step.1.1.1
+step_up remaining old (Undo k) reply after unfailed step = undo_up old k step.0 after (told reply (undone step.0) step.1 unfailed) step.2
 
 all_tail : {X : Type 0} (P : X → Type 0) (x : X) (xs : List X) → All P (x ∷ xs) → All P xs
 all_tail P x xs all k d within = all (suc k) d (omega arith)
 
-abbrev Ends : {A : Type 0} → List (List ℕ) → List (Command A) → List Reply → Standing → Type 0
-Ends start list replies after = (top : List (List ℕ)) × (after ≡ Standing.Up top) × StackRun start list replies top
+abbrev Ends : {R A : Type 0} → (R → Option (List ℕ)) → List (List ℕ) → List (Command R A) → List Reply → Standing → Type 0
+Ends remaining start list replies after = (top : List (List ℕ)) × (after ≡ Standing.Up top) × StackRun remaining start list replies top
 
-pub unfailed_runs : {A : Type 0} (start : List (List ℕ)) (after : Standing) (list : List (Command A)) (replies : List Reply)
-    → CommandRun (Standing.Up start) list replies after → All Unfailed replies → Ends start list replies after
-unfailed_runs start after [] [] run all = (start, run, refl)
-unfailed_runs start after [] (p ∷ replies) run all = absurd run
-unfailed_runs start after (c ∷ list) [] run all = absurd run
-unfailed_runs start after (c ∷ list) (p ∷ replies) (now, step, rest) all =
+pub unfailed_runs : {R A : Type 0} (remaining : R → Option (List ℕ)) (start : List (List ℕ)) (after : Standing) (list : List (Command R A)) (replies : List Reply)
+    → CommandRun remaining (Standing.Up start) list replies after → All Unfailed replies → Ends remaining start list replies after
+unfailed_runs remaining start after [] [] run all = (start, run, refl)
+unfailed_runs remaining start after [] (p ∷ replies) run all = absurd run
+unfailed_runs remaining start after (c ∷ list) [] run all = absurd run
+unfailed_runs remaining start after (c ∷ list) (p ∷ replies) (now, step, rest) all =
     let unfailed : Unfailed p = all 0 p (omega arith) in
-    let up = step_up start c p now unfailed step in
-    let Step : Standing → Type 0 = λ s. CommandStep (Standing.Up start) c p s in
-    let Rest : Standing → Type 0 = λ s. CommandRun s list replies after in
-    let later = unfailed_runs up.0 after list replies (subst Rest up.1 rest) (all_tail Unfailed p replies all) in
+    let up = step_up remaining start c p now unfailed step in
+    let Step : Standing → Type 0 = λ s. CommandStep remaining (Standing.Up start) c p s in
+    let Rest : Standing → Type 0 = λ s. CommandRun remaining s list replies after in
+    let later = unfailed_runs remaining up.0 after list replies (subst Rest up.1 rest) (all_tail Unfailed p replies all) in
     (later.0, later.1, (up.0, (subst Step up.1 step, unfailed), later.2))
 
 -- a session whose devices didn't fail stands where the stacks' run ends
-pub stands_at_top : {D T A : Type 0} (hd : D → Type 0) (ht : T → Type 0) (image : D → List ℕ) (text : T → List ℕ) (new : Session D T A) (stack : List (List ℕ)) (list : List (Command A)) (replies : List Reply)
-    → ((after : Standing) × HoldsAt hd ht image text new after × CommandRun (Standing.Up stack) list replies after)
+pub stands_at_top : {D T R A : Type 0} (remaining : R → Option (List ℕ)) (hd : D → Type 0) (ht : T → Type 0) (image : D → List ℕ) (text : T → List ℕ) (new : Session D T A) (stack : List (List ℕ)) (list : List (Command R A)) (replies : List Reply)
+    → ((after : Standing) × HoldsAt hd ht image text new after × CommandRun remaining (Standing.Up stack) list replies after)
     → All Unfailed replies
-    → (top : List (List ℕ)) × IsReady image text new top × StackRun stack list replies top
-stands_at_top hd ht image text new stack list replies run unfailed =
-    let ends = unfailed_runs stack run.0 list replies run.2 unfailed in
+    → (top : List (List ℕ)) × IsReady image text new top × StackRun remaining stack list replies top
+stands_at_top remaining hd ht image text new stack list replies run unfailed =
+    let ends = unfailed_runs remaining stack run.0 list replies run.2 unfailed in
     let Holds : Standing → Type 0 = λ s. HoldsAt hd ht image text new s in
     (ends.0, (subst Holds ends.1 run.1).stands, ends.2)

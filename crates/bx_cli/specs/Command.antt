@@ -2,7 +2,7 @@
 use Rattle.std.specs.Prelude.{◌≤◌, ◌^◌, ℕ, ◌+◌, None, List, [], ◌∷◌, map}
 use Rattle.bx_text.specs.declared.pieces.Piece.{Piece}
 use Rattle.bx_cli.specs.declared.command.Command.{Command}
-use Rattle.bx_cli.specs.declared.command.Command.TheVariants.{Revert, RevertPlain, Undo}
+use Rattle.bx_cli.specs.declared.command.Command.TheVariants.{Revert, RevertPlain, Dd, Undo}
 use Rattle.bx_image.specs.declared.change.Change.{Change}
 
 -- a piece at its address plus an offset
@@ -18,7 +18,8 @@ abbrev pub plain_change : {A : Type 0} → ℕ → List ℕ → Change A
 plain_change at bytes = record { base = None; writes = record { at = at; bytes = bytes } ∷ [] }
 
 -- a command's offset or place is at most 2 ^ 62
-abbrev pub IsNear : {A : Type 0} → Command A → Type 0
+abbrev pub IsNear : {R A : Type 0} → Command R A → Type 0
 IsNear (Revert text offset) = offset ≤ 2 ^ 62
 IsNear (RevertPlain text at) = at ≤ 2 ^ 62
+IsNear (Dd operands input) = Unit {0}
 IsNear (Undo k) = Unit {0}

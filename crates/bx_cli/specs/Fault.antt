@@ -8,6 +8,8 @@ use Rattle.bx_read.specs.declared.fault.ReadFault.{ReadFault}
 use Rattle.bx_read.specs.declared.fault.ReadFault.TheVariants.{NoMemory as ReadNoMemory, BadAddress as ReadBadAddress, MissingColon as ReadMissingColon, BadPair as ReadBadPair, NoData as ReadNoData, TooWide as ReadTooWide, AddressTooLarge as ReadAddressTooLarge, OddDigits as ReadOddDigits}
 use Rattle.bx_journal.specs.declared.fault.SessionFault.{SessionFault}
 use Rattle.bx_journal.specs.declared.fault.SessionFault.TheVariants.{NoMemory as SessionNoMemory, TooLarge as SessionTooLarge, DeviceFailed as SessionDeviceFailed, Damaged as SessionDamaged, TooFew as SessionTooFew, JournalFull as SessionJournalFull, Interrupted as SessionInterrupted, Broken as SessionBroken, LengthDiffers as SessionLengthDiffers}
+use Rattle.bx_dd.specs.declared.fault.DdFault.{DdFault}
+use Rattle.bx_dd.specs.declared.fault.DdFault.TheVariants.{NoMemory as DdNoMemory, ReadFailed as DdReadFailed, InputTooLong as DdInputTooLong, UnknownOperand as DdUnknownOperand, BadNumber as DdBadNumber, NumberTooLarge as DdNumberTooLarge, ZeroSize as DdZeroSize, Conflict as DdConflict, MissingCbs as DdMissingCbs, Repeated as DdRepeated, SeekWithoutOutput as DdSeekWithoutOutput}
 
 -- the number of a fault
 abbrev pub number_of : Fault → ℕ
@@ -72,3 +74,17 @@ of_session SessionJournalFull = JournalFull
 of_session SessionInterrupted = Interrupted
 of_session SessionBroken = Broken
 of_session (SessionLengthDiffers n) = LengthDiffers n
+
+-- the same fault, among those of all crates
+abbrev pub of_dd : DdFault → Fault
+of_dd DdNoMemory = NoMemory
+of_dd DdReadFailed = ReadFailed
+of_dd DdInputTooLong = InputTooLong
+of_dd (DdUnknownOperand n) = UnknownOperand n
+of_dd (DdBadNumber n) = BadNumber n
+of_dd (DdNumberTooLarge n) = NumberTooLarge n
+of_dd (DdZeroSize n) = ZeroSize n
+of_dd DdConflict = Conflict
+of_dd DdMissingCbs = MissingCbs
+of_dd (DdRepeated n) = Repeated n
+of_dd DdSeekWithoutOutput = SeekWithoutOutput

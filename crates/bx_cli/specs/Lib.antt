@@ -1,4 +1,5 @@
 pub mod Command
+pub mod Copy
 pub mod Fault
 pub mod Job
 pub mod Standing
@@ -6,3 +7,4 @@ pub mod Run
 pub mod Laws
 pub mod Dump
 pub mod JobDump
+pub mod XxdLaws

@@ -1,34 +1,43 @@
 -- The machine of commands.
-use Rattle.std.specs.Prelude.{◌≡◌, ℕ, ◌+◌, ◌<◌, ◌⊎◌, Result, Ok, Err, List, [], ◌∷◌}
+use Rattle.std.specs.Prelude.{◌≡◌, ℕ, ◌+◌, ◌<◌, ◌⊎◌, Option, None, Some, Result, Ok, Err, List, [], ◌∷◌}
+use Rattle.bx_dd.specs.declared.counts.Counts.{Counts}
+use Rattle.bx_dd.specs.declared.fault.DdFault.{DdFault}
 use Rattle.bx_image.specs.declared.change.Change.{Change}
 use Rattle.bx_read.specs.declared.fault.ReadFault.{ReadFault}
 use Rattle.bx_journal.specs.declared.fault.SessionFault.{SessionFault}
 use Rattle.bx_read.specs.Plain.{plain_answer}
 use Rattle.bx_read.specs.Text.{dump_pieces}
 use Rattle.bx_cli.specs.declared.command.Command.{Command}
-use Rattle.bx_cli.specs.declared.command.Command.TheVariants.{Revert, RevertPlain, Undo}
+use Rattle.bx_cli.specs.declared.command.Command.TheVariants.{Revert, RevertPlain, Dd, Undo}
 use Rattle.bx_cli.specs.declared.command.Reply.{Reply}
-use Rattle.bx_cli.specs.declared.command.Reply.TheVariants.{Changed, Undone, Refused}
+use Rattle.bx_cli.specs.declared.command.Reply.TheVariants.{Changed, Copied, Undone, Refused}
 use Rattle.bx_read.specs.declared.fault.ReadFault.TheVariants.{NoMemory as ReadNoMemory}
 use Rattle.bx_cli.specs.declared.fault.Fault.TheVariants.{DeviceFailed, Interrupted}
 use Rattle.bx_journal.specs.declared.session.Session.{Session}
+use Rattle.bx_cli.specs.declared.changes.DdChange.{DdChange}
 use Rattle.bx_cli.specs.Command.{dump_change, plain_change}
-use Rattle.bx_cli.specs.Fault.{of_read, of_session}
+use Rattle.bx_cli.specs.Copy.{Makes}
+use Rattle.bx_cli.specs.Fault.{of_dd, of_read, of_session}
 use Rattle.bx_journal.specs.Standing.{IsStanding}
 use Rattle.bx_cli.specs.Standing.{Standing, PerformFrom, UndoFrom}
 
+-- the reply to a change that was made; dd's tells its counts too
+abbrev pub made_reply : Option Counts → ℕ → Reply
+made_reply None n = Changed n
+made_reply (Some counts) n = Copied n counts
+
 -- the reply that tells what the session answered
-abbrev pub changed : Result ℕ SessionFault → Reply
-changed (Ok n) = Changed n
-changed (Err e) = Refused (of_session e)
+abbrev pub changed : Option Counts → Result ℕ SessionFault → Reply
+changed counts (Ok n) = made_reply counts n
+changed counts (Err e) = Refused (of_session e)
 
 abbrev pub undone : Result ℕ SessionFault → Reply
 undone (Ok n) = Undone n
 undone (Err e) = Refused (of_session e)
 
 -- a change, and the reply to it
-abbrev pub ChangeStep : {A : Type 0} → Standing → Change A → Reply → Standing → Type 0
-ChangeStep before c reply after = (r : Result ℕ SessionFault) × (reply ≡ changed r) × PerformFrom before c r after
+abbrev pub ChangeStep : {A : Type 0} → Standing → Change A → Option Counts → Reply → Standing → Type 0
+ChangeStep before c counts reply after = (r : Result ℕ SessionFault) × (reply ≡ changed counts r) × PerformFrom before c r after
 
 abbrev pub UndoesStep : Standing → ℕ → Reply → Standing → Type 0
 UndoesStep before k reply after = (r : Result ℕ SessionFault) × (reply ≡ undone r) × UndoFrom before k r after
@@ -39,24 +48,31 @@ RefusesStep before e reply after = (reply ≡ Refused (of_read e)) × (after ≡
 
 -- A text that asks for a change, by what it reads as: a fault comes first
 abbrev pub ReadStep : {A B : Type 0} → Standing → (B → Change A) → Result B ReadFault → Reply → Standing → Type 0
-ReadStep before change (Ok read) reply after = ChangeStep before (change read) reply after
+ReadStep before change (Ok read) reply after = ChangeStep before (change read) None reply after
 ReadStep before change (Err e) reply after = RefusesStep before e reply after
 
--- One command. Want of memory may take the place of reading its text.
-abbrev pub CommandStep : {A : Type 0} → Standing → Command A → Reply → Standing → Type 0
-CommandStep {A = A} before (Revert text offset) reply after =
+-- dd, by what its operands make of its input: a fault comes first
+abbrev pub DdStep : {A : Type 0} → Standing → Result (DdChange A) DdFault → Reply → Standing → Type 0
+DdStep before (Ok made) reply after = ChangeStep before made.change (Some made.counts) reply after
+DdStep before (Err e) reply after = (reply ≡ Refused (of_dd e)) × (after ≡ before)
+
+-- One command, where `remaining` is what a reader gives. Want of memory may take the place of reading its text.
+abbrev pub CommandStep : {R A : Type 0} → (R → Option (List ℕ)) → Standing → Command R A → Reply → Standing → Type 0
+CommandStep {A = A} remaining before (Revert text offset) reply after =
     RefusesStep before ReadNoMemory reply after ⊎ ReadStep before (dump_change {A = A} offset) (dump_pieces text) reply after
-CommandStep {A = A} before (RevertPlain text at) reply after =
+CommandStep {A = A} remaining before (RevertPlain text at) reply after =
     RefusesStep before ReadNoMemory reply after ⊎ ReadStep before (plain_change {A = A} at) (plain_answer text) reply after
-CommandStep before (Undo k) reply after = UndoesStep before k reply after
+CommandStep {A = A} remaining before (Dd operands input) reply after =
+    (left : Option (List ℕ)) × ((r : Result (DdChange A) DdFault) × (Makes operands (remaining input) left r × DdStep before r reply after))
+CommandStep remaining before (Undo k) reply after = UndoesStep before k reply after
 
 -- A list of commands: one reply each, in order; it goes on after a refusal
-abbrev pub CommandRun : {A : Type 0} → Standing → List (Command A) → List Reply → Standing → Type 0
-CommandRun before [] [] after = after ≡ before
-CommandRun before [] (p ∷ replies) after = ⊥
-CommandRun before (c ∷ list) [] after = ⊥
-CommandRun before (c ∷ list) (p ∷ replies) after =
-    (now : Standing) × CommandStep before c p now × CommandRun now list replies after
+abbrev pub CommandRun : {R A : Type 0} → (R → Option (List ℕ)) → Standing → List (Command R A) → List Reply → Standing → Type 0
+CommandRun remaining before [] [] after = after ≡ before
+CommandRun remaining before [] (p ∷ replies) after = ⊥
+CommandRun remaining before (c ∷ list) [] after = ⊥
+CommandRun remaining before (c ∷ list) (p ∷ replies) after =
+    (now : Standing) × CommandStep remaining before c p now × CommandRun remaining now list replies after
 
 -- whether a device's failure refused the command
 abbrev pub HasFailed : Reply → Type 0
@@ -74,15 +90,15 @@ abbrev pub Unfailed : Reply → Type 0
 Unfailed p = HasFailed p → ⊥
 
 -- The same where no device fails: from stack to stack
-abbrev pub StackStep : {A : Type 0} → List (List ℕ) → Command A → Reply → List (List ℕ) → Type 0
-StackStep before c reply after = CommandStep (Standing.Up before) c reply (Standing.Up after) × Unfailed reply
+abbrev pub StackStep : {R A : Type 0} → (R → Option (List ℕ)) → List (List ℕ) → Command R A → Reply → List (List ℕ) → Type 0
+StackStep remaining before c reply after = CommandStep remaining (Standing.Up before) c reply (Standing.Up after) × Unfailed reply
 
-abbrev pub StackRun : {A : Type 0} → List (List ℕ) → List (Command A) → List Reply → List (List ℕ) → Type 0
-StackRun before [] [] after = after ≡ before
-StackRun before [] (p ∷ replies) after = ⊥
-StackRun before (c ∷ list) [] after = ⊥
-StackRun before (c ∷ list) (p ∷ replies) after =
-    (now : List (List ℕ)) × StackStep before c p now × StackRun now list replies after
+abbrev pub StackRun : {R A : Type 0} → (R → Option (List ℕ)) → List (List ℕ) → List (Command R A) → List Reply → List (List ℕ) → Type 0
+StackRun remaining before [] [] after = after ≡ before
+StackRun remaining before [] (p ∷ replies) after = ⊥
+StackRun remaining before (c ∷ list) [] after = ⊥
+StackRun remaining before (c ∷ list) (p ∷ replies) after =
+    (now : List (List ℕ)) × StackStep remaining before c p now × StackRun remaining now list replies after
 
 -- the session's pair stands for a stack to which the step leads
 abbrev pub StandsThen : {D T A : Type 0} → (D → List ℕ) → (T → List ℕ) → Session D T A → (List (List ℕ) → Type 0) → Type 0

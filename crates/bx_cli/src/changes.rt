@@ -1,13 +1,17 @@
 //! From the texts of commands to changes.
-ghost use Rattle.std.specs.Prelude.{◌≡◌, ◌⊎◌, ◌+◌, ◌^◌, ◌<◌, ◌≤◌, ℕ, List, [], ◌∷◌, map, None, Ok, Err, All, MatchResult};
+ghost use Rattle.std.specs.Prelude.{◌≡◌, ◌⊎◌, ◌+◌, ◌^◌, ◌<◌, ◌≤◌, ℕ, List, [], ◌∷◌, map, None, Ok, Err, IfOk, IfErr, All, MatchResult};
 ghost use Rattle.bx_cli.specs.Command.{dump_change, plain_change, moved};
+ghost use Rattle.bx_cli.specs.Copy.{CopiesBy, Makes};
+ghost use Rattle.bx_dd.specs.Transfer.{HasStopped};
 ghost use Rattle.bx_read.specs.Plain.{plain_answer};
 ghost use Rattle.bx_read.specs.Text.{dump_pieces};
 
+use bx_dd::{Counts, DdFault, Plan, parse, transfer};
 use bx_image::Change;
 use bx_read::{ReadFault, read_dump, read_plain};
-use bx_text::{Bytes, Piece, Pieces};
-use std::alloc::Allocator;
+use bx_text::{Bytes, Piece, Pieces, Words};
+use std::alloc::{Allocator, Global};
+use std::io::Read;
 
 /// The change that puts each piece of a dump at its address plus `offset`. The whole text is read first.
 pub fn change_of_dump<A: Allocator + Clone>(
@@ -53,5 +57,44 @@ pub fn change_of_plain<A: Allocator + Clone>(
     Ok(Change {
         base: None,
         writes: Pieces::from_vec(writes),
+    })
+}
+
+/// A change that dd asks for, and what it counted.
+#[derive(Drop)]
+pub struct DdChange<A: Allocator = Global> {
+    pub change: Change<A>,
+    pub counts: Counts,
+}
+
+/// The change that dd's operands make of the input. A fault of the operands comes before anything is read.
+pub fn change_of_dd<R: Read, A: Allocator + Clone>(
+    alloc: &A,
+    operands: &Words<A>,
+    input: &mut R,
+) -> Result<DdChange<A>, DdFault>
+    ensures { Makes operands.now (R.remaining input.old) (R.remaining input.new) result }
+{
+    let plan = match parse(alloc.clone()?, operands) {
+        Ok(plan) => plan,
+        Err(fault) => return Err(fault),
+    };
+    change_of_plan(alloc, &plan, input)
+}
+
+/// The change that a plan makes of the input.
+fn change_of_plan<R: Read, A: Allocator + Clone>(
+    alloc: &A,
+    plan: &Plan<A>,
+    input: &mut R,
+) -> Result<DdChange<A>, DdFault>
+    ensures ok { IfOk result (CopiesBy plan.now (R.remaining input.old) (R.remaining input.new)) }
+    ensures err { IfErr result (HasStopped (R.remaining input.old) (R.remaining input.new) (2 ^ 40)) }
+{
+    let copied = transfer(alloc.clone()?, input, plan)?;
+    let change = plan.change(alloc.clone()?, copied.bytes)?;
+    Ok(DdChange {
+        change,
+        counts: copied.counts,
     })
 }

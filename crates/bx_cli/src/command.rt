@@ -1,15 +1,19 @@
 //! What a list asks for, and what is answered.
 use crate::Fault;
-use bx_text::Bytes;
+use bx_dd::Counts;
+use bx_text::{Bytes, Words};
 use std::alloc::{Allocator, Global};
+use std::io::Empty;
 
-/// One command on an image.
+/// One command on an image. `R` is what dd reads.
 #[derive(Drop)]
-pub enum Command<A: Allocator = Global> {
+pub enum Command<R = Empty, A: Allocator = Global> {
     /// Puts the bytes of a dump onto the image, each at its address plus `offset`.
     Revert { text: Bytes<A>, offset: u64 },
     /// Puts the bytes of plain hexadecimal onto the image from `at` on.
     RevertPlain { text: Bytes<A>, at: u64 },
+    /// Puts what dd's operands make of the input onto the image; the files that they name are not looked at.
+    Dd { operands: Words<A>, input: R },
     /// Takes the last `k` changes back.
     Undo { k: u32 },
 }
@@ -19,6 +23,8 @@ pub enum Command<A: Allocator = Global> {
 pub enum Reply {
     /// The change was made, and has this number.
     Changed { number: u32 },
+    /// dd's change was made, and has this number; the counts are dd's.
+    Copied { number: u32, counts: Counts },
     /// So many changes are left.
     Undone { left: u32 },
     /// Nothing was done, unless the fault says otherwise.

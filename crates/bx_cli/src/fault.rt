@@ -1,8 +1,9 @@
 //! The faults of all crates, with their numbers and texts.
 ghost use Rattle.std.specs.Prelude.{◌≡◌};
-ghost use Rattle.bx_cli.specs.Fault.{number_of, of_io, of_read, of_session};
+ghost use Rattle.bx_cli.specs.Fault.{number_of, of_dd, of_io, of_read, of_session};
 ghost use Rattle.bx_cli.specs.declared.fault.Fault.TheVariants.{NoMemory as OutOfMemory};
 
+use bx_dd::DdFault;
 use bx_journal::SessionFault;
 use bx_read::ReadFault;
 use bx_text::{IoFault, NoMemory};
@@ -175,6 +176,26 @@ impl From<SessionFault> for Fault {
             SessionFault::Interrupted => Fault::Interrupted,
             SessionFault::Broken => Fault::Broken,
             SessionFault::LengthDiffers { expected } => Fault::LengthDiffers { expected },
+        }
+    }
+}
+
+impl From<DdFault> for Fault {
+    ghost from_gives = { λ e f. f ≡ of_dd e };
+
+    fn from(fault: DdFault) -> Self {
+        match fault {
+            DdFault::NoMemory => Fault::NoMemory,
+            DdFault::ReadFailed => Fault::ReadFailed,
+            DdFault::InputTooLong => Fault::InputTooLong,
+            DdFault::UnknownOperand(place) => Fault::UnknownOperand { place },
+            DdFault::BadNumber(place) => Fault::BadNumber { place },
+            DdFault::NumberTooLarge(place) => Fault::NumberTooLarge { place },
+            DdFault::ZeroSize(place) => Fault::ZeroSize { place },
+            DdFault::Conflict => Fault::Conflict,
+            DdFault::MissingCbs => Fault::MissingCbs,
+            DdFault::Repeated(place) => Fault::Repeated { place },
+            DdFault::SeekWithoutOutput => Fault::SeekWithoutOutput,
         }
     }
 }

@@ -1,15 +1,29 @@
-//! Laws of the machine of commands, over its definitions alone.
+//! Laws of commands and dumps, over their definitions alone.
 ghost use Rattle.bx_cli.specs.Laws.{RunsJoin, UnfailedRuns};
+ghost use Rattle.bx_cli.specs.XxdLaws.{NormalTextReadsBack, NormalTextReverts};
 
 use std::alloc::Allocator;
+use std::io::Read;
 
 /// The runs of two lists, one from where the other ends, are a run of both: so it does not matter whether the session
 /// is closed and opened again between them.
-pub fn runs_join<A: Allocator>()
-    ensures { RunsJoin A }
+pub fn runs_join<R: Read, A: Allocator>()
+    ensures { RunsJoin R A R.remaining }
 {}
 
 /// A run in which no device fails goes from a stack of whole images to a stack.
-pub fn unfailed_runs<A: Allocator>()
-    ensures { UnfailedRuns A }
+pub fn unfailed_runs<R: Read, A: Allocator>()
+    ensures { UnfailedRuns R A R.remaining }
+{}
+
+/// The text of xxd in the Normal style, for any columns up to 256, any groups and digits, any part of an input and any
+/// addresses below 2^62, is read as a dump, and gives exactly the chunks that were dumped, at their addresses.
+pub fn normal_text_reads_back()
+    ensures { NormalTextReadsBack }
+{}
+
+/// The change that a revert of such a text asks for places the bytes that were dumped at their address, and leaves all
+/// others as they are.
+pub fn normal_text_reverts<A: Allocator>()
+    ensures { NormalTextReverts A }
 {}

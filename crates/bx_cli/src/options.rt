@@ -16,67 +16,67 @@ static OD: [Row; 11] = [
         id: "radix",
         short: 'A',
         value: Some("RADIX"),
-        help: "Show addresses in d, o, x, or n for none",
+        help: "Base of the addresses: d, o, x, or n for none [default: o]",
     },
     Row {
         id: "skip",
         short: 'j',
         value: Some("COUNT"),
-        help: "Skip this many bytes",
+        help: "Bytes to skip first [default: 0]",
     },
     Row {
         id: "limit",
         short: 'N',
         value: Some("COUNT"),
-        help: "Dump at most this many bytes",
+        help: "Most bytes to dump [default: all]",
     },
     Row {
         id: "kind",
         short: 't',
         value: Some("TYPE"),
-        help: "c, or one of d o u x and one of 1 2 4 8",
+        help: "Values: c, or d, o, u or x and 1, 2, 4 or 8 bytes, as x1 [default: o2]",
     },
     Row {
         id: "o1",
         short: 'b',
         value: None,
-        help: "The same as -t o1",
+        help: "Octal bytes, as -t o1",
     },
     Row {
         id: "chars",
         short: 'c',
         value: None,
-        help: "The same as -t c",
+        help: "Characters, as -t c",
     },
     Row {
         id: "u2",
         short: 'd',
         value: None,
-        help: "The same as -t u2",
+        help: "Unsigned decimal of 2 bytes, as -t u2",
     },
     Row {
         id: "o2",
         short: 'o',
         value: None,
-        help: "The same as -t o2",
+        help: "Octal of 2 bytes, as -t o2",
     },
     Row {
         id: "d2",
         short: 's',
         value: None,
-        help: "The same as -t d2",
+        help: "Signed decimal of 2 bytes, as -t d2",
     },
     Row {
         id: "x2",
         short: 'x',
         value: None,
-        help: "The same as -t x2",
+        help: "Hexadecimal of 2 bytes, as -t x2",
     },
     Row {
         id: "all",
         short: 'v',
         value: None,
-        help: "Show equal lines too",
+        help: "Show every line [default: lines equal to the one before are one *]",
     },
 ];
 
@@ -87,55 +87,55 @@ static XXD: [Row; 9] = [
         id: "bits",
         short: 'b',
         value: None,
-        help: "Show bits in place of digits",
+        help: "Eight binary digits for each byte",
     },
     Row {
         id: "cols",
         short: 'c',
         value: Some("COLS"),
-        help: "Bytes on a line, 1 to 256",
+        help: "Bytes on a line, 1 to 256 [default: 16; -b 6, -i 12, -p 30]",
     },
     Row {
         id: "group",
         short: 'g',
         value: Some("BYTES"),
-        help: "Bytes in a group, 0 for one group",
+        help: "Bytes in a group, 0 for one group a line [default: 2; -b 1]",
     },
     Row {
         id: "include",
         short: 'i',
         value: None,
-        help: "Write a C array",
+        help: "A C array, with FILE as its name",
     },
     Row {
         id: "limit",
         short: 'l',
         value: Some("COUNT"),
-        help: "Dump at most this many bytes",
+        help: "Most bytes to dump [default: all]",
     },
     Row {
         id: "shift",
         short: 'o',
         value: Some("OFFSET"),
-        help: "Add this to the addresses shown",
+        help: "Bytes to add to the addresses shown [default: 0]",
     },
     Row {
         id: "plain",
         short: 'p',
         value: None,
-        help: "Write digits alone",
+        help: "Digits alone",
     },
     Row {
         id: "seek",
         short: 's',
         value: Some("OFFSET"),
-        help: "Begin at this byte",
+        help: "Bytes to skip first [default: 0]",
     },
     Row {
         id: "upper",
         short: 'u',
         value: None,
-        help: "Use upper case digits",
+        help: "Digits in upper case",
     },
 ];
 
@@ -148,25 +148,25 @@ static HEXDUMP: [Row; 4] = [
         id: "canonical",
         short: 'C',
         value: None,
-        help: "The canonical form, which must be asked for",
+        help: "The canonical form, the only one; must be given",
     },
     Row {
         id: "limit",
         short: 'n',
         value: Some("COUNT"),
-        help: "Dump at most this many bytes",
+        help: "Most bytes to dump [default: all]",
     },
     Row {
         id: "skip",
         short: 's',
         value: Some("COUNT"),
-        help: "Skip this many bytes",
+        help: "Bytes to skip first [default: 0]",
     },
     Row {
         id: "all",
         short: 'v',
         value: None,
-        help: "Show equal lines too",
+        help: "Show every line [default: lines equal to the one before are one *]",
     },
 ];
 
@@ -175,19 +175,19 @@ static STRINGS: [Row; 3] = [
         id: "whole",
         short: 'a',
         value: None,
-        help: "Read the whole file, as ever",
+        help: "Read the whole file, as is always done",
     },
     Row {
         id: "least",
         short: 'n',
         value: Some("COUNT"),
-        help: "The least length, 1 to 4096 [default: 4]",
+        help: "Least bytes of a run, 1 to 4096 [default: 4]",
     },
     Row {
         id: "offsets",
         short: 't',
         value: Some("RADIX"),
-        help: "Show offsets in d, o or x",
+        help: "Show where each run begins, in d, o or x [default: not]",
     },
 ];
 
@@ -195,7 +195,7 @@ const JOURNAL: Row = Row {
     id: "journal",
     short: 'J',
     value: Some("JOURNAL"),
-    help: "Keep what is overwritten in this file [default: IMAGE.bxj]",
+    help: "File that keeps what is overwritten [default: IMAGE.bxj]",
 };
 
 static REVERT: [Row; 4] = [
@@ -204,19 +204,19 @@ static REVERT: [Row; 4] = [
         id: "plain",
         short: 'p',
         value: None,
-        help: "The dump is digits alone",
+        help: "The dump is digits alone, as xxd -p writes",
     },
     Row {
         id: "offset",
         short: 's',
         value: Some("OFFSET"),
-        help: "Add this to the addresses",
+        help: "Bytes to add to each address, with -p the first [default: 0]",
     },
     Row {
         id: "dump",
         short: 'f',
         value: Some("DUMP"),
-        help: "Read this file in place of standard input",
+        help: "File to read the dump from [default: standard input]",
     },
 ];
 
@@ -226,7 +226,7 @@ static UNDO: [Row; 2] = [
         id: "count",
         short: 'k',
         value: Some("COUNT"),
-        help: "How many changes [default: 1]",
+        help: "Changes to take back, 0 to 65535 [default: 1]",
     },
 ];
 
@@ -271,7 +271,7 @@ fn reader<'a>(
 ) -> Result<Command<'a>, AllocError> {
     let file = Arg::new(alloc, "file")
         .value_name("FILE")
-        .help("Read this file in place of standard input");
+        .help("File to read [default: standard input]");
     with_rows(alloc, command, rows)?.arg(file)
 }
 
@@ -284,14 +284,16 @@ fn changer<'a>(
     let image = Arg::new(alloc, "image")
         .value_name("IMAGE")
         .required(true)
-        .help("The file that is changed");
+        .help("Image, a file");
     with_rows(alloc, command, rows)?.arg(image)
 }
 
 fn od<'a>(alloc: Global) -> Result<Command<'a>, AllocError> {
     let command = Command::new(alloc, "od")
         .about("Dump bytes as numbers or characters")
-        .after_help("EXAMPLES:\n  bx od -A x -t x1 disk.img\n  bx od -c -N 64 notes.txt")
+        .after_help(
+            "COUNT: decimal, 0x and hexadecimal, or 0 and octal; then b (512), k (1024) or m (1048576).\n\nEXAMPLES:\n  bx od -A x -t x1 disk.img     bytes in hexadecimal, with hexadecimal addresses\n  bx od -c -N 64 notes.txt      the first 64 bytes as characters\n  bx od -t u4 -j 1k disk.img    numbers of 4 bytes, from byte 1024 on",
+        )
         .group(one_of(alloc, "type", &OD_TYPES)?)?;
     reader(alloc, command, &OD)
 }
@@ -299,7 +301,9 @@ fn od<'a>(alloc: Global) -> Result<Command<'a>, AllocError> {
 fn xxd<'a>(alloc: Global) -> Result<Command<'a>, AllocError> {
     let command = Command::new(alloc, "xxd")
         .about("Dump bytes in hexadecimal")
-        .after_help("EXAMPLES:\n  bx xxd -l 512 disk.img\n  bx xxd -p key.bin | bx revert -p image")
+        .after_help(
+            "Numbers: decimal, 0x and hexadecimal, or 0 and octal.\n\nEXAMPLES:\n  bx xxd -l 512 disk.img                   the first 512 bytes\n  bx xxd -s 0x1000 -c 8 -g 1 disk.img      from byte 4096 on, 8 bytes on a line\n  bx xxd -p key.bin | bx revert -p image   the bytes of one file onto another",
+        )
         .group(one_of(alloc, "style", &XXD_STYLES)?)?
         .group(one_of(alloc, "case", &XXD_CASES)?)?;
     reader(alloc, command, &XXD)
@@ -308,35 +312,45 @@ fn xxd<'a>(alloc: Global) -> Result<Command<'a>, AllocError> {
 fn hexdump<'a>(alloc: Global) -> Result<Command<'a>, AllocError> {
     let command = Command::new(alloc, "hexdump")
         .about("Dump bytes in hexadecimal beside their characters")
-        .after_help("EXAMPLES:\n  bx hexdump -C disk.img");
+        .after_help(
+            "COUNT: decimal, 0x and hexadecimal, or 0 and octal; then b (512), k (1024) or m (1048576).\n\nEXAMPLES:\n  bx hexdump -C disk.img\n  bx hexdump -C -s 1m -n 256 disk.img    256 bytes, from byte 1048576 on",
+        );
     reader(alloc, command, &HEXDUMP)
 }
 
 fn strings<'a>(alloc: Global) -> Result<Command<'a>, AllocError> {
     let command = Command::new(alloc, "strings")
         .about("Show the printable runs of a file")
-        .after_help("EXAMPLES:\n  bx strings -n 8 -t x program");
+        .after_help(
+            "COUNT: decimal.\n\nEXAMPLES:\n  bx strings program\n  bx strings -n 8 -t x program    runs of 8 bytes and more, with their places",
+        );
     reader(alloc, command, &STRINGS)
 }
 
 fn revert<'a>(alloc: Global) -> Result<Command<'a>, AllocError> {
     let command = Command::new(alloc, "revert")
         .about("Write the bytes of a dump onto an image")
-        .after_help("EXAMPLES:\n  echo '00000002: 7879' | bx revert disk.img");
+        .after_help(
+            "OFFSET: decimal, 0x and hexadecimal, or 0 and octal. Image and journal are made where they are missing.\n\nEXAMPLES:\n  echo '00000002: 7879' | bx revert disk.img     two bytes at place 2\n  bx revert -f edited.txt disk.img               a dump of xxd that was edited\n  echo 7879 | bx revert -p -s 0x200 disk.img     two bytes at place 512",
+        );
     changer(alloc, command, &REVERT)
 }
 
 fn undo<'a>(alloc: Global) -> Result<Command<'a>, AllocError> {
     let command = Command::new(alloc, "undo")
-        .about("Take the last changes of an image back")
-        .after_help("EXAMPLES:\n  bx undo -k 3 disk.img");
+        .about("Take the last changes of an image back, and show how many are left")
+        .after_help(
+            "COUNT: decimal.\n\nEXAMPLES:\n  bx undo disk.img         the last change\n  bx undo -k 3 disk.img    the last three changes",
+        );
     changer(alloc, command, &UNDO)
 }
 
 fn log<'a>(alloc: Global) -> Result<Command<'a>, AllocError> {
     let command = Command::new(alloc, "log")
-        .about("List the changes of an image, oldest first")
-        .after_help("EXAMPLES:\n  bx log disk.img");
+        .about("List the changes of an image, the oldest first")
+        .after_help(
+            "Each line has a change's number, the image's bytes before it, and the bytes that were saved.\n\nEXAMPLES:\n  bx log disk.img\n  bx log -J other.bxj disk.img",
+        );
     changer(alloc, command, &LOG)
 }
 
@@ -344,12 +358,9 @@ fn log<'a>(alloc: Global) -> Result<Command<'a>, AllocError> {
 pub fn program<'a>(alloc: Global) -> Result<Command<'a>, AllocError> {
     Command::new(alloc, "bx")
         .version("1.0.0")
-        .about("A byte toolkit with undo")
-        .long_about(
-            "Dumps files, patches them, and takes changes back.\n\nEach change to an image is kept in a journal beside it.",
-        )
+        .about("A byte toolkit with undo: dumps files, patches them, and takes changes back")
         .after_help(
-            "EXAMPLES:\n  bx xxd disk.img\n  bx undo disk.img\n\nSee 'bx COMMAND --help' for each command.",
+            "EXAMPLES:\n  bx xxd -l 64 disk.img\n  echo '00000002: 7879' | bx revert disk.img\n  bx undo disk.img\n\nThe exit status is 0, 1 for a fault, and 2 for wrong words.\nSee 'bx COMMAND --help' for a command's options, and 'man bx' for formats and faults.",
         )
         .subcommand_required(true)
         .subcommand(od(alloc)?)?

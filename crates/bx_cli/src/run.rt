@@ -1,38 +1,51 @@
 //! Lists of commands, run in order on a session.
-ghost use Rattle.std.specs.Prelude.{◌≡◌, ◌↔◌, ◌⊎◌, ◌+◌, ◌^◌, ◌≤◌, ◌<◌, List, ℕ, length, IfOk, OnErr, All};
+ghost use Rattle.std.specs.Prelude.{◌≡◌, ◌↔◌, ◌⊎◌, ◌+◌, ◌^◌, ◌≤◌, ◌<◌, List, ℕ, length, None, Some, IfOk, OnErr, All};
 ghost use Rattle.bx_journal.specs.Session.{IsReady};
 ghost use Rattle.bx_journal.specs.Standing.{IsStanding};
 ghost use Rattle.bx_cli.specs.Standing.{Standing, HoldsAt, CountsOn};
 ghost use Rattle.bx_cli.specs.Command.{IsNear};
-ghost use Rattle.bx_cli.specs.Run.{ChangeStep, UndoesStep, ReadStep, CommandStep, CommandRun, StackRun, StandsThen, StackStep, Unfailed, IsCounted};
+ghost use Rattle.bx_cli.specs.Run.{made_reply, ChangeStep, UndoesStep, ReadStep, DdStep, CommandStep, CommandRun, StackRun, StandsThen, StackStep, Unfailed, IsCounted};
 
-use crate::changes::{change_of_dump, change_of_plain};
+use crate::changes::{DdChange, change_of_dd, change_of_dump, change_of_plain};
 use crate::{Command, Fault, Reply};
+use bx_dd::{Counts, DdFault};
 use bx_image::{Change, Device, NoMemory};
 use bx_journal::Session;
 use bx_read::ReadFault;
 use bx_store::TextStore;
 use std::alloc::Allocator;
+use std::io::Read;
 
-/// Makes the change.
+/// Makes the change; the counts are told beside its number.
 fn run_change<D: Device, T: TextStore, A: Allocator + Clone>(
     session: &mut Session<D, T, A>,
     change: &Change<A>,
+    counts: Option<Counts>,
 ) -> Reply
     requires device_countable { D.failures session.old.device < u64.MAX }
     requires store_countable { T.failures session.old.store < u64.MAX }
     ensures step { (before : Standing) → HoldsAt D.honest T.honest D.image T.text session.old before
-        → (after : Standing) × HoldsAt D.honest T.honest D.image T.text session.new after × ChangeStep before change.now result after }
+        → (after : Standing) × HoldsAt D.honest T.honest D.image T.text session.new after × ChangeStep before change.now counts result after }
     ensures stands { D.honest session.old.device → T.honest session.old.store → (stack : List (List ℕ)) → IsStanding D.image T.text session.old stack → Unfailed result
-        → StandsThen D.image T.text session.new (λ top. ChangeStep (Standing.Up stack) change.now result (Standing.Up top)) }
+        → StandsThen D.image T.text session.new (λ top. ChangeStep (Standing.Up stack) change.now counts result (Standing.Up top)) }
     ensures device_honesty { D.honest session.new.device ↔ D.honest session.old.device }
     ensures store_honesty { T.honest session.new.store ↔ T.honest session.old.store }
     ensures counts { CountsOn D.failures T.failures session.old session.new }
     ensures failed { IsCounted D.failures T.failures session.old session.new result }
 {
     match session.perform(change) {
-        Ok(number) => Reply::Changed { number },
+        Ok(number) => made_reply(counts, number),
         Err(fault) => Reply::Refused(Fault::from(fault)),
+    }
+}
+
+/// The reply to a change that was made.
+fn made_reply(counts: Option<Counts>, number: u32) -> Reply
+    ensures { result ≡ made_reply counts number }
+{
+    match counts {
+        None => Reply::Changed { number },
+        Some(counts) => Reply::Copied { number, counts },
     }
 }
 
@@ -75,24 +88,46 @@ fn run_read<D: Device, T: TextStore, A: Allocator + Clone>(
     ensures failed { IsCounted D.failures T.failures session.old session.new result }
 {
     match read {
-        Ok(change) => run_change(session, &change),
+        Ok(change) => run_change(session, &change, None),
+        Err(fault) => Reply::Refused(Fault::from(fault)),
+    }
+}
+
+/// Makes the change that dd asks for.
+fn run_dd<D: Device, T: TextStore, A: Allocator + Clone>(
+    session: &mut Session<D, T, A>,
+    made: Result<DdChange<A>, DdFault>,
+) -> Reply
+    requires device_countable { D.failures session.old.device < u64.MAX }
+    requires store_countable { T.failures session.old.store < u64.MAX }
+    ensures step { (before : Standing) → HoldsAt D.honest T.honest D.image T.text session.old before
+        → (after : Standing) × HoldsAt D.honest T.honest D.image T.text session.new after × DdStep before made result after }
+    ensures stands { D.honest session.old.device → T.honest session.old.store → (stack : List (List ℕ)) → IsStanding D.image T.text session.old stack → Unfailed result
+        → StandsThen D.image T.text session.new (λ top. DdStep (Standing.Up stack) made result (Standing.Up top)) }
+    ensures device_honesty { D.honest session.new.device ↔ D.honest session.old.device }
+    ensures store_honesty { T.honest session.new.store ↔ T.honest session.old.store }
+    ensures counts { CountsOn D.failures T.failures session.old session.new }
+    ensures failed { IsCounted D.failures T.failures session.old session.new result }
+{
+    match made {
+        Ok(made) => run_change(session, &made.change, Some(made.counts)),
         Err(fault) => Reply::Refused(Fault::from(fault)),
     }
 }
 
 /// Runs one command: a fault of its own comes before the session's.
-fn run_one<D: Device, T: TextStore, A: Allocator + Clone>(
+fn run_one<D: Device, T: TextStore, R: Read, A: Allocator + Clone>(
     alloc: &A,
     session: &mut Session<D, T, A>,
-    command: &mut Command<A>,
+    command: &mut Command<R, A>,
 ) -> Reply
     requires device_countable { D.failures session.old.device < u64.MAX }
     requires store_countable { T.failures session.old.store < u64.MAX }
     requires near { IsNear command.old }
     ensures step { (before : Standing) → HoldsAt D.honest T.honest D.image T.text session.old before
-        → (after : Standing) × HoldsAt D.honest T.honest D.image T.text session.new after × CommandStep before command.old result after }
+        → (after : Standing) × HoldsAt D.honest T.honest D.image T.text session.new after × CommandStep R.remaining before command.old result after }
     ensures stands { D.honest session.old.device → T.honest session.old.store → (stack : List (List ℕ)) → IsStanding D.image T.text session.old stack → Unfailed result
-        → StandsThen D.image T.text session.new (λ top. CommandStep (Standing.Up stack) command.old result (Standing.Up top)) }
+        → StandsThen D.image T.text session.new (λ top. CommandStep R.remaining (Standing.Up stack) command.old result (Standing.Up top)) }
     ensures device_honesty { D.honest session.new.device ↔ D.honest session.old.device }
     ensures store_honesty { T.honest session.new.store ↔ T.honest session.old.store }
     ensures counts { CountsOn D.failures T.failures session.old session.new }
@@ -107,16 +142,20 @@ fn run_one<D: Device, T: TextStore, A: Allocator + Clone>(
             let change = change_of_plain(alloc, text.as_slice(), *at);
             run_read(session, change)
         }
+        Command::Dd { operands, input } => {
+            let made = change_of_dd(alloc, operands, input);
+            run_dd(session, made)
+        }
         Command::Undo { k } => run_undo(session, *k),
     }
 }
 
 /// Runs the commands in order, and goes on after a refusal. Room for all replies is made first: where it is refused, no
 /// command ran.
-pub fn run_all<D: Device, T: TextStore, A: Allocator + Clone>(
+pub fn run_all<D: Device, T: TextStore, R: Read, A: Allocator + Clone>(
     alloc: A,
     session: &mut Session<D, T, A>,
-    list: &mut [Command<A>],
+    list: &mut [Command<R, A>],
 ) -> Result<Vec<Reply, A>, NoMemory>
     requires countable { D.failures session.old.device + T.failures session.old.store + length list.old ≤ u64.MAX }
     requires near { All IsNear list.old }
@@ -125,17 +164,17 @@ pub fn run_all<D: Device, T: TextStore, A: Allocator + Clone>(
     // the first pair stands for to the one that the final pair stands for.
     ensures headline { D.honest session.old.device → T.honest session.old.store → (stack : List (List ℕ)) → IsStanding D.image T.text session.old stack
         → D.failures session.new.device ≡ D.failures session.old.device → T.failures session.new.store ≡ T.failures session.old.store
-        → IfOk result (λ replies. StandsThen D.image T.text session.new (λ top. StackRun stack list.old replies.items top)) }
+        → IfOk result (λ replies. StandsThen D.image T.text session.new (λ top. StackRun R.remaining stack list.old replies.items top)) }
 
     // From a sound pair it leaves a sound one.
     ensures sound { D.honest session.old.device → T.honest session.old.store → (stack : List (List ℕ)) → IsReady D.image T.text session.old stack
         → D.failures session.new.device ≡ D.failures session.old.device → T.failures session.new.store ≡ T.failures session.old.store
-        → IfOk result (λ replies. (top : List (List ℕ)) × IsReady D.image T.text session.new top × StackRun stack list.old replies.items top) }
+        → IfOk result (λ replies. (top : List (List ℕ)) × IsReady D.image T.text session.new top × StackRun R.remaining stack list.old replies.items top) }
 
     // Whatever devices fail: up to the first failure after a write it is a run in which a device may refuse a command, and
     // then each reply is the command's own fault or says that the session is broken.
     ensures run { (before : Standing) → HoldsAt D.honest T.honest D.image T.text session.old before → IfOk result (λ replies.
-        (after : Standing) × HoldsAt D.honest T.honest D.image T.text session.new after × CommandRun before list.old replies.items after) }
+        (after : Standing) × HoldsAt D.honest T.honest D.image T.text session.new after × CommandRun R.remaining before list.old replies.items after) }
 
     // A device's failure raises its count.
     ensures unfailed { D.failures session.new.device ≡ D.failures session.old.device → T.failures session.new.store ≡ T.failures session.old.store

@@ -96,6 +96,14 @@ values_fit (Number form.Signed Two) n few = omega arith
 values_fit (Number form.Signed Four) n few = omega arith
 values_fit (Number form.Signed Eight) n few = omega arith
 
+-- all bytes of each value of a full line are there
+pub whole_value : (kind : Kind) (k : ℕ) → k < (16 + width_of kind - 1) / width_of kind → width_of kind * k + width_of kind ≤ 16
+whole_value Chars k below = omega arith
+whole_value (Number form One) k below = omega arith
+whole_value (Number form Two) k below = omega arith
+whole_value (Number form Four) k below = omega arith
+whole_value (Number form Eight) k below = omega arith
+
 -- an address, values, and a newline
 pub line_parts : (page rest : List ℕ) (start used size : ℕ) (address values : List ℕ) → start ≤ length page → used < length rest → start + size ≤ length page →
     take start page ≡ address → take used rest ≡ values → take (start + used + 1) (set (put_mid start size page rest) (start + used) 10) ≡ address ++ values ++ 10 ∷ []

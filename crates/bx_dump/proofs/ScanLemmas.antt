@@ -1,14 +1,13 @@
 -- Scanning part by part, and that it gives the runs by position.
 use Rattle.std.proofs.Common.{◌≡◌, ◌⊎◌, ℕ, zero, suc, ◌+◌, ◌-◌, ◌*◌, ◌<◌, ◌≤◌, Bool, true, false, List, [], ◌∷◌, ◌++◌, length, take, drop, refl, sym, ap, ◌∙◌, arith, add-zero, append_assoc, append-nil, length-append, inl, inr}
-use Rattle.std.specs.Prelude.{nat_lt, nat_le, ◌==◌, not, codes}
-use Rattle.std.specs.List.{flat_map, range_with_len, prefix_len}
-use Rattle.std.proofs.lemmas.Bool.{cases_lt, cases_eq, eq-eqb, ne_eqb}
+use Rattle.std.specs.Prelude.{nat_lt, nat_le, ◌==◌, not}
+use Rattle.std.specs.List.{prefix_len}
+use Rattle.std.proofs.lemmas.Bool.{cases_eq, eq-eqb, ne_eqb}
 use Rattle.std.proofs.lemmas.Bool.Decides.{nat_tests}
 use Rattle.std.specs.Prelude.{slice_index}
 use Rattle.std.proofs.Math.Seq.{take-add}
-use Rattle.bx_dump.proofs.LinesLemmas.{flat_map_along}
 use Rattle.bx_dump.specs.declared.od_options.Address.{Address}
-use Rattle.bx_dump.specs.Strings.{is_printable, place_text, is_run_start, run_at, line_at, runs_text, strings_text}
+use Rattle.bx_dump.specs.Strings.{is_printable, place_text}
 use Rattle.bx_dump.specs.declared.od_options.Address.TheVariants.{Octal, Decimal, Hexadecimal, Without}
 use Rattle.bx_dump.specs.Scan.{scan_text, scan_run, grown_text, end_text, AllPrint, NonePrints, cost_of, pending, IsKept, EndsQuiet, IsQuiet}
 

@@ -1,5 +1,6 @@
 -- The text of strings as far as it is known behind each byte. `run` is what stands printable right before place `at`.
-use Rattle.std.specs.Prelude.{◌≡◌, ◌<◌, ◌≤◌, ℕ, zero, suc, ◌+◌, ◌-◌, ◌==◌, Bool, true, false, nat_le, nat_lt, if◌then◌else◌, List, [], ◌∷◌, ◌++◌, length, take, codes, Option}
+use Rattle.std.specs.Prelude.{◌≡◌, ◌<◌, ◌≤◌, ℕ, ◌+◌, ◌-◌, ◌==◌, Bool, true, false, ◌&&◌, nat_le, nat_lt, if◌then◌else◌, List, [], ◌∷◌, ◌++◌, length, take, slice_index, codes, Option}
+use Rattle.std.specs.Int.{w64, trailing_zeros}
 use Rattle.std.specs.Io.KnownBytes.{Appends, Consumes, IsAtEnd}
 use Rattle.bx_dump.specs.declared.od_options.Address.{Address}
 use Rattle.bx_dump.specs.declared.od_options.Address.TheVariants.{Octal, Decimal, Hexadecimal, Without}
@@ -42,6 +43,14 @@ abbrev pub EndsQuiet : List ℕ → Type 0
 EndsQuiet [] = Unit {0}
 EndsQuiet (b ∷ []) = is_printable b ≡ false
 EndsQuiet (b ∷ c ∷ bs) = EndsQuiet (c ∷ bs)
+
+-- whether the four bytes from a place on all print
+abbrev pub four_print : List ℕ → ℕ → Bool
+four_print x k = is_printable (slice_index x k) && (is_printable (slice_index x (k + 1)) && (is_printable (slice_index x (k + 2)) && is_printable (slice_index x (k + 3))))
+
+-- the place of the lowest bit that is set, or n
+abbrev pub first_set : ℕ → ℕ → ℕ
+first_set mask n = if mask == 0 then n else trailing_zeros w64 mask
 
 -- behind a byte that doesn't print, nothing is known of these, and no run is left
 pub record IsQuiet (least : ℕ) (bytes : List ℕ) : Type 0 where

@@ -1,5 +1,5 @@
 -- The text of xxd.
-use Rattle.std.specs.Prelude.{ℕ, ◌+◌, ◌-◌, ◌*◌, ◌/◌, Bool, false, List, ◌++◌, map, length, slice_index, codes}
+use Rattle.std.specs.Prelude.{ℕ, ◌+◌, ◌-◌, ◌*◌, ◌/◌, false, List, ◌++◌, map, length, slice_index, codes}
 use Rattle.bx_text.specs.Field.{hex_text, laid_out}
 use Rattle.bx_text.specs.Dump.{shown_byte, pair_of}
 use Rattle.bx_dump.specs.Cells.{bits_of}

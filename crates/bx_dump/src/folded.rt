@@ -1,11 +1,9 @@
 //! Dumps of whole inputs, a page at a time.
-ghost use Rattle.std.specs.Prelude.{◌≡◌, ℕ, zero, suc, ◌+◌, ◌*◌, ◌/◌, ◌^◌, ◌<◌, ◌≤◌, Bool, true, false, List, [], ◌++◌, length, take, IfOk, IfErr, IsTrue, if◌then◌else◌};
+ghost use Rattle.std.specs.Prelude.{◌≡◌, ℕ, zero, suc, ◌+◌, ◌*◌, ◌/◌, ◌^◌, ◌<◌, ◌≤◌, Bool, true, false, List, [], ◌++◌, length, take, IsTrue, if◌then◌else◌};
 ghost use Rattle.bx_text.specs.Fold.{line_bytes, line_count, line_text, lines_to, folded, show_at, IsTaken};
-ghost use Rattle.bx_dump.specs.Dumped.{DumpsAll, DumpsFront};
 
-use crate::pages::{LIMIT, PAGE, Pages};
-use bx_text::{Fold, IoFault, Meter, Show, emit_after};
-use std::io::{Read, Write};
+use crate::pages::Pages;
+use bx_text::{Fold, Show};
 
 /// The bytes of whole lines that are put at once, for each of which a page has 128 bytes of room.
 const BLOCK: usize = 12288;
@@ -152,67 +150,4 @@ impl<F: Form> Pages for FoldedPages<F> {
     }
 
     fn grows(&self) {}
-}
-
-/// How much was read and written.
-#[derive(Clone, Copy, Debug, PartialEq, Eq)]
-pub struct Dumped {
-    pub read: u64,
-    pub written: u64,
-}
-
-/// Writes the lines of all that the reader gives, the first at address `start`.
-pub fn dump<R: Read, W: Write, F: Form>(
-    r: &mut R,
-    w: &mut W,
-    form: &F,
-    all: bool,
-    start: u64,
-) -> Result<Dumped, IoFault>
-    requires { start ≤ 2 ^ 62 }
-    ensures ok { IfOk result (λ d. DumpsAll (folded (F.line form.now) all start) (R.remaining r.old) (R.remaining r.new) (W.contents w.old) (W.contents w.new) d.read d.written) }
-    ensures err { IfErr result (DumpsFront (folded (F.line form.now) all start) (R.remaining r.old) (R.remaining r.new) (W.contents w.old) (W.contents w.new)) }
-    ensures few { IfOk result (λ d. d.written ≤ 2 ^ 44) }
-{
-    dump_pages(r, w, form, all, start, &mut [0; BLOCK], &mut [0; PAGE])
-}
-
-/// The same, with working space.
-fn dump_pages<R: Read, W: Write, F: Form>(
-    r: &mut R,
-    w: &mut W,
-    form: &F,
-    all: bool,
-    start: u64,
-    block: &mut [u8],
-    page: &mut [u8],
-) -> Result<Dumped, IoFault>
-    requires start { start ≤ 2 ^ 62 }
-    requires block { length block.old ≡ BLOCK }
-    requires page { length page.old ≡ PAGE }
-    ensures ok { IfOk result (λ d. DumpsAll (folded (F.line form.now) all start) (R.remaining r.old) (R.remaining r.new) (W.contents w.old) (W.contents w.new) d.read d.written) }
-    ensures err { IfErr result (DumpsFront (folded (F.line form.now) all start) (R.remaining r.old) (R.remaining r.new) (W.contents w.old) (W.contents w.new)) }
-    ensures few { IfOk result (λ d. d.written ≤ 2 ^ 44) }
-{
-    let mut meter = Meter::new(LIMIT);
-    let mut fold = Fold::new();
-    let mut written = 0u64;
-    loop {
-        let at = meter.taken;
-        let n = match meter.fill(r, block) {
-            Ok(n) => n,
-            Err(fault) => return Err(fault),
-        };
-        let used = put_lines(page, form, all, &mut fold, start + at, &block[..n]);
-        if let Err(fault) = emit_after(w, written, &page[..used]) {
-            return Err(fault);
-        }
-        written += used as u64;
-        if n < block.len() {
-            return Ok(Dumped {
-                read: meter.taken,
-                written,
-            });
-        }
-    }
 }

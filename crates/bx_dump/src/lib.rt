@@ -2,10 +2,16 @@
 #![tactic(auto)]
 
 mod folded;
+mod hex_lanes;
 mod hexdump;
+mod lanes;
+mod laws;
+mod od_bytes;
+mod od_decimal;
 mod od_digits;
 mod od_dump;
 mod od_lines;
+mod od_octal;
 mod od_options;
 mod od_values;
 mod pages;
@@ -18,10 +24,10 @@ mod xxd_names;
 mod xxd_options;
 mod xxd_rows;
 mod xxd_tables;
-mod xxd_whole;
 
-pub use folded::{Dumped, FoldedPages, Form, dump};
+pub use folded::{FoldedPages, Form};
 pub use hexdump::{CanonLines, HexdumpOptions, hexdump_c};
+pub use laws::shows_maximal_runs;
 pub use od_dump::od;
 pub use od_lines::OdLines;
 pub use od_options::{Address, Kind, NumForm, OdOptions, Size};
@@ -32,7 +38,6 @@ pub use xxd_dump::xxd;
 pub use xxd_lines::{LineForm, Lines, Put};
 pub use xxd_options::{XxdOptions, XxdStyle};
 pub use xxd_rows::{Items, Plain};
-pub use xxd_whole::xxd_default;
 
 #[cfg(test)]
 mod od_tests;

@@ -4,6 +4,12 @@ ghost use Rattle.std.specs.Fmt.{digits};
 ghost use Rattle.bx_text.specs.Field.{left_filled};
 ghost use Rattle.bx_dump.specs.Od.{size_of, number_width, number_text, signed_text, char_text};
 
+use crate::od_bytes::{signed_of, unsigned_of};
+use crate::od_decimal::{
+    put_signed_eight, put_signed_four, put_signed_two, put_unsigned_eight, put_unsigned_four,
+    put_unsigned_two,
+};
+use crate::od_octal::put_six;
 use crate::od_options::{NumForm, Size};
 use bx_text::hex_digit;
 
@@ -90,6 +96,37 @@ fn put_minus(field: &mut [u8], v: u64)
     field[first] = b'-';
 }
 
+/// Puts the digits of `v`, a minus in front of them where it is negative, with spaces in front.
+#[inline(never)]
+#[cold]
+fn put_small(field: &mut [u8], negative: bool, v: u64)
+    requires some { 1 < length field.old }
+    requires few { length field.old ≤ 22 }
+    requires room { v < 10 ^ (length field.old - 1) }
+    ensures { field.new ≡ left_filled 32 (length field.old) ((if negative then 45 ∷ [] else []) ++ digits 10 false v) }
+{
+    if negative {
+        put_minus(field, v);
+    } else {
+        put_filled(field, v, 10, b' ');
+    }
+}
+
+/// Puts the digits of `v`, a minus in front of them where it is negative, with spaces in front.
+#[inline(always)]
+fn put_amount(field: &mut [u8], size: Size, negative: bool, v: u64)
+    requires width { length field.old ≡ number_width NumForm.Signed size }
+    requires small { v ≤ 2 ^ (8 * size_of size - 1) }
+    ensures { field.new ≡ left_filled 32 (length field.old) ((if negative then 45 ∷ [] else []) ++ digits 10 false v) }
+{
+    match size {
+        Size::Two if v >= 1000 => put_signed_two(field, negative, v as u32),
+        Size::Four if v >= 100000000 => put_signed_four(field, negative, v as u32),
+        Size::Eight if v >= 10000000000000000 => put_signed_eight(field, negative, v),
+        _ => put_small(field, negative, v),
+    }
+}
+
 /// Puts `v`, read in two's complement, with spaces in front.
 #[inline(always)]
 fn put_signed(field: &mut [u8], size: Size, v: u64)
@@ -97,11 +134,41 @@ fn put_signed(field: &mut [u8], size: Size, v: u64)
     requires small { v < 2 ^ (8 * size_of size) }
     ensures { field.new ≡ number_text NumForm.Signed size v }
 {
+    if size == Size::One {
+        field.copy_from_slice(&signed_of(v as u8));
+        return;
+    }
     let half = half_of(size);
-    if v < half {
-        put_filled(field, v, 10, b' ');
-    } else {
-        put_minus(field, half - (v - half));
+    let negative = v >= half;
+    let amount = if negative { half - (v - half) } else { v };
+    put_amount(field, size, negative, amount);
+}
+
+/// Puts the digits of `v`, with spaces in front.
+#[inline(never)]
+#[cold]
+fn put_few(field: &mut [u8], v: u64)
+    requires some { 0 < length field.old }
+    requires few { length field.old ≤ 22 }
+    requires room { v < 10 ^ length field.old }
+    ensures { field.new ≡ left_filled 32 (length field.old) (digits 10 false v) }
+{
+    put_filled(field, v, 10, b' ');
+}
+
+/// Puts `v` in decimal digits, with spaces in front.
+#[inline(always)]
+fn put_unsigned(field: &mut [u8], size: Size, v: u64)
+    requires width { length field.old ≡ number_width NumForm.Unsigned size }
+    requires small { v < 2 ^ (8 * size_of size) }
+    ensures { field.new ≡ number_text NumForm.Unsigned size v }
+{
+    match size {
+        Size::One => field.copy_from_slice(&unsigned_of(v as u8)),
+        Size::Two if v >= 1000 => put_unsigned_two(field, v as u32),
+        Size::Four if v >= 100000000 => put_unsigned_four(field, v as u32),
+        Size::Eight if v >= 10000000000000000 => put_unsigned_eight(field, v),
+        _ => put_few(field, v),
     }
 }
 
@@ -114,43 +181,9 @@ pub fn put_number(field: &mut [u8], form: NumForm, size: Size, v: u64)
 {
     match form {
         NumForm::Signed => put_signed(field, size, v),
+        NumForm::Octal if size == Size::Two => put_six(field, v as u32),
         NumForm::Octal => put_fixed(field, v, 8),
-        NumForm::Unsigned => {
-            put_filled(field, v, 10, b' ');
-        }
+        NumForm::Unsigned => put_unsigned(field, size, v),
         NumForm::Hexadecimal => put_fixed(field, v, 16),
-    }
-}
-
-/// The letter behind the backslash, for a byte that has an escape.
-fn escape_of(byte: u8) -> Option<u8>
-    ensures some { IfSome result (λ letter. char_text byte ≡ 92 ∷ letter ∷ []) }
-    ensures none { result ≡ None → char_text byte ≡ (if nat_le 32 byte && nat_le byte 126 then byte ∷ [] else left_filled 48 3 (digits 8 false byte)) }
-{
-    match byte {
-        0 => Some(b'0'),
-        7 => Some(b'a'),
-        8 => Some(b'b'),
-        9 => Some(b't'),
-        10 => Some(b'n'),
-        11 => Some(b'v'),
-        12 => Some(b'f'),
-        13 => Some(b'r'),
-        _ => None,
-    }
-}
-
-/// Puts a byte as a character.
-#[inline(always)]
-pub fn put_char(field: &mut [u8], byte: u8)
-    requires { length field.old ≡ 3 }
-    ensures { field.new ≡ left_filled 32 3 (char_text byte) }
-{
-    if let Some(letter) = escape_of(byte) {
-        field.copy_from_slice(&[b' ', b'\\', letter]);
-    } else if 32 <= byte && byte <= 126 {
-        field.copy_from_slice(&[b' ', b' ', byte]);
-    } else {
-        put_fixed(field, byte as u64, 8);
     }
 }

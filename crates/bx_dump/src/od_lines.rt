@@ -4,6 +4,7 @@ ghost use Rattle.bx_dump.specs.Lines.{in_lines};
 ghost use Rattle.bx_dump.specs.Od.{address_text, od_line, od_end, value_text, width_of};
 
 use crate::folded::Form;
+use crate::od_octal::{put_eight, put_nine, put_seven};
 use crate::od_options::{Address, Kind};
 use crate::od_values::put_any;
 use bx_text::{ShortText, dec_field, hex_field, oct_field};
@@ -20,8 +21,66 @@ fn address_of(address: Address, at: u64) -> ShortText<22>
     }
 }
 
+/// Puts an address of at most 7 octal digits.
+#[inline(always)]
+fn put_short(page: &mut [u8], at: u64) -> usize
+    requires room { 22 ≤ length page.old }
+    requires fits { at < 8 ^ 7 }
+    ensures most { result ≤ 22 }
+    ensures text { take result page.new ≡ address_text Address.Octal at }
+{
+    let (field, _) = page.split_at_mut(7);
+    put_seven(field, at as u32);
+    7
+}
+
+/// Puts an address of 8 octal digits.
+#[inline(always)]
+fn put_long(page: &mut [u8], at: u64) -> usize
+    requires room { 22 ≤ length page.old }
+    requires fits { at < 8 ^ 8 }
+    requires all { 8 ^ 7 ≤ at }
+    ensures most { result ≤ 22 }
+    ensures text { take result page.new ≡ address_text Address.Octal at }
+{
+    let (field, _) = page.split_at_mut(8);
+    put_eight(field, at as u32);
+    8
+}
+
+/// Puts an address of 9 octal digits.
+#[inline(always)]
+fn put_longer(page: &mut [u8], at: u64) -> usize
+    requires room { 22 ≤ length page.old }
+    requires fits { at < 8 ^ 9 }
+    requires all { 8 ^ 8 ≤ at }
+    ensures most { result ≤ 22 }
+    ensures text { take result page.new ≡ address_text Address.Octal at }
+{
+    let (field, _) = page.split_at_mut(9);
+    put_nine(field, at as u32);
+    9
+}
+
 /// Puts an address at the front, and answers how long it is.
+#[inline(always)]
 fn put_start(page: &mut [u8], address: Address, at: u64) -> usize
+    requires { 22 ≤ length page.old }
+    ensures most { result ≤ 22 }
+    ensures text { take result page.new ≡ address_text address at }
+{
+    match address {
+        Address::Octal if at < 1 << 21 => put_short(page, at),
+        Address::Octal if at < 1 << 24 => put_long(page, at),
+        Address::Octal if at < 1 << 27 => put_longer(page, at),
+        _ => put_any_start(page, address, at),
+    }
+}
+
+/// The same for any address.
+#[inline(never)]
+#[cold]
+fn put_any_start(page: &mut [u8], address: Address, at: u64) -> usize
     requires { 22 ≤ length page.old }
     ensures most { result ≤ 22 }
     ensures text { take result page.new ≡ address_text address at }

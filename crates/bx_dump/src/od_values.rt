@@ -3,7 +3,8 @@ ghost use Rattle.std.specs.Prelude.{◌≡◌, ℕ, ◌+◌, ◌-◌, ◌*◌, �
 ghost use Rattle.bx_dump.specs.Lines.{in_lines};
 ghost use Rattle.bx_dump.specs.Od.{value_of, width_of, field_width, field_text, value_text};
 
-use crate::od_digits::{put_char, put_number};
+use crate::od_bytes::char_of;
+use crate::od_digits::put_number;
 use crate::od_options::{Kind, NumForm, Size};
 
 /// The value of bytes of which the lowest comes first.
@@ -30,11 +31,13 @@ fn put_value(text: &mut [u8], kind: Kind, bytes: &[u8])
     ensures { text.new ≡ 32 ∷ field_text kind bytes.now }
 {
     let value = value_of(bytes);
-    let (space, field) = text.split_at_mut(1);
-    space.copy_from_slice(b" ");
     match kind {
-        Kind::Chars => put_char(field, value as u8),
-        Kind::Number { form, size } => put_number(field, form, size, value),
+        Kind::Chars => text.copy_from_slice(&char_of(value as u8)),
+        Kind::Number { form, size } => {
+            let (space, field) = text.split_at_mut(1);
+            space.copy_from_slice(b" ");
+            put_number(field, form, size, value);
+        }
     }
 }
 
@@ -70,42 +73,72 @@ fn put_values(text: &mut [u8], kind: Kind, bytes: &[u8]) -> usize
     used
 }
 
-/// Puts the numbers of a full line, with a loop of its own for each size.
+/// Puts the value of which all bytes are there, from place `begin` on, and answers how long its text is.
 #[inline(always)]
-fn put_form(text: &mut [u8], form: NumForm, size: Size, bytes: &[u8; 16]) -> usize
+fn put_exact(text: &mut [u8], kind: Kind, bytes: &[u8], begin: usize) -> usize
+    requires room { field_width kind + 1 ≤ length text.old }
+    requires inside { begin + width_of kind ≤ length bytes.now }
+    ensures value { result ≡ field_width kind + 1 }
+    ensures text { take result text.new ≡ value_text kind (0 + begin) (take (min (begin + width_of kind) (length bytes.now) - begin) (drop begin bytes.now)) }
+{
+    let end = begin + kind.width();
+    let (value, _) = text.split_at_mut(kind.field() + 1);
+    put_value(value, kind, &bytes[begin..end]);
+    kind.field() + 1
+}
+
+/// Puts the values of a full line, and answers how long their text is.
+#[inline(always)]
+fn put_whole(text: &mut [u8], kind: Kind, bytes: &[u8]) -> usize
+    requires room { 80 ≤ length text.old }
+    requires full { length bytes.now ≡ 16 }
+    ensures most { result ≤ 80 }
+    ensures text { take result text.new ≡ in_lines (value_text kind) (width_of kind) 0 bytes.now }
+{
+    let width = kind.width();
+    let count = (bytes.len() + width - 1) / width;
+    let mut used = 0;
+    for k in 0..count {
+        used += put_exact(&mut text[used..], kind, bytes, width * k);
+    }
+    used
+}
+
+/// Puts the numbers of a full line in decimal digits, read in two's complement, with a loop of its own for each size.
+fn put_signed_line(text: &mut [u8], size: Size, bytes: &[u8; 16]) -> usize
     requires room { 80 ≤ length text.old }
     ensures most { result ≤ 80 }
-    ensures text { take result text.new ≡ in_lines (value_text (Kind.Number form size)) (width_of (Kind.Number form size)) 0 bytes.now }
+    ensures text { take result text.new ≡ in_lines (value_text (Kind.Number NumForm.Signed size)) (width_of (Kind.Number NumForm.Signed size)) 0 bytes.now }
 {
     match size {
-        Size::One => put_values(
+        Size::One => put_whole(
             text,
             Kind::Number {
-                form,
+                form: NumForm::Signed,
                 size: Size::One,
             },
             bytes,
         ),
-        Size::Two => put_values(
+        Size::Two => put_whole(
             text,
             Kind::Number {
-                form,
+                form: NumForm::Signed,
                 size: Size::Two,
             },
             bytes,
         ),
-        Size::Four => put_values(
+        Size::Four => put_whole(
             text,
             Kind::Number {
-                form,
+                form: NumForm::Signed,
                 size: Size::Four,
             },
             bytes,
         ),
-        Size::Eight => put_values(
+        Size::Eight => put_whole(
             text,
             Kind::Number {
-                form,
+                form: NumForm::Signed,
                 size: Size::Eight,
             },
             bytes,
@@ -113,19 +146,145 @@ fn put_form(text: &mut [u8], form: NumForm, size: Size, bytes: &[u8; 16]) -> usi
     }
 }
 
-/// Puts the values of a full line, with a loop of its own for each kind.
+/// Puts the numbers of a full line in octal digits, with a loop of its own for each size.
+fn put_octal_line(text: &mut [u8], size: Size, bytes: &[u8; 16]) -> usize
+    requires room { 80 ≤ length text.old }
+    ensures most { result ≤ 80 }
+    ensures text { take result text.new ≡ in_lines (value_text (Kind.Number NumForm.Octal size)) (width_of (Kind.Number NumForm.Octal size)) 0 bytes.now }
+{
+    match size {
+        Size::One => put_whole(
+            text,
+            Kind::Number {
+                form: NumForm::Octal,
+                size: Size::One,
+            },
+            bytes,
+        ),
+        Size::Two => put_whole(
+            text,
+            Kind::Number {
+                form: NumForm::Octal,
+                size: Size::Two,
+            },
+            bytes,
+        ),
+        Size::Four => put_whole(
+            text,
+            Kind::Number {
+                form: NumForm::Octal,
+                size: Size::Four,
+            },
+            bytes,
+        ),
+        Size::Eight => put_whole(
+            text,
+            Kind::Number {
+                form: NumForm::Octal,
+                size: Size::Eight,
+            },
+            bytes,
+        ),
+    }
+}
+
+/// Puts the numbers of a full line in decimal digits, with a loop of its own for each size.
+fn put_unsigned_line(text: &mut [u8], size: Size, bytes: &[u8; 16]) -> usize
+    requires room { 80 ≤ length text.old }
+    ensures most { result ≤ 80 }
+    ensures text { take result text.new ≡ in_lines (value_text (Kind.Number NumForm.Unsigned size)) (width_of (Kind.Number NumForm.Unsigned size)) 0 bytes.now }
+{
+    match size {
+        Size::One => put_whole(
+            text,
+            Kind::Number {
+                form: NumForm::Unsigned,
+                size: Size::One,
+            },
+            bytes,
+        ),
+        Size::Two => put_whole(
+            text,
+            Kind::Number {
+                form: NumForm::Unsigned,
+                size: Size::Two,
+            },
+            bytes,
+        ),
+        Size::Four => put_whole(
+            text,
+            Kind::Number {
+                form: NumForm::Unsigned,
+                size: Size::Four,
+            },
+            bytes,
+        ),
+        Size::Eight => put_whole(
+            text,
+            Kind::Number {
+                form: NumForm::Unsigned,
+                size: Size::Eight,
+            },
+            bytes,
+        ),
+    }
+}
+
+/// Puts the numbers of a full line in hexadecimal digits, with a loop of its own for each size.
+fn put_hexadecimal_line(text: &mut [u8], size: Size, bytes: &[u8; 16]) -> usize
+    requires room { 80 ≤ length text.old }
+    ensures most { result ≤ 80 }
+    ensures text { take result text.new ≡ in_lines (value_text (Kind.Number NumForm.Hexadecimal size)) (width_of (Kind.Number NumForm.Hexadecimal size)) 0 bytes.now }
+{
+    match size {
+        Size::One => put_whole(
+            text,
+            Kind::Number {
+                form: NumForm::Hexadecimal,
+                size: Size::One,
+            },
+            bytes,
+        ),
+        Size::Two => put_whole(
+            text,
+            Kind::Number {
+                form: NumForm::Hexadecimal,
+                size: Size::Two,
+            },
+            bytes,
+        ),
+        Size::Four => put_whole(
+            text,
+            Kind::Number {
+                form: NumForm::Hexadecimal,
+                size: Size::Four,
+            },
+            bytes,
+        ),
+        Size::Eight => put_whole(
+            text,
+            Kind::Number {
+                form: NumForm::Hexadecimal,
+                size: Size::Eight,
+            },
+            bytes,
+        ),
+    }
+}
+
+/// Puts the values of a full line.
 pub fn put_full(text: &mut [u8], kind: Kind, bytes: &[u8; 16]) -> usize
     requires room { 80 ≤ length text.old }
     ensures most { result ≤ 80 }
     ensures text { take result text.new ≡ in_lines (value_text kind) (width_of kind) 0 bytes.now }
 {
     match kind {
-        Kind::Chars => put_values(text, Kind::Chars, bytes),
+        Kind::Chars => put_whole(text, Kind::Chars, bytes),
         Kind::Number { form, size } => match form {
-            NumForm::Signed => put_form(text, NumForm::Signed, size, bytes),
-            NumForm::Octal => put_form(text, NumForm::Octal, size, bytes),
-            NumForm::Unsigned => put_form(text, NumForm::Unsigned, size, bytes),
-            NumForm::Hexadecimal => put_form(text, NumForm::Hexadecimal, size, bytes),
+            NumForm::Signed => put_signed_line(text, size, bytes),
+            NumForm::Octal => put_octal_line(text, size, bytes),
+            NumForm::Unsigned => put_unsigned_line(text, size, bytes),
+            NumForm::Hexadecimal => put_hexadecimal_line(text, size, bytes),
         },
     }
 }

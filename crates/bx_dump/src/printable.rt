@@ -5,7 +5,7 @@ ghost use Rattle.bx_dump.specs.Dumped.{DumpsAll, DumpsFront};
 ghost use Rattle.bx_dump.specs.Scan.{scan_text, scan_run, IsKept, ScansAll, pending, cost_of, end_text, AllPrint, EndsQuiet, IsQuiet};
 ghost use Rattle.bx_dump.specs.Strings.{is_printable, place_text, strings_text};
 
-use crate::folded::Dumped;
+use crate::lanes::{four_in, printing_in};
 use crate::od_options::Address;
 use bx_text::{IoFault, Meter, ShortText, State, dec_field, emit_after, hex_field, oct_field};
 use std::io::{Read, Write};
@@ -33,10 +33,25 @@ struct Step {
     used: usize,
 }
 
+/// How much was read, and how much text was written.
+#[derive(Clone, Copy)]
+struct Dumped {
+    read: u64,
+    written: u64,
+}
+
 fn prints(byte: u8) -> bool
     ensures { result ≡ is_printable byte }
 {
     (0x20..=0x7e).contains(&byte)
+}
+
+/// How many bytes in front print, byte by byte.
+fn printable_front(bytes: &[u8]) -> usize
+    ensures value { result ≡ prefix_len is_printable bytes.now }
+    ensures within { result ≤ length bytes.now }
+{
+    bytes.iter().take_while(|byte| prints(**byte)).count()
 }
 
 /// How many bytes in front print.
@@ -44,7 +59,15 @@ fn printable_len(bytes: &[u8]) -> usize
     ensures value { result ≡ prefix_len is_printable bytes.now }
     ensures within { result ≤ length bytes.now }
 {
-    bytes.iter().take_while(|byte| prints(**byte)).count()
+    let mut done = 0;
+    while bytes.len() - done >= 16 {
+        let more = printing_in(bytes, done);
+        done += more;
+        if more < 16 {
+            return done;
+        }
+    }
+    done + printable_front(&bytes[done..])
 }
 
 /// How many bytes in front don't print.
@@ -69,7 +92,7 @@ fn last_other(bytes: &[u8]) -> usize
 
 /// How many bytes in front have no run that is long enough, and leave none. Whole windows of `least` bytes are skipped
 /// from their last byte that doesn't print.
-fn quiet_len(bytes: &[u8], least: usize) -> usize
+fn quiet_windows(bytes: &[u8], least: usize) -> usize
     requires { 0 < least }
     ensures quiet { IsQuiet least (take result bytes.now) }
     ensures within { result ≤ length bytes.now }
@@ -83,6 +106,35 @@ fn quiet_len(bytes: &[u8], least: usize) -> usize
         done += more;
     }
     done
+}
+
+/// The same up to the first four bytes that print.
+fn quiet_fours(bytes: &[u8], least: usize) -> usize
+    requires { 4 ≤ least }
+    ensures quiet { IsQuiet least (take result bytes.now) }
+    ensures within { result ≤ length bytes.now }
+{
+    let mut done = 0;
+    while bytes.len() - done >= 35 {
+        let more = four_in(bytes, done);
+        done += more;
+        if more < 32 {
+            return done;
+        }
+    }
+    last_other(&bytes[..done])
+}
+
+/// How many bytes in front are known to have no run that is long enough, and to leave none.
+fn quiet_len(bytes: &[u8], least: usize) -> usize
+    requires { 0 < least }
+    ensures quiet { IsQuiet least (take result bytes.now) }
+    ensures within { result ≤ length bytes.now }
+{
+    if bytes.len() >= 35 && least >= 4 && least <= 16 {
+        return quiet_fours(bytes, least);
+    }
+    quiet_windows(bytes, least)
 }
 
 /// The place of a run, and a space.

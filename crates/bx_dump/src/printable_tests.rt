@@ -171,3 +171,86 @@ fn strings_of_each_length(rt: HostRuntime) -> Result<(), Fail> {
     }
     Ok(())
 }
+
+/// A reader that gives so many bytes, then so many, and then the rest.
+#[derive(Drop)]
+struct Pieces<'a> {
+    bytes: &'a [u8],
+    first: usize,
+    second: usize,
+}
+
+impl Read for Pieces<'_> {
+    fn read(&mut self, buf: &mut [u8]) -> io::Result<usize> {
+        let most = if self.first > 0 {
+            self.first
+        } else {
+            buf.len()
+        }
+        .min(buf.len());
+        self.first = self.second;
+        self.second = 0;
+        self.bytes.read(&mut buf[..most])
+    }
+}
+
+#[test]
+fn strings_of_every_split(rt: HostRuntime) {
+    for first in 1..16usize {
+        for second in 1..16usize {
+            let mut from = Pieces {
+                bytes: b"ab\0hello\n\x01world!",
+                first,
+                second,
+            };
+            let mut out = Vec::new(rt.alloc());
+            assert_eq!(rt; strings(&mut from, &mut out, &FOUR), Ok(16));
+            assert_eq!(rt; out.as_slice(), b"hello\nworld!\n".as_slice());
+        }
+    }
+}
+
+#[test]
+fn strings_at_every_place(rt: HostRuntime) -> Result<(), Fail> {
+    for before in 0..80usize {
+        let mut input = vec![in rt.alloc(); 0u8; before]?;
+        input.extend_from_slice(b"four\x1fyes\x7f\x7f!no way~\0\x80")?;
+        input.extend_from_slice(&[0xffu8; 40])?;
+        let mut from = input.as_slice();
+        let mut out = Vec::new(rt.alloc());
+        let all = input.len() as u64;
+        assert_eq!(rt; strings(&mut from, &mut out, &FOUR), Ok(all));
+        assert_eq!(rt; out.as_slice(), b"four\n!no way~\n".as_slice());
+    }
+    Ok(())
+}
+
+#[test]
+fn strings_of_every_byte(rt: HostRuntime) -> Result<(), Fail> {
+    for byte in 0..=255u8 {
+        let input = [b'w', b'x', b'y', b'z', byte, b'w', b'x', b'y', b'z'];
+        let mut from = input.as_slice();
+        let mut out = Vec::new(rt.alloc());
+        assert_eq!(rt; strings(&mut from, &mut out, &FOUR), Ok(9));
+        let mut text = Vec::new(rt.alloc());
+        if byte >= 0x20 && byte < 0x7f {
+            text.extend_from_slice(&input)?;
+        } else {
+            text.extend_from_slice(b"wxyz\nwxyz")?;
+        }
+        text.push(b'\n')?;
+        assert_eq!(rt; out.as_slice(), text.as_slice());
+    }
+    Ok(())
+}
+
+#[test]
+fn strings_of_each_printing_length(rt: HostRuntime) {
+    let letters = [b'a'; 600];
+    for n in 0..601usize {
+        let mut from = &letters[..n];
+        let mut out = Vec::new(rt.alloc());
+        assert_eq!(rt; strings(&mut from, &mut out, &FOUR), Ok(n as u64));
+        assert_eq!(rt; out.len(), if n < 4 { 0 } else { n + 1 });
+    }
+}

@@ -5,11 +5,12 @@ ghost use Rattle.bx_text.specs.Dump.{pair_of, shown_byte};
 ghost use Rattle.bx_text.specs.Field.{hex_text};
 ghost use Rattle.bx_dump.specs.Cells.{bits_of, piece_at, grouped};
 
+use crate::hex_lanes::{put_fours, put_sixteen};
 use crate::xxd_tables::bits;
 use bx_text::{blank, digits_of, hex_digit, hex_field, put_text};
 
-/// Puts the two digits of each byte.
-pub fn put_pairs(cells: &mut [u8], bytes: &[u8], upper: bool)
+/// Puts the two digits of each byte, byte by byte.
+fn put_few_pairs(cells: &mut [u8], bytes: &[u8], upper: bool)
     requires { length cells.old ≡ 2 * length bytes.now }
     ensures { cells.new ≡ flat_map (pair_of upper) bytes.now }
 {
@@ -17,6 +18,32 @@ pub fn put_pairs(cells: &mut [u8], bytes: &[u8], upper: bool)
         cells[2 * i] = hex_digit(byte / 16, upper);
         cells[2 * i + 1] = hex_digit(byte % 16, upper);
     }
+}
+
+/// Puts the two digits of each byte, for so many times 16 bytes.
+fn put_sixteens(cells: &mut [u8], bytes: &[u8], upper: bool, count: usize)
+    requires room { length cells.old ≡ 32 * count }
+    requires enough { 16 * count ≤ length bytes.now }
+    ensures { cells.new ≡ flat_map (pair_of upper) (take (16 * count) bytes.now) }
+{
+    for k in 0..count {
+        put_sixteen(
+            &mut cells[32 * k..32 * k + 32],
+            &bytes[16 * k..16 * k + 16],
+            upper,
+        );
+    }
+}
+
+/// Puts the two digits of each byte.
+pub fn put_pairs(cells: &mut [u8], bytes: &[u8], upper: bool)
+    requires { length cells.old ≡ 2 * length bytes.now }
+    ensures { cells.new ≡ flat_map (pair_of upper) bytes.now }
+{
+    let count = bytes.len() / 16;
+    let (front, rest) = cells.split_at_mut(32 * count);
+    put_sixteens(front, bytes, upper, count);
+    put_few_pairs(rest, &bytes[16 * count..], upper);
 }
 
 /// Puts the eight binary digits of each byte.
@@ -68,11 +95,12 @@ fn put_whole(field: &mut [u8], cells: &[u8], piece: usize, count: usize)
     requires enough { piece * count ≤ length cells.now }
     ensures { field.new ≡ flat_map (piece_at piece cells.now) (range_with_len 0 count) }
 {
-    match piece {
-        2 => put_fixed_pieces::<2>(field, cells, count),
-        4 => put_fixed_pieces::<4>(field, cells, count),
-        8 => put_fixed_pieces::<8>(field, cells, count),
-        16 => put_fixed_pieces::<16>(field, cells, count),
+    match (piece, count) {
+        (4, 8) => put_fours(field, &cells[..32]),
+        (2, _) => put_fixed_pieces::<2>(field, cells, count),
+        (4, _) => put_fixed_pieces::<4>(field, cells, count),
+        (8, _) => put_fixed_pieces::<8>(field, cells, count),
+        (16, _) => put_fixed_pieces::<16>(field, cells, count),
         _ => put_pieces(field, cells, piece, count),
     }
 }

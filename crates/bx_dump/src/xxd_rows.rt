@@ -1,7 +1,8 @@
 //! Lines of xxd without an address: plain digits, and items of a C array.
-ghost use Rattle.std.specs.Prelude.{◌≡◌, ℕ, ◌+◌, ◌-◌, ◌*◌, ◌<◌, ◌≤◌, false, List, length};
+ghost use Rattle.std.specs.Prelude.{◌≡◌, ℕ, ◌+◌, ◌-◌, ◌*◌, ◌/◌, ◌<◌, ◌≤◌, false, List, [], ◌∷◌, ◌++◌, length, take};
 ghost use Rattle.std.specs.List.{flat_map};
 ghost use Rattle.bx_text.specs.Dump.{pair_of};
+ghost use Rattle.bx_dump.specs.Lines.{in_lines};
 ghost use Rattle.bx_dump.specs.Rows.{next_item, plain_line, include_line};
 
 use crate::xxd_cells::put_pairs;
@@ -26,6 +27,40 @@ impl Plain {
         ensures upper { result.upper ≡ upper }
     {
         Plain { cols, upper }
+    }
+}
+
+/// Puts a full line.
+#[inline(always)]
+fn put_thirty(line: &mut [u8], cells: &[u8])
+    requires line { length line.old ≡ 61 }
+    requires cells { length cells.now ≡ 60 }
+    ensures { line.new ≡ cells.now ++ 10 ∷ [] }
+{
+    let mut digits = [0; 60];
+    digits.copy_from_slice(cells);
+    let (front, end) = line.split_at_mut(60);
+    front.copy_from_slice(&digits);
+    end.copy_from_slice(b"\n");
+}
+
+/// Puts all full lines of 30 bytes.
+fn put_thirties(form: &Plain, text: &mut [u8], at: u64, bytes: &[u8], cells: &[u8]) -> Put
+    requires cols { form.now.cols ≡ 30 }
+    requires room { 61 * ((length bytes.now + 29) / 30) ≤ length text.old }
+    requires cells { cells.now ≡ flat_map (pair_of form.now.upper) bytes.now }
+    requires long { length cells.now ≡ 2 * length bytes.now }
+    ensures inside { 30 * result.lines ≤ length bytes.now }
+    ensures most { result.used ≤ 61 * result.lines }
+    ensures text { take result.used text.new ≡ in_lines (plain_line form.now.upper) 30 at (take (30 * result.lines) bytes.now) }
+{
+    let lines = bytes.len() / 30;
+    for k in 0..lines {
+        put_thirty(&mut text[61 * k..61 * k + 61], &cells[60 * k..60 * k + 60]);
+    }
+    Put {
+        lines,
+        used: 61 * lines,
     }
 }
 
@@ -63,8 +98,12 @@ impl LineForm for Plain {
         cells.len() + 1
     }
 
-    fn put_usual(&self, _text: &mut [u8], _at: u64, _bytes: &[u8], _cells: &[u8]) -> Put {
-        Put { lines: 0, used: 0 }
+    fn put_usual(&self, text: &mut [u8], at: u64, bytes: &[u8], cells: &[u8]) -> Put {
+        if self.cols == 30 {
+            put_thirties(self, text, at, bytes, cells)
+        } else {
+            Put { lines: 0, used: 0 }
+        }
     }
 
     fn even(&self) {}

@@ -66,6 +66,26 @@ const ITEMS: XxdOptions<'static> = XxdOptions {
     upper: false,
 };
 
+const BITS: XxdOptions<'static> = XxdOptions {
+    style: XxdStyle::Bits,
+    cols: 6,
+    group: 1,
+    limit: None,
+    seek: 0,
+    shift: 0,
+    upper: false,
+};
+
+const PLAIN: XxdOptions<'static> = XxdOptions {
+    style: XxdStyle::Plain,
+    cols: 30,
+    group: 2,
+    limit: None,
+    seek: 0,
+    shift: 0,
+    upper: false,
+};
+
 /// Checks the text of an input.
 fn expect<R: Abort + AllocGlobal>(
     rt: &R,
@@ -97,17 +117,8 @@ fn xxd_hello(rt: HostRuntime) -> Result<(), Fail> {
 
 #[test]
 fn xxd_styles(rt: HostRuntime) -> Result<(), Fail> {
-    let bits = XxdOptions {
-        style: XxdStyle::Bits,
-        cols: 6,
-        group: 1,
-        limit: None,
-        seek: 0,
-        shift: 0,
-        upper: false,
-    };
     let text = "00000000: 01000001 01000010                                      AB\n";
-    expect(&rt, b"AB", &bits, 2, text)?;
+    expect(&rt, b"AB", &BITS, 2, text)?;
     let part = XxdOptions {
         style: XxdStyle::Normal,
         cols: 4,
@@ -125,16 +136,7 @@ fn xxd_styles(rt: HostRuntime) -> Result<(), Fail> {
         "00000014: 45 46 47 48  EFGH\n",
     )?;
     expect(&rt, b"AB", &part, 0, "")?;
-    let plain = XxdOptions {
-        style: XxdStyle::Plain,
-        cols: 30,
-        group: 2,
-        limit: None,
-        seek: 0,
-        shift: 0,
-        upper: false,
-    };
-    expect(&rt, b"ABC", &plain, 3, "414243\n")
+    expect(&rt, b"ABC", &PLAIN, 3, "414243\n")
 }
 
 #[test]
@@ -209,12 +211,38 @@ fn no_comma_before_a_failed_read(rt: HostRuntime) {
     assert!(rt; text.as_bytes().starts_with(out.as_slice()));
 }
 
-#[test]
-fn every_length_succeeds(rt: HostRuntime) {
+/// Checks how long the text of so many bytes is.
+fn expect_length<R: Abort + AllocGlobal>(rt: &R, o: &XxdOptions, count: usize, len: usize)
+    requires some { 0 < o.now.cols }
+    requires few { o.now.cols ≤ 256 }
+    requires groups { o.now.group ≤ 256 }
+    requires seek { o.now.seek ≤ 2 ^ 62 }
+    requires shift { o.now.shift ≤ 2 ^ 62 }
+    requires name { IsCountable o.now.style }
+    requires count { count ≤ 600 }
+{
     let bytes = [7u8; 600];
+    let mut from = &bytes[..count];
+    let mut out = Vec::new(rt.alloc());
+    assert_eq!(rt; xxd(&mut from, &mut out, o), Ok(count as u64));
+    assert_eq!(rt; out.len(), len);
+}
+
+#[test]
+fn every_length_of_columns(rt: HostRuntime) {
     for n in 0..601usize {
-        let mut from = &bytes[..n];
-        let mut out = Vec::new(rt.alloc());
-        assert_eq!(rt; xxd(&mut from, &mut out, &NORMAL), Ok(n as u64));
+        expect_length(&rt, &NORMAL, n, 52 * ((n + 15) / 16) + n);
+        expect_length(&rt, &BITS, n, 66 * ((n + 5) / 6) + n);
+    }
+}
+
+#[test]
+fn every_length_of_rows(rt: HostRuntime) {
+    expect_length(&rt, &ITEMS, 0, 0);
+    for n in 0..601usize {
+        expect_length(&rt, &PLAIN, n, 2 * n + (n + 29) / 30);
+    }
+    for n in 0..600usize {
+        expect_length(&rt, &ITEMS, n + 1, 6 * n + 7 + 2 * (n / 12));
     }
 }

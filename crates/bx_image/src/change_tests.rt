@@ -27,7 +27,8 @@ pub fn change<A: Allocator + Clone>(
     })
 }
 
-fn content<D: Device>(alloc: Global, device: &mut D) -> Result<Vec<u8>, Fail>
+/// The bytes that the device has.
+pub fn content<D: Device>(alloc: Global, device: &mut D) -> Result<Vec<u8>, Fail>
     requires { D.failures device.old < u64.MAX }
     ensures { OnOk result (GoesOn D.honest D.room D.failures false device.old device.new) }
 {
@@ -37,8 +38,8 @@ fn content<D: Device>(alloc: Global, device: &mut D) -> Result<Vec<u8>, Fail>
     Ok(bytes)
 }
 
-// Makes room for the change and applies it.
-fn perform<D: Device>(device: &mut D, change: &Change) -> Result<u64, Fail>
+/// Makes room for the change and applies it.
+pub fn perform<D: Device>(device: &mut D, change: &Change) -> Result<u64, Fail>
     requires { D.failures device.old < u64.MAX }
     ensures { OnOk result (GoesOn D.honest D.room D.failures false device.old device.new) }
 {

@@ -1,4 +1,5 @@
 use super::*;
+use crate::change_tests::change;
 use std::test::Fail;
 
 #[test]
@@ -54,5 +55,33 @@ fn reads_fail_after_two(rt: HostRuntime) -> Result<(), Fail> {
     assert_eq!(rt; fused.len(), Err(DeviceFailed));
     assert_eq!(rt; fused.faults(), 2);
     assert_eq!(rt; fused.into_inner().as_slice(), b"xBC".as_slice());
+    Ok(())
+}
+
+// `apply` makes one `set_len` where there is a base, and one `write_at` for each write that isn't empty.
+#[test]
+fn calls_of_apply(rt: HostRuntime) -> Result<(), Fail> {
+    for (base, calls) in [(None, 2), (Some(4), 3)] {
+        let change = change(rt.alloc(), base, &[(1, b"x"), (100, b""), (3, b"yz")])?;
+        for pass in 0..5u64 {
+            let image = MemImage::from_vec(b"ABCDEF".to_vec(rt.alloc())?);
+            let mut fused = FuseImage::new(image, pass, Part::Nothing, false);
+            fused.reserve(check(&change, 6)?)?;
+            assert_eq!(rt; apply(&mut fused, &change).is_ok(), pass >= calls);
+        }
+    }
+    Ok(())
+}
+
+// `save` asks for the length once, and reads each of three runs once.
+#[test]
+fn calls_of_save(rt: HostRuntime) -> Result<(), Fail> {
+    let writes: [(u64, &[u8]); 4] = [(8, b"X"), (2, b"XY"), (3, b"Z"), (6, b"[")];
+    let change = change(rt.alloc(), Some(9), &writes)?;
+    for pass in 0..6u64 {
+        let image = MemImage::from_vec(b"ABCDEFGHIJ".to_vec(rt.alloc())?);
+        let mut fused = FuseImage::on_reads(image, pass);
+        assert_eq!(rt; save(rt.alloc(), &mut fused, &change).is_ok(), pass >= 4);
+    }
     Ok(())
 }

@@ -1,6 +1,8 @@
 // Some hundreds of small changes, compared with the slow program.
+ghost use Rattle.std.specs.Prelude.{◌<◌};
+
 use super::*;
-use crate::change_tests::change;
+use crate::change_tests::{change, content, perform};
 use crate::slow::{slow_effect, slow_saved};
 use std::alloc::Global;
 use std::process::Abort;
@@ -18,19 +20,38 @@ fn assert_same_runs(rt: &impl Abort, saved: &Saved, slow: &Saved) {
     }
 }
 
-fn assert_agrees(rt: &impl Abort, alloc: Global, change: &Change) -> Result<(), Fail> {
-    let image = IMAGE.to_vec(alloc)?;
-    let len = check(change, image.len() as u64)?;
-    let effect = slow_effect(alloc, change, image.as_slice())?;
-    let kept = slow_saved(alloc, change, image.as_slice())?;
+// The device saves these runs, and has these bytes after the change.
+#[tactic(auto, using(crate::proofs::Devices::GoesOn_then))]
+fn assert_agrees<D: Device>(
+    rt: &impl Abort,
+    alloc: Global,
+    device: &mut D,
+    change: &Change,
+    effect: &[u8],
+    kept: &Saved,
+) -> Result<(), Fail>
+    requires { D.failures device.old < u64.MAX }
+{
+    let saved = save(alloc, device, change)?;
+    assert_same_runs(rt, &saved, kept);
+    let len = perform(device, change)?;
     assert_eq!(rt; len, effect.len() as u64);
-    let mut memory = MemImage::from_vec(image);
-    let saved = save(alloc, &mut memory, change)?;
-    assert_same_runs(rt, &saved, &kept);
-    memory.reserve(len)?;
-    apply(&mut memory, change)?;
-    assert!(rt; memory.as_slice() == effect.as_slice());
+    let changed = content(alloc, device)?;
+    assert!(rt; changed.as_slice() == effect);
     Ok(())
+}
+
+// In memory and in pages.
+fn assert_agrees_on_both(rt: &impl Abort, alloc: Global, change: &Change) -> Result<(), Fail> {
+    check(change, IMAGE.len() as u64)?;
+    let effect = slow_effect(alloc, change, IMAGE)?;
+    let kept = slow_saved(alloc, change, IMAGE)?;
+    let mut memory = MemImage::from_vec(IMAGE.to_vec(alloc)?);
+    assert_agrees(rt, alloc, &mut memory, change, effect.as_slice(), &kept)?;
+    let mut pages = PagedImage::new(alloc);
+    pages.reserve(IMAGE.len() as u64)?;
+    pages.write_at(0, IMAGE)?;
+    assert_agrees(rt, alloc, &mut pages, change, effect.as_slice(), &kept)
 }
 
 // Bases and pairs of writes of up to two bytes.
@@ -43,7 +64,7 @@ fn agrees_with_the_slow_program(rt: HostRuntime) -> Result<(), Fail> {
                 let one = &b"vw"[..(first % 3) as usize];
                 let other = &b"yz"[..(second % 3) as usize];
                 let change = change(alloc, base, &[(first / 3, one), (second / 3, other)])?;
-                assert_agrees(&rt, alloc, &change)?;
+                assert_agrees_on_both(&rt, alloc, &change)?;
             }
         }
     }

@@ -11,7 +11,7 @@ use Rattle.bx_read.proofs.LinesLemmas.{answers_read}
 use Rattle.bx_read.proofs.DumpLemmas.{first_is, not_skipped}
 
 -- the first line, by what it is
-first_line : (line rest : List ℕ) → All (λ c. c ≢ 10) line → lines_of (line ++ 10 ∷ rest) ≡ line ∷ lines_of rest
+pub first_line : (line rest : List ℕ) → All (λ c. c ≢ 10) line → lines_of (line ++ 10 ∷ rest) ≡ line ∷ lines_of rest
 first_line [] rest whole = refl
 first_line (c ∷ line) rest whole =
     rw (ne_eqb c 10 (whole 0 0 (omega arith)), first_line line rest (λ k d inside. whole (suc k) d (omega arith))) refl

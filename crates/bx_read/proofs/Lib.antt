@@ -13,3 +13,4 @@ pub mod PlainLemmas
 pub mod HexLemmas
 pub mod FullLemmas
 pub mod FullLines
+pub mod RowsLemmas

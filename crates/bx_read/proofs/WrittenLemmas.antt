@@ -1,14 +1,14 @@
 -- A line that is written.
 use Rattle.std.proofs.Common.{◌≡◌, ◌≢◌, ℕ, zero, suc, ◌+◌, ◌-◌, ◌/◌, ◌%◌, ◌^◌, ◌<◌, ◌≤◌, Bool, true, false, ◌&&◌, cond, leb, ltb, List, [], ◌∷◌, ◌++◌, length, get_or, map, replicate, refl, arith, ap}
 use Rattle.std.specs.Fmt.{digits, digit_glyph}
-use Rattle.std.specs.List.{All, AllPass, range_with_len}
+use Rattle.std.specs.List.{All, range_with_len}
 use Rattle.std.proofs.lemmas.List.Elements.{All-append, All-map}
 use Rattle.std.proofs.lemmas.List.FromFn.{length-map-range_with_len}
 use Rattle.std.proofs.lemmas.Bool.{leb-true, ltb-true}
 use Rattle.std.proofs.lemmas.Bool.Decides.{nat_tests}
 use Rattle.std.proofs.lemmas.List.{length-append, length-replicate, length-map, get_or_append_left}
 use Rattle.bx_text.specs.Field.{char_at, hex_text}
-use Rattle.bx_text.specs.Dump.{hex_place, hex_columns, pair_of, shown_byte}
+use Rattle.bx_text.specs.Dump.{hex_place, hex_columns, hex_width, pair_of, shown_byte}
 use Rattle.bx_read.specs.Digits.{is_hex}
 use Rattle.bx_read.specs.Laws.{DumpLineReadsBack, WrittenLineReadsBack, line_text, wide_line_text}
 use Rattle.bx_read.proofs.GrammarLemmas.{and_true}
@@ -46,32 +46,36 @@ char_prints place text each (suc n) p = go (leb (place n) p && ltb p (place n + 
         each n (p - place n) 0 (omega (arith, leb-true (place n) p both.0, ltb-true p (place n + length (text n)) both.1))
     go false e before = before
 
-pair_prints : (b : ℕ) → b < 256 → All Prints (pair_of false b)
-pair_prints b small zero d inside = hex_prints (digit_glyph false (b / 16)) (glyph_hex false (b / 16) (omega arith))
-pair_prints b small (suc zero) d inside = hex_prints (digit_glyph false (b % 16)) (glyph_hex false (b % 16) (omega arith))
-pair_prints b small (suc (suc k)) d inside = absurd (omega arith)
+pair_prints : (upper : Bool) (b : ℕ) → b < 256 → All Prints (pair_of upper b)
+pair_prints upper b small zero d inside = hex_prints (digit_glyph upper (b / 16)) (glyph_hex upper (b / 16) (omega arith))
+pair_prints upper b small (suc zero) d inside = hex_prints (digit_glyph upper (b % 16)) (glyph_hex upper (b % 16) (omega arith))
+pair_prints upper b small (suc (suc k)) d inside = absurd (omega arith)
 
-columns_print : (bytes : List ℕ) (width : ℕ) → ((i : ℕ) → get_or bytes i 0 < 256) → All Prints (hex_columns false 2 bytes width)
-columns_print bytes width small =
-    let place = hex_place 2 in
-    let text = λ (i : ℕ). pair_of false (get_or bytes i 0) in
+columns_print : (upper : Bool) (group : ℕ) (bytes : List ℕ) (width : ℕ) → ((i : ℕ) → get_or bytes i 0 < 256) → All Prints (hex_columns upper group bytes width)
+columns_print upper group bytes width small =
+    let place = hex_place group in
+    let text = λ (i : ℕ). pair_of upper (get_or bytes i 0) in
     All-map Prints (char_at place text (length bytes)) (range_with_len 0 width)
-    (λ k d inside. char_prints place text (λ i. pair_prints (get_or bytes i 0) (small i)) (length bytes) (get_or (range_with_len 0 width) k d))
+    (λ k d inside. char_prints place text (λ i. pair_prints upper (get_or bytes i 0) (small i)) (length bytes) (get_or (range_with_len 0 width) k d))
 
 columns_length : (bytes : List ℕ) (width : ℕ) → length (hex_columns false 2 bytes width) ≡ width
 columns_length bytes width = length-map-range_with_len (char_at (hex_place 2) (λ i. pair_of false (get_or bytes i 0)) (length bytes)) 0 width
 
--- the digits of an address below 2 ^ 48, with the zeros in front
-address_is : (at : ℕ) → at < 2 ^ 48 → (AllPass is_hex (hex_text false 8 at)) × (0 < length (hex_text false 8 at)) × (length (hex_text false 8 at) ≤ 12)
-address_is at small =
+-- an address below 2 ^ 62, with the zeros in front
+address_prints : (at : ℕ) → at < 2 ^ 62 → All Prints (hex_text false 8 at)
+address_prints at small k d inside =
     let ds = digits 16 false at in
     let numeral = digits_is_IsNumeral 16 false (omega arith) (omega arith) at (omega arith) in
     let zeros : ℕ = 8 - length ds in
-    let few = length-hex 11 at (omega arith) in (
-      all_hex (replicate zeros 48 ++ ds) (digits-zeros zeros ds numeral.0.1),
-      omega (arith, length-append (replicate zeros 48) ds, numeral.0.0),
-      omega (arith, length-append (replicate zeros 48) ds, length-replicate {A = ℕ} zeros 48, few),
-    )
+    hex_prints (get_or (hex_text false 8 at) k d) (all_hex (replicate zeros 48 ++ ds) (digits-zeros zeros ds numeral.0.1) k d inside)
+
+-- how long one below 2 ^ 48 is
+address_length : (at : ℕ) → at < 2 ^ 48 → length (hex_text false 8 at) ≤ 12
+address_length at small =
+    let ds = digits 16 false at in
+    let zeros : ℕ = 8 - length ds in
+    let few = length-hex 11 at (omega arith) in
+    omega (arith, length-append (replicate zeros 48) ds, length-replicate {A = ℕ} zeros 48, few)
 
 -- a line by its parts
 module _ (address columns shown : List ℕ) where
@@ -96,6 +100,16 @@ module _ (address columns shown : List ℕ) where
       one zero d h = (omega arith, omega arith)
       one (suc k) d h = absurd (omega arith)
 
+wide_prints : (upper : Bool) (cols group at : ℕ) (bytes : List ℕ) → All (λ b. b < 256) bytes → at < 2 ^ 62 → All Prints (wide_line_text upper cols group at bytes)
+wide_prints upper cols group at bytes all small =
+    line_prints (hex_text false 8 at) (hex_columns upper group bytes (hex_width cols group)) (map shown_byte bytes)
+    (address_prints at small) (columns_print upper group bytes (hex_width cols group) (each_small bytes all))
+    (All-map Prints shown_byte bytes (λ k d inside. shown_prints (get_or bytes k d)))
+
+-- what prints is no newline
+one_line : (text : List ℕ) → All Prints text → All (λ c. c ≢ 10) text
+one_line text prints k d inside e = absurd (omega (arith, (prints k d inside).0, e))
+
 -- no front begins with another byte than the whole
 first_of : (front rest line : List ℕ) → line ≡ front ++ rest → 0 < length line → is_hex (get_or line 0 0) ≡ true → get_or front 0 0 ≢ 115
 first_of [] rest line e some is = λ h. absurd (omega (arith, h))
@@ -106,14 +120,10 @@ first_of (c ∷ front) rest line e some is = λ h.
 
 pub written : WrittenLineReadsBack
 written at bytes some few all fits =
-    let small = each_small bytes all in
-    let address = address_is at (omega arith) in
     let width : ℕ = 40 in
     let text = line_text at bytes in
     let is = line_reads false 16 2 at bytes (omega arith) some few (omega arith) all (omega arith) in
-    let digits_print : All Prints (hex_text false 8 at) = λ k d inside. hex_prints (get_or (hex_text false 8 at) k d) (address.0 k d inside) in
-    let prints = line_prints (hex_text false 8 at) (hex_columns false 2 bytes 40) (map shown_byte bytes) digits_print (columns_print bytes 40 small)
-    (All-map Prints shown_byte bytes (λ k d inside. shown_prints (get_or bytes k d))) in
+    let prints : All Prints text = wide_prints false 16 2 at bytes all (omega arith) in
     let first : is_hex (get_or text 0 0) ≡ true =
     rw (is.1.spelled, get_or_append_left is.1.digits (58 ∷ 32 ∷ (is.0 ++ is.1.tail)) 0 0 is.1.some_digits) (is.1.address 0 0 is.1.some_digits) in
     let len : length text ≡ length (hex_text false 8 at) + 2 + length (hex_columns false 2 bytes width) + 1 + length (map shown_byte bytes) =
@@ -121,14 +131,15 @@ written at bytes some few all fits =
       refl,
       record {
         reads = piece_of text at is.0 bytes is.1;
-        short = omega (arith, len, address.2, columns_length bytes width, length-map bytes shown_byte);
+        short = omega (arith, len, address_length at (omega arith), columns_length bytes width, length-map bytes shown_byte);
         printing = prints;
-        no_newline = λ k d inside e. absurd (omega (arith, (prints k d inside).0, e));
+        no_newline = one_line text prints;
         front = λ front rest e. first_of front rest text e (omega (arith, len)) first;
       },
     )
 
 pub reads_back : DumpLineReadsBack
 reads_back upper cols group at bytes pos some few wide all small =
+    let text = wide_line_text upper cols group at bytes in
     let is = line_reads upper cols group at bytes pos some few wide all small in
-    (refl, (is.0, is.1), piece_of (wide_line_text upper cols group at bytes) at is.0 bytes is.1)
+    (refl, (is.0, is.1), piece_of text at is.0 bytes is.1, one_line text (wide_prints upper cols group at bytes all small))

@@ -28,12 +28,13 @@ abbrev pub wide_line_text : Bool → ℕ → ℕ → ℕ → List ℕ → List �
 wide_line_text upper cols group at bytes =
     hex_text false 8 at ++ codes ": " ++ hex_columns upper group bytes (hex_width cols group) ++ codes " " ++ map shown_byte bytes
 
--- A line of a dump with some columns and groups gives back its address and bytes.
+-- A line of a dump with some columns and groups gives back its address and bytes, and it has no newline inside.
 abbrev pub DumpLineReadsBack : Type 0
 DumpLineReadsBack = (upper : Bool) (cols group at : ℕ) (bytes : List ℕ) → 0 < group → 0 < length bytes → length bytes ≤ cols → cols ≤ 256 →
     All (λ b. b < 256) bytes → at < 2 ^ 62 →
     (dump_line upper cols group at bytes ≡ wide_line_text upper cols group at bytes ++ codes "\n")
     × ((hex : List ℕ) × IsLine (wide_line_text upper cols group at bytes) at hex bytes) × (line_piece (wide_line_text upper cols group at bytes) ≡ Some (at, bytes))
+    × All (λ c. c ≢ 10) (wide_line_text upper cols group at bytes)
 
 -- The line is short and prints, it reads as these bytes at this address, and it begins with a digit and so no front of it with an `s`.
 pub record IsWritten (line : List ℕ) (at : ℕ) (bytes : List ℕ) : Type 0 where

@@ -16,7 +16,8 @@ pub fn pieces_are_few()
     ensures { PiecesAreFew }
 {}
 
-/// A line of an xxd dump, for any columns and groups, reads back as its address and its bytes.
+/// A line of an xxd dump, for any columns and groups, reads back as its address and its bytes. Its only newline is the one
+/// that ends it.
 pub fn dump_line_reads_back()
     ensures { DumpLineReadsBack }
 {}

@@ -10,6 +10,8 @@ mod line;
 mod lines;
 mod plain;
 #[cfg(test)]
+mod ration;
+#[cfg(test)]
 mod tests;
 
 pub use dump::read_dump;

@@ -1,6 +1,6 @@
 use super::*;
+use crate::ration::ration;
 use bx_text::Piece;
-use linked_list_allocator::LocalHeap;
 use std::process::Abort;
 use std::test::Fail;
 
@@ -160,27 +160,63 @@ fn fault_texts(rt: HostRuntime) -> Result<(), Fail> {
     Ok(())
 }
 
+// The list of pieces, which grows twice past what the first line lets expect, and seven lines: each growth is the first
+// to be refused at some budget. With more memory the same call succeeds.
 #[test]
-fn growths_refused(rt: HostRuntime) -> Result<(), Fail> {
-    let dump = b"0: 41\n1: 42\n2: 43\n3: 44\n4: 45\n";
+fn growths_of_read_dump(rt: HostRuntime) -> Result<(), Fail> {
+    let mut text = b"00000000: 4142 4344 4546 4748 494a 4b4c 4d4e 4f50  ABCDEFGHIJKLMNOP\n".to_vec(
+        rt.alloc(),
+    )?;
+    for _ in 0..6u8 {
+        text.extend_from_slice(b"10: 5152535455565758\n")?;
+    }
+    let dump = text.as_slice();
     let mut refused = 0u32;
-    for units in 1..64usize {
-        let heap = LocalHeap::new(rt.alloc(), units * 16)?;
-        match read_dump(&heap, dump) {
-            Ok(pieces) => assert_eq!(rt; pieces.len(), 5),
+    let mut last = usize::MAX;
+    let mut is_whole = false;
+    for words in 0..250usize {
+        let bytes = words * 8;
+        let bump = ration(rt.alloc(), bytes)?;
+        match read_dump(&bump, dump) {
+            Ok(pieces) => {
+                assert_eq!(rt; pieces.len(), 7);
+                is_whole = true;
+            }
             Err(fault) => {
                 assert_eq!(rt; fault, ReadFault::NoMemory);
-                refused = refused.saturating_add(1);
+                let used = bytes.saturating_sub(bump.chunk_capacity());
+                if used != last {
+                    refused = refused.saturating_add(1);
+                    last = used;
+                }
+                bump.set_allocation_limit(None);
+                assert_eq!(rt; read_dump(&bump, dump)?.len(), 7);
             }
         }
-        assert_eq!(rt; heap.used(), 0);
+        if is_whole {
+            break;
+        }
     }
-    assert!(rt; refused > 5 && refused < 50);
-    assert_eq!(rt; read_dump(rt.alloc(), dump)?.len(), 5);
-    let small = LocalHeap::new(rt.alloc(), 32)?;
+    assert!(rt; is_whole);
+    assert_eq!(rt; refused, 10);
+    Ok(())
+}
+
+// The one growth of a plain text, for 40 bytes.
+#[test]
+fn growth_of_read_plain(rt: HostRuntime) -> Result<(), Fail> {
     let plain = b"41424344454647484142434445464748414243444546474841424344454647484142434445464748";
-    let outcome = read_plain(&small, plain);
-    assert_eq!(rt; outcome.err(), Some(ReadFault::NoMemory));
-    assert_eq!(rt; read_plain(rt.alloc(), plain)?.len(), 40);
+    for words in 0..8usize {
+        let bump = ration(rt.alloc(), words * 8)?;
+        let outcome = read_plain(&bump, plain);
+        let fault = if words < 5 {
+            Some(ReadFault::NoMemory)
+        } else {
+            None
+        };
+        assert_eq!(rt; outcome.err(), fault);
+        bump.set_allocation_limit(None);
+        assert_eq!(rt; read_plain(&bump, plain)?.len(), 40);
+    }
     Ok(())
 }

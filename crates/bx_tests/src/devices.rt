@@ -73,7 +73,9 @@ fn follow(
         _ => {
             assert_eq!(rt; reply, row.reply);
             match reply {
-                Reply::Changed { .. } => images.push(row.image.to_vec(alloc)?)?,
+                Reply::Changed { .. } | Reply::Copied { .. } => {
+                    images.push(row.image.to_vec(alloc)?)?;
+                }
                 Reply::Undone { left } => {
                     let _ = images.undo(have.saturating_sub(left));
                 }

@@ -177,6 +177,7 @@ fn follow(
                 assert!(rt; images.undo(1));
                 assert_eq!(rt; *left, images.changes());
             }
+            Reply::Copied { .. } => assert!(rt; false),
             Reply::Refused(Fault::TooFew { have }) => assert_eq!(rt; *have, images.changes()),
             Reply::Refused(fault) => assert_eq!(rt; *fault, Fault::NoMemory),
         }

@@ -10,6 +10,8 @@ mod judge;
 #[cfg(test)]
 mod lengths;
 #[cfg(test)]
+mod mem_session;
+#[cfg(test)]
 mod memory;
 #[cfg(test)]
 mod model;
@@ -31,3 +33,5 @@ mod session;
 mod streams;
 #[cfg(test)]
 mod texts;
+#[cfg(test)]
+mod xxd_reverts;

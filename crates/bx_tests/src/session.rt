@@ -8,6 +8,7 @@ use bx_journal::{LogRow, Recovered, Session};
 use bx_store::TextStore;
 use bx_text::{Bytes, Piece, Pieces};
 use std::alloc::{Allocator, Global};
+use std::io::Empty;
 
 /// No test comes near so many failed calls, or so long a list.
 const MANY: u64 = 100_000;
@@ -28,7 +29,7 @@ pub enum Ask<'a> {
 }
 
 /// The command that asks for it, in memory of `alloc`.
-pub fn command<A: Allocator>(alloc: A, ask: Ask<'_>) -> Result<Command<A>, Fault>
+pub fn command<A: Allocator>(alloc: A, ask: Ask<'_>) -> Result<Command<Empty, A>, Fault>
     ensures { IfOk result IsNear }
 {
     match ask {

@@ -171,3 +171,68 @@ fn refused_rest(rt: HostRuntime) -> Result<(), Fail> {
     assert_eq!(rt; source.rest(rt.alloc()).err(), Some(IoFault::ReadFailed));
     Ok(())
 }
+
+// Each growth of `rest` is the first to be refused in some heap: for one page, for two, and for the end.
+#[test]
+fn growths_of_rest(rt: HostRuntime) -> Result<(), Fail> {
+    let bytes = vec![in rt.alloc(); 7u8; 150_000]?;
+    let mut refused = [false; 3];
+    let mut is_whole = false;
+    for parts in 1..32usize {
+        let heap = LocalHeap::new(rt.alloc(), parts * 16_384)?;
+        let mut source = Source::new(bytes.as_slice(), 1 << 20);
+        match source.rest(&heap) {
+            Ok(read) => {
+                assert!(rt; read.as_slice() == bytes.as_slice());
+                is_whole = true;
+            }
+            Err(fault) => {
+                assert_eq!(rt; fault, IoFault::NoMemory);
+                for (growth, taken) in [65_536, 131_072, 150_000].iter().enumerate() {
+                    if source.meter.taken == *taken {
+                        refused[growth] = true;
+                    }
+                }
+                assert_eq!(rt; source.rest(rt.alloc()).err(), Some(IoFault::ReadFailed));
+            }
+        }
+        assert_eq!(rt; heap.used(), 0);
+    }
+    assert_eq!(rt; refused, [true; 3]);
+    assert!(rt; is_whole);
+    let mut source = Source::new(bytes.as_slice(), 1 << 20);
+    assert!(rt; source.rest(rt.alloc())?.as_slice() == bytes.as_slice());
+    Ok(())
+}
+
+// Each growth of `push` is refused at some budget. The words stay, and with more memory the same call succeeds.
+#[test]
+fn growths_of_push(rt: HostRuntime) -> Result<(), Fail> {
+    let texts = [
+        "one",
+        "a second word",
+        "three",
+        "a fourth word of more",
+        "five",
+    ];
+    let mut refused = [0u32; 5];
+    for parts in 0..48usize {
+        let heap = LocalHeap::new(rt.alloc(), 1024)?;
+        let mut ballast = Some(Vec::<u8, _>::with_capacity(&heap, 1024 - 16 * parts)?);
+        let mut words = Words::new(&heap)?;
+        for (count, text) in texts.iter().enumerate() {
+            if words.push(text).is_err() {
+                assert!(rt; ballast.is_some());
+                assert_eq!(rt; words.len(), count);
+                assert_eq!(rt; words.get(count), None);
+                refused[count] = refused[count].saturating_add(1);
+                ballast = None;
+                assert_eq!(rt; words.push(text), Ok(()));
+            }
+            assert_eq!(rt; words.get(count), Some(*text));
+        }
+        assert_eq!(rt; words.get(0), Some("one"));
+    }
+    assert!(rt; refused.iter().all(|times| *times > 0));
+    Ok(())
+}

@@ -12,8 +12,8 @@ pub loop-command-init : goal.loop-command-init
 loop-command-init g c =
     let none : c.in_ok-replies.replies.items ≡ [] = search rules in
     record {
-      stacks = rw none (has_stack_run_none (IsStanding g.D.Device.image g.T.TextStore.text) (AreHonest g.D.Device.honest g.T.TextStore.honest) c.args.session.now c.args.list.now);
-      run = rw none (has_run_none (HoldsAt g.D.Device.honest g.T.TextStore.honest g.D.Device.image g.T.TextStore.text) c.args.session.now c.args.list.now);
+      stacks = rw none (has_stack_run_none g.R.Read.remaining (IsStanding g.D.Device.image g.T.TextStore.text) (AreHonest g.D.Device.honest g.T.TextStore.honest) c.args.session.now c.args.list.now);
+      run = rw none (has_run_none g.R.Read.remaining (HoldsAt g.D.Device.honest g.T.TextStore.honest g.D.Device.image g.T.TextStore.text) c.args.session.now c.args.list.now);
       counted = rw none (counted_none g.D.Device.failures g.T.TextStore.failures c.args.session.now);
       ahead = λ k d above within. c.requires.near k d within;
       replied = search rules;
@@ -26,9 +26,9 @@ loop-command-preserved g c =
     let within : c.loop-command.command-index < length c.loop-command.list = search rules in
     let kept = c.loop-command.invariant in
     record {
-      stacks = rw pushed (has_stack_run_more (IsStanding g.D.Device.image g.T.TextStore.text) (AreHonest g.D.Device.honest g.T.TextStore.honest) _ c.loop-command.session _ _ c.loop-command.list _ c.loop-command.command-index c.command-item.result _ _ within
+      stacks = rw pushed (has_stack_run_more g.R.Read.remaining (IsStanding g.D.Device.image g.T.TextStore.text) (AreHonest g.D.Device.honest g.T.TextStore.honest) _ c.loop-command.session _ _ c.loop-command.list _ c.loop-command.command-index c.command-item.result _ _ within
           (λ both. (c.run_one-reply.ensures.device_honesty.1 both.0, c.run_one-reply.ensures.store_honesty.1 both.1)) (λ both. c.run_one-reply.ensures.stands both.0 both.1) kept.stacks);
-      run = rw pushed (has_run_more (HoldsAt g.D.Device.honest g.T.TextStore.honest g.D.Device.image g.T.TextStore.text) _ c.loop-command.session _ _ c.loop-command.list _ c.loop-command.command-index c.command-item.result _ _ within c.run_one-reply.ensures.step kept.run);
+      run = rw pushed (has_run_more g.R.Read.remaining (HoldsAt g.D.Device.honest g.T.TextStore.honest g.D.Device.image g.T.TextStore.text) _ c.loop-command.session _ _ c.loop-command.list _ c.loop-command.command-index c.command-item.result _ _ within c.run_one-reply.ensures.step kept.run);
       counted = rw pushed (counted_more g.D.Device.failures g.T.TextStore.failures _ c.loop-command.session _ c.loop-command.command-index _ _ kept.counted c.run_one-reply.ensures.counts c.run_one-reply.ensures.failed);
       ahead = ahead_more IsNear c.loop-command.list c.loop-command.command-index _ kept.ahead;
       replied = search rules;
@@ -38,17 +38,17 @@ loop-command-preserved g c =
 pub returns-clause-run : goal.returns-clause-run
 returns-clause-run g c =
     let all : length c.loop-command.list ≤ c.loop-command.command-index = search rules in
-    has_run_all (HoldsAt g.D.Device.honest g.T.TextStore.honest g.D.Device.image g.T.TextStore.text) _ _ _ _ _ (drop_all c.loop-command.command-index c.loop-command.list all) c.loop-command.invariant.run
+    has_run_all g.R.Read.remaining (HoldsAt g.D.Device.honest g.T.TextStore.honest g.D.Device.image g.T.TextStore.text) _ _ _ _ _ (drop_all c.loop-command.command-index c.loop-command.list all) c.loop-command.invariant.run
 
 pub returns-clause-sound : goal.returns-clause-sound
 returns-clause-sound g c = λ device store stack ready same_device same_store.
     let holds : HoldsAt g.D.Device.honest g.T.TextStore.honest g.D.Device.image g.T.TextStore.text c.args.session.now (Standing.Up stack) =
     record { device = device; store = store; stands = ready } in
-    stands_at_top g.D.Device.honest g.T.TextStore.honest g.D.Device.image g.T.TextStore.text c.loop-command.session stack c.args.list.now c.loop-command.replies.items
+    stands_at_top g.R.Read.remaining g.D.Device.honest g.T.TextStore.honest g.D.Device.image g.T.TextStore.text c.loop-command.session stack c.args.list.now c.loop-command.replies.items
     (returns-clause-run g c (Standing.Up stack) holds) (c.loop-command.invariant.counted.unfailed (let d = same_device in let s = same_store in omega arith))
 
 pub returns-clause-headline : goal.returns-clause-headline
 returns-clause-headline g c = λ device store stack standing same_device same_store.
     let all : length c.loop-command.list ≤ c.loop-command.command-index = search rules in
-    has_stack_run_all (IsStanding g.D.Device.image g.T.TextStore.text) (AreHonest g.D.Device.honest g.T.TextStore.honest) _ _ _ _ _ (drop_all c.loop-command.command-index c.loop-command.list all) c.loop-command.invariant.stacks
+    has_stack_run_all g.R.Read.remaining (IsStanding g.D.Device.image g.T.TextStore.text) (AreHonest g.D.Device.honest g.T.TextStore.honest) _ _ _ _ _ (drop_all c.loop-command.command-index c.loop-command.list all) c.loop-command.invariant.stacks
     (device, store) stack standing (c.loop-command.invariant.counted.unfailed (let d = same_device in let s = same_store in omega arith))

@@ -2,7 +2,7 @@ use Rattle.std.proofs.Common.{refl, ap, subst, Ok, Err}
 use Rattle.bx_cli.specs.declared.command.Reply.TheVariants.{Refused}
 use Rattle.bx_cli.specs.declared.fault.Fault.{Fault}
 use Rattle.bx_cli.specs.Run.{HasFailed}
-use Rattle.bx_cli.proofs.Steps.{perform_ok, perform_err, counts_least, counts_most, counts_failed}
+use Rattle.bx_cli.proofs.Steps.{made_unfailed, perform_ok, perform_err, counts_least, counts_most, counts_failed}
 use Rattle.std.specs.Prelude.{◌∷◌}
 use Rattle.bx_image.specs.Change.{effect}
 use Rattle.bx_journal.specs.Machine.{top}
@@ -14,7 +14,7 @@ returns-in-Ok-clause-step g c = λ before h.
     let e = c.in-Ok.ensures in
     let made = perform_ok g.D.Device.honest g.T.TextStore.honest g.D.Device.image g.T.TextStore.text c.args.session.now c.perform.new.self c.args.change.now c.in-Ok.number
     e.accepted e.sound e.broken e.device_honesty e.store_honesty before h in
-    (made.0, made.1, (Ok c.in-Ok.number, refl, made.2))
+    (made.0, made.1, (Ok c.in-Ok.number, c.made_reply.ensures, made.2))
 
 pub returns-in-Err-clause-step : goal.returns-in-Err-clause-step
 returns-in-Err-clause-step g c = λ before h.
@@ -37,7 +37,7 @@ pub returns-in-Ok-clause-stands : goal.returns-in-Ok-clause-stands
 returns-in-Ok-clause-stands g c = λ device store stack standing unfailed.
     let made = c.in-Ok.ensures.accepted device store stack standing in
     let new = effect c.args.change.now (top stack) ∷ stack in
-    (new, made.1, (Ok c.in-Ok.number, refl, (new, refl, made.0)))
+    (new, made.1, (Ok c.in-Ok.number, c.made_reply.ensures, (new, refl, made.0)))
 
 pub returns-in-Err-clause-stands : goal.returns-in-Err-clause-stands
 returns-in-Err-clause-stands g c = λ device store stack standing unfailed.
@@ -46,3 +46,6 @@ returns-in-Err-clause-stands g c = λ device store stack standing unfailed.
     let made = perform_refused (g.D.Device.honest c.args.session.now.device) (g.T.TextStore.honest c.args.session.now.store) g.D.Device.image g.T.TextStore.text c.args.session.now c.perform.new.self c.args.change.now c.in-Err.fault
     e.broken e.full e.large e.kind e.refused device store stack standing (subst Fails c.from.ensures unfailed) in
     (made.0, made.1, (Err c.in-Err.fault, ap Refused c.from.ensures, made.2))
+
+pub returns-in-Ok-clause-failed : goal.returns-in-Ok-clause-failed
+returns-in-Ok-clause-failed g c = λ failed. absurd (made_unfailed c.args.counts c.in-Ok.number (subst HasFailed c.made_reply.ensures failed))

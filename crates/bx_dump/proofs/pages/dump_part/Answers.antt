@@ -1,4 +1,3 @@
-use Rattle.std.proofs.Common.{◌≡◌, List, ℕ, ◌∙◌, sym}
 use Rattle.bx_dump.proofs.PagesLemmas.{part_whole, front_behind}
 use Rattle.bx_dump.proofs.DumpLemmas.{ok_along, err_along}
 use Rattle.bx_dump.proofs.pages.dump_part.Goals as goal

@@ -1,7 +1,6 @@
-use Rattle.std.proofs.Common.{◌≡◌, ℕ, ◌+◌, ◌-◌, ◌^◌, ◌<◌, ◌≤◌, Bool, true, false, List, ◌++◌, length, take, drop, arith, refl, ◌∙◌}
+use Rattle.std.proofs.Common.{◌≡◌, ◌+◌, ◌<◌, true, false, ◌++◌, length, take, drop, arith, ◌∙◌}
 use Rattle.std.proofs.lemmas.List.{length-append, length-drop, length-take-le}
 use Rattle.bx_text.proofs.KnownLemmas.{Consumes-trans}
-use Rattle.bx_dump.specs.Pages.{Skips}
 use Rattle.bx_dump.proofs.PagesLemmas.{stops_after}
 use Rattle.bx_dump.proofs.pages.skip.Goals as goal
 

@@ -1,4 +1,4 @@
-use Rattle.std.proofs.Common.{◌≡◌, ◌+◌, ◌-◌, ◌<◌, ◌≤◌, suc, length, take, sym, ◌∙◌, arith}
+use Rattle.std.proofs.Common.{◌≡◌, ◌-◌, suc, sym, ◌∙◌, arith}
 use Rattle.bx_dump.proofs.ScanLemmas.{ends_quiet}
 use Rattle.bx_dump.proofs.printable.last_other.Goals as goal
 

@@ -1,4 +1,4 @@
-use Rattle.std.proofs.Common.{◌≡◌, ◌≤◌, ℕ, length}
+use Rattle.std.proofs.Common.{◌≤◌, length}
 use Rattle.bx_dump.proofs.printable.last_other.Given as goal
 
 abbrev pub invariant-loop-end : goal.invariant-loop-end

@@ -1,9 +1,9 @@
-use Rattle.std.proofs.Common.{◌≡◌, [], ◌+◌, ◌-◌, ◌*◌, ◌^◌, ◌<◌, ◌≤◌, ℕ, List, ◌++◌, length, take, arith, ap, ◌∙◌, sym, refl}
+use Rattle.std.proofs.Common.{◌≡◌, [], ◌<◌, ◌≤◌, ◌++◌, length, take, arith, ap, ◌∙◌, sym, refl}
 use Rattle.std.proofs.lemmas.List.{length-append, length-take-le}
 use Rattle.bx_text.proofs.KnownLemmas.{Appends-trans, Consumes-trans, Appends-nil, Consumes-nil}
-use Rattle.bx_dump.specs.Scan.{scan_text, scan_run, IsKept}
+use Rattle.bx_dump.specs.Scan.{scan_text, scan_run}
 use Rattle.bx_dump.proofs.DumpLemmas.{read_stop, write_stop}
-use Rattle.bx_dump.proofs.ScanLemmas.{scan_goes, scan_grows, scan_text-none, kept_none, scan_run-append, cost_fits}
+use Rattle.bx_dump.proofs.ScanLemmas.{scan_goes, scan_grows, scan_text-none, kept_none, scan_run-append}
 use Rattle.bx_dump.proofs.printable.scan_pages.Goals as goal
 
 pub loop-n-init : goal.loop-n-init

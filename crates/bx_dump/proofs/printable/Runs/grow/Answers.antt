@@ -1,5 +1,4 @@
-use Rattle.std.proofs.Common.{◌≡◌, ◌+◌, ◌-◌, ◌<◌, ◌≤◌, List, ℕ, ◌++◌, length, take, sym, ap, ◌∙◌, arith, append_assoc}
-use Rattle.bx_dump.specs.Scan.{scan_text}
+use Rattle.std.proofs.Common.{◌≡◌, ◌+◌, ◌-◌, ◌<◌, ◌≤◌, ◌++◌, length, take, sym, ap, ◌∙◌, arith, append_assoc}
 use Rattle.bx_dump.specs.Strings.{place_text}
 use Rattle.bx_dump.proofs.ScanLemmas.{scan_long, scan_short, scan_crossing}
 use Rattle.bx_dump.proofs.printable.Runs.grow.Goals as goal

@@ -1,4 +1,4 @@
-use Rattle.std.proofs.Common.{◌≡◌, ◌+◌, ◌-◌, ◌*◌, ◌<◌, ◌≤◌, ℕ, List, length, take}
+use Rattle.std.proofs.Common.{◌≡◌, ◌+◌, ◌-◌, ◌*◌, ◌≤◌, ℕ, List, length, take}
 use Rattle.bx_dump.specs.Scan.{scan_text, scan_run, IsKept, pending, cost_of}
 use Rattle.bx_dump.proofs.printable.Runs.put.Given as goal
 

@@ -1,4 +1,4 @@
-use Rattle.std.proofs.Common.{◌≡◌, ◌+◌, ◌<◌, ◌≤◌, ℕ, [], List, length, take, sym, refl, inl, inr, ◌∙◌, arith}
+use Rattle.std.proofs.Common.{◌≡◌, ◌≤◌, ℕ, length, take, sym, refl, inl, inr, ◌∙◌, arith}
 use Rattle.std.proofs.lemmas.List.{length-take-le}
 use Rattle.bx_dump.specs.declared.od_options.Address.{Address}
 use Rattle.bx_dump.specs.declared.od_options.Address.TheVariants.{Octal, Decimal, Hexadecimal, Without}

@@ -1,0 +1,64 @@
+# Completion of bx for fish.
+set -l commands xxd od hexdump strings dd revert undo log
+set -l none "not __fish_seen_subcommand_from $commands help"
+
+complete -c bx -f
+complete -c bx -s h -l help -d 'Show help'
+complete -c bx -n $none -s V -l version -d 'Show the version'
+
+complete -c bx -n $none -a xxd -d 'Dump bytes in hexadecimal'
+complete -c bx -n $none -a od -d 'Dump bytes as numbers or characters'
+complete -c bx -n $none -a hexdump -d 'Dump bytes in hexadecimal beside their characters'
+complete -c bx -n $none -a strings -d 'Show the printable runs of a file'
+complete -c bx -n $none -a dd -d 'Copy and convert bytes'
+complete -c bx -n $none -a revert -d 'Write the bytes of a dump onto an image'
+complete -c bx -n $none -a undo -d 'Take the last changes of an image back'
+complete -c bx -n $none -a log -d 'List the changes of an image'
+complete -c bx -n $none -a help -d 'Show the help of a command'
+complete -c bx -n '__fish_seen_subcommand_from help' -a "$commands"
+
+complete -c bx -n "__fish_seen_subcommand_from xxd od hexdump strings revert undo log" -F
+
+complete -c bx -n '__fish_seen_subcommand_from xxd' -s b -d 'Eight binary digits for each byte'
+complete -c bx -n '__fish_seen_subcommand_from xxd' -s c -x -d 'Bytes on a line, 1 to 256'
+complete -c bx -n '__fish_seen_subcommand_from xxd' -s g -x -d 'Bytes in a group, 0 for one group a line'
+complete -c bx -n '__fish_seen_subcommand_from xxd' -s i -d 'A C array'
+complete -c bx -n '__fish_seen_subcommand_from xxd' -s l -x -d 'Most bytes to dump'
+complete -c bx -n '__fish_seen_subcommand_from xxd' -s o -x -d 'Bytes to add to the addresses shown'
+complete -c bx -n '__fish_seen_subcommand_from xxd' -s p -d 'Digits alone'
+complete -c bx -n '__fish_seen_subcommand_from xxd' -s s -x -d 'Bytes to skip first'
+complete -c bx -n '__fish_seen_subcommand_from xxd' -s u -d 'Digits in upper case'
+
+complete -c bx -n '__fish_seen_subcommand_from od' -s A -x -a 'd o x n' -d 'Base of the addresses'
+complete -c bx -n '__fish_seen_subcommand_from od' -s N -x -d 'Most bytes to dump'
+complete -c bx -n '__fish_seen_subcommand_from od' -s b -d 'Octal bytes'
+complete -c bx -n '__fish_seen_subcommand_from od' -s c -d 'Characters'
+complete -c bx -n '__fish_seen_subcommand_from od' -s d -d 'Unsigned decimal of 2 bytes'
+complete -c bx -n '__fish_seen_subcommand_from od' -s j -x -d 'Bytes to skip first'
+complete -c bx -n '__fish_seen_subcommand_from od' -s o -d 'Octal of 2 bytes'
+complete -c bx -n '__fish_seen_subcommand_from od' -s s -d 'Signed decimal of 2 bytes'
+complete -c bx -n '__fish_seen_subcommand_from od' -s t -x -a 'c d1 d2 d4 d8 o1 o2 o4 o8 u1 u2 u4 u8 x1 x2 x4 x8' -d 'Values'
+complete -c bx -n '__fish_seen_subcommand_from od' -s v -d 'Show every line'
+complete -c bx -n '__fish_seen_subcommand_from od' -s x -d 'Hexadecimal of 2 bytes'
+
+complete -c bx -n '__fish_seen_subcommand_from hexdump' -s C -d 'The canonical form, which must be given'
+complete -c bx -n '__fish_seen_subcommand_from hexdump' -s n -x -d 'Most bytes to dump'
+complete -c bx -n '__fish_seen_subcommand_from hexdump' -s s -x -d 'Bytes to skip first'
+complete -c bx -n '__fish_seen_subcommand_from hexdump' -s v -d 'Show every line'
+
+complete -c bx -n '__fish_seen_subcommand_from strings' -s a -d 'Read the whole file, as is always done'
+complete -c bx -n '__fish_seen_subcommand_from strings' -s n -x -d 'Least bytes of a run, 1 to 4096'
+complete -c bx -n '__fish_seen_subcommand_from strings' -s t -x -a 'd o x' -d 'Show where each run begins'
+
+complete -c bx -n '__fish_seen_subcommand_from dd' -s J -r -F -d 'Journal of the image'
+complete -c bx -n '__fish_seen_subcommand_from dd' -a 'if= of= ibs= obs= bs= cbs= skip= seek= count= conv='
+
+complete -c bx -n '__fish_seen_subcommand_from revert' -s J -r -F -d 'Journal of the image'
+complete -c bx -n '__fish_seen_subcommand_from revert' -s f -r -F -d 'File to read the dump from'
+complete -c bx -n '__fish_seen_subcommand_from revert' -s p -d 'The dump is digits alone'
+complete -c bx -n '__fish_seen_subcommand_from revert' -s s -x -d 'Bytes to add to each address'
+
+complete -c bx -n '__fish_seen_subcommand_from undo' -s J -r -F -d 'Journal of the image'
+complete -c bx -n '__fish_seen_subcommand_from undo' -s k -x -d 'Changes to take back, 0 to 65535'
+
+complete -c bx -n '__fish_seen_subcommand_from log' -s J -r -F -d 'Journal of the image'
