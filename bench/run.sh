@@ -59,17 +59,17 @@ row 8 'revert against xxd -r' -- sh -c "rm -f image image.bxj; '$BX' revert -f d
 row 8 'revert -p against xxd -r -p' -- sh -c "rm -f image image.bxj; '$BX' revert -p -f plain image" -- sh -c 'xxd -r -p plain'
 
 # Single calls of the libraries, which bx makes only together with others: bench/calls.rt.in is proved and built in a
-# folder of its own over copies of three crates, since the gate proves every crate that stands in the repository. The
+# folder of its own over copies of the crates, since the gate proves every crate that stands in the repository. The
 # program stays in bench/out.
 build_calls() {
-  local crates=(bx_text bx_read bx_image) crate
+  local crates=(bx_text bx_read bx_image bx_store bx_journal) crate
   if [ -x "$calls" ] && [ -z "$(find "$top/bench/calls.rt.in" "${crates[@]/#/$top/crates/}" -name '*.rt*' -newer "$calls")" ]; then return; fi
   mkdir -p room/crates/calls/src "${calls%/*}"
   cp "$top/HANDLES" room; cp "$top/bench/calls.rt.in" room/crates/calls/src/main.rt
   for crate in "${crates[@]}"; do
     cp -r "$top/crates/$crate" room/crates; grep "^$crate:" "$top/crates.txt" >> room/crates.txt
   done
-  echo 'calls: bx_text bx_read bx_image anyhow' >> room/crates.txt
+  echo 'calls: bx_text bx_read bx_image bx_store bx_journal anyhow' >> room/crates.txt
   (cd room/crates/calls && rt run -- none > ../../log 2>&1) || { cat room/log; return 1; }
   cp room/crates/calls/out/calls "$calls"
 }
@@ -96,5 +96,14 @@ library_calls() {
   "$calls" scatter applied addresses > report
   line 0.5 'save, 1,000,000 writes, sort -n' "$(field call)" "$(best sort -n addresses)"
   echo "save, 1,000,000 writes, memory: $(awk "BEGIN{printf \"%.1f\", $(memory) * 1024 / $(field writes)}") bytes a write   goal below 200"
+  awk 'BEGIN { for (n = 1; n < 65536; n++) printf "change2 %08x %016x\n00000000: %-40s %s\nsave %08x\ndone2 %08x %016x\n",
+    n, 16, "4142 4344 4546 4748 494a 4b4c 4d4e 4f50", "ABCDEFGHIJKLMNOP", n, n, 16 }' > many.bxj
+  printf ABCDEFGHIJKLMNOP > many; head -c "$(($(stat -c %s many.bxj) / 68 * 16))" less | xxd > same
+  "$calls" open many many.bxj > report
+  line 8 'open, 65,535 entries, xxd -r' "$(field call)" "$(best xxd -r same)"
+  head -c "${mid}M" zeros > changed
+  "$calls" change changed less > report
+  line 0.5 'perform against plain writes' "$(field call)" "$(field plain)"
+  line 0.5 'undo against perform' "$(field undo)" "$(field call)"
 }
 library_calls

@@ -9,6 +9,7 @@ use bx_journal::{How, Session};
 use bx_store::{FileText, TextStore};
 use bx_text::Name;
 use std::fs::File;
+use std::io::Read;
 use std::rt::Files;
 
 type FileSession = Session<FileImage, FileText>;
@@ -39,19 +40,21 @@ where
 }
 
 /// Runs one command on the pair.
-pub fn command<R>(
+pub fn command<R, I: Read + Drop>(
     rt: &R,
     image: &Name,
     journal: &Name,
     make: bool,
-    command: Command,
+    command: Command<I>,
 ) -> Result<Reply, Fault>
 where
     R: Files<File = File> + Eprint + AllocGlobal,
     requires { IsNear command }
 {
     let mut session = open_session(rt, image, journal, make)?;
-    let replies = run_all(rt.alloc(), &mut session, &mut [command])?;
+    let mut list = Vec::new(rt.alloc());
+    list.push(command).map_err(|_| Fault::NoMemory)?;
+    let replies = run_all(rt.alloc(), &mut session, list.as_mut_slice())?;
     match replies.first() {
         Some(Reply::Refused(fault)) => Err(*fault),
         Some(reply) => Ok(*reply),

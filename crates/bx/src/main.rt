@@ -1,9 +1,11 @@
 //! The program: files, standard streams and the exit status.
 #![tactic(auto)]
 
+mod copies;
 mod files;
 mod images;
 mod run;
+mod tally;
 #[cfg(test)]
 mod tests;
 

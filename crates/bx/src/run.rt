@@ -1,10 +1,13 @@
 //! One run of the program.
+use crate::copies::{copy_onto, tell};
 use crate::files::input;
 use crate::images::{command, log};
+use crate::tally::Tally;
 use bx_cli::{
-    Command, Done, Fault, HexdumpJob, Job, OdJob, Reply, RevertJob, StringsJob, XxdJob, plan_words,
-    run_dump,
+    Command, DdJob, Done, Fault, HexdumpJob, Job, OdJob, Reply, RevertJob, StringsJob, XxdJob,
+    plan_words, run_dump,
 };
+use bx_dd::Counts;
 use bx_text::{Bytes, Name, Source, Words, emit};
 use std::alloc::Global;
 use std::env;
@@ -39,34 +42,59 @@ pub fn perform<R>(rt: &R, job: &Job) -> Result<(), Fault>
 where
     R: Files<File = File> + Input + Print + Eprint + AllocGlobal,
 {
-    let mut out = io::writer(rt);
-    let written = match job {
-        Job::Help { text } => show(&mut out, text.as_str())?,
+    let mut out = Tally::new(io::writer(rt));
+    let counts = run_job(rt, job, &mut out)?;
+    if out.flush().is_err() {
+        return Err(Fault::WriteFailed {
+            written: out.written,
+        });
+    }
+    match counts {
+        Some(counts) => tell(rt, &counts),
+        None => Ok(()),
+    }
+}
+
+/// Runs a job, and answers what dd counted.
+fn run_job<R, W: Write>(rt: &R, job: &Job, out: &mut W) -> Result<Option<Counts>, Fault>
+where
+    R: Files<File = File> + Input + Eprint + AllocGlobal,
+{
+    match job {
+        Job::Help { text } => show(out, text.as_str())?,
         Job::Od(OdJob { file, .. })
         | Job::Xxd(XxdJob { file, .. })
         | Job::Hexdump(HexdumpJob { file, .. })
-        | Job::Strings(StringsJob { file, .. }) => dump_file(rt, job, file, &mut out)?,
+        | Job::Strings(StringsJob { file, .. }) => return dump_file(rt, job, file, out),
+        Job::Dd(dd) => return copy(rt, job, dd, out),
         Job::Revert(job) => revert(rt, job)?,
         Job::Undo {
             count,
             image,
             journal,
-        } => undo(rt, *count, image, journal, &mut out)?,
-        Job::Log { image, journal } => show(&mut out, log(rt, image, journal)?.as_str())?,
-    };
-    match out.flush() {
-        Ok(()) => Ok(()),
-        Err(_) => Err(Fault::WriteFailed { written }),
+        } => undo(rt, *count, image, journal, out)?,
+        Job::Log { image, journal } => show(out, log(rt, image, journal)?.as_str())?,
+    }
+    Ok(None)
+}
+
+/// dd, onto the image that `of=` names or to standard output.
+fn copy<R, W: Write>(rt: &R, job: &Job, dd: &DdJob, out: &mut W) -> Result<Option<Counts>, Fault>
+where
+    R: Files<File = File> + Input + Eprint + AllocGlobal,
+{
+    match (&dd.plan.output, &dd.journal) {
+        (Some(image), Some(journal)) => copy_onto(rt, dd, image, journal),
+        _ => dump_file(rt, job, &dd.plan.input, out),
     }
 }
 
-fn show<W: Write>(out: &mut W, text: &str) -> Result<u64, Fault> {
-    emit(out, text.as_bytes())?;
-    Ok(text.len() as u64)
+fn show<W: Write>(out: &mut W, text: &str) -> Result<(), Fault> {
+    Ok(emit(out, text.as_bytes())?)
 }
 
 /// Puts the bytes of a dump onto the image: the whole dump is read first.
-fn revert<R>(rt: &R, job: &RevertJob) -> Result<u64, Fault>
+fn revert<R>(rt: &R, job: &RevertJob) -> Result<(), Fault>
 where
     R: Files<File = File> + Input + Eprint + AllocGlobal,
 {
@@ -75,7 +103,7 @@ where
         None => whole(rt.alloc(), &mut rt.reader())?,
     };
     let text = Bytes::from_vec(text);
-    let asked = if job.plain {
+    let asked: Command = if job.plain {
         Command::RevertPlain { text, at: job.at }
     } else {
         Command::Revert {
@@ -84,7 +112,7 @@ where
         }
     };
     command(rt, &job.image, &job.journal, true, asked)?;
-    Ok(0)
+    Ok(())
 }
 
 /// All that a reader gives.
@@ -99,27 +127,36 @@ fn undo<R, W: Write>(
     image: &Name,
     journal: &Name,
     out: &mut W,
-) -> Result<u64, Fault>
+) -> Result<(), Fault>
 where
     R: Files<File = File> + Eprint + AllocGlobal,
 {
-    match command(rt, image, journal, false, Command::Undo { k: count })? {
+    let asked: Command = Command::Undo { k: count };
+    match command(rt, image, journal, false, asked)? {
         Reply::Undone { left } => {
             let line = format!(in rt.alloc(); "{left}\n")?;
             show(out, line.as_str())
         }
-        _ => Ok(0),
+        _ => Ok(()),
     }
 }
 
-/// Dumps FILE, or standard input where there is none.
-fn dump_file<R, W: Write>(rt: &R, job: &Job, file: &Option<Name>, out: &mut W) -> Result<u64, Fault>
+/// Dumps or copies FILE, or standard input where there is none.
+fn dump_file<R, W: Write>(
+    rt: &R,
+    job: &Job,
+    file: &Option<Name>,
+    out: &mut W,
+) -> Result<Option<Counts>, Fault>
 where
-    R: Files<File = File> + Input,
+    R: Files<File = File> + Input + AllocGlobal,
 {
-    let Done::Dumped(count) = match file {
-        Some(name) => run_dump(job, &mut input(rt, name)?, out)?,
-        None => run_dump(job, &mut rt.reader(), out)?,
+    let done = match file {
+        Some(name) => run_dump(rt.alloc(), job, &mut input(rt, name)?, out)?,
+        None => run_dump(rt.alloc(), job, &mut rt.reader(), out)?,
     };
-    Ok(count)
+    match done {
+        Done::Dumped(_) => Ok(None),
+        Done::Copied(counts) => Ok(Some(counts)),
+    }
 }

@@ -1,5 +1,6 @@
 pub mod Command
 pub mod Copy
+pub mod CopyOut
 pub mod Fault
 pub mod Job
 pub mod Standing

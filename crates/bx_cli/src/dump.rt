@@ -1,16 +1,24 @@
-//! Dumps, as jobs ask for them.
+//! Dumps and copies to a writer, as jobs ask for them.
 ghost use Rattle.std.specs.Prelude.{◌≡◌, ◌≤◌, ◌^◌, ℕ, IfOk, IfErr, length};
-ghost use Rattle.bx_cli.specs.JobDump.{DumpsJob, DumpsHexdump, DumpsOd, DumpsStrings};
+ghost use Rattle.bx_cli.specs.CopyOut.{CopiesOut, StopsOut};
+ghost use Rattle.bx_cli.specs.JobDump.{DumpsJob, DumpsHexdump, DumpsOd, DumpsStrings, StopsJob};
 ghost use Rattle.bx_cli.specs.Dump.{AreOptionsOf, IsStyleOf};
 ghost use Rattle.bx_dump.specs.declared.xxd_options.XxdOptions.{XxdOptions};
 ghost use Rattle.bx_dump.specs.Styles.{IsCountable, xxd_text};
-ghost use Rattle.bx_dump.specs.Pages.{WritesPart, WritesFrontOf};
+ghost use Rattle.bx_dump.specs.Dumped.{DumpsFront};
+ghost use Rattle.bx_dump.specs.Hexdump.{hexdump_text};
+ghost use Rattle.bx_dump.specs.Od.{od_text};
+ghost use Rattle.bx_dump.specs.OdDump.{StopsOd};
+ghost use Rattle.bx_dump.specs.Pages.{WritesPart, WritesFrontOf, part_of};
+ghost use Rattle.bx_dump.specs.Strings.{strings_text};
 
 use crate::{Fault, HexdumpJob, Job, OdJob, StringsJob, XxdJob, XxdLook};
+use bx_dd::{Counts, Plan, transfer};
 use bx_dump::{
     HexdumpOptions, OdOptions, StringsOptions, XxdOptions, XxdStyle, hexdump_c, od, strings, xxd,
 };
-use bx_text::{IoFault, Name};
+use bx_text::{IoFault, Name, emit};
+use std::alloc::Allocator;
 use std::io::{Read, Write};
 
 /// The most bytes that are skipped.
@@ -24,13 +32,25 @@ const MOST_NAME: usize = 1 << 62;
 pub enum Done {
     /// So many bytes were dumped.
     Dumped(u64),
+    /// dd counted this.
+    Copied(Counts),
 }
 
-/// Dumps what the reader gives as the job asks. A job that is no dump is a wrong argument.
-pub fn run_dump<R: Read, W: Write>(job: &Job, r: &mut R, w: &mut W) -> Result<Done, Fault>
-    ensures { IfOk result (DumpsJob job.now (R.remaining r.old) (R.remaining r.new) (W.contents w.old) (W.contents w.new)) }
+/// Dumps or copies what the reader gives as the job asks. Where dd seeks, nothing is read. A job that is no dump, as dd onto
+/// an image, is a wrong argument.
+pub fn run_dump<R: Read, W: Write, A: Allocator + Clone>(
+    alloc: A,
+    job: &Job,
+    r: &mut R,
+    w: &mut W,
+) -> Result<Done, Fault>
+    ensures ok { IfOk result (DumpsJob job.now (R.remaining r.old) (R.remaining r.new) (W.contents w.old) (W.contents w.new)) }
+    ensures err { IfErr result (StopsJob job.now (R.remaining r.old) (R.remaining r.new) (W.contents w.old) (W.contents w.new)) }
 {
     match job {
+        Job::Dd(job) if job.plan.output.is_none() => {
+            Ok(Done::Copied(run_dd(alloc, &job.plan, r, w)?))
+        }
         Job::Od(job) => Ok(Done::Dumped(run_od(job, r, w)?)),
         Job::Xxd(job) => Ok(Done::Dumped(run_xxd(job, r, w)?)),
         Job::Hexdump(job) => Ok(Done::Dumped(run_hexdump(job, r, w)?)),
@@ -85,7 +105,8 @@ fn run_xxd<R: Read, W: Write>(job: &XxdJob, r: &mut R, w: &mut W) -> Result<u64,
 
 /// Writes the lines and the end of `hexdump -C`.
 fn run_hexdump<R: Read, W: Write>(job: &HexdumpJob, r: &mut R, w: &mut W) -> Result<u64, IoFault>
-    ensures { IfOk result (DumpsHexdump job.now (R.remaining r.old) (R.remaining r.new) (W.contents w.old) (W.contents w.new)) }
+    ensures err { IfErr result (WritesFrontOf (λ input. hexdump_text job.now.all job.now.skip (part_of job.now.skip job.now.limit input)) 0 0 (R.remaining r.old) (R.remaining r.new) (W.contents w.old) (W.contents w.new)) }
+    ensures ok { IfOk result (DumpsHexdump job.now (R.remaining r.old) (R.remaining r.new) (W.contents w.old) (W.contents w.new)) }
 {
     let options = HexdumpOptions {
         skip: job.skip,
@@ -97,7 +118,8 @@ fn run_hexdump<R: Read, W: Write>(job: &HexdumpJob, r: &mut R, w: &mut W) -> Res
 
 /// Writes the lines and the end of `od`.
 fn run_od<R: Read, W: Write>(job: &OdJob, r: &mut R, w: &mut W) -> Result<u64, IoFault>
-    ensures { IfOk result (DumpsOd job.now (R.remaining r.old) (R.remaining r.new) (W.contents w.old) (W.contents w.new)) }
+    ensures err { IfErr result (StopsOd (λ input. od_text job.now.address job.now.kind job.now.all job.now.skip (part_of job.now.skip job.now.limit input)) job.now.skip (R.remaining r.old) (R.remaining r.new) (W.contents w.old) (W.contents w.new)) }
+    ensures ok { IfOk result (DumpsOd job.now (R.remaining r.old) (R.remaining r.new) (W.contents w.old) (W.contents w.new)) }
 {
     let options = OdOptions {
         address: job.address,
@@ -111,11 +133,35 @@ fn run_od<R: Read, W: Write>(job: &OdJob, r: &mut R, w: &mut W) -> Result<u64, I
 
 /// Writes the printable runs.
 fn run_strings<R: Read, W: Write>(job: &StringsJob, r: &mut R, w: &mut W) -> Result<u64, IoFault>
-    ensures { IfOk result (DumpsStrings job.now (R.remaining r.old) (R.remaining r.new) (W.contents w.old) (W.contents w.new)) }
+    ensures err { IfErr result (DumpsFront (strings_text job.now.least job.now.offsets) (R.remaining r.old) (R.remaining r.new) (W.contents w.old) (W.contents w.new)) }
+    ensures ok { IfOk result (DumpsStrings job.now (R.remaining r.old) (R.remaining r.new) (W.contents w.old) (W.contents w.new)) }
 {
     let options = StringsOptions {
         least: job.least,
         offsets: job.offsets,
     };
     strings(r, w, &options)
+}
+
+/// Writes what the plan makes of the input. A plan that seeks is refused before anything is read.
+fn run_dd<R: Read, W: Write, A: Allocator + Clone>(
+    alloc: A,
+    plan: &Plan,
+    r: &mut R,
+    w: &mut W,
+) -> Result<Counts, Fault>
+    ensures ok { IfOk result (CopiesOut plan.now (R.remaining r.old) (R.remaining r.new) (W.contents w.old) (W.contents w.new)) }
+    ensures err { IfErr result (StopsOut plan.now (R.remaining r.old) (R.remaining r.new) (W.contents w.old) (W.contents w.new)) }
+{
+    if let Err(fault) = plan.for_stream() {
+        return Err(Fault::from(fault));
+    }
+    let copied = match transfer(alloc, r, plan) {
+        Ok(copied) => copied,
+        Err(fault) => return Err(Fault::from(fault)),
+    };
+    match emit(w, copied.bytes.as_slice()) {
+        Ok(()) => Ok(copied.counts),
+        Err(fault) => Err(Fault::from(fault)),
+    }
 }

@@ -1,8 +1,10 @@
 //! What a command line asks for.
-ghost use Rattle.std.specs.Prelude.{◌≡◌, ◌≤◌, ◌^◌};
+ghost use Rattle.std.specs.Prelude.{◌≡◌, ◌≤◌, ◌^◌, is_some};
+ghost use Rattle.bx_dd.specs.Parsing.{IsPlanOf};
 
+use bx_dd::Plan;
 use bx_dump::{Address, Kind};
-use bx_text::Name;
+use bx_text::{Name, Words};
 
 /// The style of an `xxd` dump.
 #[derive(Clone, Copy, Debug, PartialEq, Eq)]
@@ -63,6 +65,16 @@ pub struct StringsJob {
     ghost short: { least ≤ 4096 },
 }
 
+/// `dd`: what its operands ask for, and the operands themselves. Where `of=` names an image there is its journal; else `journal` is none, and the output is a stream.
+#[derive(Drop)]
+pub struct DdJob {
+    pub plan: Plan,
+    pub operands: Words,
+    pub journal: Option<Name>,
+    ghost planned: { IsPlanOf operands plan },
+    ghost paired: { is_some journal ≡ is_some plan.output },
+}
+
 /// `revert`: the dump, and the image and journal that it is written onto. `at` is added to the addresses, or with `plain` the place of the first byte.
 #[derive(Drop)]
 pub struct RevertJob {
@@ -81,6 +93,7 @@ pub enum Job {
     Xxd(XxdJob),
     Hexdump(HexdumpJob),
     Strings(StringsJob),
+    Dd(DdJob),
     Revert(RevertJob),
     Undo {
         count: u32,
@@ -99,12 +112,13 @@ pub enum Job {
 impl Job {
     ghost use Rattle.bx_cli.specs.Job.{is_dump};
 
-    /// Whether the job only reads one input and writes one output.
+    /// Whether the job only reads one input and writes one output; dd does so without `of=`.
     pub fn is_dump(&self) -> bool
         ensures { result ≡ is_dump self.now }
     {
         match self {
             Job::Od(_) | Job::Xxd(_) | Job::Hexdump(_) | Job::Strings(_) => true,
+            Job::Dd(job) => job.plan.output.is_none(),
             _ => false,
         }
     }

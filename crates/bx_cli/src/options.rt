@@ -232,6 +232,13 @@ static UNDO: [Row; 2] = [
 
 static LOG: [Row; 1] = [JOURNAL];
 
+static DD: [Row; 1] = [Row {
+    id: "journal",
+    short: 'J',
+    value: Some("JOURNAL"),
+    help: "Keep what is overwritten in this file [default: FILE of of=, and .bxj]",
+}];
+
 /// The command with an option or a flag for each row.
 fn with_rows<'a>(
     alloc: Global,
@@ -327,6 +334,23 @@ fn strings<'a>(alloc: Global) -> Result<Command<'a>, AllocError> {
     reader(alloc, command, &STRINGS)
 }
 
+fn dd<'a>(alloc: Global) -> Result<Command<'a>, AllocError> {
+    let command = Command::new(alloc, "dd")
+        .about("Convert and copy bytes, onto an image or to standard output")
+        .long_about(
+            "Convert and copy bytes.\n\nOperands: if=FILE of=FILE ibs=N obs=N bs=N cbs=N skip=N seek=N count=N\nconv=block,unblock,lcase,ucase,swab,sync,notrunc\n\nA change of the file of of= can be undone.",
+        )
+        .after_help(
+            "EXAMPLES:\n  bx dd if=boot.bin of=disk.img seek=1 conv=notrunc\n  bx dd conv=ucase count=1",
+        );
+    let operands = Arg::new(alloc, "operand")
+        .value_name("OPERAND")
+        .num_args(1..)
+        .action(ArgAction::Append)
+        .help("NAME=VALUE");
+    with_rows(alloc, command, &DD)?.arg(operands)
+}
+
 fn revert<'a>(alloc: Global) -> Result<Command<'a>, AllocError> {
     let command = Command::new(alloc, "revert")
         .about("Write the bytes of a dump onto an image")
@@ -367,6 +391,7 @@ pub fn program<'a>(alloc: Global) -> Result<Command<'a>, AllocError> {
         .subcommand(xxd(alloc)?)?
         .subcommand(hexdump(alloc)?)?
         .subcommand(strings(alloc)?)?
+        .subcommand(dd(alloc)?)?
         .subcommand(revert(alloc)?)?
         .subcommand(undo(alloc)?)?
         .subcommand(log(alloc)?)

@@ -2,8 +2,9 @@
 ghost use Rattle.std.specs.Prelude.{◌≤◌, ◌^◌, IfOk, IfSome};
 
 use crate::fault::Fault;
-use crate::job::{HexdumpJob, Job, OdJob, RevertJob, StringsJob, XxdJob, XxdLook};
+use crate::job::{DdJob, HexdumpJob, Job, OdJob, RevertJob, StringsJob, XxdJob, XxdLook};
 use crate::options::program;
+use bx_dd::parse;
 use bx_dump::{Address, Kind, NumForm, Size};
 use bx_text::{Name, SizeStyle, Words, read_size};
 use clap::error::ErrorKind;
@@ -58,6 +59,7 @@ fn job_of(alloc: Global, name: &str, inner: &ArgMatches<'_>) -> Result<Job, Faul
         "xxd" => xxd(alloc, inner),
         "hexdump" => hexdump(alloc, inner),
         "strings" => strings(alloc, inner),
+        "dd" => dd(alloc, inner),
         "revert" => revert(alloc, inner),
         "undo" => undo(alloc, inner),
         "log" => log(alloc, inner),
@@ -115,11 +117,17 @@ fn name(alloc: Global, m: &ArgMatches<'_>, id: &str) -> Result<Option<Name>, Fau
     }
 }
 
-// The image and its journal, which are two files.
+// The image and its journal.
 fn pair(alloc: Global, m: &ArgMatches<'_>) -> Result<(Name, Name), Fault> {
     let Some(image) = m.get_str("image") else {
         return Err(Fault::Usage);
     };
+    let journal = journal_of(alloc, m, image)?;
+    Ok((name_of(alloc, image)?, journal))
+}
+
+// The journal of an image, which is another file.
+fn journal_of(alloc: Global, m: &ArgMatches<'_>, image: &str) -> Result<Name, Fault> {
     let journal = match m.get_str("journal") {
         Some(journal) => String::from_str(alloc, journal)?,
         None => format!(in alloc; "{image}.bxj")?,
@@ -127,7 +135,7 @@ fn pair(alloc: Global, m: &ArgMatches<'_>) -> Result<(Name, Name), Fault> {
     if journal.as_str() == image {
         return Err(Fault::Usage);
     }
-    Ok((name_of(alloc, image)?, Name::from_string(journal)))
+    Ok(Name::from_string(journal))
 }
 
 fn radix(text: Option<&str>, none: Address, with_n: bool) -> Result<Address, Fault> {
@@ -247,6 +255,26 @@ fn strings(alloc: Global, m: &ArgMatches<'_>) -> Result<Job, Fault> {
         least,
         offsets: radix(m.get_str("offsets"), Address::Without, false)?,
         file: name(alloc, m, "file")?,
+    }))
+}
+
+// The operands' faults come before that of the journal's name.
+fn dd(alloc: Global, m: &ArgMatches<'_>) -> Result<Job, Fault> {
+    let mut operands = Words::new(alloc)?;
+    if let Some(words) = m.get_strs("operand") {
+        for word in words {
+            operands.push(word)?;
+        }
+    }
+    let plan = parse(alloc, &operands)?;
+    let journal = match &plan.output {
+        Some(image) => Some(journal_of(alloc, m, image.as_str())?),
+        None => None,
+    };
+    Ok(Job::Dd(DdJob {
+        plan,
+        operands,
+        journal,
     }))
 }
 

@@ -1,4 +1,5 @@
-use crate::{Fault, Job, XxdLook, plan_words};
+use crate::{DdJob, Done, Fault, Job, XxdLook, plan_words, run_dump};
+use bx_dd::Counts;
 use bx_dump::Kind;
 use bx_text::Words;
 use std::alloc::Global;
@@ -66,6 +67,10 @@ fn usage_faults(rt: HostRuntime) -> Result<(), Fail> {
         "revert",
         "revert -J i i",
         "revert -s 1k i",
+        "dd -J i of=i",
+        "dd -k 1",
+        "dd -J",
+        "dd -J a -J b of=c",
     ] {
         assert_eq!(rt; number(rt.alloc(), line), 50, "at {line}");
     }
@@ -88,10 +93,21 @@ fn accepted_words(rt: HostRuntime) -> Result<(), Fail> {
         "undo -k 65535 i",
         "undo -k 0 i",
         "log -J j i",
+        "dd",
+        "dd -J j",
+        "dd if=a -J j of=b bs=1k",
+        "dd conv=ucase,notrunc seek=2 of=b",
     ] {
         assert_eq!(rt; number(rt.alloc(), line), 0, "at {line}");
     }
-    for line in ["--help", "help xxd", "xxd -h", "od -b -c -h", "--version"] {
+    for line in [
+        "--help",
+        "help xxd",
+        "xxd -h",
+        "od -b -c -h",
+        "dd --help",
+        "--version",
+    ] {
         assert_eq!(rt; number(rt.alloc(), line), HELP, "at {line}");
     }
     Ok(())
@@ -140,6 +156,86 @@ fn fault_texts(rt: HostRuntime) -> Result<(), Fail> {
     ] {
         let shown = format!(in rt.alloc(); "{fault}")?;
         assert_eq!(rt; shown.as_str(), text);
+    }
+    Ok(())
+}
+
+// The operands come before the journal's name, and each fault has its place.
+#[test]
+fn operand_faults(rt: HostRuntime) -> Result<(), Fail> {
+    for (line, fault) in [
+        ("dd foo=1", Fault::UnknownOperand { place: 1 }),
+        ("dd foo", Fault::UnknownOperand { place: 1 }),
+        ("dd of=", Fault::UnknownOperand { place: 1 }),
+        ("dd -J i of=i foo=1", Fault::UnknownOperand { place: 2 }),
+        ("dd ibs=1q", Fault::BadNumber { place: 1 }),
+        ("dd ibs=1kB", Fault::BadNumber { place: 1 }),
+        ("dd ibs=16777217", Fault::NumberTooLarge { place: 1 }),
+        ("dd obs=0", Fault::ZeroSize { place: 1 }),
+        ("dd conv=lcase,ucase", Fault::Conflict),
+        ("dd conv=block", Fault::MissingCbs),
+        ("dd bs=1 bs=2", Fault::Repeated { place: 2 }),
+    ] {
+        match plan(rt.alloc(), line) {
+            Ok(_) => assert!(rt; false, "at {line}"),
+            Err(found) => assert_eq!(rt; found, fault, "at {line}"),
+        }
+    }
+    Ok(())
+}
+
+fn dd_job(alloc: Global, line: &str) -> Result<DdJob, Fault> {
+    match plan(alloc, line)? {
+        Job::Dd(dd) => Ok(dd),
+        _ => Err(Fault::Usage),
+    }
+}
+
+#[test]
+fn dd_jobs(rt: HostRuntime) -> Result<(), Fail> {
+    let stream = dd_job(rt.alloc(), "dd -J j ibs=2x3k conv=ucase if=a")?;
+    assert_eq!(rt; stream.plan.ibs, 6144);
+    assert!(rt; stream.journal.is_none());
+    assert!(rt; Job::Dd(stream).is_dump());
+    let onto = dd_job(rt.alloc(), "dd of=b")?;
+    assert!(rt; matches!(&onto.journal, Some(name) if name.as_str() == "b.bxj"));
+    assert!(rt; !Job::Dd(onto).is_dump());
+    Ok(())
+}
+
+#[test]
+fn copies_out(rt: HostRuntime) -> Result<(), Fail> {
+    let job = plan(rt.alloc(), "dd conv=ucase")?;
+    let mut out = Vec::new(rt.alloc());
+    let counts = Counts {
+        whole_in: 0,
+        part_in: 1,
+        whole_out: 0,
+        part_out: 1,
+        cut: 0,
+    };
+    assert_eq!(rt;
+        run_dump(rt.alloc(), &job, &mut b"abc".as_slice(), &mut out),
+        Ok(Done::Copied(counts))
+    );
+    assert!(rt; out.as_slice() == b"ABC".as_slice());
+    Ok(())
+}
+
+// dd onto an image is no dump, and a stream can't be sought.
+#[test]
+fn copies_nothing_out(rt: HostRuntime) -> Result<(), Fail> {
+    for (line, fault) in [
+        ("dd of=b", Fault::Usage),
+        ("dd seek=1", Fault::SeekWithoutOutput),
+    ] {
+        let job = plan(rt.alloc(), line)?;
+        let mut out = Vec::new(rt.alloc());
+        assert_eq!(rt;
+            run_dump(rt.alloc(), &job, &mut b"abc".as_slice(), &mut out),
+            Err(fault)
+        );
+        assert!(rt; out.is_empty());
     }
     Ok(())
 }

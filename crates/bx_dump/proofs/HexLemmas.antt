@@ -1,15 +1,16 @@
 -- The digits of 16 bytes, and how digits stand in columns, lane by lane.
-use Rattle.std.proofs.Common.{◌≡◌, ℕ, ◌+◌, ◌*◌, ◌/◌, ◌%◌, ◌^◌, ◌<◌, List, [], ◌∷◌, ◌++◌, map, length, get_or, replicate, bit_and, Fits, w8, eqb, eqb-true, true, refl, sym, ap, ◌∙◌, subst, arith}
+use Rattle.std.proofs.Common.{◌≡◌, ℕ, ◌+◌, ◌*◌, ◌/◌, ◌%◌, ◌^◌, ◌<◌, List, [], ◌∷◌, ◌++◌, map, length, get_or, replicate, bit_and, Fits, w8, cond, leb, false, eqb, eqb-true, true, refl, sym, ap, ◌∙◌, subst, arith}
 use Rattle.std.specs.Prelude.{Bool}
 use Rattle.std.specs.Fmt.{digit_glyph}
 use Rattle.std.specs.List.{flat_map, range_with_len}
 use Rattle.std.proofs.lemmas.Bool.{agree_below, agree_below_at}
 use Rattle.std.proofs.lemmas.Nat.{and_mask}
-use Rattle.std.proofs.lemmas.Simd.{zip2_splat, Each1-get_or, Each1-from_get_or, SwzOk, SwzOk-from_below, swz_l, length-swz_l, get_or-swz_l_below, pick_l_whole}
+use Rattle.std.proofs.lemmas.Simd.{zip2_splat, map-map, Each1-get_or, Each1-from_get_or, SwzOk, SwzOk-from_below, swz_l, length-swz_l, get_or-swz_l_below, pick_l_whole}
 use Rattle.std.proofs.lemmas.List.{length-map, get_or-map, ext_get_or}
-use lib.Lanes.{zip2, Each1, pick_l}
-use Rattle.bx_text.specs.Dump.{pair_of}
+use lib.Lanes.{zip2, Each1, pick_l, sel_l, top}
+use Rattle.bx_text.specs.Dump.{pair_of, shown_byte}
 use Rattle.bx_dump.specs.Cells.{piece_at}
+use Rattle.bx_dump.proofs.LaneLemmas.{less, under, is_inside, inside_is}
 
 -- the upper and the lower half of each lane
 pub high_is : (v : List ℕ) → length v ≡ 16 → zip2 (λ a b. a / 2 ^ b) v (replicate 16 4) ≡ map (λ x. x / 16) v
@@ -76,3 +77,28 @@ fours_are cells long =
 pub fours_front : (cells rest : List ℕ) → length cells ≡ 32 → flat_map (piece_at 4 cells) (range_with_len 0 8) ≡ flat_map (piece_at 4 (cells ++ rest)) (range_with_len 0 8)
 fours_front cells rest long =
     subst (λ l. flat_map (piece_at 4 l) (range_with_len 0 8) ≡ flat_map (piece_at 4 (l ++ rest)) (range_with_len 0 8)) (pick_l_whole 0 cells 32 long) refl
+
+-- the lanes that print, and dots
+abbrev pub shown_mask : List ℕ → List ℕ
+shown_mask v = zip2 under (zip2 less v (replicate 16 32)) (replicate 16 94)
+
+mask_is : (v : List ℕ) → length v ≡ 16 → shown_mask v ≡ map (λ x. cond (is_inside x) 255 0) v
+mask_is v long =
+    let down = zip2_splat less v 16 32 long in
+    zip2_splat under (zip2 less v (replicate 16 32)) 16 94 (ap length down ∙ length-map v (λ x. less x 32) ∙ long)
+    ∙ ap (map (λ a. cond (leb a 94) 255 0)) down ∙ map-map (λ a. cond (leb a 94) 255 0) (λ x. less x 32) v
+
+top_is : (b : Bool) → top 7 (cond b 255 0) ≡ b
+top_is true = refl
+top_is false = refl
+
+one_shown : (x : ℕ) → x < 256 → cond (top 7 (cond (is_inside x) 255 0)) x 46 ≡ shown_byte x
+one_shown x small = ap (λ b. cond b x 46) (top_is (is_inside x) ∙ inside_is x small)
+
+all_shown : (v : List ℕ) → Each1 (Fits w8) v → sel_l (map (top 7) (map (λ x. cond (is_inside x) 255 0) v)) v (replicate (length v) 46) ≡ map shown_byte v
+all_shown [] fits = refl
+all_shown (x ∷ xs) fits = λ i. one_shown x fits.0.fits i ∷ all_shown xs fits.1 i
+
+pub shown_are : (v : List ℕ) → length v ≡ 16 → Each1 (Fits w8) v → sel_l (map (top 7) (shown_mask v)) v (replicate 16 46) ≡ map shown_byte v
+shown_are v long fits =
+    (λ i. sel_l (map (top 7) (mask_is v long i)) v (replicate (sym long i) 46)) ∙ all_shown v fits

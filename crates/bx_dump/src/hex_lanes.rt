@@ -1,10 +1,11 @@
 //! The digits of many bytes at once, and how they stand in columns.
-ghost use Rattle.std.specs.Prelude.{◌≡◌, ℕ, ◌/◌, ◌%◌, ◌<◌, map, length, slice_index};
+ghost use Rattle.std.specs.Prelude.{◌≡◌, ℕ, ◌*◌, ◌/◌, ◌%◌, ◌<◌, ◌≤◌, map, length, take, slice_index};
 ghost use Rattle.std.specs.Fmt.{digit_glyph};
 ghost use Rattle.std.specs.List.{flat_map, range_with_len};
-ghost use Rattle.bx_text.specs.Dump.{pair_of};
+ghost use Rattle.bx_text.specs.Dump.{pair_of, shown_byte};
 ghost use Rattle.bx_dump.specs.Cells.{piece_at};
 
+use bx_text::put_text;
 use std::simd::prelude::*;
 
 /// The hexadecimal digits.
@@ -73,4 +74,42 @@ pub fn put_fours(field: &mut [u8], cells: &[u8])
     let (first, last) = field.split_at_mut(32);
     front.copy_to_slice(first);
     back.copy_to_slice(last);
+}
+
+/// Puts 16 bytes as text.
+#[inline(always)]
+fn put_shown(field: &mut [u8], bytes: &[u8])
+    requires field { length field.old ≡ 16 }
+    requires bytes { length bytes.now ≡ 16 }
+    ensures { field.new ≡ map shown_byte bytes.now }
+{
+    let bytes = u8x16::from_slice(bytes);
+    let prints = (bytes - u8x16::splat(0x20)).simd_le(u8x16::splat(0x5e));
+    prints
+        .select(bytes, u8x16::splat(b'.'))
+        .copy_to_slice(field);
+}
+
+/// Puts so many times 16 bytes as text.
+#[inline(always)]
+fn put_shown_sixteens(field: &mut [u8], bytes: &[u8], count: usize)
+    requires room { length field.old ≡ 16 * count }
+    requires enough { 16 * count ≤ length bytes.now }
+    ensures { field.new ≡ map shown_byte (take (16 * count) bytes.now) }
+{
+    for k in 0..count {
+        put_shown(&mut field[16 * k..16 * k + 16], &bytes[16 * k..16 * k + 16]);
+    }
+}
+
+/// Puts the bytes as text.
+#[inline(always)]
+pub fn put_shown_bytes(field: &mut [u8], bytes: &[u8])
+    requires { length field.old ≡ length bytes.now }
+    ensures { field.new ≡ map shown_byte bytes.now }
+{
+    let count = bytes.len() / 16;
+    let (front, rest) = field.split_at_mut(16 * count);
+    put_shown_sixteens(front, bytes, count);
+    put_text(rest, &bytes[16 * count..]);
 }

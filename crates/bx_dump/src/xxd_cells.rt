@@ -5,9 +5,9 @@ ghost use Rattle.bx_text.specs.Dump.{pair_of, shown_byte};
 ghost use Rattle.bx_text.specs.Field.{hex_text};
 ghost use Rattle.bx_dump.specs.Cells.{bits_of, piece_at, grouped};
 
-use crate::hex_lanes::{put_fours, put_sixteen};
+use crate::hex_lanes::{put_fours, put_shown_bytes, put_sixteen};
 use crate::xxd_tables::bits;
-use bx_text::{blank, digits_of, hex_digit, hex_field, put_text};
+use bx_text::{blank, digits_of, hex_digit, hex_field};
 
 /// Puts the two digits of each byte, byte by byte.
 fn put_few_pairs(cells: &mut [u8], bytes: &[u8], upper: bool)
@@ -182,6 +182,6 @@ pub fn put_body(
     colon.copy_from_slice(b": ");
     put_grouped(columns, cells, piece, count);
     space.copy_from_slice(b" ");
-    put_text(text, bytes);
+    put_shown_bytes(text, bytes);
     end.copy_from_slice(b"\n");
 }

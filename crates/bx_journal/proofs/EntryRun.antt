@@ -1,12 +1,12 @@
 -- A written entry may be cut anywhere.
-use Rattle.std.proofs.Common.{◌≡◌, ℕ, suc, ◌+◌, ◌<◌, ◌≤◌, Bool, true, false, List, [], ◌∷◌, ◌++◌, length, length-append, refl, sym, subst, inl, inr, arith, append_assoc, append-nil, Some, None, map}
+use Rattle.std.proofs.Common.{◌≡◌, ℕ, suc, ◌+◌, ◌<◌, ◌≤◌, Bool, true, false, List, [], ◌∷◌, ◌++◌, length, length-append, get_or, refl, sym, subst, inl, inr, arith, append_assoc, append-nil, Some, None, map}
 use Rattle.std.specs.Prelude.{◌&&◌, flat_map, nat_le, nat_lt, if◌then◌else◌}
 use Rattle.std.specs.List.{list_all}
 use Rattle.std.specs.Str.{bytes_eq}
 use Rattle.std.proofs.lemmas.Grind.{common_steps}
 use Rattle.std.proofs.lemmas.List.Folds.{list_all-append}
 use Rattle.bx_image.specs.declared.change.TheConstants.{MAX_LEN}
-use Rattle.bx_journal.specs.Kept.{Run}
+use Rattle.bx_journal.specs.Kept.{Run, with_run, with_runs}
 use Rattle.bx_journal.specs.Kept.{Kept}
 use Rattle.bx_journal.specs.declared.version.Version.{Version}
 use Rattle.bx_journal.specs.declared.version.Version.TheVariants.{Second}
@@ -17,6 +17,7 @@ use Rattle.bx_journal.specs.Entry.{rows, head_lines}
 use Rattle.bx_journal.specs.Text.{IsPrefix, Reading, Entry, Between, Saving, Ending, IsRest, next, next_at, begins, may_begin, is_short, is_printable, begins_with_s}
 use Rattle.bx_journal.proofs.Written.{IsSavedLine, saved_line}
 use Rattle.bx_journal.proofs.Runs.{SafeRun}
+use Rattle.bx_journal.proofs.SavedLines.{saved_reads}
 use Rattle.bx_journal.proofs.RowLemmas.{AreRows}
 use Rattle.bx_journal.proofs.LineLemmas.{bytes_eq-same, start_reads, first_not_second, end_reads, plain_start, plain_save, plain_end, short_start, short_save, short_end}
 
@@ -32,6 +33,19 @@ between es = record { entries = es; stage = Between }
 not_save : (line rest : List ℕ) → begins_with_s line ≡ false → bytes_eq line (115 ∷ rest) ≡ false
 not_save [] rest h = refl
 not_save (b ∷ line) rest h = rw h refl
+
+-- a line that doesn't begin as a save line
+pub save_apart : (n : ℕ) (line : List ℕ) → begins_with_s line ≡ false → bytes_eq line (save_line n) ≡ false
+unfolding save_line
+save_apart n line apart = not_save line (97 ∷ 118 ∷ 101 ∷ 32 ∷ hex_digits 8 n) apart
+
+pub nothing_apart : (line : List ℕ) → length line ≡ 0 → begins_with_s line ≡ false
+nothing_apart [] none = refl
+nothing_apart (b ∷ line) none = absurd (omega arith)
+
+pub first_apart : (line : List ℕ) → (get_or line 0 0 ≡ 115 → ⊥) → begins_with_s line ≡ false
+first_apart [] apart = refl
+first_apart (b ∷ line) apart = grind (arith, common_steps, apart)
 
 pub save_rest : (es : List Entry) (v : Version) (s : Kept) (t : List ℕ) → IsPrefix t (save_line (suc (length es))) → IsRest es (Saving v s) t
 unfolding save_line
@@ -58,27 +72,21 @@ next_save : (es : List Entry) (v : Version) (s : Kept) → next (record { entrie
 unfolding next_at
 next_save es v s = rw (bytes_eq-same (save_line (suc (length es)))) refl
 
-next_saved : (es : List Entry) (v : Version) (len : ℕ) (done : List Run) (line : List ℕ) (p : Run) → begins_with_s line ≡ false → saved_in len line ≡ Some p → next (saving es v len done) line ≡ Some (saving es v len (done ++ p ∷ []))
+next_saved : (es : List Entry) (v : Version) (len : ℕ) (done : List Run) (line : List ℕ) (p : Run) → begins_with_s line ≡ false → saved_in len line ≡ Some p → next (saving es v len done) line ≡ Some (saving es v len (with_run done p))
 unfolding next_at save_line
 next_saved es v len done line p apart is = rw (not_save line (97 ∷ 118 ∷ 101 ∷ 32 ∷ hex_digits 8 (suc (length es))) apart, is) refl
 
-saved_reads : (len : ℕ) (line : List ℕ) (p : Run) → piece_of line ≡ Some p → length p.bytes ≤ 16 → p.at + length p.bytes ≤ len → saved_in len line ≡ Some p
-unfolding saved_in
-saved_reads len line p is few within = rw is (fits (nat_le (length p.bytes) 16) (nat_le (p.at + length p.bytes) len) (grind (arith, common_steps)) (grind (arith, common_steps)))
-  where
-    fits : (a b : Bool) → a ≡ true → b ≡ true → (if a && b then Some p else None) ≡ Some p
-    fits a b e f = rw (e, f) refl
-
 -- the saved lines and the save line, behind rows that were read before
 saving_run : (Q E : Reading → Type 0) (es : List Entry) (v : Version) (len : ℕ) → len ≤ MAX_LEN → ((runs : List Run) → Q (saving es v len runs))
-    → (more : List (List ℕ)) (ps done : List Run) → AreRows len ps → SafeRun Q E (ending es v len (done ++ ps)) more
+    → (more : List (List ℕ)) (ps done : List Run) → AreRows len ps → SafeRun Q E (ending es v len (with_runs done ps)) more
     → SafeRun Q E (saving es v len done) (map (λ p. dump_line p.at p.bytes) ps ++ save_line (suc (length es)) ∷ more)
+unfolding with_runs
 saving_run Q E es v len most q more [] done are run = (
   q done,
   save_rest es v (record { len = len; runs = done }),
   plain_save (suc (length es)),
   short_save (suc (length es)),
-  (ending es v len done, next_save es v (record { len = len; runs = done }), rw append-nil at run),
+  (ending es v len done, next_save es v (record { len = len; runs = done }), run),
 )
 saving_run Q E es v len most q more (p ∷ ps) done are run =
     let line : IsSavedLine (dump_line p.at p.bytes) p = saved_line p are.3 are.0 are.1 (omega (arith, are.2)) in (
@@ -87,9 +95,9 @@ saving_run Q E es v len most q more (p ∷ ps) done are run =
       line.plain,
       line.short,
       (
-        saving es v len (done ++ p ∷ []),
+        saving es v len (with_run done p),
         next_saved es v len done (dump_line p.at p.bytes) p (line.front (dump_line p.at p.bytes) ([], sym (append-nil (dump_line p.at p.bytes)))) (saved_reads len (dump_line p.at p.bytes) p line.reads are.1 are.2),
-        saving_run Q E es v len most q more ps (done ++ p ∷ []) are.4 (rw append_assoc run),
+        saving_run Q E es v len most q more ps (with_run done p) are.4 run,
       ),
     )
 
@@ -104,7 +112,7 @@ next_start es len room most may =
 
 -- an entry up to its save line, and what follows
 pub head_run : (Q E : Reading → Type 0) (es : List Entry) (s : Kept) → length es < 65535 → s.len ≤ MAX_LEN → may_begin es s.len ≡ true → AreRows s.len (flat_map rows s.runs)
-    → Q (between es) → ((runs : List Run) → Q (saving es Second s.len runs)) → (more : List (List ℕ)) → SafeRun Q E (ending es Second s.len (flat_map rows s.runs)) more
+    → Q (between es) → ((runs : List Run) → Q (saving es Second s.len runs)) → (more : List (List ℕ)) → SafeRun Q E (ending es Second s.len (with_runs [] (flat_map rows s.runs))) more
     → SafeRun Q E (between es) (head_lines (suc (length es)) s ++ more)
 unfolding head_lines
 head_run Q E es s room most may are at_rest q more run = (

@@ -8,8 +8,7 @@ use Rattle.std.proofs.lemmas.List.{take-append-drop}
 use Rattle.std.proofs.lemmas.Slice.Eq.{bytes_eq-Decides}
 use Rattle.std.proofs.Math.Nat.{pow-suc, mul-le-mul_left}
 use Rattle.bx_image.specs.declared.change.TheConstants.{MAX_LEN}
-use Rattle.bx_journal.specs.Kept.{Run}
-use Rattle.bx_journal.specs.Kept.{Kept}
+use Rattle.bx_journal.specs.Kept.{Run, Kept, with_run}
 use Rattle.bx_journal.specs.declared.version.Version.{Version}
 use Rattle.bx_journal.specs.declared.version.Version.TheVariants.{First, Second}
 use Rattle.bx_journal.specs.Hex.{hex_digit, hex_digits, hex_value, number_after, number_of}
@@ -173,7 +172,7 @@ next_between es line q e = by_room (nat_lt (length es) 65535) (option_map (λ (s
 
 abbrev Continues : List Entry → Version → Kept → List ℕ → Reading → Type 0
 Continues es v s line q = ((line ≡ save_line (suc (length es))) × (q ≡ record { entries = es; stage = Ending v s }))
-    ⊎ ((begins_with_s line ≡ false) × (piece : Run) × (q ≡ record { entries = es; stage = Saving v (record { len = s.len; runs = s.runs ++ piece ∷ [] }) }))
+    ⊎ ((begins_with_s line ≡ false) × (piece : Run) × (q ≡ record { entries = es; stage = Saving v (record { len = s.len; runs = with_run s.runs piece }) }))
 
 saved_apart : (len : ℕ) (line : List ℕ) (p : Run) → saved_in len line ≡ Some p → begins_with_s line ≡ false
 unfolding saved_in
@@ -186,11 +185,11 @@ unfolding next_at
 next_saving es v s line q e = by_test (bytes_eq line (save_line (suc (length es)))) refl e
   where
     by_test : (b : Bool) → bytes_eq line (save_line (suc (length es))) ≡ b
-        → (if b then Some (record { entries = es; stage = Ending v s }) else option_map (λ (piece : Run). (record { entries = es; stage = Saving v (record { len = s.len; runs = s.runs ++ piece ∷ [] }) })) (saved_in s.len line)) ≡ Some q
+        → (if b then Some (record { entries = es; stage = Ending v s }) else option_map (λ (piece : Run). (record { entries = es; stage = Saving v (record { len = s.len; runs = with_run s.runs piece }) })) (saved_in s.len line)) ≡ Some q
         → Continues es v s line q
     by_test true is e = inl (same_bytes line (save_line (suc (length es))) is, cc)
     by_test false is e =
-        let some = map_some (λ (piece : Run). (record { entries = es; stage = Saving v (record { len = s.len; runs = s.runs ++ piece ∷ [] }) })) (saved_in s.len line) q e in
+        let some = map_some (λ (piece : Run). (record { entries = es; stage = Saving v (record { len = s.len; runs = with_run s.runs piece }) })) (saved_in s.len line) q e in
         inr (saved_apart s.len line some.0 some.1, some.0, sym some.2)
 
 pub next_ending : (es : List Entry) (v : Version) (s : Kept) (line : List ℕ) (q : Reading) → next_at es (Ending v s) line ≡ Some q

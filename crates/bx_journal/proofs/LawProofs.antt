@@ -7,10 +7,11 @@ use Rattle.bx_journal.specs.Line.{end_line}
 use Rattle.bx_journal.specs.Entry.{head_lines, entry_text}
 use Rattle.bx_journal.specs.Text.{Entry, Between, Reading, Reads, IsRest, split, joined, start, after_lines}
 use Rattle.bx_journal.specs.Stack.{stack_of}
-use Rattle.bx_journal.specs.Phase.{in_rows}
+use Rattle.bx_journal.specs.Phase.{as_read}
 use Rattle.bx_journal.proofs.Splits.{split-append}
 use Rattle.bx_journal.proofs.Runs.{SafeRun, GoesAllBy, safe_all, after_lines-append}
-use Rattle.bx_journal.proofs.RowLemmas.{all_rows_byte, all_rows_are}
+use Rattle.bx_journal.proofs.Gathered.{as_read_byte}
+use Rattle.bx_journal.proofs.RowLemmas.{all_rows_are}
 use Rattle.bx_journal.proofs.EntryRun.{head_run, end_run, between}
 
 joined-append : (a b : List (List ℕ)) → joined (a ++ b) ≡ joined a ++ joined b
@@ -19,20 +20,20 @@ joined-append (l ∷ a) b = ap (λ t. (l ++ 10 ∷ []) ++ t) (joined-append a b)
 
 pub written_is_read : WrittenIsRead
 written_is_read text es s after reads whole room most after_most within bytes may =
-    let e : Entry = record { saved = in_rows s; after = Some after } in
+    let e : Entry = record { saved = as_read s; after = Some after } in
     let E : Reading → Type 0 = λ r. r ≡ between (e ∷ es) in
     let Any : Reading → Type 0 = λ r. Unit {0} in
     let n : ℕ = suc (length es) in
     let lines : List (List ℕ) = head_lines n s ++ end_line Second n after ∷ [] in
     let run : SafeRun Any E (between es) lines = head_run Any E es s room most may (all_rows_are s.len s.runs within bytes) tt (λ runs. tt) (end_line Second n after ∷ [])
-    (end_run Any E es (in_rows s) after after_most tt tt refl) in
+    (end_run Any E es (as_read s) after after_most tt tt refl) in
     let g : GoesAllBy Any E (between es) (split (joined lines)) = safe_all Any E (between es) lines run in
     let is : joined lines ≡ entry_text n s after = joined-append (head_lines n s) (end_line Second n after ∷ []) in
     let all : Reads (text ++ joined lines) (between (e ∷ es)) = record {
       lines = rw (split-append text (joined lines) whole) (after_lines-append start (between es) (split text).lines (split (joined lines)).lines reads.lines ∙ g.lines ∙ ap Some g.ends);
       rest = rw (split-append text (joined lines) whole) (subst (IsRest (e ∷ es) Between) (sym g.whole) (inl refl));
     } in
-    (e, record { len = refl; bytes = all_rows_byte s.runs; told = refl }, subst (λ t. Reads (text ++ t) (between (e ∷ es))) is all)
+    (e, record { len = refl; bytes = as_read_byte s.runs; told = refl }, subst (λ t. Reads (text ++ t) (between (e ∷ es))) is all)
 
 some_same : {A : Type 0} (x y : A) → Some x ≡ Some y → x ≡ y
 some_same x y e = cc

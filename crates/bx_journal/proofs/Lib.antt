@@ -7,6 +7,8 @@ pub mod FieldText
 pub mod WriterLemmas
 pub mod LineLemmas
 pub mod RowLemmas
+pub mod Gathered
+pub mod SavedLines
 pub mod EntryRun
 pub mod Phases
 pub mod Ready

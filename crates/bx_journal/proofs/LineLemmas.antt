@@ -1,6 +1,6 @@
 -- The lines that are written read as what they were made of.
-use Rattle.std.proofs.Common.{◌≡◌, ℕ, ◌+◌, ◌^◌, ◌<◌, ◌≤◌, true, List, ◌++◌, length, refl, arith, length-append, Some, None, rules}
-use Rattle.std.specs.Prelude.{codes}
+use Rattle.std.proofs.Common.{◌≡◌, ℕ, ◌+◌, ◌^◌, ◌<◌, ◌≤◌, Bool, true, false, List, ◌++◌, length, length-drop, take, drop, refl, arith, length-append, Some, None, rules}
+use Rattle.std.specs.Prelude.{◌==◌, codes, if◌then◌else◌, option_and_then}
 use Rattle.std.specs.List.{list_all}
 use Rattle.std.specs.Str.{bytes_eq}
 use Rattle.std.proofs.lemmas.Grind.{common_steps}
@@ -10,8 +10,8 @@ use Rattle.std.proofs.Math.Seq.{take-append_seam, drop-append_seam}
 use Rattle.bx_image.specs.declared.change.TheConstants.{MAX_LEN}
 use Rattle.bx_journal.specs.declared.version.Version.{Version}
 use Rattle.bx_journal.specs.declared.version.Version.TheVariants.{First, Second}
-use Rattle.bx_journal.specs.Hex.{hex_digits}
-use Rattle.bx_journal.specs.Line.{digits_of, start_head, start_line, save_line, end_head, end_line, behind, at_most, length_in, after_in}
+use Rattle.bx_journal.specs.Hex.{hex_digits, number_after, number_of}
+use Rattle.bx_journal.specs.Line.{digits_of, start_size, start_head, start_line, save_line, end_head, end_line, behind, at_most, length_in, after_in}
 use Rattle.bx_journal.specs.Text.{is_printable, is_short}
 use Rattle.bx_journal.specs.Plain.{HasNoNewline}
 use Rattle.bx_journal.proofs.Splits.{plain-append}
@@ -85,3 +85,32 @@ unfolding save_line
 short_save n = short_of (codes "save " ++ hex_digits 8 n)
     (omega (arith, length-append (codes "save ") (hex_digits 8 n), length-hex_digits 8 n))
     (rw (list_all-append is_printable (codes "save ") (hex_digits 8 n), printable-hex_digits 8 n) refl)
+
+head_size : (v : Version) (n : ℕ) → length (start_head v n) + digits_of v ≡ start_size v
+unfolding start_head
+head_size First n = omega (arith, length-append (codes "change ") (hex_digits 8 n ++ codes " "), length-append (hex_digits 8 n) (codes " "), length-hex_digits 8 n)
+head_size Second n = omega (arith, length-append (codes "change2 ") (hex_digits 8 n ++ codes " "), length-append (hex_digits 8 n) (codes " "), length-hex_digits 8 n)
+
+other_width : (width : ℕ) (text : List ℕ) → (length text ≡ width → ⊥) → number_of width text ≡ None
+other_width width text apart = by (length text == width) refl
+  where
+    by : (b : Bool) → length text == width ≡ b → (if b then number_after 0 text else None) ≡ None
+    by false is = refl
+    by true is = absurd (apart (same (length text) width is))
+      where
+        same : (m n : ℕ) → m == n ≡ true → m ≡ n
+        same m n e = grind (arith, common_steps)
+
+some_digits : (v : Version) → 0 < digits_of v
+some_digits First = omega arith
+some_digits Second = omega arith
+
+-- a line of another length begins no entry
+pub other_size : (v : Version) (n : ℕ) (line : List ℕ) → (length line ≡ start_size v → ⊥) → length_in v n line ≡ None
+unfolding length_in
+other_size v n line apart = by (bytes_eq (take (length (start_head v n)) line) (start_head v n))
+  where
+    by : (b : Bool) → at_most MAX_LEN (option_and_then (number_of (digits_of v)) (if b then Some (drop (length (start_head v n)) line) else None)) ≡ None
+    by false = refl
+    by true =
+        rw (other_width (digits_of v) (drop (length (start_head v n)) line) (λ h. apart (omega (arith, h, length-drop (length (start_head v n)) line, head_size v n, some_digits v)))) refl

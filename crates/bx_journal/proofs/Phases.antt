@@ -5,7 +5,7 @@ use Rattle.std.specs.List.{list_all}
 use Rattle.std.proofs.lemmas.Grind.{common_steps}
 use Rattle.std.proofs.lemmas.List.Folds.{list_all-append}
 use Rattle.bx_image.specs.declared.change.TheConstants.{MAX_LEN}
-use Rattle.bx_journal.specs.Kept.{Kept}
+use Rattle.bx_journal.specs.Kept.{Kept, with_runs}
 use Rattle.bx_image.specs.Change.{restore, IsOf, IsAsGood}
 use Rattle.bx_journal.specs.declared.version.Version.{Version}
 use Rattle.bx_journal.specs.declared.version.Version.TheVariants.{Second}
@@ -13,10 +13,11 @@ use Rattle.bx_journal.specs.Line.{end_line}
 use Rattle.bx_journal.specs.Entry.{rows, head_lines, head_text, end_text}
 use Rattle.bx_journal.specs.Text.{IsPrefix, Reading, Entry, Ending, IsRest, split, start, may_begin, after_lines, is_short}
 use Rattle.bx_journal.specs.Stack.{stack_of, HaveLengths, AllCover, image_at, recovered, CoversAt, Recovers}
-use Rattle.bx_journal.specs.Phase.{IsAtRest, IsOpen, in_rows, RecoversEither}
+use Rattle.bx_journal.specs.Phase.{IsAtRest, IsOpen, as_read, RecoversEither}
 use Rattle.bx_journal.proofs.Splits.{split-append}
 use Rattle.bx_journal.proofs.Runs.{SafeRun, Goes, GoesAllBy, safe_prefix, safe_all, after_lines-append, empty_rest}
-use Rattle.bx_journal.proofs.RowLemmas.{all_rows_byte, restore_same, covers_same, all_rows_are}
+use Rattle.bx_journal.proofs.Gathered.{as_read_byte}
+use Rattle.bx_journal.proofs.RowLemmas.{restore_same, covers_same, all_rows_are}
 use Rattle.bx_journal.proofs.EntryRun.{head_run, end_run, ending, between}
 
 -- what a reading has for an image and a stack
@@ -104,7 +105,7 @@ may_begin_of (entry ∷ es) x len h e = by_after entry.after h.0
 
 -- the reading behind the head of an entry
 abbrev IsHead : List Entry → Kept → Reading → Type 0
-IsHead es s r = r ≡ ending es Second s.len (flat_map rows s.runs)
+IsHead es s r = r ≡ ending es Second s.len (with_runs [] (flat_map rows s.runs))
 
 -- the readings along the head of an entry that keeps what the image has
 head_fine : (text x : List ℕ) (stack : List (List ℕ)) (s : Kept) (rest : IsAtRest text x stack) → IsOf s x → s.len ≤ MAX_LEN → length stack ≤ 65535
@@ -112,14 +113,14 @@ head_fine : (text x : List ℕ) (stack : List (List ℕ)) (s : Kept) (rest : IsA
 head_fine text x stack s rest is most room =
     let es : List Entry = rest.stands.entries in
     let count : length stack ≡ suc (length es) = ap length rest.stands.stack_is ∙ length-stack_of es x in
-    let back : restore (in_rows s) x ≡ x = restore_same s.len (flat_map rows s.runs) s.runs x (all_rows_byte s.runs) ∙ is.back in
+    let back : restore (as_read s) x ≡ x = restore_same s.len (with_runs [] (flat_map rows s.runs)) s.runs x (as_read_byte s.runs) ∙ is.back in
     let run : SafeRun (Fine x stack) (IsHead es s) (between es) (head_lines (suc (length es)) s ++ []) =
     head_run (Fine x stack) (IsHead es s) es s (omega arith) most (may_begin_of es x s.len rest.stands.lengths is.len) (all_rows_are s.len s.runs is.within is.bytes)
     (record { covers = tt; finished = rest.sound.finished; lengths = rest.stands.lengths; stack_is = sym rest.stands.stack_is })
     (λ runs. record { covers = tt; finished = rest.sound.finished; lengths = rest.stands.lengths; stack_is = sym rest.stands.stack_is })
     [] (
       record {
-        covers = covers_same s.len (flat_map rows s.runs) s.runs x (all_rows_byte s.runs) is.covers;
+        covers = covers_same s.len (with_runs [] (flat_map rows s.runs)) s.runs x (as_read_byte s.runs) is.covers;
         finished = subst (AllCover es) (sym back) rest.sound.finished;
         lengths = subst (HaveLengths es) (sym back) rest.stands.lengths;
         stack_is = ap (stack_of es) back ∙ sym rest.stands.stack_is;
@@ -159,13 +160,13 @@ open_by v s es text x stack q is e w f =
 
 -- the whole head opens the entry
 pub head_opens : (text x : List ℕ) (stack : List (List ℕ)) (s : Kept) → IsAtRest text x stack → IsOf s x → s.len ≤ MAX_LEN → length stack ≤ 65535
-    → IsOpen Second (in_rows s) (text ++ head_text (length stack) s) x stack
+    → IsOpen Second (as_read s) (text ++ head_text (length stack) s) x stack
 unfolding whole_goes
 head_opens text x stack s rest is most room =
     let es : List Entry = rest.stands.entries in
     let g : GoesAllBy (Fine x stack) (IsHead es s) (between es) (split (head_text (length stack) s)) = safe_all (Fine x stack) (IsHead es s) (between es) (head_lines (length stack) s) (head_fine text x stack s rest is most room) in
     let e = extends (Fine x stack) text (head_text (length stack) s) (between es) (rest_is_whole text x stack rest) (whole_goes (Fine x stack) (IsHead es s) (between es) (head_text (length stack) s) g) in
-    open_by Second (in_rows s) es (text ++ head_text (length stack) s) x stack g.reading g.ends e (whole_behind text (head_text (length stack) s) rest.stands.whole g.whole) g.has
+    open_by Second (as_read s) es (text ++ head_text (length stack) s) x stack g.reading g.ends e (whole_behind text (head_text (length stack) s) rest.stands.whole g.whole) g.has
 
 abbrev IsEnd : List Entry → Kept → ℕ → Reading → Type 0
 IsEnd es s after r = r ≡ between (record { saved = s; after = Some after } ∷ es)

@@ -9,11 +9,11 @@ use Rattle.bx_image.specs.Image.{image_of, end_of}
 use Rattle.bx_image.specs.Change.{byte_of, byte_in, restore, AllWithin, Covers, AreBytes, HaveBytes}
 use Rattle.bx_journal.specs.Entry.{row, rows}
 
-or_none : {A : Type 0} (o : Option A) → option_or o None ≡ o
+pub or_none : {A : Type 0} (o : Option A) → option_or o None ≡ o
 or_none None = refl
 or_none (Some x) = refl
 
-or_assoc : {A : Type 0} (a b c : Option A) → option_or (option_or a b) c ≡ option_or a (option_or b c)
+pub or_assoc : {A : Type 0} (a b c : Option A) → option_or (option_or a b) c ≡ option_or a (option_or b c)
 or_assoc None b c = refl
 or_assoc (Some x) b c = refl
 
@@ -26,7 +26,7 @@ byte_in-append (p ∷ a) b i = ap (λ o. option_or o (byte_of p i)) (byte_in-app
 abbrev part : Run → ℕ → ℕ → ℕ → Option ℕ
 part p from to i = if nat_le (p.at + from) i && nat_lt i (p.at + to) then Some (slice_index p.bytes (i - p.at)) else None
 
-either : (A : Type 0) (a b c d e f : ℕ) (i : ℕ) (v w : A) → c ≡ b → e ≡ a → f ≡ d → a ≤ b → (b ≤ d) → ((a ≤ i → i < b → w ≡ v))
+pub either : (A : Type 0) (a b c d e f : ℕ) (i : ℕ) (v w : A) → c ≡ b → e ≡ a → f ≡ d → a ≤ b → (b ≤ d) → ((a ≤ i → i < b → w ≡ v))
     → option_or (if nat_le c i && nat_lt i d then Some v else None) (if nat_le a i && nat_lt i b then Some w else None) ≡ (if nat_le e i && nat_lt i f then Some v else None)
 either A a b c d e f i v w = grind (arith, common_steps)
 
@@ -36,7 +36,7 @@ row_at bytes k i h = get_or-take 16 (drop k bytes) i 0 h ∙ get_or-drop k bytes
 row_len : (bytes : List ℕ) (k : ℕ) → length (take 16 (drop k bytes)) ≡ min 16 (length bytes - k)
 row_len bytes k = length-take 16 (drop k bytes) ∙ ap (min 16) (length-drop k bytes)
 
-test_at : (A : Type 0) (a b c d i : ℕ) (v w : A) → a ≡ c → ((a ≤ i) → i < b → i < d) → ((a ≤ i) → i < d → i < b) → (a ≤ i → i < b → v ≡ w)
+pub test_at : (A : Type 0) (a b c d i : ℕ) (v w : A) → a ≡ c → ((a ≤ i) → i < b → i < d) → ((a ≤ i) → i < d → i < b) → (a ≤ i → i < b → v ≡ w)
     → (if nat_le a i && nat_lt i b then Some v else None) ≡ (if nat_le c i && nat_lt i d then Some w else None)
 test_at A a b c d i v w = grind (arith, common_steps)
 

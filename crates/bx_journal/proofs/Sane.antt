@@ -3,8 +3,8 @@ use Rattle.std.proofs.Common.{◌≡◌, ℕ, suc, ◌+◌, ◌≤◌, Bool, tru
 use Rattle.std.specs.Prelude.{◌&&◌, IfSome, nat_le, if◌then◌else◌, option_map}
 use Rattle.std.specs.Str.{bytes_eq}
 use Rattle.std.proofs.lemmas.Grind.{common_steps}
-use Rattle.bx_journal.specs.Kept.{Run}
-use Rattle.bx_journal.specs.Kept.{Kept}
+use Rattle.bx_journal.specs.Kept.{Run, Kept, with_run}
+use Rattle.bx_journal.proofs.Gathered.{with_run-within}
 use Rattle.bx_image.specs.Image.{image_of, end_of}
 use Rattle.bx_image.specs.Change.{AllWithin, restore, byte_in}
 use Rattle.std.specs.Prelude.{unwrap_or, slice_index}
@@ -33,10 +33,6 @@ within_end : (at : ℕ) (bytes : List ℕ) (len : ℕ) → at + length bytes ≤
 within_end at [] len h = omega arith
 within_end at (b ∷ bytes) len h = h
 
-within_more : (len : ℕ) (runs : List Run) (p : Run) → AllWithin len runs → end_of p.at p.bytes ≤ len → AllWithin len (runs ++ p ∷ [])
-within_more len [] p h k = (k, tt)
-within_more len (run ∷ runs) p h k = (h.0, within_more len runs p h.1 k)
-
 saved_within : (len : ℕ) (line : List ℕ) (p : Run) → saved_in len line ≡ Some p → end_of p.at p.bytes ≤ len
 unfolding saved_in
 saved_within len line p e =
@@ -60,12 +56,12 @@ next_sane es (Saving v s) line q e all at = saving_sane es v s line q e all at
     saving_sane es v s line q e all at = by_test es v s line q (bytes_eq line (save_line (suc (length es)))) e all at
       where
         by_test : (es : List Entry) (v : Version) (s : Kept) (line : List ℕ) (q : Reading) (b : Bool)
-            → (if b then Some (record { entries = es; stage = Ending v s }) else option_map (λ (piece : Run). (record { entries = es; stage = Saving v (record { len = s.len; runs = s.runs ++ piece ∷ [] }) })) (saved_in s.len line)) ≡ Some q
+            → (if b then Some (record { entries = es; stage = Ending v s }) else option_map (λ (piece : Run). (record { entries = es; stage = Saving v (record { len = s.len; runs = with_run s.runs piece }) })) (saved_in s.len line)) ≡ Some q
             → AreSane es → IsSaneAt es (Saving v s) → IsSane q
         by_test es v s line q true e all at = let is : record { entries = es; stage = Ending v s } ≡ q = cc in subst IsSane is (all, at)
         by_test es v s line q false e all at =
-            let some = map_some (λ (piece : Run). (record { entries = es; stage = Saving v (record { len = s.len; runs = s.runs ++ piece ∷ [] }) })) (saved_in s.len line) q e in
-            subst IsSane some.2 (all, (within_more s.len s.runs some.0 at.0 (saved_within s.len line some.0 some.1), at.1))
+            let some = map_some (λ (piece : Run). (record { entries = es; stage = Saving v (record { len = s.len; runs = with_run s.runs piece }) })) (saved_in s.len line) q e in
+            subst IsSane some.2 (all, (with_run-within s.len s.runs some.0 at.0 (saved_within s.len line some.0 some.1), at.1))
 next_sane es (Ending v s) line q e all at =
     let is = (next_ending es v s line q e).1 in
     subst IsSane (sym is) ((at.0, at.1, all), tt)

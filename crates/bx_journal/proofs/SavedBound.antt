@@ -5,7 +5,8 @@ use Rattle.std.specs.Str.{bytes_eq}
 use Rattle.std.specs.List.{sum_by}
 use Rattle.std.proofs.lemmas.List.Elements.{All-nil, All-cons, All-weaker}
 use Rattle.std.proofs.lemmas.List.Sums.{sum-map, sum_by-append, sum_by-cons}
-use Rattle.bx_journal.specs.Kept.{Run}
+use Rattle.bx_journal.specs.Kept.{Run, with_run}
+use Rattle.bx_journal.proofs.Gathered.{with_run-sum}
 use Rattle.bx_journal.specs.Kept.{kept_of}
 use Rattle.bx_journal.specs.declared.reader.EntryRead.{EntryRead}
 use Rattle.bx_journal.specs.DumpLine.{piece_of}
@@ -40,12 +41,6 @@ saved_short len line p e =
     let test = test_some (nat_le (length found.0.bytes) 16 && nat_le (found.0.at + length found.0.bytes) len) found.0 p found.2 in
     subst (λ (q : Run). length q.bytes ≤ length line) test.1 (piece_short line found.0 found.1)
 
-sum_push : (runs : List Run) (p : Run) → sum (map run_size (runs ++ p ∷ [])) ≡ sum (map run_size runs) + length p.bytes
-sum_push runs p =
-    let last : sum_by run_size (p ∷ []) ≡ length p.bytes + sum_by run_size [] = sum_by-cons run_size p [] in
-    let none : sum_by run_size [] ≡ 0 = refl in
-    omega (arith, sum-map run_size (runs ++ p ∷ []), sum-map run_size runs, sum_by-append run_size runs (p ∷ []), last, none)
-
 next_held : (es : List Entry) (stage : Stage) (line : List ℕ) (q : Reading) → next_at es stage line ≡ Some q → held_in q ≤ held es + held_at stage + length line
 unfolding next_at held_in
 next_held es Between line q e =
@@ -56,12 +51,12 @@ next_held es Between line q e =
 next_held es (Saving v s) line q e = by_test (bytes_eq line (save_line (suc (length es)))) e
   where
     by_test : (b : Bool)
-        → (if b then Some (record { entries = es; stage = Ending v s }) else option_map (λ (piece : Run). (record { entries = es; stage = Saving v (record { len = s.len; runs = s.runs ++ piece ∷ [] }) })) (saved_in s.len line)) ≡ Some q
+        → (if b then Some (record { entries = es; stage = Ending v s }) else option_map (λ (piece : Run). (record { entries = es; stage = Saving v (record { len = s.len; runs = with_run s.runs piece }) })) (saved_in s.len line)) ≡ Some q
         → held_in q ≤ held es + saved_length s + length line
     by_test true e = let is : record { entries = es; stage = Ending v s } ≡ q = cc in subst (λ (r : Reading). held r.entries + held_at r.stage ≤ held es + saved_length s + length line) is (omega arith)
     by_test false e =
-        let some = map_some (λ (piece : Run). (record { entries = es; stage = Saving v (record { len = s.len; runs = s.runs ++ piece ∷ [] }) })) (saved_in s.len line) q e in
-        let pushed : sum (map run_size (s.runs ++ some.0 ∷ [])) ≡ sum (map run_size s.runs) + length some.0.bytes = sum_push s.runs some.0 in
+        let some = map_some (λ (piece : Run). (record { entries = es; stage = Saving v (record { len = s.len; runs = with_run s.runs piece }) })) (saved_in s.len line) q e in
+        let pushed : sum (map run_size (with_run s.runs some.0)) ≡ sum (map run_size s.runs) + length some.0.bytes = with_run-sum run_size (λ run. refl) s.runs some.0 in
         subst (λ (r : Reading). held r.entries + held_at r.stage ≤ held es + saved_length s + length line) some.2 (omega (arith, pushed, saved_short s.len line some.0 some.1))
 next_held es (Ending v s) line q e =
     let is = (next_ending es v s line q e).1 in

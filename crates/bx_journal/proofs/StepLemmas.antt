@@ -1,8 +1,7 @@
 -- What a line does, from what the tests on it say.
 use Rattle.std.proofs.Common.{◌≡◌, ℕ, suc, Bool, true, false, List, [], ◌∷◌, ◌++◌, length, refl, Some, None}
 use Rattle.std.specs.Str.{bytes_eq}
-use Rattle.bx_journal.specs.Kept.{Run}
-use Rattle.bx_journal.specs.Kept.{Kept}
+use Rattle.bx_journal.specs.Kept.{Run, Kept, with_run}
 use Rattle.bx_journal.specs.declared.version.Version.{Version}
 use Rattle.bx_journal.specs.Line.{save_line, saved_in}
 use Rattle.bx_journal.specs.Text.{Entry, Stage, Between, Saving, Ending, begins, next_at}
@@ -16,7 +15,7 @@ module _ (es : List Entry) (n : ℕ) (v : Version) (s : Kept) (line : List ℕ) 
   unfolding next_at
   saves is = rw (e, is) refl
 
-  pub adds : (p : Run) → bytes_eq line (save_line n) ≡ false → saved_in s.len line ≡ Some p → next_at es (Saving v s) line ≡ Some (record { entries = es; stage = Saving v (record { len = s.len; runs = s.runs ++ p ∷ [] }) })
+  pub adds : (p : Run) → bytes_eq line (save_line n) ≡ false → saved_in s.len line ≡ Some p → next_at es (Saving v s) line ≡ Some (record { entries = es; stage = Saving v (record { len = s.len; runs = with_run s.runs p }) })
   unfolding next_at
   adds p is piece = rw (e, is, piece) refl
 

@@ -25,6 +25,11 @@ start_line v n len = start_head v n ++ hex_digits (digits_of v) len
 unfoldable pub save_line : ℕ → List ℕ
 save_line n = codes "save " ++ hex_digits 8 n
 
+-- how long the line is that begins an entry
+abbrev pub start_size : Version → ℕ
+start_size First = 24
+start_size Second = 33
+
 -- the line that ends entry n; the second version's has the length after the change
 unfoldable pub end_head : Version → ℕ → List ℕ
 end_head First n = codes "done " ++ hex_digits 8 n

@@ -41,10 +41,14 @@ RefusesLength n DeviceFailed = Unit {0}
 RefusesLength n (LengthDiffers m) = m ≡ n
 RefusesLength n e = ⊥
 
+-- one more failed call on one of two devices: no count falls, and both together rise by one
+abbrev pub OneMore : ℕ → ℕ → ℕ → ℕ → Type 0
+OneMore d t d_new t_new = (d ≤ d_new) × (t ≤ t_new) × (d_new + t_new ≡ d + t + 1)
+
 -- how the counts of failed calls go on: a device's fault raises one of them by one, and another fault none
 abbrev pub FaultCounts : SessionFault → ℕ → ℕ → ℕ → ℕ → Type 0
-FaultCounts DeviceFailed d t d_new t_new = d_new + t_new ≡ d + t + 1
-FaultCounts Interrupted d t d_new t_new = d_new + t_new ≡ d + t + 1
+FaultCounts DeviceFailed d t d_new t_new = OneMore d t d_new t_new
+FaultCounts Interrupted d t d_new t_new = OneMore d t d_new t_new
 FaultCounts e d t d_new t_new = (d_new ≡ d) × (t_new ≡ t)
 
 -- restoring what is unfinished takes no more memory

@@ -1,6 +1,6 @@
 -- The phases of a change and of an undo.
 use Rattle.std.specs.Prelude.{◌≡◌, ◌⊎◌, ℕ, List, [], flat_map}
-use Rattle.bx_journal.specs.Kept.{Kept}
+use Rattle.bx_journal.specs.Kept.{Kept, with_runs}
 use Rattle.bx_image.specs.Change.{restore}
 use Rattle.bx_journal.specs.declared.version.Version.{Version}
 use Rattle.bx_journal.specs.Text.{Entry, Between, Ending, Reads, split}
@@ -21,9 +21,9 @@ pub record IsOpen (v : Version) (s : Kept) (text x : List ℕ) (stack : List (Li
   pub lengths : HaveLengths entries (restore s x)
   pub stack_is : stack ≡ stack_of entries (restore s x)
 
--- a record in rows, as it reads
-abbrev pub in_rows : Kept → Kept
-in_rows s = record { len = s.len; runs = flat_map rows s.runs }
+-- a record as the lines in which it was written give it
+abbrev pub as_read : Kept → Kept
+as_read s = record { len = s.len; runs = with_runs [] (flat_map rows s.runs) }
 
 -- after a fault: the one stack or the other
 abbrev pub RecoversEither : List ℕ → List ℕ → List (List ℕ) → List (List ℕ) → Type 0

@@ -4,7 +4,7 @@ use Rattle.std.specs.Option.{option_and_then, option_map, option_or}
 use Rattle.std.specs.List.{list_all}
 use Rattle.std.specs.Str.{bytes_eq}
 use Rattle.bx_image.specs.declared.change.TheConstants.{MAX_LEN}
-use Rattle.bx_journal.specs.Kept.{Kept}
+use Rattle.bx_journal.specs.Kept.{Kept, with_run}
 use Rattle.bx_journal.specs.declared.version.Version.{Version}
 use Rattle.bx_journal.specs.declared.version.Version.TheVariants.{First, Second}
 use Rattle.bx_journal.specs.Line.{digits_of, start_line, save_line, end_line, length_in, after_in, saved_in}
@@ -66,7 +66,7 @@ next_at entries Between line =
     else None
 next_at entries (Saving v s) line =
     if bytes_eq line (save_line (suc (length entries))) then Some (record { entries = entries; stage = Ending v s })
-    else option_map (λ piece. record { entries = entries; stage = Saving v (record { len = s.len; runs = s.runs ++ piece ∷ [] }) }) (saved_in s.len line)
+    else option_map (λ piece. record { entries = entries; stage = Saving v (record { len = s.len; runs = with_run s.runs piece }) }) (saved_in s.len line)
 next_at entries (Ending v s) line =
     option_map (λ after. record { entries = record { saved = s; after = after } ∷ entries; stage = Between })
     (after_in v (suc (length entries)) line)

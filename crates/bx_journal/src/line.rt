@@ -1,15 +1,15 @@
 //! One line of a journal's text.
-ghost use Rattle.std.specs.Prelude.{◌≡◌, ◌+◌, ◌≤◌, length, IfOk, Some, None};
-ghost use Rattle.std.specs.Option.{option_map};
+ghost use Rattle.std.specs.Prelude.{◌≡◌, ◌+◌, ◌<◌, ◌≤◌, ◌==◌, [], ◌∷◌, ◌++◌, length, map, take, IfOk, IfSome, OnOk, MatchOption, Some, None};
 ghost use Rattle.std.specs.Str.{bytes_eq};
-ghost use Rattle.bx_journal.specs.Kept.{run_of};
-ghost use Rattle.bx_journal.specs.Line.{at_most as most, length_in as length_read, after_in as after_read, saved_in as saved_read, save_line};
+ghost use Rattle.bx_journal.specs.DumpLine.{piece_of};
+ghost use Rattle.bx_journal.specs.Kept.{run_of, with_run};
+ghost use Rattle.bx_journal.specs.Line.{at_most as most, length_in as length_read, after_in as after_read, saved_in as saved_read, save_line, start_size};
 
 use crate::Version;
 use crate::version::width_of;
 use crate::words::{behind, end_head, number_of, save_text, start_head};
 use bx_image::MAX_LEN;
-use bx_read::Line;
+use bx_read::{FullLine, Line, full_text};
 use bx_text::{Bytes, NoMemory, Piece};
 use std::alloc::Allocator;
 
@@ -21,11 +21,24 @@ fn at_most_longest(n: Option<u64>) -> Option<u64>
     if n <= MAX_LEN { Some(n) } else { None }
 }
 
+/// How long the line is that begins an entry of this version.
+fn start_size_of(version: Version) -> usize
+    ensures { result ≡ start_size version }
+{
+    match version {
+        Version::First => 24,
+        Version::Second => 33,
+    }
+}
+
 /// The length in the line that begins an entry of this version and number.
 #[tactic(auto, unfolding(crate::specs::Line::length_in))]
 pub fn length_in(version: Version, number: u32, line: &[u8]) -> Option<u64>
     ensures { result ≡ length_read version number line.now }
 {
+    if line.len() != start_size_of(version) {
+        return None;
+    }
     let head = start_head(version, number);
     let digits = behind(head.as_bytes(), line)?;
     at_most_longest(number_of(width_of(version), digits))
@@ -35,6 +48,12 @@ pub fn length_in(version: Version, number: u32, line: &[u8]) -> Option<u64>
 pub fn is_save(number: u32, line: &[u8]) -> bool
     ensures { result ≡ bytes_eq line.now (save_line number) }
 {
+    if line.is_empty() {
+        return false;
+    }
+    if line[0] != b's' {
+        return false;
+    }
     let text = save_text(number);
     line == text.as_bytes()
 }
@@ -60,30 +79,76 @@ pub fn after_in(version: Version, number: u32, line: &[u8]) -> Option<Option<u64
     }
 }
 
-/// What a saved line gives in an entry of an image of this length.
-#[tactic(auto, unfolding(crate::specs::Line::saved_in, crate::specs::DumpLine::piece_of))]
-pub fn saved_in<A: Allocator + Clone>(
-    alloc: &A,
-    len: u64,
-    line: &[u8],
-) -> Result<Option<Piece<A>>, NoMemory>
-    ensures { IfOk result (λ piece. option_map run_of piece ≡ saved_read len line.now) }
+/// What a saved line gives: an address, and `count` bytes, at most 16.
+#[derive(Clone, Copy)]
+pub struct SavedLine {
+    pub at: u64,
+    pub bytes: [u8; 16],
+    pub count: usize,
+    ghost few: { count ≤ 16 },
+}
+
+/// What a line in xxd's default form gives that has 16 bytes at an address of 8 digits, as most have.
+#[tactic(auto, unfolding(crate::specs::DumpLine::piece_of))]
+fn full_in(line: &[u8]) -> Option<FullLine>
+    ensures { IfSome result (λ l. piece_of line.now ≡ Some (record { at = l.at; bytes = l.bytes })) }
 {
+    if line.len() == 67 {
+        full_text(line)
+    } else {
+        None
+    }
+}
+
+/// The line, where it lies within this length.
+fn within(len: u64, line: SavedLine) -> Option<SavedLine>
+    ensures { MatchOption result (len < line.at + line.count) (λ l. (l ≡ line) × (line.at + line.count ≤ len)) }
+{
+    let count = line.count as u64;
+    if count > len || line.at > len - count {
+        return None;
+    }
+    Some(line)
+}
+
+/// What a saved line gives in an entry of an image of this length.
+pub fn saved_in(len: u64, line: &[u8]) -> Option<SavedLine>
+    ensures { MatchOption result (saved_read len line.now ≡ None) (λ l. saved_read len line.now ≡ Some (record { at = l.at; bytes = take l.count l.bytes })) }
+{
+    if let Some(full) = full_in(line) {
+        let bytes = full.bytes;
+        return within(
+            len,
+            SavedLine {
+                at: full.at,
+                bytes,
+                count: 16,
+            },
+        );
+    }
     let Ok(read) = Line::parse(line, 1) else {
-        return Ok(None);
+        return None;
     };
     let mut out = [0; 256];
     let count = read.decode(&mut out);
-    if count > 16 || count as u64 > len || read.at > len - count as u64 {
-        return Ok(None);
+    if count > 16 {
+        return None;
     }
-    piece_at(alloc, read.at, &out[..count]).map(Some)
+    let mut bytes = [0; 16];
+    bytes.copy_from_slice(&out[..16]);
+    within(
+        len,
+        SavedLine {
+            at: read.at,
+            bytes,
+            count,
+        },
+    )
 }
 
 /// These bytes at an address, in memory of their own.
 fn piece_at<A: Allocator + Clone>(alloc: &A, at: u64, bytes: &[u8]) -> Result<Piece<A>, NoMemory>
-    ensures at { IfOk result (λ piece. piece.at ≡ at) }
-    ensures bytes { IfOk result (λ piece. piece.bytes ≡ bytes.now) }
+    ensures { IfOk result (λ piece. run_of piece ≡ record { at = at; bytes = bytes.now }) }
 {
     let alloc = alloc.clone().map_err(|_| NoMemory)?;
     let bytes = Vec::from_slice(alloc, bytes).map_err(|_| NoMemory)?;
@@ -91,4 +156,57 @@ fn piece_at<A: Allocator + Clone>(alloc: &A, at: u64, bytes: &[u8]) -> Result<Pi
         at,
         bytes: Bytes::from_vec(bytes),
     })
+}
+
+/// Whether the run ends where this address is.
+fn ends_at<A: Allocator>(run: &Piece<A>, at: u64) -> bool
+    ensures { result ≡ (at == run.now.at + length run.now.bytes) }
+{
+    at >= run.at && at - run.at == run.bytes.as_slice().len() as u64
+}
+
+/// The run with more bytes at its end.
+fn longer<A: Allocator>(run: Piece<A>, more: &[u8]) -> Result<Piece<A>, NoMemory>
+    ensures { IfOk result (λ piece. run_of piece ≡ record { at = run.at; bytes = run.bytes ++ more.now }) }
+{
+    let Piece { at, bytes } = run;
+    let mut bytes = bytes.into_vec();
+    if bytes.extend_from_slice(more).is_err() {
+        return Err(NoMemory);
+    }
+    Ok(Piece {
+        at,
+        bytes: Bytes::from_vec(bytes),
+    })
+}
+
+fn push<A: Allocator>(runs: &mut Vec<Piece<A>, A>, run: Piece<A>) -> Result<(), NoMemory>
+    ensures { OnOk result (map run_of runs.new.items ≡ map run_of runs.old.items ++ run_of run ∷ []) }
+{
+    if runs.push(run).is_err() {
+        return Err(NoMemory);
+    }
+    Ok(())
+}
+
+/// Adds the bytes of a saved line. They go on with the last run where they begin at its end.
+pub fn push_line<A: Allocator + Clone>(
+    alloc: &A,
+    runs: &mut Vec<Piece<A>, A>,
+    at: u64,
+    bytes: &[u8],
+) -> Result<(), NoMemory>
+    ensures { OnOk result (map run_of runs.new.items ≡ with_run (map run_of runs.old.items) (record { at = at; bytes = bytes.now })) }
+{
+    let Some(last) = runs.pop() else {
+        if runs.reserve_exact(1).is_err() {
+            return Err(NoMemory);
+        }
+        return push(runs, piece_at(alloc, at, bytes)?);
+    };
+    if ends_at(&last, at) {
+        return push(runs, longer(last, bytes)?);
+    }
+    push(runs, last)?;
+    push(runs, piece_at(alloc, at, bytes)?)
 }

@@ -8,6 +8,7 @@ ghost use Rattle.bx_journal.specs.Text.{Entry, Stage, Ending};
 ghost use Rattle.bx_journal.specs.Stack.{Recovers, image_at};
 ghost use Rattle.bx_journal.specs.Phase.{IsAtRest};
 ghost use Rattle.bx_journal.specs.Step.{HasTail};
+ghost use Rattle.bx_journal.specs.Opening.{OneMore};
 
 use crate::images::restore_image;
 use bx_image::{Device, DeviceFailed, Saved};
@@ -49,7 +50,7 @@ pub fn take_back<D: Device, T: TextStore, A: Allocator>(
     ensures device_honesty { D.honest device.new ↔ D.honest device.old }
     ensures store_honesty { T.honest store.new ↔ T.honest store.old }
     ensures no_failure { OnOk result ((D.failures device.new ≡ D.failures device.old) × (T.failures store.new ≡ T.failures store.old)) }
-    ensures failure { OnErr result (D.failures device.new + T.failures store.new ≡ D.failures device.old + T.failures store.old + 1) }
+    ensures failure { OnErr result (OneMore (D.failures device.old) (T.failures store.old) (D.failures device.new) (T.failures store.new)) }
 {
     restore_image(device, kept)?;
     drop_tail(store, begins)

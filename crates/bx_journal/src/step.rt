@@ -7,7 +7,7 @@ ghost use Rattle.bx_journal.specs.Mark.{IsMark};
 ghost use Rattle.bx_journal.specs.Text.{Between as Resting, Saving as Keeping, Ending as Closing, Entry, Reading, begins as begun, next_at, next};
 ghost use Rattle.bx_journal.specs.Parsed.{Leads, KeepsMarks, told_by, stage_of, reading_of, entries_of, IsMarked, AreMarked};
 
-use crate::line::{after_in, is_save, length_in, saved_in};
+use crate::line::{after_in, is_save, length_in, push_line, saved_in};
 use crate::{EntryRead, StageRead, Version};
 use bx_image::Saved;
 use bx_text::{NoMemory, Piece, Pieces};
@@ -99,12 +99,10 @@ pub fn take_saved<A: Allocator + Clone>(
             saved: after,
         }));
     }
-    let Some(piece) = saved_in(alloc, len, line)? else {
+    let Some(read) = saved_in(len, line) else {
         return Ok(None);
     };
-    if runs.push(piece).is_err() {
-        return Err(NoMemory);
-    }
+    push_line(alloc, &mut runs, read.at, &read.bytes[..read.count])?;
     Ok(Some(StageRead::Saving {
         version,
         len,

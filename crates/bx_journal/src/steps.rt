@@ -6,8 +6,9 @@ ghost use Rattle.bx_image.specs.Device.{GoesOn};
 ghost use Rattle.bx_journal.specs.declared.version.Version.TheVariants.{Second};
 ghost use Rattle.bx_journal.specs.Kept.{kept_of};
 ghost use Rattle.bx_journal.specs.Stack.{Recovers};
-ghost use Rattle.bx_journal.specs.Phase.{IsAtRest, IsOpen, in_rows, RecoversEither};
+ghost use Rattle.bx_journal.specs.Phase.{IsAtRest, IsOpen, as_read, RecoversEither};
 ghost use Rattle.bx_journal.specs.Step.{StartsEntry, EndsEntry, WritesEntry};
+ghost use Rattle.bx_journal.specs.Opening.{OneMore};
 
 use crate::images::change_image;
 use bx_image::{Change, Device, DeviceFailed};
@@ -19,7 +20,7 @@ pub fn append_head<T: TextStore>(store: &mut T, head: &[u8]) -> Result<(), Devic
     requires countable { T.failures store.old < u64.MAX }
     requires fits { T.honest store.old → length (T.text store.old) + length head.now ≤ T.room store.old }
     ensures ok { T.honest store.old → (x : List ℕ) (stack : List (List ℕ)) (s : Record) → StartsEntry (T.text store.old) x stack s head.now
-        → OnOk result (IsOpen Second (in_rows s) (T.text store.new) x stack) }
+        → OnOk result (IsOpen Second (as_read s) (T.text store.new) x stack) }
     ensures fault { T.honest store.old → (x : List ℕ) (stack : List (List ℕ)) (s : Record) → StartsEntry (T.text store.old) x stack s head.now
         → OnErr result (Recovers (T.text store.new) x stack) }
     ensures text { T.honest store.old → OnOk result (T.text store.new ≡ T.text store.old ++ head.now) }
@@ -66,7 +67,7 @@ pub fn write_entry<D: Device, T: TextStore, A: Allocator>(
     ensures device_honesty { D.honest device.new ↔ D.honest device.old }
     ensures store_honesty { T.honest store.new ↔ T.honest store.old }
     ensures no_failure { OnOk result ((D.failures device.new ≡ D.failures device.old) × (T.failures store.new ≡ T.failures store.old)) }
-    ensures failure { OnErr result (D.failures device.new + T.failures store.new ≡ D.failures device.old + T.failures store.old + 1) }
+    ensures failure { OnErr result (OneMore (D.failures device.old) (T.failures store.old) (D.failures device.new) (T.failures store.new)) }
 {
     append_head(store, head)?;
     change_image(device, change)?;

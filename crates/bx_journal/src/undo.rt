@@ -13,6 +13,7 @@ ghost use Rattle.std.specs.Prelude.{drop, []};
 ghost use Rattle.bx_journal.specs.Parsed.{AllKept, AreMarked, entries_of};
 ghost use Rattle.bx_journal.specs.Mark.{IsMark};
 ghost use Rattle.bx_journal.specs.Text.{Between};
+ghost use Rattle.bx_journal.specs.Opening.{OneMore};
 
 use crate::EntryRead;
 use crate::images::restore_image;
@@ -46,7 +47,7 @@ pub fn undo_entry<D: Device, T: TextStore, A: Allocator>(
     ensures store_honesty { T.honest store.new ↔ T.honest store.old }
     ensures room { D.room device.old ≤ D.room device.new }
     ensures no_failure { OnOk result ((D.failures device.new ≡ D.failures device.old) × (T.failures store.new ≡ T.failures store.old)) }
-    ensures failure { OnErr result (D.failures device.new + T.failures store.new ≡ D.failures device.old + T.failures store.old + 1) }
+    ensures failure { OnErr result (OneMore (D.failures device.old) (T.failures store.old) (D.failures device.new) (T.failures store.new)) }
 {
     store.cut(saved)?;
     restore_image(device, kept)?;
@@ -78,7 +79,7 @@ pub fn undo_entries<D: Device, T: TextStore, A: Allocator>(
     ensures device_honesty { D.honest device.new ↔ D.honest device.old }
     ensures store_honesty { T.honest store.new ↔ T.honest store.old }
     ensures no_failure { OnOk result ((D.failures device.new ≡ D.failures device.old) × (T.failures store.new ≡ T.failures store.old)) }
-    ensures failure { OnErr result (D.failures device.new + T.failures store.new ≡ D.failures device.old + T.failures store.old + 1) }
+    ensures failure { OnErr result (OneMore (D.failures device.old) (T.failures store.old) (D.failures device.new) (T.failures store.new)) }
 {
     for i in 0..k {
         let Some(entry) = entries.pop() else {

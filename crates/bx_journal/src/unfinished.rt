@@ -2,7 +2,7 @@
 ghost use Rattle.std.specs.Prelude.{◌≡◌, ◌↔◌, ◌⊎◌, Some, ◌+◌, ◌<◌, ◌≤◌, List, ℕ, length, suc, OnOk, OnErr, IfOk, IfErr, IfSome, MatchResult};
 ghost use Rattle.bx_journal.specs.Calls.{AfterFaultOf, Differs, OpenFault};
 ghost use Rattle.bx_journal.specs.Journal.{HasRead};
-ghost use Rattle.bx_journal.specs.Opening.{FaultCounts, HasRoomFor, IsOpened, LookFault, RefusesLength, RefusesText};
+ghost use Rattle.bx_journal.specs.Opening.{FaultCounts, OneMore, HasRoomFor, IsOpened, LookFault, RefusesLength, RefusesText};
 ghost use Rattle.bx_journal.specs.Parsed.{entries_of, reading_of, stage_of};
 ghost use Rattle.bx_journal.specs.Phase.{IsAtRest};
 ghost use Rattle.bx_journal.specs.Stack.{HaveLengths, Recovers, image_at};
@@ -85,7 +85,7 @@ fn finish<D: Device, T: TextStore, A: Allocator>(
     ensures device_honesty { D.honest device.new ↔ D.honest device.old }
     ensures store_honesty { T.honest store.new ↔ T.honest store.old }
     ensures no_failure { OnOk result ((D.failures device.new ≡ D.failures device.old) × (T.failures store.new ≡ T.failures store.old)) }
-    ensures failure { OnErr result (D.failures device.new + T.failures store.new ≡ D.failures device.old + T.failures store.old + 1) }
+    ensures failure { OnErr result (OneMore (D.failures device.old) (T.failures store.old) (D.failures device.new) (T.failures store.new)) }
 {
     let JournalRead {
         entries,

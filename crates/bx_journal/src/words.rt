@@ -4,7 +4,7 @@ ghost use Rattle.bx_journal.specs.Hex.{hex_digits, hex_value, number_after, numb
 ghost use Rattle.bx_journal.specs.Line.{start_head as start_front, save_line, end_head as end_front, behind as behind_front};
 
 use crate::Version;
-use bx_text::{ShortText, hex_field};
+use bx_text::{ShortText, hex_field, put_address};
 
 /// A line of a journal but for its saved lines, or the front of one.
 pub type Words = ShortText<34>;
@@ -21,6 +21,17 @@ pub fn push_number(line: &mut Words, width: u8, n: u64)
     line.push_all(hex_field(n, width, false).as_bytes());
 }
 
+/// Appends a number in 8 digits.
+fn push_eight(line: &mut Words, n: u32)
+    requires { length line.old + 8 ≤ 34 }
+    ensures text { line.new ≡ line.old ++ hex_digits 8 n }
+    ensures long { length line.new ≡ length line.old + 8 }
+{
+    let mut digits = [b'0'; 8];
+    put_address(&mut digits, n);
+    line.push_all(&digits);
+}
+
 /// A word and a number of 8 digits.
 fn numbered(word: &[u8], number: u32) -> Words
     requires { length word.now ≤ 8 }
@@ -29,7 +40,7 @@ fn numbered(word: &[u8], number: u32) -> Words
 {
     let mut line = Words::new();
     line.push_all(word);
-    push_number(&mut line, 8, number as u64);
+    push_eight(&mut line, number);
     line
 }
 

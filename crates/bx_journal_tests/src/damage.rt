@@ -1,45 +1,66 @@
 //! Texts that are damaged, cut off, or told of another image.
-use crate::tools::{PATCHED, assert_left, assert_refused, over};
-use bx_journal::{How, SessionFault};
-use std::alloc::Global;
+use crate::script::{assert_pair, on_both, pair_of};
+use crate::tools::PATCHED;
+use bx_journal::{How, Recovered, SessionFault};
+use std::fs::File;
 use std::process::Abort;
+use std::rt::Files;
 use std::test::Fail;
 
-#[test]
-fn damaged_numbering(rt: HostRuntime) -> Result<(), Fail> {
-    let alloc = rt.alloc();
-    let damaged = SessionFault::Damaged { line: 1 };
-    assert_refused(alloc, &rt, b"AB", b"change 00000002 00000000\n", damaged)?;
-    assert_refused(alloc, &rt, b"AB", b"hello", damaged)
+/// Opening is refused with this fault, and changes nothing.
+fn assert_refused<R>(
+    rt: &R,
+    name: &str,
+    image: &[u8],
+    journal: &[u8],
+    fault: SessionFault,
+) -> Result<(), Fail>
+where
+    R: Files<File = File> + AllocGlobal + Abort,
+{
+    let start = pair_of(rt.alloc(), image, journal)?;
+    let left = on_both(rt, name, &start, Err(fault), &[])?;
+    assert_pair(rt, &left, image, journal);
+    Ok(())
 }
 
-// The front of the journal of a patch leads from this image to the one before the patch.
-fn assert_recovers(
-    alloc: Global,
-    rt: &impl Abort,
-    front: &[u8],
+/// Opening leaves this image and no journal.
+fn assert_recovers<R>(
+    rt: &R,
     bytes: &[u8],
+    journal: &[u8],
     how: How,
-) -> Result<(), Fail> {
-    let (session, found) = over(alloc, bytes, front)?;
-    assert_eq!(rt; found.how, how);
-    assert_eq!(rt; found.changes, 0);
-    assert_left(rt, session, b"ABCDEFGH", b"");
+    image: &[u8],
+) -> Result<(), Fail>
+where
+    R: Files<File = File> + AllocGlobal + Abort,
+{
+    let start = pair_of(rt.alloc(), bytes, journal)?;
+    let found = Ok(Recovered { how, changes: 0 });
+    let left = on_both(rt, "assert_recovers", &start, found, &[])?;
+    assert_pair(rt, &left, image, b"");
     Ok(())
 }
 
 #[test]
+fn damaged_numbering(rt: HostRuntime) -> Result<(), Fail> {
+    let damaged = SessionFault::Damaged { line: 1 };
+    let name = "damaged_numbering";
+    assert_refused(&rt, name, b"AB", b"change 00000002 00000000\n", damaged)?;
+    assert_refused(&rt, name, b"AB", b"hello", damaged)
+}
+
+#[test]
 fn journal_prefixes(rt: HostRuntime) -> Result<(), Fail> {
-    let alloc = rt.alloc();
     for n in 0..134usize {
         let front = &PATCHED[..n];
         if n == 0 {
-            assert_recovers(alloc, &rt, front, b"ABCDEFGH", How::Clean)?;
+            assert_recovers(&rt, b"ABCDEFGH", front, How::Clean, b"ABCDEFGH")?;
         } else if n < 102 {
-            assert_recovers(alloc, &rt, front, b"ABCDEFGH", How::Dropped)?;
+            assert_recovers(&rt, b"ABCDEFGH", front, How::Dropped, b"ABCDEFGH")?;
         } else {
             for bytes in [b"ABCDEFGH", b"ABxDEFGH", b"ABxyEFGH"] {
-                assert_recovers(alloc, &rt, front, bytes, How::Restored { number: 1 })?;
+                assert_recovers(&rt, bytes, front, How::Restored { number: 1 }, b"ABCDEFGH")?;
             }
         }
     }
@@ -48,25 +69,15 @@ fn journal_prefixes(rt: HostRuntime) -> Result<(), Fail> {
 
 #[test]
 fn length_differs(rt: HostRuntime) -> Result<(), Fail> {
-    let alloc = rt.alloc();
-    assert_refused(
-        alloc,
-        &rt,
-        b"ABxyEFG",
-        PATCHED,
-        SessionFault::LengthDiffers { expected: 8 },
-    )?;
-    let mut more = PATCHED.to_vec(alloc)?;
+    let name = "length_differs";
+    let differs = SessionFault::LengthDiffers { expected: 8 };
+    assert_refused(&rt, name, b"ABxyEFG", PATCHED, differs)?;
+    let mut more = PATCHED.to_vec(rt.alloc())?;
     more.extend_from_slice(b"change2 00000002 0000000000000007\n")?;
-    assert_refused(
-        alloc,
-        &rt,
-        b"ABxyEFGH",
-        &more,
-        SessionFault::Damaged { line: 5 },
-    )?;
+    let fifth = SessionFault::Damaged { line: 5 };
+    assert_refused(&rt, name, b"ABxyEFGH", more.as_slice(), fifth)?;
     let mixed = b"change2 00000001 0000000000000002\nsave 00000001\ndone 00000001\n";
-    assert_refused(alloc, &rt, b"AB", mixed, SessionFault::Damaged { line: 3 })
+    assert_refused(&rt, name, b"AB", mixed, SessionFault::Damaged { line: 3 })
 }
 
 // What follows the line `change 00000001 00000002`.
@@ -81,33 +92,39 @@ const DAMAGED_SECOND: [&[u8]; 6] = [
 
 #[test]
 fn saved_line_faults(rt: HostRuntime) -> Result<(), Fail> {
-    let alloc = rt.alloc();
     let start = b"change 00000001 00000002\n";
+    let name = "saved_line_faults";
     let second = SessionFault::Damaged { line: 2 };
     for more in DAMAGED_SECOND {
-        let mut text = start.to_vec(alloc)?;
+        let mut text = start.to_vec(rt.alloc())?;
         text.extend_from_slice(more)?;
-        assert_refused(alloc, &rt, b"AB", &text, second)?;
+        assert_refused(&rt, name, b"AB", text.as_slice(), second)?;
     }
-    let mut text = start.to_vec(alloc)?;
+    let upper = b"change 00000001 0000000A\n";
+    assert_refused(&rt, name, b"AB", upper, SessionFault::Damaged { line: 1 })
+}
+
+#[test]
+fn longest_incomplete_line(rt: HostRuntime) -> Result<(), Fail> {
+    let mut text = b"change 00000001 00000002\n".to_vec(rt.alloc())?;
     text.extend_from_slice(&[b'x'; 75])?;
-    let (session, found) = over(alloc, b"AB", &text)?;
-    assert_eq!(rt; found.how, How::Dropped);
-    assert_left(&rt, session, b"AB", b"");
-    text.extend_from_slice(b"x")?;
-    assert_refused(alloc, &rt, b"AB", &text, second)?;
+    assert_recovers(&rt, b"AB", text.as_slice(), How::Dropped, b"AB")?;
+    text.push(b'x')?;
+    let second = SessionFault::Damaged { line: 2 };
     assert_refused(
-        alloc,
         &rt,
+        "longest_incomplete_line",
         b"AB",
-        b"change 00000001 0000000A\n",
-        SessionFault::Damaged { line: 1 },
-    )?;
+        text.as_slice(),
+        second,
+    )
+}
+
+#[test]
+fn widest_saved_line(rt: HostRuntime) -> Result<(), Fail> {
     let wide = b"change 00000001 00000011\n00000000: 4142434445464748494a4b4c4d4e4f5051\n";
-    assert_refused(alloc, &rt, b"AB", wide, second)?;
+    let second = SessionFault::Damaged { line: 2 };
+    assert_refused(&rt, "widest_saved_line", b"AB", wide, second)?;
     let full = b"change 00000001 00000011\n00000000: 4142434445464748494a4b4c4d4e4f50\n";
-    let (session, found) = over(alloc, b"AB", full)?;
-    assert_eq!(rt; found.how, How::Dropped);
-    assert_left(&rt, session, b"AB", b"");
-    Ok(())
+    assert_recovers(&rt, b"AB", full, How::Dropped, b"AB")
 }

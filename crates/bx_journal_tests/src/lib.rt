@@ -12,4 +12,6 @@ mod ration;
 #[cfg(test)]
 mod rows;
 #[cfg(test)]
+mod script;
+#[cfg(test)]
 mod tools;

@@ -1,98 +1,109 @@
-//! Changes, undoing and opening over memory.
-use crate::tools::{PATCHED, PATCHED_FIRST, assert_left, nothing, over, write};
-use bx_journal::{How, LogRow, SessionFault};
+//! Changes, undoing and opening, over memory and over files.
+use crate::script::{Step, assert_pair, clean, on_both, pair_of};
+use crate::tools::{PATCHED, PATCHED_FIRST, nothing, over};
+use bx_journal::{LogRow, SessionFault};
 use std::test::Fail;
+
+fn writes(at: u64, bytes: &'static [u8], number: u32) -> Step {
+    Step::Write { at, bytes, number }
+}
+
+fn undoes(count: u32, left: u32) -> Step {
+    Step::Undo {
+        count,
+        answer: Ok(left),
+    }
+}
 
 #[test]
 fn patch_and_undo(rt: HostRuntime) -> Result<(), Fail> {
-    let alloc = rt.alloc();
-    let (mut session, found) = over(alloc, b"ABCDEFGH", b"")?;
-    assert_eq!(rt; found.how, How::Clean);
-    assert_eq!(rt; session.perform(&write(alloc, 2, b"xy")?)?, 1);
-    assert_eq!(rt; session.changes(), 1);
-    assert_eq!(rt; session.faults(), 0);
+    let name = "patch_and_undo";
+    assert_eq!(rt; PATCHED.len(), 134);
+    let start = pair_of(rt.alloc(), b"ABCDEFGH", b"")?;
+    let patched = on_both(&rt, name, &start, clean(0), &[writes(2, b"xy", 1)])?;
+    assert_pair(&rt, &patched, b"ABxyEFGH", PATCHED);
+    let undone = on_both(&rt, name, &patched, clean(1), &[undoes(1, 0)])?;
+    assert_pair(&rt, &undone, b"ABCDEFGH", b"");
+    Ok(())
+}
+
+#[test]
+fn log_of_a_patch(rt: HostRuntime) -> Result<(), Fail> {
+    let (mut session, _) = over(rt.alloc(), b"ABxyEFGH", PATCHED)?;
     let row = LogRow {
         number: 1,
         old_len: 8,
         saved: 2,
     };
     assert_eq!(rt; session.log()?.as_slice(), [row].as_slice());
-    assert_left(&rt, session, b"ABxyEFGH", PATCHED);
-    assert_eq!(rt; PATCHED.len(), 134);
-    let (mut session, found) = over(alloc, b"ABxyEFGH", PATCHED)?;
-    assert_eq!(rt; found.changes, 1);
-    assert_eq!(rt; session.undo(1)?, 0);
-    assert_left(&rt, session, b"ABCDEFGH", b"");
+    assert_eq!(rt; session.changes(), 1);
+    assert_eq!(rt; session.faults(), 0);
     Ok(())
 }
 
 #[test]
 fn gap_and_undo(rt: HostRuntime) -> Result<(), Fail> {
-    let alloc = rt.alloc();
-    let (mut session, _) = over(alloc, b"AB", b"")?;
-    assert_eq!(rt; session.perform(&write(alloc, 5, b"Z")?)?, 1);
+    let name = "gap_and_undo";
     let journal =
         b"change2 00000001 0000000000000002\nsave 00000001\ndone2 00000001 0000000000000006\n";
-    assert_left(&rt, session, b"AB\0\0\0Z", journal);
-    let (mut session, _) = over(alloc, b"AB\0\0\0Z", journal)?;
-    assert_eq!(rt; session.undo(1)?, 0);
-    assert_left(&rt, session, b"AB", b"");
+    let start = pair_of(rt.alloc(), b"AB", b"")?;
+    let grown = on_both(&rt, name, &start, clean(0), &[writes(5, b"Z", 1)])?;
+    assert_pair(&rt, &grown, b"AB\0\0\0Z", journal);
+    let undone = on_both(&rt, name, &grown, clean(1), &[undoes(1, 0)])?;
+    assert_pair(&rt, &undone, b"AB", b"");
     Ok(())
 }
 
 #[test]
 fn three_patches_reopened(rt: HostRuntime) -> Result<(), Fail> {
-    let alloc = rt.alloc();
-    let (mut session, _) = over(alloc, b"A", b"")?;
-    for letter in [b"a", b"b", b"c"] {
-        session.perform(&write(alloc, 0, letter)?)?;
-    }
-    let (image, text) = session.close();
-    let (mut session, found) = over(alloc, image.as_slice(), text.as_slice())?;
-    assert_eq!(rt; found.how, How::Clean);
-    assert_eq!(rt; found.changes, 3);
-    assert_eq!(rt; session.undo(2)?, 1);
-    assert_eq!(rt; session.perform(&write(alloc, 0, b"d")?)?, 2);
-    let (image, _) = session.close();
-    assert!(rt; image.as_slice() == b"d".as_slice());
+    let name = "three_patches_reopened";
+    let mut steps = Vec::new(rt.alloc());
+    steps.push(writes(0, b"a", 1))?;
+    steps.push(writes(0, b"b", 2))?;
+    steps.push(writes(0, b"c", 3))?;
+    let start = pair_of(rt.alloc(), b"A", b"")?;
+    let three = on_both(&rt, name, &start, clean(0), &steps)?;
+    assert!(rt; three.image.as_slice() == b"c".as_slice());
+    steps.clear();
+    steps.push(undoes(2, 1))?;
+    steps.push(writes(0, b"d", 2))?;
+    let other = on_both(&rt, name, &three, clean(3), &steps)?;
+    assert!(rt; other.image.as_slice() == b"d".as_slice());
     Ok(())
 }
 
 #[test]
 fn too_many_undos(rt: HostRuntime) -> Result<(), Fail> {
-    let alloc = rt.alloc();
-    let (mut session, _) = over(alloc, b"ABxyEFGH", PATCHED)?;
-    assert_eq!(rt; session.undo(2), Err(SessionFault::TooFew { have: 1 }));
-    assert_eq!(rt; session.undo(0)?, 1);
-    assert_left(&rt, session, b"ABxyEFGH", PATCHED);
+    let mut steps = Vec::new(rt.alloc());
+    steps.push(Step::Undo {
+        count: 2,
+        answer: Err(SessionFault::TooFew { have: 1 }),
+    })?;
+    steps.push(undoes(0, 1))?;
+    let start = pair_of(rt.alloc(), b"ABxyEFGH", PATCHED)?;
+    let same = on_both(&rt, "too_many_undos", &start, clean(1), &steps)?;
+    assert_pair(&rt, &same, b"ABxyEFGH", PATCHED);
     Ok(())
 }
 
 #[test]
 fn old_journal_under_new_entry(rt: HostRuntime) -> Result<(), Fail> {
-    let alloc = rt.alloc();
-    let (mut session, found) = over(alloc, b"ABxyEFGH", PATCHED_FIRST)?;
-    assert_eq!(rt; found.how, How::Clean);
-    assert_eq!(rt; session.perform(&write(alloc, 0, b"Z")?)?, 2);
-    let (image, text) = session.close();
-    assert_eq!(rt; text.as_slice().len(), 240);
-    let (mut session, _) = over(alloc, image.as_slice(), text.as_slice())?;
-    assert_eq!(rt; session.undo(2)?, 0);
-    assert_left(&rt, session, b"ABCDEFGH", b"");
+    let name = "old_journal_under_new_entry";
+    let start = pair_of(rt.alloc(), b"ABxyEFGH", PATCHED_FIRST)?;
+    let changed = on_both(&rt, name, &start, clean(1), &[writes(0, b"Z", 2)])?;
+    assert_eq!(rt; changed.journal.len(), 240);
+    let undone = on_both(&rt, name, &changed, clean(2), &[undoes(2, 0)])?;
+    assert_pair(&rt, &undone, b"ABCDEFGH", b"");
     Ok(())
 }
 
 #[test]
 fn old_form_grows_image_on_undo(rt: HostRuntime) -> Result<(), Fail> {
-    let alloc = rt.alloc();
-    let (mut session, found) = over(
-        alloc,
-        b"AB",
-        b"change 00000001 00000005\nsave 00000001\ndone 00000001\n",
-    )?;
-    assert_eq!(rt; found.how, How::Clean);
-    assert_eq!(rt; session.undo(1)?, 0);
-    assert_left(&rt, session, b"AB\0\0\0", b"");
+    let name = "old_form_grows_image_on_undo";
+    let journal = b"change 00000001 00000005\nsave 00000001\ndone 00000001\n";
+    let start = pair_of(rt.alloc(), b"AB", journal)?;
+    let grown = on_both(&rt, name, &start, clean(1), &[undoes(1, 0)])?;
+    assert_pair(&rt, &grown, b"AB\0\0\0", b"");
     Ok(())
 }
 
@@ -105,12 +116,11 @@ fn full_journal(rt: HostRuntime) -> Result<(), Fail> {
         journal.extend_from_slice(entry.as_bytes())?;
     }
     let (mut session, found) = over(alloc, b"", &journal)?;
-    assert_eq!(rt; found.how, How::Clean);
-    assert_eq!(rt; found.changes, 65_535);
-    assert_eq!(rt;
-        session.perform(&nothing(alloc)),
-        Err(SessionFault::JournalFull)
-    );
-    assert_left(&rt, session, b"", &journal);
+    assert_eq!(rt; Ok(found), clean(65_535));
+    let refused = session.perform(&nothing(alloc));
+    assert_eq!(rt; refused, Err(SessionFault::JournalFull));
+    let (device, store) = session.close();
+    assert!(rt; device.as_slice().is_empty());
+    assert!(rt; store.as_slice() == journal.as_slice());
     Ok(())
 }

@@ -98,19 +98,3 @@ pub fn refused<D: Device + Drop, T: TextStore + Drop>(
         Err(given) => Some(given),
     }
 }
-
-/// Opening is refused with this fault, and changes nothing.
-pub fn assert_refused(
-    alloc: Global,
-    rt: &impl Abort,
-    bytes: &[u8],
-    journal: &[u8],
-    fault: SessionFault,
-) -> Result<(), Fail> {
-    let given = refused(alloc, image(alloc, bytes)?, text(alloc, journal)?);
-    let (device, store, found) = given.ok_or("it was opened")?;
-    assert_eq!(rt; found, fault);
-    assert!(rt; device.as_slice() == bytes);
-    assert!(rt; store.as_slice() == journal);
-    Ok(())
-}

@@ -13,6 +13,8 @@ use Rattle.std.proofs.lemmas.Bool.{eqb-true}
 use Rattle.bx_read.specs.Digits.{is_hex, pairs_of, pair_value}
 use Rattle.bx_read.proofs.GrammarLemmas.{and_true, guard_some, unmap}
 use Rattle.bx_read.proofs.PairsLemmas.{bytes_at-next, bytes_at-space, pairs_at-last}
+use Rattle.bx_read.specs.Line.{line_piece}
+use Rattle.bx_read.proofs.PieceLemmas.{piece_of as line_gives}
 
 pub map_nil : (o : Option (List ℕ)) → o ≡ option_map (λ more. [] ++ more) o
 map_nil None = refl
@@ -143,6 +145,27 @@ module _ (address columns shown rest bytes : List ℕ) (at : ℕ) (digits : All 
       ends = inr (inr (shown, refl));
     };
   }
+
+-- what a line gives, by its parts
+pub full_gives : (line address columns shown bytes : List ℕ) (at : ℕ) → All (λ c. is_hex c ≡ true) address → length address ≡ 8 → at ≡ digits_value 16 address → at < 2 ^ 32
+    → pairs_of columns ≡ Some bytes → length bytes ≡ 16 → line ≡ address ++ 58 ∷ 32 ∷ (columns ++ 32 ∷ 32 ∷ shown) → line_piece line ≡ Some (at, bytes)
+full_gives line address columns shown bytes at digits eight value small pairs sixteen spelled = line_gives line at columns bytes (record {
+  digits = address;
+  tail = 32 ∷ 32 ∷ shown;
+  spelled = spelled;
+  address = digits;
+  some_digits = omega arith;
+  few_digits = omega arith;
+  value = value;
+  small = omega arith;
+  pairs = pairs;
+  few_pairs = omega arith;
+  ends = inr (inr (shown, refl));
+})
+
+pub in_parts : (text address colon columns gap shown r1 r2 r3 : List ℕ) → text ≡ address ++ r1 → r1 ≡ colon ++ r2 → r2 ≡ columns ++ r3 → r3 ≡ gap ++ shown →
+    colon ≡ 58 ∷ 32 ∷ [] → gap ≡ 32 ∷ 32 ∷ [] → text ≡ address ++ 58 ∷ 32 ∷ (columns ++ 32 ∷ 32 ∷ shown)
+in_parts text address colon columns gap shown r1 r2 r3 a b c d f g = rw (a, b, c, d, f, g) refl
 
 pub in_order : (text address colon columns gap shown r1 r2 r3 r4 r5 rest : List ℕ) → text ≡ address ++ r1 → r1 ≡ colon ++ r2 → r2 ≡ columns ++ r3 → r3 ≡ gap ++ r4 → r4 ≡ shown ++ r5 →
     colon ≡ 58 ∷ 32 ∷ [] → gap ≡ 32 ∷ 32 ∷ [] → r5 ≡ 10 ∷ rest → text ≡ address ++ 58 ∷ 32 ∷ (columns ++ 32 ∷ 32 ∷ (shown ++ 10 ∷ rest))

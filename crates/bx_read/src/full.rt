@@ -3,6 +3,7 @@ ghost use Rattle.std.specs.Prelude.{◌≡◌, ◌+◌, ◌^◌, ◌<◌, ◌≤
 ghost use Rattle.std.specs.Str.Parse.{digits_value};
 ghost use Rattle.bx_read.specs.Digits.{is_hex, pairs_of, pair_value};
 ghost use Rattle.bx_read.specs.Full.{IsFull};
+ghost use Rattle.bx_read.specs.Line.{line_piece};
 
 use crate::digits::value_of;
 
@@ -38,6 +39,27 @@ pub fn full_line(text: &[u8]) -> Option<FullLine>
     let at = address_of(address)?;
     let mut bytes = [0u8; 16];
     if !put_columns(columns, &mut bytes) || has_newline(shown) {
+        return None;
+    }
+    Some(FullLine { at, bytes })
+}
+
+/// The same of the 67 bytes of a line without its newline. Nothing is said of one that is not of this form.
+#[inline]
+pub fn full_text(line: &[u8]) -> Option<FullLine>
+    requires { length line.now ≡ 67 }
+    ensures { IfSome result (λ l. line_piece line.now ≡ Some (l.at, l.bytes)) }
+{
+    let (address, rest) = line.split_at(8);
+    let (colon, rest) = rest.split_at(2);
+    let (columns, rest) = rest.split_at(39);
+    let (gap, _) = rest.split_at(2);
+    if colon[0] != b':' || colon[1] != b' ' || gap[0] != b' ' || gap[1] != b' ' {
+        return None;
+    }
+    let at = address_of(address)?;
+    let mut bytes = [0u8; 16];
+    if !put_columns(columns, &mut bytes) {
         return None;
     }
     Some(FullLine { at, bytes })

@@ -16,6 +16,7 @@ mod tests;
 
 pub use dump::read_dump;
 pub use fault::ReadFault;
+pub use full::{FullLine, full_text};
 pub use laws::{
     dump_line_reads_back, line_is_unique, pieces_are_few, text_is_unique, written_line_reads_back,
 };

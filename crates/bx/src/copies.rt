@@ -1,0 +1,61 @@
+//! dd.
+use crate::files::input;
+use crate::images::command;
+use bx_cli::{Command, DdJob, Fault, Reply};
+use bx_dd::{Counts, report};
+use bx_text::{Name, Words};
+use std::alloc::Global;
+use std::fs::File;
+use std::io::Read;
+use std::rt::Files;
+
+/// Puts what the operands make of the input onto the image. The input is opened first, and read whole before the image is
+/// written: they may be one file.
+pub fn copy_onto<R>(
+    rt: &R,
+    dd: &DdJob,
+    image: &Name,
+    journal: &Name,
+) -> Result<Option<Counts>, Fault>
+where
+    R: Files<File = File> + Input + Eprint + AllocGlobal,
+{
+    let operands = same_words(rt.alloc(), &dd.operands)?;
+    match &dd.plan.input {
+        Some(name) => copy_from(rt, operands, image, journal, input(rt, name)?),
+        None => copy_from(rt, operands, image, journal, rt.reader()),
+    }
+}
+
+fn same_words(alloc: Global, words: &Words) -> Result<Words, Fault> {
+    let mut same = Words::new(alloc)?;
+    for i in 0..words.len() {
+        if let Some(word) = words.get(i) {
+            same.push(word)?;
+        }
+    }
+    Ok(same)
+}
+
+fn copy_from<R, I: Read + Drop>(
+    rt: &R,
+    operands: Words,
+    image: &Name,
+    journal: &Name,
+    input: I,
+) -> Result<Option<Counts>, Fault>
+where
+    R: Files<File = File> + Eprint + AllocGlobal,
+{
+    match command(rt, image, journal, true, Command::Dd { operands, input })? {
+        Reply::Copied { counts, .. } => Ok(Some(counts)),
+        _ => Ok(None),
+    }
+}
+
+/// dd's report, on standard error.
+pub fn tell<R: Eprint + AllocGlobal>(rt: &R, counts: &Counts) -> Result<(), Fault> {
+    let text = report(rt.alloc(), counts)?;
+    let _ = eprint!(rt; "{}", str::from_utf8(text.as_slice()).unwrap_or(""));
+    Ok(())
+}
