@@ -232,12 +232,7 @@ static UNDO: [Row; 2] = [
 
 static LOG: [Row; 1] = [JOURNAL];
 
-static DD: [Row; 1] = [Row {
-    id: "journal",
-    short: 'J',
-    value: Some("JOURNAL"),
-    help: "Keep what is overwritten in this file [default: FILE of of=, and .bxj]",
-}];
+static DD: [Row; 1] = [JOURNAL];
 
 /// The command with an option or a flag for each row.
 fn with_rows<'a>(
@@ -336,18 +331,15 @@ fn strings<'a>(alloc: Global) -> Result<Command<'a>, AllocError> {
 
 fn dd<'a>(alloc: Global) -> Result<Command<'a>, AllocError> {
     let command = Command::new(alloc, "dd")
-        .about("Convert and copy bytes, onto an image or to standard output")
-        .long_about(
-            "Convert and copy bytes.\n\nOperands: if=FILE of=FILE ibs=N obs=N bs=N cbs=N skip=N seek=N count=N\nconv=block,unblock,lcase,ucase,swab,sync,notrunc\n\nA change of the file of of= can be undone.",
-        )
+        .about("Copy and convert bytes, to standard output or onto an image")
         .after_help(
-            "EXAMPLES:\n  bx dd if=boot.bin of=disk.img seek=1 conv=notrunc\n  bx dd conv=ucase count=1",
+            "Operands:\n  if=FILE       File to read [default: standard input]\n  of=IMAGE      Image that is changed [default: none, standard output is written]\n  ibs=BYTES     Bytes of an input block, 1 to 16777216 [default: 512]\n  obs=BYTES     Bytes of an output block [default: 512]\n  bs=BYTES      Both, 1 to 16777216\n  cbs=BYTES     Bytes of a record of block and unblock, 1 to 16777216\n  skip=BLOCKS   Input blocks to skip first [default: 0]\n  seek=BLOCKS   Output blocks in front of the place in IMAGE [default: 0]\n  count=BLOCKS  Most input blocks to copy [default: all]\n  conv=WORDS    Of block, unblock, lcase, ucase, swab, sync, notrunc, with commas\n\nNumbers: decimal, then b (512), k or K (1024), M (1048576) or G (1073741824); 2x80 is 160.\n\nEXAMPLES:\n  bx dd if=boot.bin of=disk.img seek=1 conv=notrunc    a file onto byte 512 of an image\n  bx dd if=log.txt conv=ucase count=1                  the first 512 bytes in upper case\n  bx dd if=cards conv=unblock cbs=80                   a line for each 80 bytes",
         );
     let operands = Arg::new(alloc, "operand")
         .value_name("OPERAND")
         .num_args(1..)
         .action(ArgAction::Append)
-        .help("NAME=VALUE");
+        .help("NAME=VALUE, as below");
     with_rows(alloc, command, &DD)?.arg(operands)
 }
 

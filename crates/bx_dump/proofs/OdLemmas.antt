@@ -1,6 +1,7 @@
 -- Numbers in fields of a fixed width.
-use Rattle.std.proofs.Common.{◌≡◌, ℕ, zero, suc, ◌+◌, ◌-◌, ◌*◌, ◌/◌, ◌^◌, ◌<◌, ◌≤◌, List, [], ◌∷◌, ◌++◌, length, replicate, get_or, take, drop, refl, sym, ap, ◌∙◌, arith, add-one, Fits, w8}
+use Rattle.std.proofs.Common.{◌≡◌, ℕ, zero, suc, ◌+◌, ◌-◌, ◌*◌, ◌/◌, ◌^◌, ◌<◌, ◌≤◌, List, [], ◌∷◌, ◌++◌, length, replicate, get_or, take, drop, refl, sym, ap, ◌∙◌, arith, add-one, Fits, w8, w64}
 use Rattle.std.proofs.Math.ListN.{set}
+use Rattle.std.specs.Int.{from_le_bytes}
 use Rattle.std.proofs.Math.Nat.{pow-suc, pow-zero, pow-le-pow_right}
 use Rattle.std.proofs.lemmas.Nat.{div_below}
 use Rattle.std.proofs.lemmas.List.{take-replicate, get_or-drop, length-drop, length-append, length-take-le, take_more_set}
@@ -63,6 +64,19 @@ value_small m xs small few =
 pub value_from : (m at : ℕ) (xs : List ℕ) → ((k : ℕ) → Fits w8 (get_or xs k 0)) → length xs - at ≤ m → value_of (drop at xs) < 256 ^ m
 value_from m at xs small few =
     value_small m (drop at xs) (λ k. rw (get_or-drop at xs k 0) (small (at + k))) (omega (arith, length-drop at xs))
+
+-- all eight at once
+pub value_eight : (bs : List ℕ) → length bs ≡ 8 → from_le_bytes w64 bs ≡ value_of bs
+value_eight [] len = absurd (omega arith)
+value_eight (a ∷ []) len = absurd (omega arith)
+value_eight (a ∷ b ∷ []) len = absurd (omega arith)
+value_eight (a ∷ b ∷ c ∷ []) len = absurd (omega arith)
+value_eight (a ∷ b ∷ c ∷ d ∷ []) len = absurd (omega arith)
+value_eight (a ∷ b ∷ c ∷ d ∷ e ∷ []) len = absurd (omega arith)
+value_eight (a ∷ b ∷ c ∷ d ∷ e ∷ f ∷ []) len = absurd (omega arith)
+value_eight (a ∷ b ∷ c ∷ d ∷ e ∷ f ∷ g ∷ []) len = absurd (omega arith)
+value_eight (a ∷ b ∷ c ∷ d ∷ e ∷ f ∷ g ∷ h ∷ []) len = omega arith
+value_eight (a ∷ b ∷ c ∷ d ∷ e ∷ f ∷ g ∷ h ∷ i ∷ rest) len = absurd (omega arith)
 
 -- what fits in bytes fits in their bits
 pub size_fits : (size : Size) (v n : ℕ) → v < 256 ^ n → n ≤ size_of size → v < 2 ^ (8 * size_of size)

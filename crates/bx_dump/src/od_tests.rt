@@ -212,3 +212,184 @@ fn od_and_hexdump_of_every_length(rt: HostRuntime) {
         assert_eq!(rt; hexdump_c(&mut from, &mut out, &ALL_OF_IT), Ok(n as u64));
     }
 }
+
+/// Zeros, a thousand at a time at most, and then a failure, where `fails`, or the end.
+#[derive(Drop)]
+struct Zeros {
+    left: usize,
+    fails: bool,
+}
+
+impl Read for Zeros {
+    fn read(&mut self, buf: &mut [u8]) -> io::Result<usize> {
+        if self.left == 0 && self.fails {
+            return Err(io::Error::from(ErrorKind::Other));
+        }
+        let count = buf.len().min(self.left).min(1000);
+        buf[..count].fill(0);
+        self.left -= count;
+        Ok(count)
+    }
+}
+
+#[test]
+fn od_decimal_limits(rt: HostRuntime) -> Result<(), Fail> {
+    let mut bytes = Vec::new(rt.alloc());
+    for v in [0i16, 9, 10, 99, 100, 999, 1000, 9999] {
+        bytes.extend_from_slice(&v.to_le_bytes())?;
+    }
+    for v in [10000i16, 32767, -1, -9, -10, -999, -1000, -32768] {
+        bytes.extend_from_slice(&v.to_le_bytes())?;
+    }
+    let two = number(NumForm::Signed, Size::Two);
+    let text =
+        "0000000      0      9     10     99    100    999   1000   9999\n0000020  10000  32767     -1     -9    -10   -999  -1000 -32768\n0000040\n";
+    expect_od(&rt, bytes.as_slice(), &two, Ok(32), text)?;
+    bytes.clear();
+    for v in [
+        0i32, 99999999, 100000000, 999999999, 1000000000, 2147483647, -1,
+    ] {
+        bytes.extend_from_slice(&v.to_le_bytes())?;
+    }
+    for v in [-99999999i32, -100000000, -2147483648] {
+        bytes.extend_from_slice(&v.to_le_bytes())?;
+    }
+    let four = number(NumForm::Signed, Size::Four);
+    let text =
+        "0000000           0    99999999   100000000   999999999\n0000020  1000000000  2147483647          -1   -99999999\n0000040  -100000000 -2147483648\n0000050\n";
+    expect_od(&rt, bytes.as_slice(), &four, Ok(40), text)
+}
+
+#[test]
+fn od_eight_byte_limits(rt: HostRuntime) -> Result<(), Fail> {
+    let mut bytes = Vec::new(rt.alloc());
+    for v in [
+        0i64,
+        9999999999999999,
+        10000000000000000,
+        999999999999999999,
+    ] {
+        bytes.extend_from_slice(&v.to_le_bytes())?;
+    }
+    for v in [1000000000000000000i64, i64::MAX, -1, -9999999999999999] {
+        bytes.extend_from_slice(&v.to_le_bytes())?;
+    }
+    for v in [-10000000000000000i64, i64::MIN] {
+        bytes.extend_from_slice(&v.to_le_bytes())?;
+    }
+    let eight = number(NumForm::Signed, Size::Eight);
+    let text =
+        "0000000                    0     9999999999999999\n0000020    10000000000000000   999999999999999999\n0000040  1000000000000000000  9223372036854775807\n0000060                   -1    -9999999999999999\n0000100   -10000000000000000 -9223372036854775808\n0000120\n";
+    expect_od(&rt, bytes.as_slice(), &eight, Ok(80), text)
+}
+
+#[test]
+fn od_unsigned_limits(rt: HostRuntime) -> Result<(), Fail> {
+    let mut bytes = Vec::new(rt.alloc());
+    for v in [999u16, 1000, 9999, 65535] {
+        bytes.extend_from_slice(&v.to_le_bytes())?;
+    }
+    let two = number(NumForm::Unsigned, Size::Two);
+    let text = "0000000   999  1000  9999 65535\n0000010\n";
+    expect_od(&rt, bytes.as_slice(), &two, Ok(8), text)?;
+    bytes.clear();
+    for v in [99999999u32, 100000000, 4294967295, 10] {
+        bytes.extend_from_slice(&v.to_le_bytes())?;
+    }
+    let four = number(NumForm::Unsigned, Size::Four);
+    let text = "0000000   99999999  100000000 4294967295         10\n0000020\n";
+    expect_od(&rt, bytes.as_slice(), &four, Ok(16), text)?;
+    bytes.clear();
+    for v in [
+        9999999999999999u64,
+        10000000000000000,
+        1000000000000000000,
+        u64::MAX,
+    ] {
+        bytes.extend_from_slice(&v.to_le_bytes())?;
+    }
+    let eight = number(NumForm::Unsigned, Size::Eight);
+    let text =
+        "0000000     9999999999999999    10000000000000000\n0000020  1000000000000000000 18446744073709551615\n0000040\n";
+    expect_od(&rt, bytes.as_slice(), &eight, Ok(32), text)
+}
+
+#[test]
+fn od_addresses_grow(rt: HostRuntime) {
+    let mut o = number(NumForm::Hexadecimal, Size::One);
+    o.all = true;
+    o.limit = Some(32);
+    o.skip = 2097136;
+    let mut out = Vec::new(rt.alloc());
+    let mut from = Zeros {
+        left: 3000000,
+        fails: false,
+    };
+    assert_eq!(rt; od(&mut from, &mut out, &o), Ok(32));
+    assert_eq!(rt;
+        out.as_slice(),
+        b"7777760 00 00 00 00 00 00 00 00 00 00 00 00 00 00 00 00\n10000000 00 00 00 00 00 00 00 00 00 00 00 00 00 00 00 00\n10000020\n".as_slice()
+    );
+    o.skip = 16777200;
+    let mut out = Vec::new(rt.alloc());
+    let mut from = Zeros {
+        left: 20000000,
+        fails: false,
+    };
+    assert_eq!(rt; od(&mut from, &mut out, &o), Ok(32));
+    assert_eq!(rt;
+        out.as_slice(),
+        b"77777760 00 00 00 00 00 00 00 00 00 00 00 00 00 00 00 00\n100000000 00 00 00 00 00 00 00 00 00 00 00 00 00 00 00 00\n100000020\n".as_slice()
+    );
+}
+
+#[test]
+fn od_short_input_is_no_other_fault(rt: HostRuntime) {
+    let mut o = number(NumForm::Octal, Size::Two);
+    for skip in [1u64, 999, 1000, 1001, 16384, 40000] {
+        o.skip = skip;
+        let mut out = Vec::new(rt.alloc());
+        let mut short = Zeros {
+            left: skip as usize - 1,
+            fails: false,
+        };
+        assert_eq!(rt; od(&mut short, &mut out, &o), Err(IoFault::SkipPastEnd));
+        let mut broken = Zeros {
+            left: skip as usize - 1,
+            fails: true,
+        };
+        assert_eq!(rt; od(&mut broken, &mut out, &o), Err(IoFault::ReadFailed));
+        assert!(rt; out.is_empty());
+        let mut enough = Zeros {
+            left: skip as usize,
+            fails: false,
+        };
+        assert_eq!(rt; od(&mut enough, &mut out, &o), Ok(0));
+    }
+}
+
+#[test]
+fn od_and_hexdump_keep_what_was_written(rt: HostRuntime) {
+    let mut o = number(NumForm::Hexadecimal, Size::One);
+    o.all = true;
+    let mut out = Vec::new(rt.alloc());
+    let mut from = Zeros {
+        left: 20000,
+        fails: true,
+    };
+    assert_eq!(rt; od(&mut from, &mut out, &o), Err(IoFault::ReadFailed));
+    let first = b"0000000 00 00 00 00 00 00 00 00 00 00 00 00 00 00 00 00\n0000020 ";
+    assert!(rt; out.is_empty() || out.starts_with(first));
+    let mut out = Vec::new(rt.alloc());
+    let mut from = Zeros {
+        left: 20000,
+        fails: true,
+    };
+    assert_eq!(rt;
+        hexdump_c(&mut from, &mut out, &ALL_OF_IT),
+        Err(IoFault::ReadFailed)
+    );
+    let text =
+        b"00000000  00 00 00 00 00 00 00 00  00 00 00 00 00 00 00 00  |................|\n*\n";
+    assert!(rt; text.starts_with(out.as_slice()));
+}

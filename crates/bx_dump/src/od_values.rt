@@ -14,6 +14,9 @@ fn value_of(bytes: &[u8]) -> u64
     ensures value { result ≡ value_of bytes.now }
     ensures below { result < 256 ^ length bytes.now }
 {
+    if let Some(all) = bytes.first_chunk::<8>() {
+        return u64::from_le_bytes(*all);
+    }
     let mut at = bytes.len();
     let mut value = 0u64;
     while at > 0 {

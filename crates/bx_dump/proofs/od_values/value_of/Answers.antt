@@ -1,6 +1,8 @@
-use Rattle.std.proofs.Common.{◌-◌, ◌^◌, ◌<◌, length, drop, arith}
+use Rattle.std.proofs.Common.{◌-◌, ◌^◌, ◌<◌, length, drop, arith, ap, ◌∙◌, w64}
+use Rattle.std.specs.Int.{from_le_bytes}
+use Rattle.std.proofs.lemmas.List.{take_all}
 use Rattle.bx_dump.specs.Od.{value_of}
-use Rattle.bx_dump.proofs.OdLemmas.{value_from}
+use Rattle.bx_dump.proofs.OdLemmas.{value_from, value_eight}
 use Rattle.bx_dump.proofs.od_values.value_of.Goals as goal
 
 pub overflow_mul-value : goal.overflow_mul-value
@@ -20,3 +22,9 @@ returns-clause-below c =
     let n = length c.args.bytes.now in
     let small : value_of (drop c.loop-at.at c.args.bytes.now) < 256 ^ n = value_from n c.loop-at.at c.args.bytes.now c.type_inv.bytes (omega arith) in
     omega (arith, c.loop-at.invariant.value)
+
+pub returns-in-Some-clause-value : goal.returns-in-Some-clause-value
+returns-in-Some-clause-value c =
+    let first = c.in-Some.ensures.cases in
+    let bytes = c.args.bytes.now in
+    c.from_le_bytes.ensures ∙ ap (from_le_bytes w64) (first.same ∙ take_all 8 bytes c.requires) ∙ value_eight bytes (omega (arith, first.enough, c.requires))
