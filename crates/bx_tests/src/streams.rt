@@ -185,7 +185,7 @@ fn sample(alloc: Global, count: u32) -> Result<Vec<u8>, AllocError> {
 fn plain(alloc: Global, job: &Job, bytes: &[u8]) -> (Result<Done, Fault>, Vec<u8>) {
     let mut from = Input::new(bytes, Turn::never());
     let mut to = Output::new(alloc, Turn::never());
-    let done = run_dump(job, &mut from, &mut to);
+    let done = run_dump(alloc, job, &mut from, &mut to);
     let Output { taken, .. } = to;
     (done, taken)
 }
@@ -200,7 +200,7 @@ fn assert_reader(
 ) -> Result<bool, Fail> {
     let mut from = Input::new(bytes, turn);
     let mut to = Output::new(alloc, Turn::never());
-    let done = run_dump(job, &mut from, &mut to);
+    let done = run_dump(alloc, job, &mut from, &mut to);
     if !from.turn.is_over {
         return Ok(false);
     }
@@ -229,7 +229,7 @@ fn assert_writer(
 ) -> Result<bool, Fail> {
     let mut from = Input::new(bytes, Turn::never());
     let mut to = Output::new(alloc, turn);
-    let done = run_dump(job, &mut from, &mut to);
+    let done = run_dump(alloc, job, &mut from, &mut to);
     if !to.turn.is_over {
         return Ok(false);
     }
