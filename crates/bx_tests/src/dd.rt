@@ -1,5 +1,5 @@
 // dd as a command on an image.
-use crate::session::{MemSession, fresh, look, undo};
+use crate::mem_session::{MemSession, fresh, look, undo};
 use bx_cli::{Command, Fault, Reply, run_all};
 use bx_dd::Counts;
 use bx_image::{Device, PagedImage};

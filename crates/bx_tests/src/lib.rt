@@ -1,11 +1,39 @@
-//! Rows that cross crates, on images and texts in memory. No product code.
+//! Tests that cross crates: runs of commands in memory, in pages and in files. No product code.
 #![tactic(auto)]
 
 #[cfg(test)]
 mod dd;
 #[cfg(test)]
+mod devices;
+#[cfg(test)]
+mod growths;
+#[cfg(test)]
+mod judge;
+#[cfg(test)]
+mod lengths;
+#[cfg(test)]
+mod mem_session;
+#[cfg(test)]
+mod memory;
+#[cfg(test)]
+mod model;
+#[cfg(test)]
+mod places;
+#[cfg(test)]
+mod random;
+#[cfg(test)]
+mod ration;
+#[cfg(test)]
 mod rows;
 #[cfg(test)]
+mod script;
+#[cfg(test)]
+mod scripts;
+#[cfg(test)]
 mod session;
+#[cfg(test)]
+mod streams;
+#[cfg(test)]
+mod texts;
 #[cfg(test)]
 mod xxd_reverts;

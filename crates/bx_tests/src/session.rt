@@ -1,76 +1,189 @@
-// A session in memory, and its commands.
+//! Sessions on any pair of devices, and commands on them.
+ghost use Rattle.std.specs.Prelude.{All, IfOk};
 ghost use Rattle.bx_cli.specs.Command.{IsNear};
 
 use bx_cli::{Command, Fault, Reply, run_all};
-use bx_image::MemImage;
-use bx_journal::{How, Recovered, Session};
-use bx_store::MemText;
-use bx_text::Bytes;
-use std::alloc::Global;
+use bx_image::{Change, Device};
+use bx_journal::{LogRow, Recovered, Session};
+use bx_store::TextStore;
+use bx_text::{Bytes, Piece, Pieces};
+use std::alloc::{Allocator, Global};
+use std::io::Empty;
 
-pub type MemSession = Session<MemImage, MemText>;
+/// No test comes near so many failed calls, or so long a list.
+const MANY: u64 = 100_000;
 
-fn open_pair(
-    alloc: Global,
-    image: MemImage,
-    text: MemText,
-) -> Result<(MemSession, Recovered), Fault> {
-    match Session::open(alloc, image, text) {
-        Ok(opened) => Ok(opened),
-        Err((_, _, fault)) => Err(Fault::from(fault)),
+/// What a test asks of a session.
+#[derive(Clone, Copy)]
+pub enum Ask<'a> {
+    /// Puts a dump onto the image.
+    Revert(&'a str),
+    /// Puts a dump onto the image, each piece so far behind its address.
+    Shifted(&'a str, u32),
+    /// Puts plain hexadecimal onto the image, from a place on.
+    Plain(&'a str, u32),
+    /// Takes so many changes back.
+    Undo(u32),
+    /// Cuts the image to so many bytes, and then writes one at a place. It is a change, and no command.
+    Cut(u32, u32, u8),
+}
+
+/// The command that asks for it, in memory of `alloc`.
+pub fn command<A: Allocator>(alloc: A, ask: Ask<'_>) -> Result<Command<Empty, A>, Fault>
+    ensures { IfOk result IsNear }
+{
+    match ask {
+        Ask::Revert(dump) => {
+            let text = Bytes::from_vec(dump.as_bytes().to_vec(alloc)?);
+            Ok(Command::Revert { text, offset: 0 })
+        }
+        Ask::Shifted(dump, offset) => {
+            let text = Bytes::from_vec(dump.as_bytes().to_vec(alloc)?);
+            let offset = offset as u64;
+            Ok(Command::Revert { text, offset })
+        }
+        Ask::Plain(digits, at) => {
+            let text = Bytes::from_vec(digits.as_bytes().to_vec(alloc)?);
+            let at = at as u64;
+            Ok(Command::RevertPlain { text, at })
+        }
+        Ask::Undo(k) => Ok(Command::Undo { k }),
+        Ask::Cut(..) => Err(Fault::Usage),
     }
 }
 
-pub fn open(alloc: Global, image: &[u8], text: &[u8]) -> Result<(MemSession, Recovered), Fault> {
-    let image = MemImage::from_vec(Vec::from_slice(alloc, image)?);
-    let text = MemText::from_vec(Vec::from_slice(alloc, text)?);
-    open_pair(alloc, image, text)
+/// Opens a pair, or hands it back.
+pub fn open<D: Device, T: TextStore>(
+    alloc: Global,
+    device: D,
+    store: T,
+) -> Result<(Session<D, T>, Recovered), (D, T, Fault)> {
+    if device.faults() > MANY {
+        return Err((device, store, Fault::DeviceFailed));
+    }
+    if store.faults() > MANY {
+        return Err((device, store, Fault::DeviceFailed));
+    }
+    match Session::open(alloc, device, store) {
+        Ok(found) => Ok(found),
+        Err((device, store, fault)) => Err((device, store, Fault::from(fault))),
+    }
 }
 
-/// A session on the image, with an empty journal.
-pub fn fresh(alloc: Global, image: &[u8]) -> Result<MemSession, Fault> {
-    Ok(open(alloc, image, b"")?.0)
+/// Opens a pair; a refusal gives both devices up.
+pub fn opened<D: Device + Drop, T: TextStore + Drop>(
+    alloc: Global,
+    device: D,
+    store: T,
+) -> Result<(Session<D, T>, Recovered), Fault> {
+    match open(alloc, device, store) {
+        Ok(found) => Ok(found),
+        Err((_, _, fault)) => Err(fault),
+    }
 }
 
-fn reply(alloc: Global, session: &mut MemSession, command: Command) -> Result<Reply, Fault>
+/// Runs the commands in order.
+pub fn run<D: Device, T: TextStore>(
+    alloc: Global,
+    session: &mut Session<D, T>,
+    list: &mut [Command],
+) -> Result<Vec<Reply>, Fault>
+    requires { All IsNear list.old }
+{
+    if session.faults() > MANY {
+        return Err(Fault::DeviceFailed);
+    }
+    if list.len() as u64 > MANY {
+        return Err(Fault::TooLarge);
+    }
+    Ok(run_all(alloc, session, list)?)
+}
+
+/// Runs one command, and tells its reply.
+pub fn run_command<D: Device, T: TextStore>(
+    alloc: Global,
+    session: &mut Session<D, T>,
+    command: Command,
+) -> Result<Reply, Fault>
     requires { IsNear command }
 {
-    let replies = run_all(alloc, session, &mut [command])?;
+    let replies = run(alloc, session, &mut [command])?;
     match replies.first() {
         Some(reply) => Ok(*reply),
         None => Err(Fault::NoMemory),
     }
 }
 
-pub fn revert(alloc: Global, session: &mut MemSession, dump: &str) -> Result<Reply, Fault> {
-    let text = Bytes::from_vec(Vec::from_slice(alloc, dump.as_bytes())?);
-    reply(alloc, session, Command::Revert { text, offset: 0 })
-}
-
-pub fn revert_plain(
+/// Cuts the image, and writes a byte.
+fn cut<D: Device, T: TextStore>(
     alloc: Global,
-    session: &mut MemSession,
-    digits: &str,
+    session: &mut Session<D, T>,
+    base: u32,
     at: u32,
+    byte: u8,
 ) -> Result<Reply, Fault> {
-    let text = Bytes::from_vec(Vec::from_slice(alloc, digits.as_bytes())?);
-    let at = at as u64;
-    reply(alloc, session, Command::RevertPlain { text, at })
-}
-
-pub fn undo(alloc: Global, session: &mut MemSession, k: u32) -> Result<Reply, Fault> {
-    reply(alloc, session, Command::Undo { k })
-}
-
-/// Closes the pair, tells image and text, and opens it again: it is found as it was.
-pub fn look(alloc: Global, session: MemSession) -> Result<(MemSession, Vec<u8>, Vec<u8>), Fault> {
-    let changes = session.changes();
-    let (device, store) = session.close();
-    let image = Vec::from_slice(alloc, device.as_slice())?;
-    let text = Vec::from_slice(alloc, store.as_slice())?;
-    let (session, found) = open_pair(alloc, device, store)?;
-    if found.how != How::Clean || found.changes != changes {
-        return Err(Fault::Interrupted);
+    let mut pieces = Vec::new(alloc);
+    pieces
+        .push(Piece {
+            at: at as u64,
+            bytes: Bytes::from_vec([byte].to_vec(alloc)?),
+        })
+        .map_err(|_| Fault::NoMemory)?;
+    let change = Change {
+        base: Some(base as u64),
+        writes: Pieces::from_vec(pieces),
+    };
+    if session.faults() > MANY {
+        return Err(Fault::DeviceFailed);
     }
-    Ok((session, image, text))
+    match session.perform(&change) {
+        Ok(number) => Ok(Reply::Changed { number }),
+        Err(fault) => Ok(Reply::Refused(Fault::from(fault))),
+    }
+}
+
+/// Asks for one thing.
+pub fn ask_for<D: Device, T: TextStore>(
+    alloc: Global,
+    session: &mut Session<D, T>,
+    asked: Ask<'_>,
+) -> Result<Reply, Fault> {
+    if let Ask::Cut(base, at, byte) = asked {
+        return cut(alloc, session, base, at, byte);
+    }
+    run_command(alloc, session, command(alloc, asked)?)
+}
+
+/// The bytes of an image.
+pub fn image_bytes<D: Device>(alloc: Global, device: &mut D) -> Result<Vec<u8>, Fault> {
+    if device.faults() > MANY {
+        return Err(Fault::DeviceFailed);
+    }
+    let Ok(len) = device.len() else {
+        return Err(Fault::DeviceFailed);
+    };
+    let mut bytes = vec![in alloc; 0; len as usize]?;
+    match device.read_at(0, bytes.as_mut_slice()) {
+        Ok(()) => Ok(bytes),
+        Err(_) => Err(Fault::DeviceFailed),
+    }
+}
+
+/// The bytes of a text.
+pub fn text_bytes<T: TextStore>(alloc: Global, store: &mut T) -> Result<Vec<u8>, Fault> {
+    if store.faults() > MANY {
+        return Err(Fault::DeviceFailed);
+    }
+    match store.read_all(alloc) {
+        Ok(bytes) => Ok(bytes),
+        Err(_) => Err(Fault::DeviceFailed),
+    }
+}
+
+/// The changes that stand.
+pub fn log<D: Device, T: TextStore>(session: &mut Session<D, T>) -> Result<Vec<LogRow>, Fault> {
+    if session.faults() > MANY {
+        return Err(Fault::DeviceFailed);
+    }
+    Ok(session.log()?)
 }

@@ -2,7 +2,7 @@
 ghost use Rattle.std.specs.Prelude.{◌^◌, ◌<◌, ◌≤◌};
 ghost use Rattle.bx_dump.specs.Styles.{IsCountable};
 
-use crate::session::{fresh, look, revert, undo};
+use crate::mem_session::{fresh, look, revert, undo};
 use bx_cli::{Fault, Reply};
 use bx_dump::{XxdOptions, XxdStyle, xxd};
 use std::alloc::{AllocError, Global};

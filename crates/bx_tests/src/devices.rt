@@ -1,0 +1,466 @@
+//! Devices that fail at each of their calls: what is left is opened again, and has the stack that recovery promises.
+use crate::model::Images;
+use crate::script::{Row, Script};
+use crate::scripts::failing;
+use crate::session::{Ask, ask_for, open};
+use bx_cli::{Fault, Reply};
+use bx_image::{Device, FuseImage, MemImage, Part};
+use bx_journal::Session;
+use bx_store::{FuseText, MemText, TextStore};
+use std::alloc::{AllocError, Global};
+use std::process::Abort;
+use std::test::Fail;
+
+/// No run makes so many calls.
+const MOST_CALLS: u64 = 200;
+
+/// What a run came to.
+#[derive(Clone, Copy, Debug, PartialEq, Eq)]
+enum Course {
+    /// No call failed.
+    Whole,
+    /// A call failed before the first that writes.
+    Refused,
+    /// A call failed then.
+    Stopped,
+}
+
+/// A pair that a run left, and the stacks that it may stand for: those with at least so many changes.
+#[derive(Drop)]
+struct Left<D, T> {
+    device: D,
+    store: T,
+    images: Images,
+    least: u32,
+    course: Course,
+}
+
+/// Which calls fail.
+#[derive(Clone, Copy)]
+enum Fused {
+    Image(u64, Part, bool),
+    Text(u64, Part, bool),
+    ImageReads(u64),
+    TextReads(u64),
+}
+
+/// What the reply to a row makes of the images.
+fn follow(
+    rt: &impl Abort,
+    alloc: Global,
+    left: (&mut Images, &mut u32, &mut Course),
+    row: &Row<'_>,
+    reply: Reply,
+) -> Result<(), Fail> {
+    let (images, least, course) = left;
+    let have = images.changes();
+    match (*course, reply) {
+        (Course::Stopped, _) => assert_eq!(rt; reply, Reply::Refused(Fault::Broken)),
+        (_, Reply::Refused(Fault::DeviceFailed)) => *course = Course::Refused,
+        (Course::Refused, Reply::Undone { left }) => {
+            assert!(rt; images.undo(have.saturating_sub(left)));
+            *least = images.changes();
+        }
+        (Course::Refused, _) => assert_eq!(rt; reply, Reply::Refused(Fault::TooFew { have })),
+        (_, Reply::Refused(Fault::Interrupted)) => {
+            *course = Course::Stopped;
+            *least = have;
+            match row.ask {
+                Ask::Undo(k) => *least = have.saturating_sub(k),
+                _ => images.push(row.image.to_vec(alloc)?)?,
+            }
+        }
+        _ => {
+            assert_eq!(rt; reply, row.reply);
+            match reply {
+                Reply::Changed { .. } | Reply::Copied { .. } => {
+                    images.push(row.image.to_vec(alloc)?)?;
+                }
+                Reply::Undone { left } => {
+                    let _ = images.undo(have.saturating_sub(left));
+                }
+                Reply::Refused(_) => {}
+            }
+            *least = images.changes();
+        }
+    }
+    Ok(())
+}
+
+/// Runs the commands on a session, and closes it.
+fn run_rows<D: Device, T: TextStore>(
+    rt: &impl Abort,
+    alloc: Global,
+    session: Session<D, T>,
+    images: Images,
+    rows: &[Row<'_>],
+) -> Result<Left<D, T>, Fail>
+where
+    D: Drop,
+    T: Drop,
+{
+    let mut session = session;
+    let mut images = images;
+    let mut least = 0;
+    let mut course = Course::Whole;
+    for row in rows {
+        let reply = ask_for(alloc, &mut session, row.ask)?;
+        follow(
+            rt,
+            alloc,
+            (&mut images, &mut least, &mut course),
+            row,
+            reply,
+        )?;
+    }
+    let (device, store) = session.close();
+    Ok(Left {
+        device,
+        store,
+        images,
+        least,
+        course,
+    })
+}
+
+/// Opens a pair, and runs the commands on it.
+fn run_on<D: Device + Drop, T: TextStore + Drop>(
+    rt: &impl Abort,
+    alloc: Global,
+    device: D,
+    store: T,
+    script: &Script<'_>,
+) -> Result<Left<D, T>, Fail> {
+    let images = Images::new(alloc, script.first)?;
+    match open(alloc, device, store) {
+        Ok((session, _)) => run_rows(rt, alloc, session, images, script.rows.as_slice()),
+        Err((device, store, fault)) => {
+            assert_eq!(rt; fault, Fault::DeviceFailed);
+            Ok(Left {
+                device,
+                store,
+                images,
+                least: 0,
+                course: Course::Refused,
+            })
+        }
+    }
+}
+
+fn from_image<T>(left: Left<FuseImage<MemImage>, T>) -> Left<MemImage, T> {
+    let Left {
+        device,
+        store,
+        images,
+        least,
+        course,
+    } = left;
+    Left {
+        device: device.into_inner(),
+        store,
+        images,
+        least,
+        course,
+    }
+}
+
+fn from_text<D>(left: Left<D, FuseText<MemText>>) -> Left<D, MemText> {
+    let Left {
+        device,
+        store,
+        images,
+        least,
+        course,
+    } = left;
+    Left {
+        device,
+        store: store.into_inner(),
+        images,
+        least,
+        course,
+    }
+}
+
+/// Runs a script on a pair of which one device fails.
+fn run_fused(
+    rt: &impl Abort,
+    alloc: Global,
+    script: &Script<'_>,
+    fused: Fused,
+) -> Result<Left<MemImage, MemText>, Fail> {
+    let image = MemImage::from_vec(script.first.to_vec(alloc)?);
+    let text = MemText::new(alloc);
+    match fused {
+        Fused::Image(pass, part, once) => {
+            let image = FuseImage::new(image, pass, part, once);
+            Ok(from_image(run_on(rt, alloc, image, text, script)?))
+        }
+        Fused::Text(pass, part, once) => {
+            let text = FuseText::new(text, pass, part, once);
+            Ok(from_text(run_on(rt, alloc, image, text, script)?))
+        }
+        Fused::ImageReads(pass) => {
+            let image = FuseImage::on_reads(image, pass);
+            Ok(from_image(run_on(rt, alloc, image, text, script)?))
+        }
+        Fused::TextReads(pass) => {
+            let text = FuseText::on_reads(text, pass);
+            Ok(from_text(run_on(rt, alloc, image, text, script)?))
+        }
+    }
+}
+
+type MemSession = Session<MemImage, MemText>;
+
+/// Takes the changes back one by one: each image is that of the list.
+fn assert_stack(
+    rt: &impl Abort,
+    alloc: Global,
+    session: MemSession,
+    images: &mut Images,
+) -> Result<(), Fail> {
+    let mut session = session;
+    for _ in 0..images.changes().saturating_add(1) {
+        let (device, store) = session.close();
+        assert!(rt; device.as_slice() == images.top());
+        let Ok((same, found)) = open(alloc, device, store) else {
+            return Err(Fault::Interrupted.into());
+        };
+        session = same;
+        assert_eq!(rt; found.changes, images.changes());
+        if images.undo(1) {
+            let left = images.changes();
+            let reply = ask_for(alloc, &mut session, Ask::Undo(1))?;
+            assert_eq!(rt; reply, Reply::Undone { left });
+        }
+    }
+    let (_, store) = session.close();
+    assert!(rt; store.as_slice().is_empty());
+    Ok(())
+}
+
+/// Opens a pair as it was left: it stands for one of the stacks. Tells how many changes it has.
+fn assert_recovers(
+    rt: &impl Abort,
+    alloc: Global,
+    pair: (&[u8], &[u8]),
+    images: &Images,
+    least: u32,
+) -> Result<u32, Fail> {
+    let (device, store) = copied(alloc, pair)?;
+    let Ok((session, found)) = open(alloc, device, store) else {
+        return Err(Fault::Interrupted.into());
+    };
+    let mut stack = images.all(alloc)?;
+    assert!(rt; least <= found.changes && found.changes <= stack.changes());
+    let _ = stack.undo(stack.changes().saturating_sub(found.changes));
+    assert_eq!(rt; stack.changes(), found.changes);
+    assert_stack(rt, alloc, session, &mut stack)?;
+    Ok(found.changes)
+}
+
+fn copied(alloc: Global, pair: (&[u8], &[u8])) -> Result<(MemImage, MemText), AllocError> {
+    let (image, text) = pair;
+    let image = MemImage::from_vec(image.to_vec(alloc)?);
+    Ok((image, MemText::from_vec(text.to_vec(alloc)?)))
+}
+
+/// The kinds of failing devices: the first of them for opening, and all for a run.
+const OPENING_KINDS: u32 = 8;
+
+const KINDS: u32 = 14;
+
+/// The device that fails behind so many calls.
+fn fuse_of(kind: u32, pass: u64) -> Fused {
+    match kind {
+        0 => Fused::Image(pass, Part::Nothing, false),
+        1 => Fused::Image(pass, Part::Half, false),
+        2 => Fused::Image(pass, Part::All, false),
+        3 => Fused::Text(pass, Part::Nothing, false),
+        4 => Fused::Text(pass, Part::Half, false),
+        5 => Fused::Text(pass, Part::All, false),
+        6 => Fused::ImageReads(pass),
+        7 => Fused::TextReads(pass),
+        8 => Fused::Image(pass, Part::Nothing, true),
+        9 => Fused::Image(pass, Part::Half, true),
+        10 => Fused::Image(pass, Part::All, true),
+        11 => Fused::Text(pass, Part::Nothing, true),
+        12 => Fused::Text(pass, Part::Half, true),
+        _ => Fused::Text(pass, Part::All, true),
+    }
+}
+
+/// A pair that an opening left, and whether a call failed.
+#[derive(Drop)]
+struct Found<D, T> {
+    device: D,
+    store: T,
+    stopped: bool,
+}
+
+fn try_open<D: Device + Drop, T: TextStore + Drop>(
+    rt: &impl Abort,
+    alloc: Global,
+    device: D,
+    store: T,
+) -> Found<D, T> {
+    match open(alloc, device, store) {
+        Ok((session, _)) => {
+            let (device, store) = session.close();
+            Found {
+                device,
+                store,
+                stopped: false,
+            }
+        }
+        Err((device, store, fault)) => {
+            assert!(rt; fault == Fault::Interrupted || fault == Fault::DeviceFailed);
+            Found {
+                device,
+                store,
+                stopped: true,
+            }
+        }
+    }
+}
+
+/// Opens a pair of which one device fails.
+fn open_fused(
+    rt: &impl Abort,
+    alloc: Global,
+    pair: (&[u8], &[u8]),
+    fused: Fused,
+) -> Result<Found<MemImage, MemText>, Fail> {
+    let (image, text) = copied(alloc, pair)?;
+    let (device, store, stopped) = match fused {
+        Fused::Image(pass, part, once) => {
+            let image = FuseImage::new(image, pass, part, once);
+            let Found {
+                device,
+                store,
+                stopped,
+            } = try_open(rt, alloc, image, text);
+            (device.into_inner(), store, stopped)
+        }
+        Fused::Text(pass, part, once) => {
+            let text = FuseText::new(text, pass, part, once);
+            let Found {
+                device,
+                store,
+                stopped,
+            } = try_open(rt, alloc, image, text);
+            (device, store.into_inner(), stopped)
+        }
+        Fused::ImageReads(pass) => {
+            let image = FuseImage::on_reads(image, pass);
+            let Found {
+                device,
+                store,
+                stopped,
+            } = try_open(rt, alloc, image, text);
+            (device.into_inner(), store, stopped)
+        }
+        Fused::TextReads(pass) => {
+            let text = FuseText::on_reads(text, pass);
+            let Found {
+                device,
+                store,
+                stopped,
+            } = try_open(rt, alloc, image, text);
+            (device, store.into_inner(), stopped)
+        }
+    };
+    Ok(Found {
+        device,
+        store,
+        stopped,
+    })
+}
+
+/// Stops the opening of a pair at each call: the stack that opening finds stays. Tells how often it was stopped.
+fn assert_openings(
+    rt: &impl Abort,
+    alloc: Global,
+    pair: (&[u8], &[u8]),
+    images: &Images,
+    changes: u32,
+    again: bool,
+) -> Result<u32, Fail> {
+    let mut stops = 0u32;
+    for kind in 0..OPENING_KINDS {
+        for pass in 0..MOST_CALLS {
+            let found = open_fused(rt, alloc, pair, fuse_of(kind, pass))?;
+            if !found.stopped {
+                break;
+            }
+            stops = stops.saturating_add(1);
+            let left = (found.device.as_slice(), found.store.as_slice());
+            assert_eq!(rt; assert_recovers(rt, alloc, left, images, 0)?, changes);
+            if again {
+                stops = stops.saturating_add(assert_once_more(rt, alloc, left, images, changes)?);
+            }
+        }
+    }
+    Ok(stops)
+}
+
+/// The same for a pair whose opening was stopped before.
+fn assert_once_more(
+    rt: &impl Abort,
+    alloc: Global,
+    pair: (&[u8], &[u8]),
+    images: &Images,
+    changes: u32,
+) -> Result<u32, Fail> {
+    let mut stops = 0u32;
+    for kind in 0..OPENING_KINDS {
+        for pass in 0..MOST_CALLS {
+            let found = open_fused(rt, alloc, pair, fuse_of(kind, pass))?;
+            if !found.stopped {
+                break;
+            }
+            stops = stops.saturating_add(1);
+            let left = (found.device.as_slice(), found.store.as_slice());
+            assert_eq!(rt; assert_recovers(rt, alloc, left, images, 0)?, changes);
+        }
+    }
+    Ok(stops)
+}
+
+/// Stops a script at each call of each device. Tells how often it was stopped, and how often its openings were.
+fn assert_stops(rt: &impl Abort, alloc: Global, script: &Script<'_>) -> Result<(u32, u32), Fail> {
+    let mut stops = 0u32;
+    let mut openings = 0u32;
+    for kind in 0..KINDS {
+        let mut course = Course::Stopped;
+        for pass in 0..MOST_CALLS {
+            let left = run_fused(rt, alloc, script, fuse_of(kind, pass))?;
+            let pair = (left.device.as_slice(), left.store.as_slice());
+            let changes = assert_recovers(rt, alloc, pair, &left.images, left.least)?;
+            course = left.course;
+            if course == Course::Whole {
+                break;
+            }
+            stops = stops.saturating_add(1);
+            let more = assert_openings(rt, alloc, pair, &left.images, changes, true)?;
+            openings = openings.saturating_add(more);
+        }
+        assert_eq!(rt; course, Course::Whole);
+    }
+    Ok((stops, openings))
+}
+
+#[test]
+fn runs_stopped_at_each_call(rt: HostRuntime) -> Result<(), Fail> {
+    let mut stops = 0u32;
+    let mut openings = 0u32;
+    for script in failing(rt.alloc())?.as_slice() {
+        let (more, opened) = assert_stops(&rt, rt.alloc(), script)?;
+        assert!(rt; more > 0);
+        stops = stops.saturating_add(more);
+        openings = openings.saturating_add(opened);
+    }
+    println!(rt; "{stops} runs and {openings} openings stopped").map_err(|_| Fault::ReadFailed)?;
+    assert!(rt; stops > 100 && openings > 1000);
+    Ok(())
+}

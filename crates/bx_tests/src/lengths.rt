@@ -1,0 +1,33 @@
+//! Changes of every length up to some, with ample memory.
+use crate::session::{Ask, ask_for, opened};
+use bx_cli::Reply;
+use bx_image::MemImage;
+use bx_store::MemText;
+use std::alloc::Global;
+use std::process::Abort;
+use std::test::Fail;
+
+/// Writes so many bytes at 0 of 600 zeros, and takes it back.
+fn write_and_undo(rt: &impl Abort, alloc: Global, digits: &str) -> Result<(), Fail> {
+    let zeros = vec![in alloc; 0u8; 600]?;
+    let image = MemImage::from_vec(zeros.as_slice().to_vec(alloc)?);
+    let (mut session, _) = opened(alloc, image, MemText::new(alloc))?;
+    let reply = ask_for(alloc, &mut session, Ask::Plain(digits, 0))?;
+    assert_eq!(rt; reply, Reply::Changed { number: 1 });
+    let reply = ask_for(alloc, &mut session, Ask::Undo(1))?;
+    assert_eq!(rt; reply, Reply::Undone { left: 0 });
+    let (device, store) = session.close();
+    assert!(rt; device.as_slice() == zeros.as_slice());
+    assert!(rt; store.as_slice().is_empty());
+    Ok(())
+}
+
+#[test]
+fn changes_of_every_length(rt: HostRuntime) -> Result<(), Fail> {
+    let mut digits = String::new(rt.alloc());
+    for _ in 0..601 {
+        write_and_undo(&rt, rt.alloc(), digits.as_str())?;
+        digits.push_str("5a")?;
+    }
+    Ok(())
+}

@@ -1,0 +1,290 @@
+//! Each growth of each call that takes memory, refused in turn.
+use crate::ration::{ALIGN, arena, squeeze, used};
+use crate::scripts::{OVERLAPPED, PATCHED};
+use crate::session::{Ask, command};
+use bumpalo::Bump;
+use bx_cli::{Fault, Reply, run_all};
+use bx_image::MemImage;
+use bx_journal::{How, Session, SessionFault};
+use bx_store::MemText;
+use std::alloc::{AllocError, Global};
+use std::process::Abort;
+use std::test::Fail;
+
+/// No call takes so many bytes.
+const MOST_BYTES: usize = 20_000;
+
+type Left<'a> = (MemImage<&'a Bump>, MemText<&'a Bump>);
+
+type BumpSession<'a> = Session<MemImage<&'a Bump>, MemText<&'a Bump>, &'a Bump>;
+
+/// A pair, and one command on it.
+#[derive(Clone, Copy)]
+struct Case<'a> {
+    image: &'a [u8],
+    text: &'a str,
+    ask: Ask<'a>,
+    reply: Reply,
+    left: &'a [u8],
+}
+
+/// What was refused.
+#[derive(Clone, Copy, Debug, PartialEq, Eq)]
+enum Refusal {
+    /// The room for the replies.
+    List,
+    /// A growth of the command.
+    Reply,
+    /// Nothing.
+    None,
+}
+
+/// How many growths were refused.
+#[derive(Clone, Copy, Debug, PartialEq, Eq)]
+struct Count {
+    lists: u32,
+    replies: u32,
+    last: usize,
+}
+
+impl Count {
+    const fn new() -> Self {
+        Count {
+            lists: 0,
+            replies: 0,
+            last: usize::MAX,
+        }
+    }
+
+    /// A growth counts once: the bytes that were handed out before it tell it from others.
+    fn add(&mut self, refusal: Refusal, bytes: usize, used: usize) {
+        if bytes % ALIGN != 0 {
+            return;
+        }
+        if used == self.last {
+            return;
+        }
+        self.last = used;
+        match refusal {
+            Refusal::List => self.lists = self.lists.saturating_add(1),
+            Refusal::Reply => self.replies = self.replies.saturating_add(1),
+            Refusal::None => {}
+        }
+    }
+}
+
+fn pair<'a>(bump: &'a Bump, image: &[u8], text: &[u8]) -> Result<Left<'a>, AllocError> {
+    let image = MemImage::from_vec(image.to_vec(bump)?);
+    Ok((image, MemText::from_vec(text.to_vec(bump)?)))
+}
+
+fn open<'a>(bump: &'a Bump, left: Left<'a>) -> Result<BumpSession<'a>, Fault> {
+    let (device, store) = left;
+    match Session::open(bump, device, store) {
+        Ok((session, _)) => Ok(session),
+        Err((_, _, fault)) => Err(Fault::from(fault)),
+    }
+}
+
+/// Runs the command, and tells its reply; nothing where the list itself was refused.
+fn run_case<'a>(
+    bump: &'a Bump,
+    session: &mut BumpSession<'a>,
+    case: &Case<'_>,
+    bytes: Option<usize>,
+) -> Result<Option<Reply>, Fault> {
+    let mut list = [command(bump, case.ask)?];
+    if let Some(bytes) = bytes {
+        squeeze(bump, bytes)?;
+    }
+    match run_all(bump, session, &mut list) {
+        Ok(replies) => Ok(replies.first().copied()),
+        Err(_) => Ok(None),
+    }
+}
+
+/// Runs the command with so many bytes, and where that is too little again with enough.
+fn refuse<'a>(
+    rt: &impl Abort,
+    bump: &'a Bump,
+    case: &Case<'_>,
+    bytes: usize,
+) -> Result<(Refusal, usize), Fail> {
+    let mut session = open(bump, pair(bump, case.image, case.text.as_bytes())?)?;
+    let changes = session.changes();
+    let reply = run_case(bump, &mut session, case, Some(bytes))?;
+    let taken = used(bump, bytes);
+    bump.set_allocation_limit(None);
+    let refusal = match reply {
+        None => Refusal::List,
+        Some(Reply::Refused(Fault::NoMemory)) => Refusal::Reply,
+        Some(reply) => {
+            assert_eq!(rt; reply, case.reply);
+            let (device, _) = session.close();
+            assert!(rt; device.as_slice() == case.left);
+            return Ok((Refusal::None, taken));
+        }
+    };
+    assert_eq!(rt; session.changes(), changes);
+    let (device, store) = session.close();
+    assert!(rt; device.as_slice() == case.image);
+    assert!(rt; store.as_slice() == case.text.as_bytes());
+    run_again(rt, bump, (device, store), case)?;
+    Ok((refusal, taken))
+}
+
+/// Runs the command with enough memory.
+fn run_again<'a>(
+    rt: &impl Abort,
+    bump: &'a Bump,
+    left: Left<'a>,
+    case: &Case<'_>,
+) -> Result<(), Fail> {
+    let mut session = open(bump, left)?;
+    let reply = run_case(bump, &mut session, case, None)?;
+    assert_eq!(rt; reply, Some(case.reply));
+    let (device, _) = session.close();
+    assert!(rt; device.as_slice() == case.left);
+    Ok(())
+}
+
+/// Refuses each growth of the command in turn.
+fn sweep(rt: &impl Abort, alloc: Global, case: &Case<'_>) -> Result<Count, Fail> {
+    let mut count = Count::new();
+    for bytes in 0..MOST_BYTES {
+        let bump = arena(alloc)?;
+        let (refusal, taken) = refuse(rt, &bump, case, bytes)?;
+        if refusal == Refusal::None {
+            return Ok(count);
+        }
+        count.add(refusal, bytes, taken);
+    }
+    Err(Fault::NoMemory.into())
+}
+
+/// Sweeps a command, and tells how many growths were refused: at least so many of its own.
+fn sweep_command(
+    rt: &(impl Abort + Print + Alloc),
+    alloc: Global,
+    case: &Case<'_>,
+    least: u32,
+) -> Result<(), Fail> {
+    let count = sweep(rt, alloc, case)?;
+    let (lists, replies) = (count.lists, count.replies);
+    println!(rt; "growths refused: {lists} of the list, {replies} of the command")?;
+    assert!(rt; lists == 1 && replies >= least);
+    Ok(())
+}
+
+#[test]
+fn growths_of_a_dump(rt: HostRuntime) -> Result<(), Fail> {
+    let patch = Case {
+        image: b"ABCDEFGH",
+        text: "",
+        ask: Ask::Revert("00000002: 7879\n00000003: 7a7a\n00000020: 41\n"),
+        reply: Reply::Changed { number: 1 },
+        left: b"ABxzzFGH\0\0\0\0\0\0\0\0\0\0\0\0\0\0\0\0\0\0\0\0\0\0\0\0A",
+    };
+    sweep_command(&rt, rt.alloc(), &patch, 5)?;
+    let second = Case {
+        image: b"ABxyEFGH",
+        text: PATCHED,
+        ask: Ask::Revert(""),
+        reply: Reply::Changed { number: 2 },
+        left: b"ABxyEFGH",
+    };
+    sweep_command(&rt, rt.alloc(), &second, 2)
+}
+
+#[test]
+fn growths_of_plain_hex(rt: HostRuntime) -> Result<(), Fail> {
+    let plain = Case {
+        image: b"ABCD",
+        text: "",
+        ask: Ask::Plain("78 7\n9", 1),
+        reply: Reply::Changed { number: 1 },
+        left: b"AxyD",
+    };
+    sweep_command(&rt, rt.alloc(), &plain, 5)
+}
+
+#[test]
+fn growths_of_an_undo(rt: HostRuntime) -> Result<(), Fail> {
+    let undo = Case {
+        image: b"ABxzzFGH",
+        text: OVERLAPPED,
+        ask: Ask::Undo(1),
+        reply: Reply::Undone { left: 0 },
+        left: b"ABCDEFGH",
+    };
+    sweep_command(&rt, rt.alloc(), &undo, 3)?;
+    // The image has to grow back.
+    let cut = Case {
+        image: b"A",
+        text: "change 00000001 00000040\n00000030: 4142\nsave 00000001\ndone 00000001\n",
+        ask: Ask::Undo(1),
+        reply: Reply::Undone { left: 0 },
+        left: b"A\0\0\0\0\0\0\0\0\0\0\0\0\0\0\0\0\0\0\0\0\0\0\0\0\0\0\0\0\0\0\0\0\0\0\0\0\0\0\0\0\0\0\0\0\0\0\0AB\0\0\0\0\0\0\0\0\0\0\0\0\0\0",
+    };
+    sweep_command(&rt, rt.alloc(), &cut, 4)
+}
+
+/// Opens a pair with so many bytes, and where that is too little again with enough.
+fn refuse_opening<'a>(
+    rt: &impl Abort,
+    bump: &'a Bump,
+    text: &[u8],
+    bytes: usize,
+) -> Result<(How, Refusal, usize), Fail> {
+    let (device, store) = pair(bump, b"A", text)?;
+    squeeze(bump, bytes)?;
+    let opened = Session::open(bump, device, store);
+    let taken = used(bump, bytes);
+    bump.set_allocation_limit(None);
+    match opened {
+        Ok((_, found)) => Ok((found.how, Refusal::None, taken)),
+        Err((device, store, fault)) => {
+            assert_eq!(rt; fault, SessionFault::NoMemory);
+            assert!(rt; device.as_slice() == b"A".as_slice());
+            assert!(rt; store.as_slice() == text);
+            match Session::open(bump, device, store) {
+                Ok((_, found)) => Ok((found.how, Refusal::Reply, taken)),
+                Err(_) => Err(Fault::NoMemory.into()),
+            }
+        }
+    }
+}
+
+fn sweep_opening(
+    rt: &(impl Abort + Print + Alloc),
+    alloc: Global,
+    text: &str,
+    how: How,
+    least: u32,
+) -> Result<(), Fail> {
+    let mut count = Count::new();
+    for bytes in 0..MOST_BYTES {
+        let bump = arena(alloc)?;
+        let (found, refusal, taken) = refuse_opening(rt, &bump, text.as_bytes(), bytes)?;
+        assert_eq!(rt; found, how);
+        if refusal == Refusal::None {
+            let replies = count.replies;
+            println!(rt; "growths refused: {replies} of opening")?;
+            assert!(rt; replies >= least);
+            return Ok(());
+        }
+        count.add(refusal, bytes, taken);
+    }
+    Err(Fault::NoMemory.into())
+}
+
+#[test]
+fn growths_of_opening(rt: HostRuntime) -> Result<(), Fail> {
+    let front = "change 00000001 00000040\n00000030: 4142\n";
+    sweep_opening(&rt, rt.alloc(), front, How::Dropped, 2)?;
+    let whole = "change 00000001 00000040\n00000030: 4142\nsave 00000001\n";
+    let number = 1;
+    sweep_opening(&rt, rt.alloc(), whole, How::Restored { number }, 2)?;
+    let done = "change 00000001 00000040\n00000030: 4142\nsave 00000001\ndone 00000001\n";
+    sweep_opening(&rt, rt.alloc(), done, How::Clean, 2)
+}

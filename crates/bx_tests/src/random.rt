@@ -1,0 +1,233 @@
+//! A long run of random commands, against a plain list of images.
+ghost use Rattle.std.specs.Prelude.{◌<◌};
+
+use crate::model::{Images, put};
+use crate::places::{Files, Memory, Pages, Place};
+use crate::script::reopened;
+use crate::session::{Ask, ask_for, opened};
+use bx_cli::{Fault, Reply};
+use bx_image::Device;
+use bx_journal::Session;
+use bx_store::TextStore;
+use std::alloc::{AllocError, Global};
+use std::process::Abort;
+use std::test::Fail;
+
+const COMMANDS: u32 = 200;
+
+/// Numbers that look random.
+#[derive(Drop)]
+struct Dice {
+    state: u64,
+}
+
+impl Dice {
+    fn roll(&mut self, sides: u32) -> u32
+        requires { 0 < sides }
+        ensures { result < sides }
+    {
+        self.state = self
+            .state
+            .wrapping_mul(6_364_136_223_846_793_005)
+            .wrapping_add(1_442_695_040_888_963_407);
+        (self.state >> 33) as u32 % sides
+    }
+
+    /// Some bytes, at most `most` of them and at least one.
+    fn bytes(&mut self, alloc: Global, most: u32) -> Result<Vec<u8>, AllocError>
+        requires { 0 < most }
+    {
+        let mut bytes = Vec::new(alloc);
+        for _ in 0..self.roll(most) + 1 {
+            bytes.push(self.roll(256) as u8)?;
+        }
+        Ok(bytes)
+    }
+}
+
+fn push_hex(text: &mut String, alloc: Global, bytes: &[u8]) -> Result<(), AllocError> {
+    for byte in bytes {
+        let pair = format!(in alloc; "{byte:02x}")?;
+        text.push_str(pair.as_str())?;
+    }
+    Ok(())
+}
+
+/// A dump of some pieces, which may overlap and lie past the end; they are put onto `image` at the offset too.
+fn dump(
+    dice: &mut Dice,
+    alloc: Global,
+    image: &mut Vec<u8>,
+    offset: u32,
+) -> Result<String, AllocError> {
+    let mut text = String::new(alloc);
+    for _ in 0..dice.roll(5) {
+        let at = dice.roll(60);
+        let bytes = dice.bytes(alloc, 20)?;
+        let place = at.saturating_add(offset);
+        put(image, place as usize, bytes.as_slice())?;
+        let address = format!(in alloc; "{at:x}: ")?;
+        text.push_str(address.as_str())?;
+        push_hex(&mut text, alloc, bytes.as_slice())?;
+        text.push_str("\n")?;
+    }
+    Ok(text)
+}
+
+/// A dump at an offset.
+fn revert<D: Device, T: TextStore>(
+    rt: &impl Abort,
+    alloc: Global,
+    dice: &mut Dice,
+    images: &mut Images,
+    session: &mut Session<D, T>,
+) -> Result<(), Fail> {
+    let mut image = images.copy(alloc)?;
+    let offset = dice.roll(8);
+    let text = dump(dice, alloc, &mut image, offset)?;
+    images.push(image)?;
+    let number = images.changes();
+    let reply = ask_for(alloc, session, Ask::Shifted(text.as_str(), offset))?;
+    assert_eq!(rt; reply, Reply::Changed { number });
+    Ok(())
+}
+
+/// Plain hexadecimal at a place.
+fn plain<D: Device, T: TextStore>(
+    rt: &impl Abort,
+    alloc: Global,
+    dice: &mut Dice,
+    images: &mut Images,
+    session: &mut Session<D, T>,
+) -> Result<(), Fail> {
+    let mut image = images.copy(alloc)?;
+    let at = dice.roll(60);
+    let bytes = dice.bytes(alloc, 40)?;
+    put(&mut image, at as usize, bytes.as_slice())?;
+    images.push(image)?;
+    let mut text = String::new(alloc);
+    push_hex(&mut text, alloc, bytes.as_slice())?;
+    let number = images.changes();
+    let reply = ask_for(alloc, session, Ask::Plain(text.as_str(), at))?;
+    assert_eq!(rt; reply, Reply::Changed { number });
+    Ok(())
+}
+
+/// An undo of some changes, at times of more than there are.
+fn undo<D: Device, T: TextStore>(
+    rt: &impl Abort,
+    alloc: Global,
+    dice: &mut Dice,
+    images: &mut Images,
+    session: &mut Session<D, T>,
+) -> Result<(), Fail> {
+    let have = images.changes();
+    let k = dice.roll(4).saturating_add(dice.roll(2) * dice.roll(4));
+    let reply = ask_for(alloc, session, Ask::Undo(k))?;
+    if images.undo(k) {
+        let left = images.changes();
+        assert_eq!(rt; reply, Reply::Undone { left });
+    } else {
+        assert_eq!(rt; reply, Reply::Refused(Fault::TooFew { have }));
+    }
+    Ok(())
+}
+
+/// A dump whose second line is bad.
+fn faulty<D: Device, T: TextStore>(
+    rt: &impl Abort,
+    alloc: Global,
+    dice: &mut Dice,
+    session: &mut Session<D, T>,
+) -> Result<(), Fail> {
+    let at = dice.roll(60);
+    let text = format!(in alloc; "{at:x}: 41\n{at:x}: 4142434\n")?;
+    let reply = ask_for(alloc, session, Ask::Revert(text.as_str()))?;
+    assert_eq!(rt; reply, Reply::Refused(Fault::BadPair { line: 2 }));
+    Ok(())
+}
+
+fn one<D: Device, T: TextStore>(
+    rt: &impl Abort,
+    alloc: Global,
+    dice: &mut Dice,
+    images: &mut Images,
+    session: &mut Session<D, T>,
+) -> Result<(), Fail> {
+    match dice.roll(10) {
+        0..=3 => revert(rt, alloc, dice, images, session),
+        4..=5 => plain(rt, alloc, dice, images, session),
+        6..=8 => undo(rt, alloc, dice, images, session),
+        _ => faulty(rt, alloc, dice, session),
+    }
+}
+
+/// Takes the changes back one by one, down to the first image.
+fn unwind<D: Device + Drop, T: TextStore + Drop, P: Place<D, T>>(
+    rt: &impl Abort,
+    alloc: Global,
+    place: &P,
+    session: Session<D, T>,
+    images: &mut Images,
+) -> Result<(), Fail> {
+    let mut session = session;
+    for _ in 0..images.changes() {
+        let _ = images.undo(1);
+        let left = images.changes();
+        let reply = ask_for(alloc, &mut session, Ask::Undo(1))?;
+        assert_eq!(rt; reply, Reply::Undone { left });
+        session = reopened(rt, alloc, place, session, images.top(), None)?;
+    }
+    let _session = reopened(rt, alloc, place, session, images.top(), Some(b""))?;
+    Ok(())
+}
+
+fn run_long<D: Device + Drop, T: TextStore + Drop, P: Place<D, T>>(
+    rt: &impl Abort,
+    alloc: Global,
+    place: &P,
+    seed: u64,
+) -> Result<(), Fail> {
+    let mut dice = Dice { state: seed };
+    let first = dice.bytes(alloc, 40)?;
+    let (device, store) = place.pair(alloc, first.as_slice(), b"")?;
+    let (mut session, _) = opened(alloc, device, store)?;
+    let mut images = Images::new(alloc, first.as_slice())?;
+    for _ in 0..COMMANDS {
+        one(rt, alloc, &mut dice, &mut images, &mut session)?;
+        assert_eq!(rt; session.changes(), images.changes());
+        if dice.roll(3) == 0 {
+            session = reopened(rt, alloc, place, session, images.top(), None)?;
+        }
+    }
+    unwind(rt, alloc, place, session, &mut images)
+}
+
+#[test]
+fn random_run_in_memory(rt: HostRuntime) -> Result<(), Fail> {
+    for seed in 1..21u64 {
+        run_long(&rt, rt.alloc(), &Memory, seed)?;
+    }
+    Ok(())
+}
+
+#[test]
+fn random_run_in_pages(rt: HostRuntime) -> Result<(), Fail> {
+    for seed in 21..26u64 {
+        run_long(&rt, rt.alloc(), &Pages, seed)?;
+    }
+    Ok(())
+}
+
+#[test]
+fn random_run_in_files(rt: HostRuntime) -> Result<(), Fail> {
+    let files = Files {
+        rt: &rt,
+        image: "bx_tests_random.img",
+        text: "bx_tests_random.bxj",
+    };
+    for seed in 31..34u64 {
+        run_long(&rt, rt.alloc(), &files, seed)?;
+    }
+    files.clear()
+}
