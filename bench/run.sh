@@ -46,7 +46,7 @@ row 1  'hexdump -C, zeros' -- "$BX" hexdump -C few          -- hexdump -C few
 row 4  'strings, random'   -- "$BX" strings random          -- strings random
 row 4  'strings, text'     -- "$BX" strings text            -- strings text
 row 4  'strings, zeros'    -- "$BX" strings zeros           -- strings zeros
-if "$BX" dd --help > /dev/null 2>&1; then # bx has no dd yet
+if "$BX" dd --help > /dev/null 2>&1; then
   row 0.5 'dd'               -- "$BX" dd if=random            -- dd if=random
   row 1  'dd conv=ucase'     -- "$BX" dd if=random conv=ucase -- dd if=random conv=ucase
   row 0.5 'dd conv=swab'     -- "$BX" dd if=random conv=swab  -- dd if=random conv=swab
