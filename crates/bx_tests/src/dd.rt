@@ -20,7 +20,7 @@ fn words(alloc: Global, line: &str) -> Result<Words, Fault> {
 }
 
 /// The reply to dd with these operands, an input and a session that has seen no failure.
-fn reply<D: Device, T: TextStore, R: Read + Drop>(
+pub fn reply<D: Device, T: TextStore, R: Read + Drop>(
     alloc: Global,
     session: &mut Session<D, T>,
     line: &str,
@@ -45,7 +45,7 @@ fn dd(alloc: Global, session: &mut MemSession, line: &str, input: &[u8]) -> Resu
 }
 
 /// A change of this number; whole and part blocks in, and out, and records that were cut.
-fn copied(number: u32, blocks: [u64; 4], cut: u64) -> Reply {
+pub fn copied(number: u32, blocks: [u64; 4], cut: u64) -> Reply {
     Reply::Copied {
         number,
         counts: Counts {

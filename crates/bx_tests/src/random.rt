@@ -1,6 +1,7 @@
 //! A long run of random commands, against a plain list of images.
 ghost use Rattle.std.specs.Prelude.{◌<◌};
 
+use crate::copies::copy;
 use crate::model::{Images, put};
 use crate::places::{Files, Memory, Pages, Place};
 use crate::script::reopened;
@@ -17,12 +18,12 @@ const COMMANDS: u32 = 200;
 
 /// Numbers that look random.
 #[derive(Drop)]
-struct Dice {
+pub struct Dice {
     state: u64,
 }
 
 impl Dice {
-    fn roll(&mut self, sides: u32) -> u32
+    pub fn roll(&mut self, sides: u32) -> u32
         requires { 0 < sides }
         ensures { result < sides }
     {
@@ -34,7 +35,7 @@ impl Dice {
     }
 
     /// Some bytes, at most `most` of them and at least one.
-    fn bytes(&mut self, alloc: Global, most: u32) -> Result<Vec<u8>, AllocError>
+    pub fn bytes(&mut self, alloc: Global, most: u32) -> Result<Vec<u8>, AllocError>
         requires { 0 < most }
     {
         let mut bytes = Vec::new(alloc);
@@ -154,10 +155,11 @@ fn one<D: Device, T: TextStore>(
     images: &mut Images,
     session: &mut Session<D, T>,
 ) -> Result<(), Fail> {
-    match dice.roll(10) {
+    match dice.roll(13) {
         0..=3 => revert(rt, alloc, dice, images, session),
         4..=5 => plain(rt, alloc, dice, images, session),
         6..=8 => undo(rt, alloc, dice, images, session),
+        9..=11 => copy(rt, alloc, dice, images, session),
         _ => faulty(rt, alloc, dice, session),
     }
 }
