@@ -53,9 +53,9 @@ where
     }
 }
 
-/// dd's report, on standard error.
-pub fn tell<R: Eprint + AllocGlobal>(rt: &R, counts: &Counts) -> Result<(), Fault> {
-    let text = report(rt.alloc(), counts)?;
-    let _ = eprint!(rt; "{}", str::from_utf8(text.as_slice()).unwrap_or(""));
-    Ok(())
+/// dd's report, on standard error. One that can't be made or written is no fault, since what it tells of is done.
+pub fn tell<R: Eprint + AllocGlobal>(rt: &R, counts: &Counts) {
+    if let Ok(text) = report(rt.alloc(), counts) {
+        let _ = eprint!(rt; "{}", str::from_utf8(text.as_slice()).unwrap_or(""));
+    }
 }

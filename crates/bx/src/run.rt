@@ -8,7 +8,7 @@ use bx_cli::{
     plan_words, run_dump,
 };
 use bx_dd::Counts;
-use bx_text::{Bytes, Name, Source, Words, emit};
+use bx_text::{Bytes, Name, Source, Words, dec_field, emit, emit_after};
 use std::alloc::Global;
 use std::env;
 use std::fs::File;
@@ -27,9 +27,17 @@ where
     perform(rt, &job)
 }
 
-/// The words behind the program's name. One that isn't UTF-8 is a wrong argument.
+/// What stopped the reading of the words. One that isn't UTF-8 is a wrong argument.
+fn unread(error: io::Error) -> Fault {
+    match error.kind() {
+        io::ErrorKind::OutOfMemory => Fault::NoMemory,
+        _ => Fault::Usage,
+    }
+}
+
+/// The words behind the program's name.
 fn words<R: Env + AllocGlobal>(rt: &R) -> Result<Words, Fault> {
-    let args = env::args(rt).map_err(|_| Fault::Usage)?;
+    let args = env::args(rt).map_err(unread)?;
     let mut words = Words::new(rt.alloc())?;
     for arg in args.skip(1) {
         words.push(arg.as_str())?;
@@ -49,10 +57,10 @@ where
             written: out.written,
         });
     }
-    match counts {
-        Some(counts) => tell(rt, &counts),
-        None => Ok(()),
+    if let Some(counts) = counts {
+        tell(rt, &counts);
     }
+    Ok(())
 }
 
 /// Runs a job, and answers what dd counted.
@@ -91,6 +99,14 @@ where
 
 fn show<W: Write>(out: &mut W, text: &str) -> Result<(), Fault> {
     Ok(emit(out, text.as_bytes())?)
+}
+
+/// A number on a line of its own. It takes no memory, since what it tells of is done.
+fn show_number<W: Write>(out: &mut W, number: u32) -> Result<(), Fault> {
+    let digits = dec_field(number as i128, 1, b' ');
+    emit(out, digits.as_bytes())?;
+    let written = digits.as_bytes().len().min(22) as u64;
+    Ok(emit_after(out, written, b"\n")?)
 }
 
 /// Puts the bytes of a dump onto the image: the whole dump is read first.
@@ -133,10 +149,7 @@ where
 {
     let asked: Command = Command::Undo { k: count };
     match command(rt, image, journal, false, asked)? {
-        Reply::Undone { left } => {
-            let line = format!(in rt.alloc(); "{left}\n")?;
-            show(out, line.as_str())
-        }
+        Reply::Undone { left } => show_number(out, left),
         _ => Ok(()),
     }
 }

@@ -1,23 +1,15 @@
 // dd as a command on an image.
 use crate::mem_session::{MemSession, fresh, look, undo};
+use crate::session::words;
 use bx_cli::{Command, Fault, Reply, run_all};
 use bx_dd::Counts;
 use bx_image::{Device, PagedImage};
 use bx_journal::Session;
 use bx_store::{MemText, TextStore};
-use bx_text::Words;
 use std::alloc::Global;
 use std::io;
 use std::io::{ErrorKind, Read};
 use std::test::Fail;
-
-fn words(alloc: Global, line: &str) -> Result<Words, Fault> {
-    let mut words = Words::new(alloc)?;
-    for word in line.split(' ') {
-        words.push(word)?;
-    }
-    Ok(words)
-}
 
 /// The reply to dd with these operands, an input and a session that has seen no failure.
 pub fn reply<D: Device, T: TextStore, R: Read + Drop>(

@@ -1,4 +1,5 @@
 //! Each growth of each call that takes memory, refused in turn.
+use crate::dd::copied;
 use crate::ration::{ALIGN, arena, squeeze, used};
 use crate::scripts::{OVERLAPPED, PATCHED};
 use crate::session::{Ask, command};
@@ -206,6 +207,18 @@ fn growths_of_plain_hex(rt: HostRuntime) -> Result<(), Fail> {
         left: b"AxyD",
     };
     sweep_command(&rt, rt.alloc(), &plain, 5)
+}
+
+#[test]
+fn growths_of_dd(rt: HostRuntime) -> Result<(), Fail> {
+    let dd = Case {
+        image: b"0123456789",
+        text: "",
+        ask: Ask::Dd("ibs=3 obs=4 seek=1 conv=ucase,sync", b"wxyz"),
+        reply: copied(1, [1, 1, 1, 1], 0),
+        left: b"0123WXYZ\0\0",
+    };
+    sweep_command(&rt, rt.alloc(), &dd, 8)
 }
 
 #[test]

@@ -3,8 +3,8 @@ ghost use Rattle.std.specs.Prelude.{All, IfOk};
 ghost use Rattle.bx_cli.specs.Command.{IsNear};
 
 use crate::places::Place;
-use crate::session::{Ask, ask_for, command, image_bytes, opened, run, text_bytes};
-use bx_cli::{Command, Fault, Reply};
+use crate::session::{Ask, SliceCommand, ask_for, command, image_bytes, opened, run, text_bytes};
+use bx_cli::{Fault, Reply};
 use bx_image::Device;
 use bx_journal::{How, Session};
 use bx_store::TextStore;
@@ -66,13 +66,14 @@ impl<'a> Script<'a> {
 }
 
 /// The commands of the rows.
-pub fn commands(alloc: Global, rows: &[Row<'_>]) -> Result<Vec<Command>, Fault>
+pub fn commands<'a>(alloc: Global, rows: &[Row<'a>]) -> Result<Vec<SliceCommand<'a>>, Fault>
     ensures { IfOk result (λ list. All IsNear list.items) }
 {
     let mut list = Vec::new(alloc);
     for row in rows {
-        list.push(command(alloc, row.ask)?)
-            .map_err(|_| Fault::NoMemory)?;
+        if list.push(command(alloc, row.ask)?).is_err() {
+            return Err(Fault::NoMemory);
+        }
     }
     Ok(list)
 }

@@ -1,4 +1,5 @@
 //! The worked scripts.
+use crate::dd::copied;
 use crate::script::Script;
 use crate::session::Ask;
 use bx_cli::{Fault, Reply};
@@ -19,6 +20,10 @@ pub const GAPPED: &str =
 /// The journal of one byte at 0 of `A`.
 pub const FIRST_PATCH: &str =
     "change2 00000001 0000000000000001\n00000000: 41                                       A\nsave 00000001\ndone2 00000001 0000000000000001\n";
+
+/// The journal of two bytes at 4 of ten digits, that are cut there.
+pub const TAIL: &str =
+    "change2 00000001 000000000000000a\n00000004: 3435 3637 3839                           456789\nsave 00000001\ndone2 00000001 0000000000000006\n";
 
 /// The journal of a change of nothing on the empty image.
 pub const EMPTY: &str =
@@ -114,6 +119,14 @@ pub fn plain_hex(alloc: Global) -> Made {
     Ok(script)
 }
 
+pub fn dd_cuts_tail(alloc: Global) -> Made {
+    let mut script = Script::new(alloc, b"0123456789");
+    let cut = Ask::Dd("obs=4 seek=1", b"xy");
+    script.then_text(cut, copied(1, [0, 1, 0, 1], 0), b"0123xy", TAIL)?;
+    script.then_text(Ask::Undo(1), undone(0), b"0123456789", "")?;
+    Ok(script)
+}
+
 /// All of them.
 pub fn all(alloc: Global) -> Result<Vec<Script<'static>>, AllocError> {
     let mut scripts = Vec::new(alloc);
@@ -125,6 +138,7 @@ pub fn all(alloc: Global) -> Result<Vec<Script<'static>>, AllocError> {
     scripts.push(empty_dump(alloc)?)?;
     scripts.push(refusals(alloc)?)?;
     scripts.push(plain_hex(alloc)?)?;
+    scripts.push(dd_cuts_tail(alloc)?)?;
     Ok(scripts)
 }
 
@@ -157,5 +171,6 @@ pub fn failing(alloc: Global) -> Result<Vec<Script<'static>>, AllocError> {
     scripts.push(empty_dump(alloc)?)?;
     scripts.push(base_then_gap(alloc)?)?;
     scripts.push(cut_and_grown(alloc)?)?;
+    scripts.push(dd_cuts_tail(alloc)?)?;
     Ok(scripts)
 }

@@ -6,9 +6,8 @@ use bx_cli::{Command, Fault, Reply, run_all};
 use bx_image::{Change, Device};
 use bx_journal::{LogRow, Recovered, Session};
 use bx_store::TextStore;
-use bx_text::{Bytes, Piece, Pieces};
+use bx_text::{Bytes, Piece, Pieces, Words};
 use std::alloc::{Allocator, Global};
-use std::io::Empty;
 
 /// No test comes near so many failed calls, or so long a list.
 const MANY: u64 = 100_000;
@@ -22,14 +21,31 @@ pub enum Ask<'a> {
     Shifted(&'a str, u32),
     /// Puts plain hexadecimal onto the image, from a place on.
     Plain(&'a str, u32),
+    /// Puts what dd's operands make of an input onto the image.
+    Dd(&'a str, &'a [u8]),
     /// Takes so many changes back.
     Undo(u32),
     /// Cuts the image to so many bytes, and then writes one at a place. It is a change, and no command.
     Cut(u32, u32, u8),
 }
 
+/// The words of a line, with a space between two of them.
+pub fn words<A: Allocator + Clone>(alloc: A, line: &str) -> Result<Words<A>, Fault> {
+    let mut words = Words::new(alloc)?;
+    for word in line.split(' ') {
+        words.push(word)?;
+    }
+    Ok(words)
+}
+
+/// A command whose dd reads a slice.
+pub type SliceCommand<'a, A = Global> = Command<&'a [u8], A>;
+
 /// The command that asks for it, in memory of `alloc`.
-pub fn command<A: Allocator>(alloc: A, ask: Ask<'_>) -> Result<Command<Empty, A>, Fault>
+pub fn command<'a, A: Allocator + Clone>(
+    alloc: A,
+    ask: Ask<'a>,
+) -> Result<SliceCommand<'a, A>, Fault>
     ensures { IfOk result IsNear }
 {
     match ask {
@@ -46,6 +62,10 @@ pub fn command<A: Allocator>(alloc: A, ask: Ask<'_>) -> Result<Command<Empty, A>
             let text = Bytes::from_vec(digits.as_bytes().to_vec(alloc)?);
             let at = at as u64;
             Ok(Command::RevertPlain { text, at })
+        }
+        Ask::Dd(line, input) => {
+            let operands = words(alloc, line)?;
+            Ok(Command::Dd { operands, input })
         }
         Ask::Undo(k) => Ok(Command::Undo { k }),
         Ask::Cut(..) => Err(Fault::Usage),
@@ -86,7 +106,7 @@ pub fn opened<D: Device + Drop, T: TextStore + Drop>(
 pub fn run<D: Device, T: TextStore>(
     alloc: Global,
     session: &mut Session<D, T>,
-    list: &mut [Command],
+    list: &mut [SliceCommand<'_>],
 ) -> Result<Vec<Reply>, Fault>
     requires { All IsNear list.old }
 {
@@ -103,7 +123,7 @@ pub fn run<D: Device, T: TextStore>(
 pub fn run_command<D: Device, T: TextStore>(
     alloc: Global,
     session: &mut Session<D, T>,
-    command: Command,
+    command: SliceCommand<'_>,
 ) -> Result<Reply, Fault>
     requires { IsNear command }
 {

@@ -162,6 +162,9 @@ fn lines(alloc: Global) -> Result<Vec<&'static str>, AllocError> {
     lines.push("od -A n -t x1 -v")?;
     lines.push("strings")?;
     lines.push("strings -n 2 -t x")?;
+    lines.push("dd bs=7 skip=3 count=40")?;
+    lines.push("dd ibs=5 obs=3 conv=swab,sync")?;
+    lines.push("dd cbs=9 conv=block,ucase")?;
     Ok(lines)
 }
 
@@ -304,6 +307,23 @@ fn every_length(rt: HostRuntime) -> Result<(), Fail> {
             let (front, _) = bytes.as_slice().split_at(n);
             let (done, _) = plain(alloc, &job, front);
             assert_eq!(rt; done, Ok(Done::Dumped(n as u64)));
+        }
+    }
+    Ok(())
+}
+
+#[test]
+fn dd_reads_no_more(rt: HostRuntime) -> Result<(), Fail> {
+    let alloc = rt.alloc();
+    let bytes = sample(alloc, 600)?;
+    let job = job(alloc, "dd bs=7 skip=3 count=4")?;
+    for act in ACTS {
+        for left in 0..20 {
+            let mut from = Input::new(bytes.as_slice(), Turn::new(act, left));
+            from.each = 5;
+            let mut to = Output::new(alloc, Turn::never());
+            let _ = run_dump(alloc, &job, &mut from, &mut to);
+            assert!(rt; from.given <= 49);
         }
     }
     Ok(())
