@@ -208,27 +208,39 @@ full_disk() {
     done
 }
 
+# Kills a run after so many seconds, and takes back the changes that it left.
+kill_after() { # kill_after SECONDS ARG ..
+    local seconds=$1 pid changes
+    shift
+    "$bx" "$@" > out 2> err &
+    pid=$!
+    sleep "$seconds"
+    kill -KILL "$pid" 2> /dev/null && kills=$((kills + 1))
+    wait "$pid" 2> /dev/null
+    if [ -e img.bxj ]; then
+        changes=$("$bx" log img 2> recovered | wc -l)
+        "$bx" undo -k "$changes" img > out 2>&1
+    fi
+    cmp -s before img || wrong=$((wrong + 1))
+}
+
+say_kills() { # say_kills NAME
+    local well=0
+    [ "$wrong" = 0 ] && well=1
+    say "$well" "$1" "$kills of 30 were still running"
+}
+
 # Killed at a random moment: the image comes back, whatever the moment.
 killed() {
-    local n status well kills=0 pid changes wrong=0
+    local n kills=0 wrong=0
     head -c 3000000 /dev/zero > before
     awk 'BEGIN { for (i = 0; i < 60000; i++) printf "%x: 41\n", (i * 7919) % 2999999 }' > dump
     for n in $(seq 1 30); do
         cp before img
         rm -f img.bxj
-        "$bx" revert -f dump img 2> err &
-        pid=$!
-        sleep "$(awk -v n="$n" 'BEGIN { printf "%.4f", n * 0.004 }')"
-        kill -KILL "$pid" 2> /dev/null && kills=$((kills + 1))
-        wait "$pid" 2> /dev/null
-        if [ -e img.bxj ]; then
-            changes=$("$bx" log img 2> recovered | wc -l)
-            "$bx" undo -k "$changes" img > out 2>&1
-        fi
-        cmp -s before img || wrong=$((wrong + 1))
+        kill_after "$(awk -v n="$n" 'BEGIN { printf "%.4f", n * 0.004 }')" revert -f dump img
     done
-    [ "$wrong" = 0 ] && well=1 || well=0
-    say "$well" "killed in the middle of a change" "$kills of 30 were still running"
+    say_kills "killed in the middle of a change"
     "$bx" revert -f dump img
     cp img after
     cp img.bxj text
@@ -236,17 +248,9 @@ killed() {
     for n in $(seq 1 30); do
         cp after img
         cp text img.bxj
-        "$bx" undo img > out 2> err &
-        pid=$!
-        sleep "$(awk -v n="$n" 'BEGIN { printf "%.4f", n * 0.003 }')"
-        kill -KILL "$pid" 2> /dev/null && kills=$((kills + 1))
-        wait "$pid" 2> /dev/null
-        changes=$("$bx" log img 2> recovered | wc -l)
-        "$bx" undo -k "$changes" img > out 2>&1
-        cmp -s before img || wrong=$((wrong + 1))
+        kill_after "$(awk -v n="$n" 'BEGIN { printf "%.4f", n * 0.003 }')" undo img
     done
-    [ "$wrong" = 0 ] && well=1 || well=0
-    say "$well" "killed in the middle of an undo" "$kills of 30 were still running"
+    say_kills "killed in the middle of an undo"
 }
 
 # A library that makes the Nth memory request fail, the Nth read, write or other call on a file fail, or the Nth read or

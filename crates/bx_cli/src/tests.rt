@@ -58,6 +58,15 @@ fn usage_faults(rt: HostRuntime) -> Result<(), Fail> {
         "strings -n +4",
         "strings -t n",
         "strings -8",
+    ] {
+        assert_eq!(rt; number(rt.alloc(), line), 50, "at {line}");
+    }
+    Ok(())
+}
+
+#[test]
+fn usage_faults_of_changes(rt: HostRuntime) -> Result<(), Fail> {
+    for line in [
         "undo",
         "undo -k 65536 i",
         "undo -k 0x1 i",

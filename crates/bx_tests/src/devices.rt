@@ -324,6 +324,42 @@ fn try_open<D: Device + Drop, T: TextStore + Drop>(
     }
 }
 
+fn open_fused_image(
+    rt: &impl Abort,
+    alloc: Global,
+    image: FuseImage<MemImage>,
+    text: MemText,
+) -> Found<MemImage, MemText> {
+    let Found {
+        device,
+        store,
+        stopped,
+    } = try_open(rt, alloc, image, text);
+    Found {
+        device: device.into_inner(),
+        store,
+        stopped,
+    }
+}
+
+fn open_fused_text(
+    rt: &impl Abort,
+    alloc: Global,
+    image: MemImage,
+    text: FuseText<MemText>,
+) -> Found<MemImage, MemText> {
+    let Found {
+        device,
+        store,
+        stopped,
+    } = try_open(rt, alloc, image, text);
+    Found {
+        device,
+        store: store.into_inner(),
+        stopped,
+    }
+}
+
 /// Opens a pair of which one device fails.
 fn open_fused(
     rt: &impl Abort,
@@ -332,48 +368,19 @@ fn open_fused(
     fused: Fused,
 ) -> Result<Found<MemImage, MemText>, Fail> {
     let (image, text) = copied(alloc, pair)?;
-    let (device, store, stopped) = match fused {
+    Ok(match fused {
         Fused::Image(pass, part, once) => {
-            let image = FuseImage::new(image, pass, part, once);
-            let Found {
-                device,
-                store,
-                stopped,
-            } = try_open(rt, alloc, image, text);
-            (device.into_inner(), store, stopped)
+            open_fused_image(rt, alloc, FuseImage::new(image, pass, part, once), text)
         }
         Fused::Text(pass, part, once) => {
-            let text = FuseText::new(text, pass, part, once);
-            let Found {
-                device,
-                store,
-                stopped,
-            } = try_open(rt, alloc, image, text);
-            (device, store.into_inner(), stopped)
+            open_fused_text(rt, alloc, image, FuseText::new(text, pass, part, once))
         }
         Fused::ImageReads(pass) => {
-            let image = FuseImage::on_reads(image, pass);
-            let Found {
-                device,
-                store,
-                stopped,
-            } = try_open(rt, alloc, image, text);
-            (device.into_inner(), store, stopped)
+            open_fused_image(rt, alloc, FuseImage::on_reads(image, pass), text)
         }
         Fused::TextReads(pass) => {
-            let text = FuseText::on_reads(text, pass);
-            let Found {
-                device,
-                store,
-                stopped,
-            } = try_open(rt, alloc, image, text);
-            (device, store.into_inner(), stopped)
+            open_fused_text(rt, alloc, image, FuseText::on_reads(text, pass))
         }
-    };
-    Ok(Found {
-        device,
-        store,
-        stopped,
     })
 }
 
