@@ -81,7 +81,8 @@ pub trait Device {
         ensures image { honest self.old → image self.new ≡ image self.old }
         ensures goes_on { GoesOn honest room failures (is_err result) self.old self.new };
 
-    /// Fills `buf` with the bytes from the address `at` on; the range has to lie within the image, which stays.
+    /// Fills `buf` with the bytes from the address `at` on; the range has to lie within the image.
+    /// The image stays.
     fn read_at(&mut self, at: u64, buf: &mut [u8]) -> Result<(), DeviceFailed>
         requires countable { failures self.old < u64.MAX }
         requires range { honest self.old → at + length buf.old ≤ length (image self.old) }
@@ -111,10 +112,11 @@ pub trait Device {
         ensures failed { honest self.old → OnErr result (IsPartlyCut n (image self.old) (image self.new)) }
         ensures goes_on { GoesOn honest room failures (is_err result) self.old self.new };
 
-    /// Makes room for an image of `n` bytes. The image stays. Room that is there already is never refused.
+    /// Makes room for an image of `n` bytes. The image stays.
     ///
     /// # Errors
-    /// `NoMemory` where a growth is refused; the room then stays too.
+    /// `NoMemory` where a growth is refused; the room then stays too. Room that is there already is
+    /// never refused.
     fn reserve(&mut self, n: u64) -> Result<(), NoMemory>
         ensures within { n ≤ room self.old → IsOk result }
         ensures ok { OnOk result (n ≤ room self.new) }

@@ -9,8 +9,8 @@ use bx_image::{RandomAccess, counted, read_full, resize_to, size_of, write_full}
 use std::alloc::Allocator;
 use std::fs::File;
 
-/// A text in a file, appended at the file's end. It is honest where the file is, takes no memory,
-/// and counts its failures from 0.
+/// A text in a file, appended at the file's end. It is honest where the file is, counts its failures
+/// from 0, and takes no memory but for what `read_all` answers.
 #[derive(Drop)]
 pub struct FileText<F: RandomAccess = File> {
     file: F,
