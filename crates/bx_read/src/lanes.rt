@@ -8,7 +8,7 @@ ghost use Rattle.bx_read.specs.Lanes.{group_places};
 use std::simd::prelude::*;
 
 /// The bytes of eight groups of two pairs with a space between two groups, if that is what the text is.
-#[inline]
+#[inline(always)]
 pub fn columns_of(hex: &[u8]) -> Option<[u8; 16]>
     requires { length hex.now ≡ 39 }
     ensures { IfSome result (λ bytes. pairs_of hex.now ≡ Some bytes) }
