@@ -4,6 +4,8 @@
 # and a count at the end; the status is 1 where a case fails. Outside the gate.
 #
 # Usage: scripts/hostile.sh [PATH OF bx]
+# RT_TRY has the numbers of the memory requests that are refused in the toolchain's checked build too, which takes some
+# two minutes for each (default: 1 10 40), or is `no`.
 set -u
 root=$(cd "$(dirname "$0")/.." && pwd)
 bx=$(realpath "${1:-$root/bx}")
@@ -432,15 +434,37 @@ failing_calls() {
     each_of_dump --help
 }
 
-# The toolchain's own failing calls: a run that faults, hangs, or ends well with other output is a wrong one.
-under_try() { # under_try FLAG ARG ..
-    local flag=$1 last
+# A case of the toolchain's runs: an input, and the words, one a line.
+try_case() { # try_case NAME ARG ..
+    local name=$1
     shift
-    last=$( (cd "$root/crates/bx" && timeout 600 rt try "$flag" 1.. -- "$@") 2>&1 < input | tail -n 1)
-    case $? in
-        0) say 1 "rt try $flag: $*" "$last" ;;
-        *) say 0 "rt try $flag: $*" "$last" ;;
-    esac
+    printf 'Hello World\n' > "cases/$name"
+    printf '%s\n' "$@" > "cases/$name.args"
+}
+
+# The same memory requests in a build with the toolchain's checks of each access. It is built anew for each number, so only
+# some are refused. A run that faults, hangs, or ends otherwise than by that refusal is a wrong one.
+under_try() { # under_try N ..
+    local n counts ended
+    mkdir -p cases
+    try_case xxd xxd
+    try_case include xxd -i
+    try_case od od -t x1
+    try_case hexdump hexdump -C
+    try_case strings strings -t x
+    try_case dd dd cbs=4 conv=block,ucase
+    try_case help revert --help
+    try_case columns xxd -c 300
+    try_case operand dd foo=1
+    for n in "$@"; do
+        (cd "$root/crates/bx" && rt try --fail-alloc "$n" --cases "$work/cases") > tried 2>&1
+        counts=$(tail -n 1 tried)
+        ended=$(grep -c '^bx: out of memory$' tried)
+        case $counts in
+            "cases=9 ended=9 fault=0 "*) say $((ended == 9)) "rt try --fail-alloc $n" "$ended of 9 refused" ;;
+            *) say 0 "rt try --fail-alloc $n" "$counts" ;;
+        esac
+    done
 }
 
 bad_dumps
@@ -451,15 +475,9 @@ streams
 full_disk
 killed
 failing_calls
-if [ "${RT_TRY:-yes}" = yes ] && command -v rt > /dev/null; then
-    printf 'Hello World\n' > input
-    under_try --fail-alloc xxd
-    under_try --fail-alloc xxd -c 300
-    under_try --fail-alloc od -t x1
-    under_try --fail-alloc hexdump -C
-    under_try --fail-alloc strings
-    under_try --fail-io xxd
-    under_try --short-io xxd
+if [ "${RT_TRY:-1 10 40}" != no ] && command -v rt > /dev/null; then
+    # shellcheck disable=SC2086
+    under_try ${RT_TRY:-1 10 40}
 fi
 echo "$passed cases passed, $failed failed"
 [ "$failed" = 0 ]

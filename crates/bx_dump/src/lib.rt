@@ -25,19 +25,14 @@ mod xxd_options;
 mod xxd_rows;
 mod xxd_tables;
 
-pub use folded::{FoldedPages, Form};
-pub use hexdump::{CanonLines, HexdumpOptions, hexdump_c};
+pub use hexdump::{HexdumpOptions, hexdump_c};
 pub use laws::shows_maximal_runs;
 pub use od_dump::od;
-pub use od_lines::OdLines;
 pub use od_options::{Address, Kind, NumForm, OdOptions, Size};
-pub use pages::{Pages, Part, dump_part};
 pub use printable::{StringsOptions, strings};
-pub use xxd_columns::{Columns, Digits};
+pub use xxd_columns::Digits;
 pub use xxd_dump::xxd;
-pub use xxd_lines::{LineForm, Lines, Put};
 pub use xxd_options::{XxdOptions, XxdStyle};
-pub use xxd_rows::{Items, Plain};
 
 #[cfg(test)]
 mod od_tests;

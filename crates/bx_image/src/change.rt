@@ -1,4 +1,4 @@
-// Changes to images.
+//! Changes to images.
 ghost use Rattle.std.specs.Prelude.{◌≡◌, ◌↔◌, ◌+◌, ◌<◌, ◌≤◌, [], List, ℕ, length, IfOk, IsOk, OnOk, OnErr, is_err};
 ghost use Rattle.bx_image.specs.Change.{effect, saved, restore, Restores, AllWithin, Covers, IsAsGood, Fits, KeepsUntouched};
 ghost use Rattle.bx_image.specs.Device.{GoesOn};

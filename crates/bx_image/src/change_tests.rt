@@ -1,4 +1,4 @@
-// Changes, what is saved before them, and the way back.
+//! Changes, what is saved before them, and the way back.
 ghost use Rattle.std.specs.Prelude.{◌<◌, OnOk, false};
 ghost use Rattle.bx_image.specs.Device.{GoesOn};
 

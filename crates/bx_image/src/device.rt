@@ -1,5 +1,5 @@
-// What holds the bytes of an image.
-ghost use Rattle.std.specs.Prelude.{◌≡◌, ◌+◌, ◌<◌, ◌≤◌, List, ℕ, length, take, drop, IfOk, OnOk, OnErr, is_err, false};
+//! Devices, which hold the bytes of an image, and what stops a call on one.
+ghost use Rattle.std.specs.Prelude.{◌≡◌, ◌+◌, ◌<◌, ◌≤◌, List, ℕ, length, take, drop, IfOk, IsOk, OnOk, OnErr, is_err, false};
 ghost use Rattle.bx_image.specs.Image.{place, cut};
 ghost use Rattle.bx_image.specs.Device.{GoesOn, IsPartlyWritten, IsPartlyCut};
 ghost use Rattle.bx_image.specs.declared.device.ImageFault.TheVariants.{DeviceFailed as Failed, NoMemory as OutOfMemory};
@@ -8,7 +8,7 @@ use bx_text::NoMemory;
 use std::alloc::{AllocError, AllocFailed};
 use thiserror::Error;
 
-/// A call of a device failed.
+/// A call of a device failed, as by a read or write fault of its file.
 #[derive(Clone, Copy, Debug, PartialEq, Eq, Error)]
 #[error("device failed")]
 pub struct DeviceFailed;
@@ -53,11 +53,14 @@ impl<T: Drop> From<AllocFailed<T>> for ImageFault {
     }
 }
 
-/// What holds the bytes of one image.
+/// What holds the bytes of one image. Addresses count its bytes from 0.
 ///
-/// Each call that answers `DeviceFailed` adds one to `faults`, and no other call changes it.
-/// A device is honest after a call exactly if it was before, and its room never falls.
-/// What is said of the image is said of honest devices.
+/// A device is honest if a read gives what was written and nobody else writes, and what is said of
+/// the image is said of honest devices. A device is honest after a call exactly if it was before.
+///
+/// Each call that answers `DeviceFailed` adds one to `faults`, no other call changes it, and each
+/// call that may fail asks that it is below `u64::MAX`. The room, up to which an image can grow
+/// without memory, never falls.
 pub trait Device {
     /// The bytes that an honest device has.
     ghost image: { Self → List ℕ };
@@ -71,14 +74,15 @@ pub trait Device {
     /// How many calls have answered `DeviceFailed`.
     ghost failures: { Self → ℕ };
 
-    /// The length of the image, which stays.
+    /// The length of the image in bytes. The image stays.
     fn len(&mut self) -> Result<u64, DeviceFailed>
         requires { failures self.old < u64.MAX }
         ensures len { honest self.old → IfOk result (λ n. n ≡ length (image self.old)) }
         ensures image { honest self.old → image self.new ≡ image self.old }
         ensures goes_on { GoesOn honest room failures (is_err result) self.old self.new };
 
-    /// Fills `buf` with the bytes from the address `at` on. They lie within the image, which stays.
+    /// Fills `buf` with the bytes from the address `at` on; the range has to lie within the image.
+    /// The image stays.
     fn read_at(&mut self, at: u64, buf: &mut [u8]) -> Result<(), DeviceFailed>
         requires countable { failures self.old < u64.MAX }
         requires range { honest self.old → at + length buf.old ≤ length (image self.old) }
@@ -86,7 +90,8 @@ pub trait Device {
         ensures image { honest self.old → image self.new ≡ image self.old }
         ensures goes_on { GoesOn honest room failures (is_err result) self.old self.new };
 
-    /// Places the bytes at the address `at`, within the room. The image grows where they need it, and a gap is zeros.
+    /// Places the bytes at the address `at`; their end has to lie within the room. The image grows
+    /// where they need it, and a gap is zeros. No bytes leave it as it is.
     ///
     /// A write that failed leaves the bytes outside its range, a length from the old one up to the
     /// greater of it and the range's end, and zeros in a gap.
@@ -97,7 +102,7 @@ pub trait Device {
         ensures failed { honest self.old → OnErr result (IsPartlyWritten at (length bytes.now) (image self.old) (image self.new)) }
         ensures goes_on { GoesOn honest room failures (is_err result) self.old self.new };
 
-    /// Cuts the image to `n` bytes, or fills it up with zeros, within the room.
+    /// Cuts the image to `n` bytes, or fills it up to them with zeros; `n` is at most the room.
     ///
     /// A call that failed leaves a length between the old one and `n`, and the bytes below both.
     fn set_len(&mut self, n: u64) -> Result<(), DeviceFailed>
@@ -107,20 +112,23 @@ pub trait Device {
         ensures failed { honest self.old → OnErr result (IsPartlyCut n (image self.old) (image self.new)) }
         ensures goes_on { GoesOn honest room failures (is_err result) self.old self.new };
 
-    /// Makes room for an image of `n` bytes. Writes within the room take no memory.
+    /// Makes room for an image of `n` bytes. The image stays.
     ///
-    /// A growth that is refused leaves the room. The image stays in any case.
+    /// # Errors
+    /// `NoMemory` where a growth is refused; the room then stays too. Room that is there already is
+    /// never refused.
     fn reserve(&mut self, n: u64) -> Result<(), NoMemory>
+        ensures within { n ≤ room self.old → IsOk result }
         ensures ok { OnOk result (n ≤ room self.new) }
         ensures err { OnErr result (room self.new ≡ room self.old) }
         ensures image { honest self.old → image self.new ≡ image self.old }
         ensures goes_on { GoesOn honest room failures false self.old self.new };
 
-    /// The room that there is.
+    /// The room that there is: up to which length, in bytes, the image can grow without memory.
     fn reserved(&self) -> u64
         ensures { result ≡ room self.now };
 
-    /// How many calls have answered `DeviceFailed`.
+    /// How many calls of this device have answered `DeviceFailed`.
     fn faults(&self) -> u64
         ensures { result ≡ failures self.now };
 

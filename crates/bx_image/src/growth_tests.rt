@@ -1,4 +1,4 @@
-// Each growth refused in turn.
+//! Each growth refused in turn.
 use super::*;
 use crate::change_tests::change;
 use crate::ration::ration;

@@ -1,5 +1,5 @@
 //! An image in pages of 4,096 bytes.
-ghost use Rattle.std.specs.Prelude.{◌≡◌, ◌≢◌, ◌+◌, ◌*◌, ◌-◌, ◌<◌, ◌≤◌, ℕ, [], ◌^◌, ◌++◌, length, take, drop, replicate, slice_index, slice_index_or, vec_len, max, ◌%◌, OnOk, OnErr, IfOk};
+ghost use Rattle.std.specs.Prelude.{◌≡◌, ◌≢◌, ◌+◌, ◌*◌, ◌-◌, ◌<◌, ◌≤◌, ℕ, [], ◌^◌, ◌++◌, length, take, drop, replicate, slice_index, slice_index_or, vec_len, max, ◌%◌, OnOk, OnErr, IfOk, IsOk};
 ghost use Rattle.bx_image.specs.Image.{image_of, place, cut};
 ghost use Rattle.bx_image.specs.Pages.{byte_at, image_within, IsWrittenOver, IsCleared};
 
@@ -135,6 +135,7 @@ fn add_pages<A: Allocator + Clone>(
 ) -> Result<(), AllocError>
     ensures front { take (vec_len pages.old) pages.new.items ≡ pages.old.items }
     ensures len { vec_len pages.old ≤ vec_len pages.new }
+    ensures within { count ≤ vec_len pages.old → IsOk result }
     ensures ok { OnOk result (count ≤ vec_len pages.new) }
     ensures most { vec_len pages.new ≤ max count (vec_len pages.old) }
     ensures bytes { (i : ℕ) → byte_at pages.new.items (λ p. p.value) i ≡ byte_at pages.old.items (λ p. p.value) i }
@@ -153,7 +154,8 @@ fn add_pages<A: Allocator + Clone>(
 // No memory has more bytes, so this is refused at once.
 const MOST: u64 = 1 << 62;
 
-/// An image in pages: it is always honest and never fails.
+/// An image in memory, in pages of 4,096 bytes that never move: a growth takes pages and copies no
+/// bytes. It is always honest and never fails.
 #[derive(Drop)]
 pub struct PagedImage<A: Allocator + Clone = Global> {
     pages: Vec<Page<A>, A>,

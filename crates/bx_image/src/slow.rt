@@ -1,4 +1,4 @@
-// A slow program that goes through images byte by byte, to compare with.
+//! A slow program that goes through images byte by byte, to compare with.
 ghost use Rattle.std.specs.Prelude.{◌≡◌, ◌+◌, ◌-◌, ◌<◌, ◌≤◌, ◌^◌, length, slice_index, if◌then◌else◌, IfOk, OnOk};
 ghost use Rattle.bx_image.specs.Change.{Fits, effect, cut_to, saved, touches, with_byte, is_cut_off, is_covered};
 ghost use Rattle.bx_image.specs.Image.{place, cut, end_of, is_within};

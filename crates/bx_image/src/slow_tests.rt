@@ -1,4 +1,4 @@
-// Some hundreds of small changes, compared with the slow program.
+//! Some hundreds of small changes, compared with the slow program.
 ghost use Rattle.std.specs.Prelude.{◌<◌};
 
 use super::*;

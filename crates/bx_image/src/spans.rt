@@ -1,4 +1,4 @@
-// The addresses that a change touches, as ranges by rising address.
+//! The addresses that a change touches, as ranges by rising address.
 ghost use Rattle.std.specs.Prelude.{◌≡◌, ◌<◌, ◌≤◌, ◌+◌, ◌&&◌, ◌||◌, ℕ, List, min, nat_le, nat_lt, length, IfOk, OnOk};
 ghost use Rattle.std.specs.List.Sorted.{IsPermutation, IsNonDecreasingBy};
 ghost use Rattle.bx_image.specs.Change.{touches};
@@ -71,6 +71,13 @@ fn sort<A: Allocator>(spans: &mut Vec<Span, A>)
     spans.sort_unstable_by_key(|s| s.at);
 }
 
+// Whether an address is left out between the end of one range and the start of the next.
+fn has_gap(end: u64, at: u64) -> bool
+    ensures { result ≡ nat_lt end at }
+{
+    end < at
+}
+
 // Joins those that overlap or touch.
 fn merged<A: Allocator>(alloc: A, spans: &[Span], len: u64) -> Result<Vec<Span, A>, AllocError>
     requires within { LieWithin len spans.now }
@@ -83,7 +90,7 @@ fn merged<A: Allocator>(alloc: A, spans: &[Span], len: u64) -> Result<Vec<Span, 
     let mut at = 0;
     let mut end = 0;
     for span in spans {
-        if end < span.at {
+        if has_gap(end, span.at) {
             push(&mut merged, at, end)?;
             at = span.at;
             end = span.end;

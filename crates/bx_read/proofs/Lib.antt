@@ -11,6 +11,7 @@ pub mod LineLemmas
 pub mod WrittenLemmas
 pub mod PlainLemmas
 pub mod HexLemmas
+pub mod LaneLemmas
 pub mod FullLemmas
 pub mod FullLines
 pub mod RowsLemmas

@@ -1,6 +1,7 @@
 -- A line that is written.
 use Rattle.std.proofs.Common.{◌≡◌, ◌≢◌, ℕ, zero, suc, ◌+◌, ◌-◌, ◌/◌, ◌%◌, ◌^◌, ◌<◌, ◌≤◌, Bool, true, false, ◌&&◌, cond, leb, ltb, List, [], ◌∷◌, ◌++◌, length, get_or, map, replicate, refl, arith, ap}
 use Rattle.std.specs.Fmt.{digits, digit_glyph}
+use Rattle.std.specs.Prelude.{codes}
 use Rattle.std.specs.List.{All, range_with_len}
 use Rattle.std.proofs.lemmas.List.Elements.{All-append, All-map}
 use Rattle.std.proofs.lemmas.List.FromFn.{length-map-range_with_len}
@@ -8,9 +9,9 @@ use Rattle.std.proofs.lemmas.Bool.{leb-true, ltb-true}
 use Rattle.std.proofs.lemmas.Bool.Decides.{nat_tests}
 use Rattle.std.proofs.lemmas.List.{length-append, length-replicate, length-map, get_or_append_left}
 use Rattle.bx_text.specs.Field.{char_at, hex_text}
-use Rattle.bx_text.specs.Dump.{hex_place, hex_columns, hex_width, pair_of, shown_byte}
+use Rattle.bx_text.specs.Dump.{hex_place, hex_columns, hex_width, pair_of, shown_byte, default_line}
 use Rattle.bx_read.specs.Digits.{is_hex}
-use Rattle.bx_read.specs.Laws.{DumpLineReadsBack, WrittenLineReadsBack, line_text, wide_line_text}
+use Rattle.bx_read.specs.Laws.{DumpLineReadsBack, WrittenLineReadsBack, IsWritten, line_text, wide_line_text}
 use Rattle.bx_read.proofs.GrammarLemmas.{and_true}
 use Rattle.bx_read.proofs.PieceLemmas.{piece_of}
 use Rattle.bx_read.proofs.PackedLemmas.{glyph_hex}
@@ -69,12 +70,12 @@ address_prints at small k d inside =
     let zeros : ℕ = 8 - length ds in
     hex_prints (get_or (hex_text false 8 at) k d) (all_hex (replicate zeros 48 ++ ds) (digits-zeros zeros ds numeral.0.1) k d inside)
 
--- how long one below 2 ^ 48 is
-address_length : (at : ℕ) → at < 2 ^ 48 → length (hex_text false 8 at) ≤ 12
+-- how long it is
+address_length : (at : ℕ) → at < 2 ^ 62 → length (hex_text false 8 at) ≤ 16
 address_length at small =
     let ds = digits 16 false at in
     let zeros : ℕ = 8 - length ds in
-    let few = length-hex 11 at (omega arith) in
+    let few = length-hex 15 at (omega arith) in
     omega (arith, length-append (replicate zeros 48) ds, length-replicate {A = ℕ} zeros 48, few)
 
 -- a line by its parts
@@ -118,12 +119,12 @@ first_of (c ∷ front) rest line e some is = λ h.
     let range = hex_range (get_or line 0 0) is in
     absurd (omega (arith, same, range.1, h))
 
-pub written : WrittenLineReadsBack
-written at bytes some few all fits =
+pub written_line : WrittenLineReadsBack
+written_line at bytes some few all small =
     let width : ℕ = 40 in
     let text = line_text at bytes in
-    let is = line_reads false 16 2 at bytes (omega arith) some few (omega arith) all (omega arith) in
-    let prints : All Prints text = wide_prints false 16 2 at bytes all (omega arith) in
+    let is = line_reads false 16 2 at bytes (omega arith) some few (omega arith) all small in
+    let prints : All Prints text = wide_prints false 16 2 at bytes all small in
     let first : is_hex (get_or text 0 0) ≡ true =
     rw (is.1.spelled, get_or_append_left is.1.digits (58 ∷ 32 ∷ (is.0 ++ is.1.tail)) 0 0 is.1.some_digits) (is.1.address 0 0 is.1.some_digits) in
     let len : length text ≡ length (hex_text false 8 at) + 2 + length (hex_columns false 2 bytes width) + 1 + length (map shown_byte bytes) =
@@ -131,12 +132,17 @@ written at bytes some few all fits =
       refl,
       record {
         reads = piece_of text at is.0 bytes is.1;
-        short = omega (arith, len, address_length at (omega arith), columns_length bytes width, length-map bytes shown_byte);
+        short = omega (arith, len, address_length at small, columns_length bytes width, length-map bytes shown_byte);
         printing = prints;
         no_newline = one_line text prints;
         front = λ front rest e. first_of front rest text e (omega (arith, len)) first;
       },
     )
+
+-- the same of a line of an image
+pub written : (at : ℕ) (bytes : List ℕ) → 0 < length bytes → length bytes ≤ 16 → All (λ b. b < 256) bytes → at + length bytes ≤ 2 ^ 48 - 1 →
+    (default_line at bytes ≡ line_text at bytes ++ codes "\n") × IsWritten (line_text at bytes) at bytes
+written at bytes some few all fits = written_line at bytes some few all (omega arith)
 
 pub reads_back : DumpLineReadsBack
 reads_back upper cols group at bytes pos some few wide all small =

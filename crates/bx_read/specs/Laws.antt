@@ -1,5 +1,5 @@
 -- What a line of a dump gives, and what a line that is written gives back.
-use Rattle.std.specs.Prelude.{◌≡◌, ◌≢◌, ℕ, Bool, ◌+◌, ◌-◌, ◌*◌, ◌^◌, ◌<◌, ◌≤◌, List, ◌++◌, length, slice_index, map, codes, All, Some, false}
+use Rattle.std.specs.Prelude.{◌≡◌, ◌≢◌, ℕ, Bool, ◌*◌, ◌^◌, ◌<◌, ◌≤◌, List, ◌++◌, length, slice_index, map, codes, All, Some, false}
 use Rattle.bx_text.specs.Field.{hex_text}
 use Rattle.bx_text.specs.Dump.{hex_columns, hex_width, shown_byte, dump_line, default_line}
 use Rattle.bx_read.specs.Grammar.{IsLine}
@@ -44,7 +44,7 @@ pub record IsWritten (line : List ℕ) (at : ℕ) (bytes : List ℕ) : Type 0 wh
   pub no_newline : All (λ c. c ≢ 10) line
   pub front : (front rest : List ℕ) → line ≡ front ++ rest → slice_index front 0 ≢ 115
 
--- xxd's default line of 1 to 16 bytes that end at or below 2^48 - 1 gives them back.
+-- xxd's default line of 1 to 16 bytes gives them back, at any address that a line can have.
 abbrev pub WrittenLineReadsBack : Type 0
-WrittenLineReadsBack = (at : ℕ) (bytes : List ℕ) → 0 < length bytes → length bytes ≤ 16 → All (λ b. b < 256) bytes → at + length bytes ≤ 2 ^ 48 - 1 →
+WrittenLineReadsBack = (at : ℕ) (bytes : List ℕ) → 0 < length bytes → length bytes ≤ 16 → All (λ b. b < 256) bytes → at < 2 ^ 62 →
     (default_line at bytes ≡ line_text at bytes ++ codes "\n") × IsWritten (line_text at bytes) at bytes

@@ -4,6 +4,7 @@ pub mod Grammar
 pub mod Text
 pub mod Lines
 pub mod Next
+pub mod Lanes
 pub mod Full
 pub mod Plain
 pub mod Steps

@@ -1,11 +1,12 @@
 //! Lines of xxd's default form that hold 16 bytes.
-ghost use Rattle.std.specs.Prelude.{◌≡◌, ◌+◌, ◌^◌, ◌<◌, ◌≤◌, ◌≢◌, ◌∷◌, ◌++◌, [], ℕ, List, length, take, drop, slice_index, All, IsTrue, IsFalse, ◌&&◌, Some, IfSome};
+ghost use Rattle.std.specs.Prelude.{◌≡◌, ◌^◌, ◌<◌, ◌≤◌, ◌≢◌, length, All, IsTrue, IsFalse, Some, IfSome};
 ghost use Rattle.std.specs.Str.Parse.{digits_value};
-ghost use Rattle.bx_read.specs.Digits.{is_hex, pairs_of, pair_value};
+ghost use Rattle.bx_read.specs.Digits.{is_hex};
 ghost use Rattle.bx_read.specs.Full.{IsFull};
 ghost use Rattle.bx_read.specs.Line.{line_piece};
 
 use crate::digits::value_of;
+use crate::lanes::columns_of;
 
 /// A line with its newline, by what it gives.
 #[derive(Clone, Copy)]
@@ -37,8 +38,8 @@ pub fn full_line(text: &[u8]) -> Option<FullLine>
         return None;
     }
     let at = address_of(address)?;
-    let mut bytes = [0u8; 16];
-    if !put_columns(columns, &mut bytes) || has_newline(shown) {
+    let bytes = columns_of(columns)?;
+    if has_newline(shown) {
         return None;
     }
     Some(FullLine { at, bytes })
@@ -58,10 +59,7 @@ pub fn full_text(line: &[u8]) -> Option<FullLine>
         return None;
     }
     let at = address_of(address)?;
-    let mut bytes = [0u8; 16];
-    if !put_columns(columns, &mut bytes) {
-        return None;
-    }
+    let bytes = columns_of(columns)?;
     Some(FullLine { at, bytes })
 }
 
@@ -80,42 +78,6 @@ fn address_of(digits: &[u8]) -> Option<u64>
         value = value * 16 + u64::from(more);
     }
     Some(value)
-}
-
-/// Puts the bytes of 8 groups of two pairs, and says whether that is what the text is.
-#[inline]
-fn put_columns(hex: &[u8], out: &mut [u8]) -> bool
-    requires digits { length hex.now ≡ 39 }
-    requires room { length out.old ≡ 16 }
-    ensures { IsTrue result → pairs_of hex.now ≡ Some out.new }
-{
-    for k in 0..7usize {
-        if !put_group(hex, 5 * k, out, 2 * k) || hex[5 * k + 4] != b' ' {
-            return false;
-        }
-    }
-    put_group(hex, 35, out, 14)
-}
-
-/// Puts the bytes of two pairs from place `at` on, and says whether they are pairs.
-#[inline]
-fn put_group(hex: &[u8], at: usize, out: &mut [u8], k: usize) -> bool
-    requires digits { at + 4 ≤ length hex.now }
-    requires room { k + 2 ≤ length out.old }
-    ensures first { IsTrue result → IsTrue (is_hex (slice_index hex.now at) && is_hex (slice_index hex.now (at + 1))) }
-    ensures second { IsTrue result → IsTrue (is_hex (slice_index hex.now (at + 2)) && is_hex (slice_index hex.now (at + 3))) }
-    ensures bytes { IsTrue result → take (k + 2) out.new ≡ take k out.old ++ pair_value (slice_index hex.now at) (slice_index hex.now (at + 1)) ∷ pair_value (slice_index hex.now (at + 2)) (slice_index hex.now (at + 3)) ∷ [] }
-{
-    let first = value_of(hex[at]);
-    let second = value_of(hex[at + 1]);
-    let third = value_of(hex[at + 2]);
-    let fourth = value_of(hex[at + 3]);
-    if first.max(second).max(third).max(fourth) > 15 {
-        return false;
-    }
-    out[k] = first * 16 + second;
-    out[k + 1] = third * 16 + fourth;
-    true
 }
 
 /// Whether a newline is among the bytes.

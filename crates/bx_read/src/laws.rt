@@ -22,8 +22,8 @@ pub fn dump_line_reads_back()
     ensures { DumpLineReadsBack }
 {}
 
-/// A default line of 1 to 16 bytes that end at or below 2^48 - 1 reads back as its address and its bytes. It has at
-/// most 75 bytes, all of them printing ones, and begins with a digit.
+/// A default line of 1 to 16 bytes at an address below 2^62, as all of an image are, reads back as its address and its
+/// bytes. It has at most 75 bytes, all of them printing ones, and no newline; no front of it begins with an `s`.
 pub fn written_line_reads_back()
     ensures { WrittenLineReadsBack }
 {}

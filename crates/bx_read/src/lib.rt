@@ -5,6 +5,7 @@ mod digits;
 mod dump;
 mod fault;
 mod full;
+mod lanes;
 mod laws;
 mod line;
 mod lines;

@@ -9,7 +9,8 @@ use bx_image::{RandomAccess, counted, read_full, resize_to, size_of, write_full}
 use std::alloc::Allocator;
 use std::fs::File;
 
-/// A text in a file, to which it appends at the end. It is honest where the file is.
+/// A text in a file, appended at the file's end. It is honest where the file is, counts its failures
+/// from 0, and takes no memory but for what `read_all` answers.
 #[derive(Drop)]
 pub struct FileText<F: RandomAccess = File> {
     file: F,
@@ -91,7 +92,8 @@ impl<F: RandomAccess> TextStore for FileText<F> {
 
     fn reserve(&mut self, n: u64) -> Result<(), NoMemory>
         // It takes no memory, so it is refused only past the limit.
-        ensures within { IsOk result ↔ (n ≤ MOST) }
+        ensures exact { IsOk result ↔ (n ≤ MOST) }
+        ensures within { n ≤ 2 ^ 64 - 1 → n ≤ 2 ^ 62 → IsOk result }
         ensures ok { OnOk result (n ≤ 2 ^ 64 - 1) }
         ensures limit { OnOk result (n ≤ 2 ^ 62) }
         ensures err { OnErr result ((2 ^ 64 - 1) ≡ (2 ^ 64 - 1)) }

@@ -65,7 +65,8 @@ fn cut_partly<T: TextStore>(store: &mut T, n: u64, part: Part) -> Result<(), Dev
     }
 }
 
-/// A text store on which some calls fail. It is honest where the store within is.
+/// A text store on which some calls fail on purpose. It is honest where the store within is, and
+/// `faults` counts its own failed calls from 0.
 #[derive(Drop)]
 pub struct FuseText<T: TextStore> {
     store: T,
@@ -78,6 +79,7 @@ pub struct FuseText<T: TextStore> {
 
 impl<T: TextStore> FuseText<T> {
     /// Passes `pass` calls of `append` and `cut`, then fails the next one if `once`, else all.
+    /// `part` of a call that fails on purpose takes effect.
     pub fn new(store: T, pass: u64, part: Part, once: bool) -> Self
         requires { T.failures store ≡ 0 }
         ensures store { result.store ≡ store }

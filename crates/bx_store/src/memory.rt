@@ -4,7 +4,7 @@ ghost use Rattle.std.specs.Prelude.{◌≡◌, [], vec_capacity};
 use crate::{DeviceFailed, MOST, NoMemory, TextFault, TextStore};
 use std::alloc::{Allocator, Global};
 
-/// A text in memory: it is always honest and never fails.
+/// A text in memory, in one vector. It is always honest and never fails.
 #[derive(Drop)]
 pub struct MemText<A: Allocator = Global> {
     bytes: Vec<u8, A>,

@@ -21,7 +21,7 @@ pub use fast::{full_line, put_address, put_full_line, put_pairs, put_text};
 pub use fault::{IoFault, NoMemory};
 pub use field::{Field, Radix, ShortText, dec_field, hex_digit, hex_field, oct_field};
 pub use fold::{Fold, Show};
-pub use line::{Layout, LineText, blank, push_text, put_hex, put_line, text_byte, xxd_line};
+pub use line::{LineText, blank, push_text, put_hex, text_byte, xxd_line};
 pub use number::{SizeFault, SizeStyle};
 pub use numbers::{read_hex, read_size};
 pub use pieces::{Piece, Pieces};

@@ -7,7 +7,7 @@ use Rattle.bx_image.specs.declared.spans.Span.{Span}
 use Rattle.bx_image.specs.Spans.{IsWithin}
 use Rattle.bx_image.proofs.SpanLemmas.{are_over-none, are_over-more, are_over-with_span, LieWithin-with_span, over_next, over_joined, apart_later, apart-next, apart-all}
 use Rattle.bx_image.proofs.spans.merged.Goals as goal
-use Rattle.bx_image.proofs.spans.merged.Goals.{then-end-span+in_ok-push, else-end-span}
+use Rattle.bx_image.proofs.spans.merged.Goals.{then-has_gap+in_ok-push, else-has_gap}
 
 pub loop-span-init : goal.loop-span-init
 loop-span-init g c = rw c.in_ok-merged.ensures.items (record {
@@ -29,17 +29,17 @@ loop-span-preserved g c =
     let s : Span = get_or spans k none in
     let lies : IsWithin c.args.len s = c.requires.within k none h in
     let later : c.loop-span.at ≤ s.at = kept.below k none (omega arith) h in
-    elim c.if-end-span.branch [
-      | then-end-span+in_ok-push w ↦ rw (w.merged-is, w.at-is, w.end-is, w.in_ok-push.ensures) (record {
+    elim c.if-has_gap.branch [
+      | then-has_gap+in_ok-push w ↦ let gap : c.loop-span.end < s.at = grind (arith, nat_tests) in rw (w.merged-is, w.at-is, w.end-is, w.in_ok-push.ensures) (record {
         over = λ i. over_next c.loop-span.at c.loop-span.end s.at s.end i c.loop-span.merged.items (take k spans) (kept.over i) ∙ sym (are_over-more spans k none i h);
         within = LieWithin-with_span c.args.len _ _ _ kept.within kept.short;
         order = omega (arith, lies.some);
         short = lies.within;
-        apart = apart-next c.loop-span.at c.loop-span.end c.loop-span.merged.items (record { at = c.loop-span.at; end = c.loop-span.end }) (record { at = s.at; end = s.end }) refl refl kept.apart kept.order w.if-end-span.true;
+        apart = apart-next c.loop-span.at c.loop-span.end c.loop-span.merged.items (record { at = c.loop-span.at; end = c.loop-span.end }) (record { at = s.at; end = s.end }) refl refl kept.apart kept.order gap;
         below = λ j d lo hi. subst (λ (v : Span). v.at ≤ (get_or spans j d).at) (get_or_any spans k d none h) (c.requires.sorted k j d (omega arith) hi);
       })
-      | else-end-span w ↦ rw (w.merged-is, w.at-is, w.end-is, w.max-end.ensures) (record {
-        over = λ i. over_joined c.loop-span.at c.loop-span.end s.at s.end i c.loop-span.merged.items (take k spans) later w.if-end-span.false (kept.over i) ∙ sym (are_over-more spans k none i h);
+      | else-has_gap w ↦ let none_left : s.at ≤ c.loop-span.end = grind (arith, nat_tests) in rw (w.merged-is, w.at-is, w.end-is, w.max-end.ensures) (record {
+        over = λ i. over_joined c.loop-span.at c.loop-span.end s.at s.end i c.loop-span.merged.items (take k spans) later none_left (kept.over i) ∙ sym (are_over-more spans k none i h);
         within = kept.within;
         order = omega (arith, kept.order);
         short = omega (arith, kept.short, lies.within);

@@ -26,5 +26,5 @@ returns c =
     (joined 2 r3 gap r4 fourth.front fourth.back) (joined 16 r4 shown r5 fifth.front fifth.back)
     (two_of colon 58 32 second.front_len c.if-colon-ne58.false c.if-colon-ne32.false) (two_of gap 32 32 fourth.front_len c.if-gap-ne32.false c.if-gap-ne32-2.false)
     (first_of r5 10 (omega (arith, first.back_len, second.back_len, third.back_len, fourth.back_len, fifth.back_len)) c.if-rest-ne10.false) in
-    full_is address columns shown (drop 1 r5) c.put_columns.new.out c.in_ok-at.at number.2 first.front_len number.0 number.1 third.front_len
-    (c.put_columns.ensures c.if-not-put_columns.false) (omega arith) fifth.front_len (c.has_newline.ensures c.if-has_newline.false) text spelled
+    full_is address columns shown (drop 1 r5) c.in_ok-bytes.bytes c.in_ok-at.at number.2 first.front_len number.0 number.1 third.front_len
+    c.in_ok-bytes.ensures (omega arith) fifth.front_len (c.has_newline.ensures c.if-has_newline.false) text spelled

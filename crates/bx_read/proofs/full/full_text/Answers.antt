@@ -20,5 +20,5 @@ returns c =
     let spelled = in_parts c.args.line.now address colon columns gap shown r1 r2 r3
     (joined 8 c.args.line.now address r1 first.front first.back) (joined 2 r1 colon r2 second.front second.back) (joined 39 r2 columns r3 third.front third.back) (joined 2 r3 gap shown fourth.front fourth.back)
     (two_of colon 58 32 second.front_len c.if-colon-ne58.false c.if-colon-ne32.false) (two_of gap 32 32 fourth.front_len c.if-gap-ne32.false c.if-gap-ne32-2.false) in
-    full_gives c.args.line.now address columns shown c.put_columns.new.out c.in_ok-at.at number.2 first.front_len number.0 number.1
-    (c.put_columns.ensures c.if-not-put_columns.false) (omega arith) spelled
+    full_gives c.args.line.now address columns shown c.in_ok-bytes.bytes c.in_ok-at.at number.2 first.front_len number.0 number.1
+    c.in_ok-bytes.ensures (omega arith) spelled

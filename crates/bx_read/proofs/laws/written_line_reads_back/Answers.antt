@@ -1,5 +1,5 @@
-use Rattle.bx_read.proofs.WrittenLemmas.{written}
+use Rattle.bx_read.proofs.WrittenLemmas.{written_line}
 use Rattle.bx_read.proofs.laws.written_line_reads_back.Goals as goal
 
 pub returns : goal.returns
-returns c = written
+returns c = written_line

@@ -1,0 +1,96 @@
+//! The digits of a full line, 16 at once.
+ghost use Rattle.std.specs.Prelude.{◌≡◌, ◌+◌, ◌*◌, ◌<◌, ◌≤◌, ◌++◌, if◌then◌else◌, ℕ, map, length, slice_index, IsTrue, Some, IfSome};
+ghost use Rattle.std.specs.Char.{digit_value};
+ghost use Rattle.bx_read.specs.Digits.{is_hex, pairs_of};
+ghost use Rattle.bx_read.specs.Plain.{hex_bytes};
+ghost use Rattle.bx_read.specs.Lanes.{group_places};
+
+use std::simd::prelude::*;
+
+/// The bytes of eight groups of two pairs with a space between two groups, if that is what the text is.
+#[inline(always)]
+pub fn columns_of(hex: &[u8]) -> Option<[u8; 16]>
+    requires { length hex.now ≡ 39 }
+    ensures { IfSome result (λ bytes. pairs_of hex.now ≡ Some bytes) }
+{
+    if !is_spaced(hex) {
+        return None;
+    }
+    pairs_in(groups_of(hex), groups_of(&hex[20..]))
+}
+
+/// Whether a space stands behind each of the first seven groups.
+#[inline(always)]
+fn is_spaced(hex: &[u8]) -> bool
+    requires { length hex.now ≡ 39 }
+    ensures { IsTrue result → (k : ℕ) → k < 7 → slice_index hex.now (5 * k + 4) ≡ 32 }
+{
+    for k in 0..7usize {
+        if hex[5 * k + 4] != b' ' {
+            return false;
+        }
+    }
+    true
+}
+
+/// The digits of the first four groups.
+#[inline(always)]
+fn groups_of(hex: &[u8]) -> u8x16
+    requires { 19 ≤ length hex.now }
+    ensures { result ≡ map (slice_index hex.now) group_places }
+{
+    let first: u8x8 = u8x4::from_slice(hex).shuffle(
+        u8x4::from_slice(&hex[5..]),
+        [0, 1, 2, 3, 4, 5, 6, 7],
+    );
+    let second: u8x8 = u8x4::from_slice(&hex[10..]).shuffle(
+        u8x4::from_slice(&hex[15..]),
+        [0, 1, 2, 3, 4, 5, 6, 7],
+    );
+    first.shuffle(
+        second,
+        [0, 1, 2, 3, 4, 5, 6, 7, 8, 9, 10, 11, 12, 13, 14, 15],
+    )
+}
+
+/// The bytes that 32 digits write, or none where one of them isn't a digit.
+#[inline(always)]
+fn pairs_in(first: u8x16, second: u8x16) -> Option<[u8; 16]>
+    ensures { IfSome result (λ bytes. hex_bytes (first ++ second) ≡ Some bytes) }
+{
+    let front = values_of(first);
+    let back = values_of(second);
+    if !are_digits(front) || !are_digits(back) {
+        return None;
+    }
+    let high: u8x16 = front.shuffle(
+        back,
+        [0, 2, 4, 6, 8, 10, 12, 14, 16, 18, 20, 22, 24, 26, 28, 30],
+    );
+    let low: u8x16 = front.shuffle(
+        back,
+        [1, 3, 5, 7, 9, 11, 13, 15, 17, 19, 21, 23, 25, 27, 29, 31],
+    );
+    Some(((high << u8x16::splat(4)) + low).to_array())
+}
+
+/// The value of each digit, and 255 for other bytes.
+#[inline(always)]
+fn values_of(text: u8x16) -> u8x16
+    ensures { result ≡ map (λ c. if is_hex c then digit_value c else 255) text }
+{
+    let digit = text - u8x16::splat(b'0');
+    let letter = (text | u8x16::splat(0x20)) - u8x16::splat(b'a');
+    let letters = letter
+        .simd_le(u8x16::splat(5))
+        .select(letter + u8x16::splat(10), u8x16::splat(255));
+    digit.simd_le(u8x16::splat(9)).select(digit, letters)
+}
+
+/// Whether these are values of digits.
+#[inline(always)]
+fn are_digits(values: u8x16) -> bool
+    ensures { IsTrue result → (k : ℕ) → k < 16 → slice_index values k ≤ 15 }
+{
+    values.simd_gt(u8x16::splat(15)).to_bitmask() == 0
+}
