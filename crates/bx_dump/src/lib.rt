@@ -10,7 +10,6 @@ mod od_bytes;
 mod od_decimal;
 mod od_digits;
 mod od_dump;
-mod od_lanes;
 mod od_lines;
 mod od_octal;
 mod od_options;

@@ -3,8 +3,6 @@ ghost use Rattle.std.specs.Prelude.{◌≡◌, false, true, ℕ, ◌+◌, ◌-�
 ghost use Rattle.std.specs.Fmt.{digits};
 ghost use Rattle.bx_text.specs.Field.{left_filled};
 
-use crate::od_lanes::put_eights;
-
 /// Each number below 100 in two digits.
 #[rattlefmt::skip]
 static TWO: [[u8; 2]; 100] = [
@@ -101,7 +99,7 @@ fn put_four(field: &mut [u8], v: u32)
 
 /// Puts a number in eight digits.
 #[inline(always)]
-fn put_eight(field: &mut [u8], v: u32)
+pub fn put_eight(field: &mut [u8], v: u32)
     requires room { length field.old ≡ 8 }
     requires small { v < 10 ^ 8 }
     ensures { field.new ≡ left_filled 48 8 (digits 10 false v) }
@@ -113,17 +111,19 @@ fn put_eight(field: &mut [u8], v: u32)
 
 /// Puts a number in sixteen digits.
 #[inline(always)]
-fn put_sixteen(field: &mut [u8], v: u64)
+pub fn put_sixteen(field: &mut [u8], v: u64)
     requires room { length field.old ≡ 16 }
     requires small { v < 10 ^ 16 }
     ensures { field.new ≡ left_filled 48 16 (digits 10 false v) }
 {
-    put_eights(field, (v / 100000000) as u32, (v % 100000000) as u32);
+    let (front, back) = field.split_at_mut(8);
+    put_eight(front, (v / 100000000) as u32);
+    put_eight(back, (v % 100000000) as u32);
 }
 
 /// Puts a number in three digits.
 #[inline(always)]
-fn put_three(field: &mut [u8], v: u32)
+pub fn put_three(field: &mut [u8], v: u32)
     requires room { length field.old ≡ 3 }
     requires small { v < 10 ^ 3 }
     ensures { field.new ≡ left_filled 48 3 (digits 10 false v) }
@@ -135,7 +135,7 @@ fn put_three(field: &mut [u8], v: u32)
 
 /// Puts a number below 100 in two characters.
 #[inline(always)]
-fn put_lead(field: &mut [u8], v: u32)
+pub fn put_lead(field: &mut [u8], v: u32)
     requires room { length field.old ≡ 2 }
     requires small { v < 100 }
     ensures { field.new ≡ left_filled 32 2 (digits 10 false v) }
@@ -145,7 +145,7 @@ fn put_lead(field: &mut [u8], v: u32)
 
 /// Puts a number below 100 and its sign in three characters.
 #[inline(always)]
-fn put_signed_lead(field: &mut [u8], negative: bool, v: u32)
+pub fn put_signed_lead(field: &mut [u8], negative: bool, v: u32)
     requires room { length field.old ≡ 3 }
     requires small { v < 100 }
     ensures { field.new ≡ left_filled 32 3 ((if negative then 45 ∷ [] else []) ++ digits 10 false v) }
@@ -155,7 +155,7 @@ fn put_signed_lead(field: &mut [u8], negative: bool, v: u32)
 
 /// Puts a number below 10,000 in four characters.
 #[inline(always)]
-fn put_top(field: &mut [u8], v: u32)
+pub fn put_top(field: &mut [u8], v: u32)
     requires room { length field.old ≡ 4 }
     requires small { v < 10 ^ 4 }
     ensures { field.new ≡ left_filled 32 4 (digits 10 false v) }
@@ -183,7 +183,7 @@ fn put_signed_digit(field: &mut [u8], negative: bool, v: u32)
 
 /// Puts a number below 1,000 and its sign in four characters.
 #[inline(always)]
-fn put_signed_top(field: &mut [u8], negative: bool, v: u32)
+pub fn put_signed_top(field: &mut [u8], negative: bool, v: u32)
     requires room { length field.old ≡ 4 }
     requires small { v < 10 ^ 3 }
     ensures { field.new ≡ left_filled 32 4 ((if negative then 45 ∷ [] else []) ++ digits 10 false v) }
@@ -210,38 +210,6 @@ pub fn put_signed_two(field: &mut [u8], negative: bool, v: u32)
     let (front, back) = field.split_at_mut(3);
     put_signed_lead(front, negative, v / 1000);
     put_three(back, v % 1000);
-}
-
-/// Puts a number below 10,000 and its sign in seven characters.
-#[inline(always)]
-fn put_signed_front(field: &mut [u8], negative: bool, v: u32)
-    requires room { length field.old ≡ 7 }
-    requires small { v < 10 ^ 4 }
-    ensures { field.new ≡ left_filled 32 7 ((if negative then 45 ∷ [] else []) ++ digits 10 false v) }
-{
-    if v < 1000 {
-        let (space, rest) = field.split_at_mut(3);
-        space.copy_from_slice(b"   ");
-        put_signed_top(rest, negative, v);
-    } else {
-        let (space, rest) = field.split_at_mut(1);
-        space.copy_from_slice(b" ");
-        put_signed_two(rest, negative, v);
-    }
-}
-
-/// Puts a number from 10,000 up to 99,999,999 and its sign in eleven characters.
-#[inline(never)]
-#[cold]
-pub fn put_signed_less(field: &mut [u8], negative: bool, v: u32)
-    requires room { length field.old ≡ 11 }
-    requires least { 10 ^ 4 ≤ v }
-    requires small { v < 10 ^ 8 }
-    ensures { field.new ≡ left_filled 32 11 ((if negative then 45 ∷ [] else []) ++ digits 10 false v) }
-{
-    let (front, back) = field.split_at_mut(7);
-    put_signed_front(front, negative, v / 10000);
-    put_four(back, v % 10000);
 }
 
 /// Puts a number of at least 100,000,000 and its sign in eleven characters.
@@ -280,22 +248,6 @@ pub fn put_unsigned_two(field: &mut [u8], v: u32)
     let (front, back) = field.split_at_mut(2);
     put_lead(front, v / 1000);
     put_three(back, v % 1000);
-}
-
-/// Puts a number from 10,000 up to 99,999,999 in ten characters.
-#[inline(never)]
-#[cold]
-pub fn put_unsigned_less(field: &mut [u8], v: u32)
-    requires room { length field.old ≡ 10 }
-    requires least { 10 ^ 4 ≤ v }
-    requires small { v < 10 ^ 8 }
-    ensures { field.new ≡ left_filled 32 10 (digits 10 false v) }
-{
-    let (front, back) = field.split_at_mut(6);
-    let (space, top) = front.split_at_mut(2);
-    space.copy_from_slice(b"  ");
-    put_top(top, v / 10000);
-    put_four(back, v % 10000);
 }
 
 /// Puts a number of at least 100,000,000 in ten characters.

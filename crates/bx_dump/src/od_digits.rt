@@ -6,8 +6,8 @@ ghost use Rattle.bx_dump.specs.Od.{size_of, number_width, number_text, signed_te
 
 use crate::od_bytes::{signed_of, unsigned_of};
 use crate::od_decimal::{
-    put_signed_eight, put_signed_four, put_signed_less, put_signed_two, put_unsigned_eight,
-    put_unsigned_four, put_unsigned_less, put_unsigned_two,
+    put_signed_eight, put_signed_four, put_signed_two, put_unsigned_eight, put_unsigned_four,
+    put_unsigned_two,
 };
 use crate::od_octal::put_six;
 use crate::od_options::{NumForm, Size};
@@ -122,7 +122,6 @@ fn put_amount(field: &mut [u8], size: Size, negative: bool, v: u64)
     match size {
         Size::Two if v >= 1000 => put_signed_two(field, negative, v as u32),
         Size::Four if v >= 100000000 => put_signed_four(field, negative, v as u32),
-        Size::Four if v >= 10000 => put_signed_less(field, negative, v as u32),
         Size::Eight if v >= 10000000000000000 => put_signed_eight(field, negative, v),
         _ => put_small(field, negative, v),
     }
@@ -168,7 +167,6 @@ fn put_unsigned(field: &mut [u8], size: Size, v: u64)
         Size::One => field.copy_from_slice(&unsigned_of(v as u8)),
         Size::Two if v >= 1000 => put_unsigned_two(field, v as u32),
         Size::Four if v >= 100000000 => put_unsigned_four(field, v as u32),
-        Size::Four if v >= 10000 => put_unsigned_less(field, v as u32),
         Size::Eight if v >= 10000000000000000 => put_unsigned_eight(field, v),
         _ => put_few(field, v),
     }
