@@ -210,17 +210,17 @@ pub err_always : {T E P : Type 0} (r : Result T E) → P → OnErr r P
 err_always (Ok v) p = tt
 err_always (Err e) p = p
 
-pub ok_then : {T E P : Type 0} {Q : T → Type 0} (r : Result T E) → P → IfOk r (λ o. Q o → P)
-ok_then (Ok v) p = λ q. p
-ok_then (Err e) p = tt
+pub ok_then : {T E P : Type 0} (Q : T → Type 0) (r : Result T E) → P → IfOk r (λ o. Q o → P)
+ok_then Q (Ok v) p = λ q. p
+ok_then Q (Err e) p = tt
 
 pub err_same : {T P : Type 0} (r : Result T SessionFault) → P → IfErr r (λ e. AfterFaultOf e (Unit {0}) P)
 err_same (Ok v) p = tt
 err_same (Err e) p = after_same e _ p
 
-pub err_apart : {T : Type 0} {P : ℕ → Type 0} (r : Result T SessionFault) → IfErr r (λ e. (line : ℕ) → e ≡ Damaged line → ⊥) → IfErr r (λ e. (line : ℕ) → e ≡ Damaged line → P line)
-err_apart (Ok v) h = tt
-err_apart (Err e) h = λ line is. absurd (h line is)
+pub err_apart : {T : Type 0} (P : ℕ → Type 0) (r : Result T SessionFault) → IfErr r (λ e. (line : ℕ) → e ≡ Damaged line → ⊥) → IfErr r (λ e. (line : ℕ) → e ≡ Damaged line → P line)
+err_apart P (Ok v) h = tt
+err_apart P (Err e) h = λ line is. absurd (h line is)
 
 pub err_counts : {T : Type 0} (r : Result T SessionFault) (d new t t_new : ℕ) → t_new ≡ t → IfErr r (λ e. FaultCounts e d 0 new 0) → IfErr r (λ e. FaultCounts e d t new t_new)
 err_counts (Ok v) d new t t_new same h = tt

@@ -11,11 +11,11 @@ use Rattle.bx_journal.proofs.unfinished.recover.Goals as goal
 
 pub returns-in-Err-clause-faults : goal.returns-in-Err-clause-faults
 returns-in-Err-clause-faults g c dh th r reads =
-    read_fault_opens (g.T.TextStore.text c.args.store.now) c.deref.result.now (g.D.Device.image c.args.device.now) r _ (sym (c.deref.ensures.value ∙ c.in-Ok.ensures.bytes th)) reads c.in-Err.ensures.fault
+    read_fault_opens (g.T.TextStore.text c.args.store.now) c.deref-2.result.now (g.D.Device.image c.args.device.now) r _ (sym (c.deref-2.ensures.value ∙ c.in-Ok.ensures.bytes th)) reads c.in-Err.ensures.fault
 
 pub returns-in-Err-clause-differs : goal.returns-in-Err-clause-differs
 returns-in-Err-clause-differs g c dh th r n reads differs =
-    read_fault_refuses (g.T.TextStore.text c.args.store.now) c.deref.result.now r n _ (sym (c.deref.ensures.value ∙ c.in-Ok.ensures.bytes th)) reads c.in-Err.ensures.fault
+    read_fault_refuses (g.T.TextStore.text c.args.store.now) c.deref-2.result.now r n _ (sym (c.deref-2.ensures.value ∙ c.in-Ok.ensures.bytes th)) reads c.in-Err.ensures.fault
 
 counted_in : (text bytes : List ℕ) (count : ℕ) (told : Option ℕ) → bytes ≡ text → IsCounted bytes count told → IsCounted text count told
 counted_in text bytes count told same c = subst (λ t. IsCounted t count told) same c
@@ -27,7 +27,7 @@ returns-in-Some-clause-opened g c dh th r reads =
     subst (λ t. IfOk c.open_counted.result (λ o. IsOpened text (g.D.Device.image c.args.device.now) r t (g.D.Device.image c.open_counted.new.device) o.how o.changes)) (sym (c.read_all.ensures.text th)) (c.open_counted.ensures.opened dh text r is reads)
 
 pub returns-in-Some-clause-clean : goal.returns-in-Some-clause-clean
-returns-in-Some-clause-clean g c dh th = ok_then c.open_counted.result (c.read_all.ensures.text th, c.open_counted.ensures.image dh)
+returns-in-Some-clause-clean g c dh th = ok_then _ c.open_counted.result (c.read_all.ensures.text th, c.open_counted.ensures.image dh)
 
 pub returns-in-Some-clause-accepted : goal.returns-in-Some-clause-accepted
 returns-in-Some-clause-accepted g c th =
@@ -36,13 +36,13 @@ returns-in-Some-clause-accepted g c th =
     ok_always c.open_counted.result (record { entries = is.entries; stage = Between }, is.finished.reads)
 
 pub returns-in-Some-clause-damaged : goal.returns-in-Some-clause-damaged
-returns-in-Some-clause-damaged g c th = err_apart c.open_counted.result c.open_counted.ensures.undamaged
+returns-in-Some-clause-damaged g c th = err_apart _ c.open_counted.result c.open_counted.ensures.undamaged
 
 pub returns-in-Some-clause-unaccepted : goal.returns-in-Some-clause-unaccepted
-returns-in-Some-clause-unaccepted g c th no =
+returns-in-Some-clause-unaccepted g c th apart =
     let text : List ℕ = g.T.TextStore.text c.args.store.now in
     let is : IsCounted text c.in-Some.found.count c.in-Some.found.told = counted_in text c.deref.result.now _ _ (c.deref.ensures.value ∙ c.in-Ok.ensures.bytes th) c.in-Some.ensures in
-    absurd (no (record { entries = is.entries; stage = Between }, is.finished.reads))
+    absurd (apart (record { entries = is.entries; stage = Between }, is.finished.reads))
 
 pub returns-in-Some-clause-faults : goal.returns-in-Some-clause-faults
 returns-in-Some-clause-faults g c dh th r reads =
