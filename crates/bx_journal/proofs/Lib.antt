@@ -30,6 +30,7 @@ pub mod Tails
 pub mod TailLemmas
 pub mod UndoLoop
 pub mod OpenLemmas
+pub mod TallyLemmas
 pub mod Judged
 pub mod UndoStands
 pub mod AgainLemmas

@@ -24,7 +24,7 @@ use Rattle.bx_journal.proofs.Sane.{IsSane, read_sane, have_lengths, length-resto
 use Rattle.bx_journal.proofs.TailLemmas.{begins_at, begin_mark, tail_at, counted_at}
 use Rattle.bx_journal.proofs.Tails.{rest_none}
 
-some_same : {A : Type 0} (x y : A) → Some x ≡ Some y → x ≡ y
+pub some_same : {A : Type 0} (x y : A) → Some x ≡ Some y → x ≡ y
 some_same x y e = cc
 
 -- a text is read in one way
@@ -36,7 +36,7 @@ read_once text bytes j r read same reads =
 sane_of : {A : Type 0} → (bytes : List ℕ) (j : JournalRead A) → HasRead bytes j → IsSane (reading_of j.entries.items j.stage)
 sane_of bytes j read = read_sane (split bytes).lines (reading_of j.entries.items j.stage) read.reads.lines
 
-begins_told : (es : List Entry) (n : ℕ) → IfSome (told_by es) (λ told. n ≡ told) → may_begin es n ≡ true
+pub begins_told : (es : List Entry) (n : ℕ) → IfSome (told_by es) (λ told. n ≡ told) → may_begin es n ≡ true
 begins_told [] n h = refl
 begins_told (e ∷ es) n h = by_after e.after h
   where
@@ -164,7 +164,7 @@ look_opens H es x y r JournalFull h same image look = absurd look
 look_opens H es x y r Interrupted h same image look = absurd look
 look_opens H es x y r Broken h same image look = absurd look
 
-one_told : (es : List Entry) (x : List ℕ) (m n : ℕ) → Differs es x m → Differs es x n → m ≡ n
+pub one_told : (es : List Entry) (x : List ℕ) (m n : ℕ) → Differs es x m → Differs es x n → m ≡ n
 one_told [] x m n d e = absurd d
 one_told (entry ∷ es) x m n d e = some_same m n (sym d.0 ∙ e.0)
 

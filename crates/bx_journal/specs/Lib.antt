@@ -22,3 +22,4 @@ pub mod Standing
 pub mod Rows
 pub mod Undoing
 pub mod Page
+pub mod Tally

@@ -19,7 +19,8 @@ pub struct JournalRead<A: Allocator = Global> {
 }
 
 /// Where the first newline is.
-fn line_end(text: &[u8]) -> Option<usize>
+#[inline]
+pub fn line_end(text: &[u8]) -> Option<usize>
     ensures found { IfSome result (λ i. (i < length text.now) × HasNoNewline (take i text.now) × (text.now ≡ take i text.now ++ 10 ∷ drop (i + 1) text.now)) }
     ensures none { IfNone result (HasNoNewline text.now) }
 {

@@ -19,6 +19,7 @@ mod rows;
 mod session;
 mod step;
 mod steps;
+mod tally;
 mod undo;
 mod undoing;
 mod unfinished;

@@ -14,6 +14,7 @@ use bx_text::{Bytes, NoMemory, Piece};
 use std::alloc::Allocator;
 
 /// The number, where it is a length that an image may have.
+#[inline(always)]
 fn at_most_longest(n: Option<u64>) -> Option<u64>
     ensures { result ≡ most MAX_LEN n }
 {
@@ -22,6 +23,7 @@ fn at_most_longest(n: Option<u64>) -> Option<u64>
 }
 
 /// How long the line is that begins an entry of this version.
+#[inline(always)]
 fn start_size_of(version: Version) -> usize
     ensures { result ≡ start_size version }
 {
@@ -33,6 +35,7 @@ fn start_size_of(version: Version) -> usize
 
 /// The length in the line that begins an entry of this version and number.
 #[tactic(auto, unfolding(crate::specs::Line::length_in))]
+#[inline(always)]
 pub fn length_in(version: Version, number: u32, line: &[u8]) -> Option<u64>
     ensures { result ≡ length_read version number line.now }
 {
@@ -45,6 +48,7 @@ pub fn length_in(version: Version, number: u32, line: &[u8]) -> Option<u64>
 }
 
 /// Whether the line ends what the entry of this number saves.
+#[inline(always)]
 pub fn is_save(number: u32, line: &[u8]) -> bool
     ensures { result ≡ bytes_eq line.now (save_line number) }
 {
@@ -60,6 +64,7 @@ pub fn is_save(number: u32, line: &[u8]) -> bool
 
 /// The length after the change, where the line ends the entry of this version and number. The first version has none.
 #[tactic(auto, unfolding(crate::specs::Line::after_in, crate::specs::Line::end_line))]
+#[inline(always)]
 pub fn after_in(version: Version, number: u32, line: &[u8]) -> Option<Option<u64>>
     ensures { result ≡ after_read version number line.now }
 {
@@ -90,6 +95,7 @@ pub struct SavedLine {
 
 /// What a line in xxd's default form gives that has 16 bytes at an address of 8 digits, as most have.
 #[tactic(auto, unfolding(crate::specs::DumpLine::piece_of))]
+#[inline(always)]
 fn full_in(line: &[u8]) -> Option<FullLine>
     ensures { IfSome result (λ l. piece_of line.now ≡ Some (record { at = l.at; bytes = l.bytes })) }
 {
@@ -101,6 +107,7 @@ fn full_in(line: &[u8]) -> Option<FullLine>
 }
 
 /// The line, where it lies within this length.
+#[inline(always)]
 fn within(len: u64, line: SavedLine) -> Option<SavedLine>
     ensures { MatchOption result (len < line.at + line.count) (λ l. (l ≡ line) × (line.at + line.count ≤ len)) }
 {
@@ -112,6 +119,7 @@ fn within(len: u64, line: SavedLine) -> Option<SavedLine>
 }
 
 /// What a saved line gives in an entry of an image of this length.
+#[inline]
 pub fn saved_in(len: u64, line: &[u8]) -> Option<SavedLine>
     ensures { MatchOption result (saved_read len line.now ≡ None) (λ l. saved_read len line.now ≡ Some (record { at = l.at; bytes = take l.count l.bytes })) }
 {

@@ -13,10 +13,11 @@ use bx_image::Saved;
 use bx_text::{NoMemory, Piece, Pieces};
 use std::alloc::Allocator;
 
-const MOST_CHANGES: u32 = 65_535;
+pub const MOST_CHANGES: u32 = 65_535;
 
 /// The length in a line that begins an entry of this version, where the entry may begin with it.
-fn begin(version: Version, number: u32, told: Option<u64>, line: &[u8]) -> Option<u64>
+#[inline]
+pub fn begin(version: Version, number: u32, told: Option<u64>, line: &[u8]) -> Option<u64>
     ensures { (es : List Entry) → suc (length es) ≡ number → told ≡ told_by es → MatchOption result
         (begun es version line.now ≡ None) (λ len. begun es version line.now ≡ Some (Keeping version (record { len = len; runs = [] }))) }
 {

@@ -6,11 +6,13 @@ ghost use Rattle.bx_journal.specs.Opening.{FaultCounts, OneMore, HasRoomFor, IsO
 ghost use Rattle.bx_journal.specs.Parsed.{entries_of, reading_of, stage_of};
 ghost use Rattle.bx_journal.specs.Phase.{IsAtRest};
 ghost use Rattle.bx_journal.specs.Stack.{HaveLengths, Recovers, image_at};
+ghost use Rattle.bx_journal.specs.Tally.{IsCounted};
 ghost use Rattle.bx_journal.specs.Text.{IsAccepted, IsDamagedAt, Reading, Reads};
 
 use crate::journal::{JournalRead, read_journal};
 use crate::recovery::{drop_tail, take_back};
 use crate::step::told_length;
+use crate::tally::{Counted, count_entries};
 use crate::{How, Recovered, SessionFault, StageRead};
 use bx_image::{Device, DeviceFailed};
 use bx_store::{TextFault, TextStore};
@@ -166,6 +168,35 @@ pub fn recover_read<D: Device, T: TextStore, A: Allocator>(
     }
 }
 
+/// Opens a journal of finished entries alone.
+fn open_counted<D: Device>(device: &mut D, found: Counted) -> Result<Recovered, SessionFault>
+    requires { D.failures device.old < u64.MAX }
+    ensures opened { D.honest device.old → (text : List ℕ) (r : Reading) → IsCounted text found.count found.told → Reads text r
+        → IfOk result (λ o. IsOpened text (D.image device.old) r text (D.image device.new) o.how o.changes) }
+    ensures faults { D.honest device.old → (text : List ℕ) (r : Reading) → IsCounted text found.count found.told → Reads text r
+        → IfErr result (OpenFault r (D.image device.old)) }
+    ensures differs { D.honest device.old → (text : List ℕ) (r : Reading) (n : ℕ) → IsCounted text found.count found.told → Reads text r
+        → Differs r.entries (image_at r.stage (D.image device.old)) n → MatchResult result (λ _. ⊥) (RefusesLength n) }
+    ensures keeps { D.honest device.old → (text : List ℕ) (stack : List (List ℕ)) → IsCounted text found.count found.told → Recovers text (D.image device.old) stack
+        → IsAtRest text (D.image device.new) stack }
+    ensures counted { (text x : List ℕ) (stack : List (List ℕ)) → IsCounted text found.count found.told → Recovers text x stack
+        → IfOk result (λ o. length stack ≡ suc o.changes) }
+    ensures undamaged { IfErr result (λ e. (line : ℕ) → e ≡ SessionFault.Damaged line → ⊥) }
+    ensures kind { IfErr result (λ e. e ≡ SessionFault.Interrupted → ⊥) }
+    ensures image { D.honest device.old → D.image device.new ≡ D.image device.old }
+    ensures honesty { D.honest device.new ↔ D.honest device.old }
+    ensures ok { OnOk result (D.failures device.new ≡ D.failures device.old) }
+    ensures counts { IfErr result (λ e. FaultCounts e (D.failures device.old) 0 (D.failures device.new) 0) }
+{
+    if let Err(fault) = check_length(device, found.told) {
+        return Err(fault);
+    }
+    Ok(Recovered {
+        how: How::Clean,
+        changes: found.count,
+    })
+}
+
 /// Reads the journal, and takes back what is unfinished.
 pub fn recover<D: Device, T: TextStore, A: Allocator + Clone>(
     alloc: &A,
@@ -201,6 +232,9 @@ pub fn recover<D: Device, T: TextStore, A: Allocator + Clone>(
         Err(TextFault::NoMemory) => return Err(SessionFault::NoMemory),
         Err(TextFault::DeviceFailed) => return Err(SessionFault::DeviceFailed),
     };
+    if let Some(found) = count_entries(&bytes) {
+        return open_counted(device, found);
+    }
     let journal = match read_journal(alloc, &bytes) {
         Ok(journal) => journal,
         Err(fault) => return Err(fault),

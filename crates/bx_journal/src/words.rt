@@ -22,6 +22,7 @@ pub fn push_number(line: &mut Words, width: u8, n: u64)
 }
 
 /// Appends a number in 8 digits.
+#[inline(always)]
 fn push_eight(line: &mut Words, n: u32)
     requires { length line.old + 8 ≤ 34 }
     ensures text { line.new ≡ line.old ++ hex_digits 8 n }
@@ -33,6 +34,7 @@ fn push_eight(line: &mut Words, n: u32)
 }
 
 /// A word and a number of 8 digits.
+#[inline(always)]
 fn numbered(word: &[u8], number: u32) -> Words
     requires { length word.now ≤ 8 }
     ensures text { result ≡ word.now ++ hex_digits 8 number }
@@ -45,6 +47,7 @@ fn numbered(word: &[u8], number: u32) -> Words
 }
 
 /// A word, a number of 8 digits, and a space.
+#[inline(always)]
 fn numbered_front(word: &[u8], number: u32) -> Words
     requires { length word.now ≤ 8 }
     ensures text { result ≡ word.now ++ hex_digits 8 number ++ codes " " }
@@ -57,6 +60,7 @@ fn numbered_front(word: &[u8], number: u32) -> Words
 
 /// What stands before the length in the line that begins an entry.
 #[tactic(auto, unfolding(crate::specs::Line::start_head))]
+#[inline(always)]
 pub fn start_head(version: Version, number: u32) -> Words
     ensures text { result ≡ start_front version number }
     ensures short { length result ≤ 17 }
@@ -69,6 +73,7 @@ pub fn start_head(version: Version, number: u32) -> Words
 
 /// The line that ends what an entry saves.
 #[tactic(auto, unfolding(crate::specs::Line::save_line))]
+#[inline(always)]
 pub fn save_text(number: u32) -> Words
     ensures text { result ≡ save_line number }
     ensures short { length result ≤ 17 }
@@ -78,6 +83,7 @@ pub fn save_text(number: u32) -> Words
 
 /// The line that ends an entry, up to the length in that of the second version.
 #[tactic(auto, unfolding(crate::specs::Line::end_head))]
+#[inline(always)]
 pub fn end_head(version: Version, number: u32) -> Words
     ensures text { result ≡ end_front version number }
     ensures short { length result ≤ 17 }
@@ -89,6 +95,7 @@ pub fn end_head(version: Version, number: u32) -> Words
 }
 
 /// What follows the front in a line that begins with it.
+#[inline(always)]
 pub fn behind<'a>(front: &[u8], line: &'a [u8]) -> Option<&'a [u8]>
     ensures { MatchOption result (behind_front front.now line.now ≡ None) (λ rest. behind_front front.now line.now ≡ Some rest.now) }
 {
@@ -99,6 +106,7 @@ pub fn behind<'a>(front: &[u8], line: &'a [u8]) -> Option<&'a [u8]>
     if start == front { Some(rest) } else { None }
 }
 
+#[inline(always)]
 fn digit(c: u8) -> Option<u64>
     ensures { result ≡ hex_value c }
 {
@@ -110,6 +118,7 @@ fn digit(c: u8) -> Option<u64>
 }
 
 /// The number that at most 16 digits give.
+#[inline(always)]
 pub fn number(text: &[u8]) -> Option<u64>
     requires { length text.now ≤ 16 }
     ensures { result ≡ number_after 0 text.now }
@@ -123,6 +132,7 @@ pub fn number(text: &[u8]) -> Option<u64>
 }
 
 /// The number that so many digits give.
+#[inline(always)]
 pub fn number_of(width: usize, text: &[u8]) -> Option<u64>
     requires { width ≤ 16 }
     ensures { result ≡ number_read width text.now }

@@ -1,11 +1,78 @@
-use Rattle.std.proofs.Common.{sym, ◌∙◌}
+use Rattle.std.proofs.Common.{◌≡◌, ℕ, List, Option, sym, ◌∙◌, subst}
+use Rattle.std.specs.Prelude.{IfOk}
+use Rattle.bx_journal.specs.Opening.{IsOpened}
+use Rattle.bx_journal.specs.Phase.{IsAtRest}
+use Rattle.bx_journal.specs.Stack.{Recovers}
+use Rattle.bx_journal.specs.Tally.{IsCounted}
+use Rattle.bx_journal.specs.Text.{Between}
 use Rattle.bx_journal.proofs.Judged.{read_fault_opens, read_fault_refuses}
+use Rattle.bx_journal.proofs.TallyLemmas.{err_always, err_apart, err_same, ok_always, ok_then}
 use Rattle.bx_journal.proofs.unfinished.recover.Goals as goal
 
 pub returns-in-Err-clause-faults : goal.returns-in-Err-clause-faults
 returns-in-Err-clause-faults g c dh th r reads =
-    read_fault_opens (g.T.TextStore.text c.args.store.now) c.deref.result.now (g.D.Device.image c.args.device.now) r _ (sym (c.deref.ensures.value ∙ c.in-Ok.ensures.bytes th)) reads c.in-Err.ensures.fault
+    read_fault_opens (g.T.TextStore.text c.args.store.now) c.deref-2.result.now (g.D.Device.image c.args.device.now) r _ (sym (c.deref-2.ensures.value ∙ c.in-Ok.ensures.bytes th)) reads c.in-Err.ensures.fault
 
 pub returns-in-Err-clause-differs : goal.returns-in-Err-clause-differs
 returns-in-Err-clause-differs g c dh th r n reads differs =
-    read_fault_refuses (g.T.TextStore.text c.args.store.now) c.deref.result.now r n _ (sym (c.deref.ensures.value ∙ c.in-Ok.ensures.bytes th)) reads c.in-Err.ensures.fault
+    read_fault_refuses (g.T.TextStore.text c.args.store.now) c.deref-2.result.now r n _ (sym (c.deref-2.ensures.value ∙ c.in-Ok.ensures.bytes th)) reads c.in-Err.ensures.fault
+
+counted_in : (text bytes : List ℕ) (count : ℕ) (told : Option ℕ) → bytes ≡ text → IsCounted bytes count told → IsCounted text count told
+counted_in text bytes count told same c = subst (λ t. IsCounted t count told) same c
+
+pub returns-in-Some-clause-opened : goal.returns-in-Some-clause-opened
+returns-in-Some-clause-opened g c dh th r reads =
+    let text : List ℕ = g.T.TextStore.text c.args.store.now in
+    let is : IsCounted text c.in-Some.found.count c.in-Some.found.told = counted_in text c.deref.result.now _ _ (c.deref.ensures.value ∙ c.in-Ok.ensures.bytes th) c.in-Some.ensures in
+    subst (λ t. IfOk c.open_counted.result (λ o. IsOpened text (g.D.Device.image c.args.device.now) r t (g.D.Device.image c.open_counted.new.device) o.how o.changes)) (sym (c.read_all.ensures.text th)) (c.open_counted.ensures.opened dh text r is reads)
+
+pub returns-in-Some-clause-clean : goal.returns-in-Some-clause-clean
+returns-in-Some-clause-clean g c dh th = ok_then _ c.open_counted.result (c.read_all.ensures.text th, c.open_counted.ensures.image dh)
+
+pub returns-in-Some-clause-accepted : goal.returns-in-Some-clause-accepted
+returns-in-Some-clause-accepted g c th =
+    let text : List ℕ = g.T.TextStore.text c.args.store.now in
+    let is : IsCounted text c.in-Some.found.count c.in-Some.found.told = counted_in text c.deref.result.now _ _ (c.deref.ensures.value ∙ c.in-Ok.ensures.bytes th) c.in-Some.ensures in
+    ok_always c.open_counted.result (record { entries = is.entries; stage = Between }, is.finished.reads)
+
+pub returns-in-Some-clause-damaged : goal.returns-in-Some-clause-damaged
+returns-in-Some-clause-damaged g c th = err_apart _ c.open_counted.result c.open_counted.ensures.undamaged
+
+pub returns-in-Some-clause-unaccepted : goal.returns-in-Some-clause-unaccepted
+returns-in-Some-clause-unaccepted g c th apart =
+    let text : List ℕ = g.T.TextStore.text c.args.store.now in
+    let is : IsCounted text c.in-Some.found.count c.in-Some.found.told = counted_in text c.deref.result.now _ _ (c.deref.ensures.value ∙ c.in-Ok.ensures.bytes th) c.in-Some.ensures in
+    absurd (apart (record { entries = is.entries; stage = Between }, is.finished.reads))
+
+pub returns-in-Some-clause-faults : goal.returns-in-Some-clause-faults
+returns-in-Some-clause-faults g c dh th r reads =
+    let text : List ℕ = g.T.TextStore.text c.args.store.now in
+    let is : IsCounted text c.in-Some.found.count c.in-Some.found.told = counted_in text c.deref.result.now _ _ (c.deref.ensures.value ∙ c.in-Ok.ensures.bytes th) c.in-Some.ensures in
+    c.open_counted.ensures.faults dh text r is reads
+
+pub returns-in-Some-clause-differs : goal.returns-in-Some-clause-differs
+returns-in-Some-clause-differs g c dh th r n reads differs =
+    let text : List ℕ = g.T.TextStore.text c.args.store.now in
+    let is : IsCounted text c.in-Some.found.count c.in-Some.found.told = counted_in text c.deref.result.now _ _ (c.deref.ensures.value ∙ c.in-Ok.ensures.bytes th) c.in-Some.ensures in
+    c.open_counted.ensures.differs dh text r n is reads differs
+
+pub returns-in-Some-clause-keeps : goal.returns-in-Some-clause-keeps
+returns-in-Some-clause-keeps g c dh th stack rec =
+    let text : List ℕ = g.T.TextStore.text c.args.store.now in
+    let is : IsCounted text c.in-Some.found.count c.in-Some.found.told = counted_in text c.deref.result.now _ _ (c.deref.ensures.value ∙ c.in-Ok.ensures.bytes th) c.in-Some.ensures in
+    ok_always c.open_counted.result (subst (λ t. IsAtRest t (g.D.Device.image c.open_counted.new.device) stack) (sym (c.read_all.ensures.text th)) (c.open_counted.ensures.keeps dh text stack is rec))
+
+pub returns-in-Some-clause-keeps_err : goal.returns-in-Some-clause-keeps_err
+returns-in-Some-clause-keeps_err g c dh th stack rec =
+    err_always c.open_counted.result
+    (subst (λ t. Recovers t (g.D.Device.image c.open_counted.new.device) stack) (sym (c.read_all.ensures.text th))
+      (subst (λ x. Recovers (g.T.TextStore.text c.args.store.now) x stack) (sym (c.open_counted.ensures.image dh)) rec))
+
+pub returns-in-Some-clause-counted : goal.returns-in-Some-clause-counted
+returns-in-Some-clause-counted g c dh th stack rec =
+    let text : List ℕ = g.T.TextStore.text c.args.store.now in
+    let is : IsCounted text c.in-Some.found.count c.in-Some.found.told = counted_in text c.deref.result.now _ _ (c.deref.ensures.value ∙ c.in-Ok.ensures.bytes th) c.in-Some.ensures in
+    c.open_counted.ensures.counted text (g.D.Device.image c.args.device.now) stack is rec
+
+pub returns-in-Some-clause-refused : goal.returns-in-Some-clause-refused
+returns-in-Some-clause-refused g c dh th = err_same c.open_counted.result (c.read_all.ensures.text th, c.open_counted.ensures.image dh)

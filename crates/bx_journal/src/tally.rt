@@ -1,0 +1,132 @@
+//! A journal's text whose entries are counted, and of which nothing else is kept.
+ghost use Rattle.std.specs.Prelude.{◌≡◌, ◌+◌, ◌<◌, ◌≤◌, List, ℕ, suc, length, Some, IfSome};
+ghost use Rattle.bx_journal.specs.Kept.{Kept as Record};
+ghost use Rattle.bx_journal.specs.Tally.{IsCounted, tally_of, place_of};
+ghost use Rattle.bx_journal.specs.Text.{Between as Resting, Saving as Keeping, Entry, Reading, Stage, next, next_at};
+ghost use Rattle.bx_journal.specs.Parsed.{told_by};
+
+use crate::Version;
+use crate::journal::line_end;
+use crate::line::{after_in, is_save, saved_in};
+use crate::step::{MOST_CHANGES, begin};
+
+/// Between two entries, or in one: among its saved lines, or behind its save line.
+#[derive(Clone, Copy)]
+pub enum Place {
+    Between,
+    Saving { version: Version, len: u64 },
+    Ending { version: Version },
+}
+
+/// How many entries are finished, the length that the last one tells, and where the next line stands.
+#[derive(Clone, Copy)]
+pub struct Tally {
+    pub count: u32,
+    pub told: Option<u64>,
+    pub place: Place,
+}
+
+/// Where a line leads that begins an entry.
+#[inline]
+fn start(number: u32, told: Option<u64>, line: &[u8]) -> Option<Place>
+    requires { number ≤ 65535 }
+    ensures { (es : List Entry) → suc (length es) ≡ number → told ≡ told_by es
+        → IfSome result (λ p. (s : Stage) × (next_at es Resting line.now ≡ Some (record { entries = es; stage = s })) × (place_of s ≡ p)) }
+{
+    if let Some(len) = begin(Version::First, number, told, line) {
+        return Some(Place::Saving {
+            version: Version::First,
+            len,
+        });
+    }
+    let len = begin(Version::Second, number, told, line)?;
+    Some(Place::Saving {
+        version: Version::Second,
+        len,
+    })
+}
+
+/// Where a line leads among the saved lines of an entry.
+#[inline]
+fn save(number: u32, version: Version, len: u64, line: &[u8]) -> Option<Place>
+    ensures { (es : List Entry) (s : Record) → suc (length es) ≡ number → s.len ≡ len
+        → IfSome result (λ p. (t : Stage) × (next_at es (Keeping version s) line.now ≡ Some (record { entries = es; stage = t })) × (place_of t ≡ p)) }
+{
+    if is_save(number, line) {
+        return Some(Place::Ending { version });
+    }
+    let _ = saved_in(len, line)?;
+    Some(Place::Saving { version, len })
+}
+
+/// The tally after one more line, where the line is in place.
+#[inline]
+fn take_one(tally: Tally, line: &[u8]) -> Option<Tally>
+    ensures { (r : Reading) → tally_of r ≡ tally → IfSome result (λ t. (q : Reading) × (next r line.now ≡ Some q) × (tally_of q ≡ t)) }
+{
+    if tally.count >= MOST_CHANGES {
+        return None;
+    }
+    let number = tally.count + 1;
+    match tally.place {
+        Place::Between => {
+            let place = start(number, tally.told, line)?;
+            Some(Tally {
+                count: tally.count,
+                told: tally.told,
+                place,
+            })
+        }
+        Place::Saving { version, len } => {
+            let place = save(number, version, len, line)?;
+            Some(Tally {
+                count: tally.count,
+                told: tally.told,
+                place,
+            })
+        }
+        Place::Ending { version } => {
+            let told = after_in(version, number, line)?;
+            Some(Tally {
+                count: number,
+                told,
+                place: Place::Between,
+            })
+        }
+    }
+}
+
+/// How many entries a text has, and the length that the last one tells.
+#[derive(Clone, Copy)]
+pub struct Counted {
+    pub count: u32,
+    pub told: Option<u64>,
+}
+
+/// Counts the entries of a text of finished entries alone. It answers none where the text is anything else.
+pub fn count_entries(text: &[u8]) -> Option<Counted>
+    ensures { IfSome result (λ c. IsCounted text.now c.count c.told) }
+{
+    let mut tally = Tally {
+        count: 0,
+        told: None,
+        place: Place::Between,
+    };
+    let mut rest = text;
+    while let Some(i) = line_end(rest) {
+        tally = take_one(tally, &rest[..i])?;
+        let (_, behind) = rest.split_at(i + 1);
+        rest = behind;
+    }
+    if !rest.is_empty() {
+        return None;
+    }
+    match tally.place {
+        Place::Between => Some(Counted {
+            count: tally.count,
+            told: tally.told,
+        }),
+        Place::Saving { .. } => None,
+        Place::Ending { .. } => None,
+    }
+}
