@@ -6,6 +6,7 @@ pub mod Job
 pub mod Standing
 pub mod Run
 pub mod Laws
+pub mod Listing
 pub mod Dump
 pub mod JobDump
 pub mod XxdLaws

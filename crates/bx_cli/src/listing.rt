@@ -1,15 +1,28 @@
 //! The log of a session as text.
+ghost use Rattle.std.specs.Prelude.{◌≡◌, ◌++◌, IfOk, OnOk, IsOkUnless, string_bytes};
+ghost use Rattle.bx_cli.specs.Listing.{log_line, log_lines};
+
 use crate::Fault;
 use bx_journal::LogRow;
-use std::alloc::Global;
+use std::alloc::{AllocError, Global};
+use std::fmt::Write;
 
-/// A line for each change: its number, the length before it, and how many bytes were saved, in decimal.
-pub fn log_text(alloc: Global, rows: &[LogRow]) -> Result<String, Fault> {
+/// A line for each change: its number, the length before it, and how many bytes were saved, in decimal. The one fault is
+/// want of memory.
+pub fn log_text(alloc: Global, rows: &[LogRow]) -> Result<String, Fault>
+    ensures text { IfOk result (λ text. string_bytes text ≡ log_lines rows.now) }
+    ensures fault { IsOkUnless result Fault.NoMemory }
+{
     let mut text = String::new(alloc);
     for row in rows {
-        let (number, old_len, saved) = (row.number, row.old_len, row.saved);
-        let line = format!(in alloc; "{number} {old_len} {saved}\n")?;
-        text.push_str(line.as_str())?;
+        push_row(&mut text, *row)?;
     }
     Ok(text)
+}
+
+/// The line of one change.
+fn push_row(text: &mut String, row: LogRow) -> Result<(), AllocError>
+    ensures { OnOk result (string_bytes text.new ≡ string_bytes text.old ++ log_line row) }
+{
+    write!(text, "{} {} {}\n", row.number, row.old_len, row.saved)
 }
