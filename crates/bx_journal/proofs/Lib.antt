@@ -37,3 +37,4 @@ pub mod LogLemmas
 pub mod Performed
 pub mod PieceBound
 pub mod SavedBound
+pub mod PageLemmas

@@ -1,19 +1,24 @@
 -- Texts of entries, line by line.
-use Rattle.std.proofs.Common.{◌≡◌, ℕ, zero, suc, ◌+◌, ◌-◌, ◌*◌, ◌/◌, ◌<◌, ◌≤◌, ◌^◌, min, List, [], ◌∷◌, ◌++◌, length, map, take, drop, ap, sym, ◌∙◌, subst, arith, append_assoc, append-nil, length-drop, inl, inr, get_or}
-use Rattle.std.specs.Prelude.{flat_map}
+use Rattle.std.proofs.Common.{◌≡◌, ℕ, zero, suc, ◌+◌, ◌-◌, ◌*◌, ◌/◌, ◌<◌, ◌≤◌, ◌^◌, min, List, [], ◌∷◌, ◌++◌, length, map, take, drop, refl, ap, sym, ◌∙◌, subst, arith, append_assoc, append-nil, length-drop, length-append, inl, inr, get_or, false}
+use Rattle.std.specs.Prelude.{flat_map, codes}
 use Rattle.std.specs.List.{range_with_len}
-use Rattle.std.proofs.lemmas.List.{map-append, take_all}
+use Rattle.std.proofs.lemmas.List.{map-append, take_all, take-append-drop, length-map}
+use Rattle.std.proofs.lemmas.List.FromFn.{length-map-range_with_len}
 use Rattle.std.proofs.lemmas.Bool.{cases_lt}
 use Rattle.std.proofs.lemmas.Grind.{flat_map-append}
 use Rattle.bx_text.specs.declared.pieces.Piece.{Piece}
+use Rattle.bx_text.specs.Field.{hex_text, char_at}
+use Rattle.bx_text.specs.Dump.{hex_place, hex_columns, pair_of, shown_byte}
 use Rattle.bx_image.specs.Change.{AllWithin}
 use Rattle.bx_image.specs.Image.{end_of}
 use Rattle.bx_journal.specs.Kept.{Run, Kept, run_of}
 use Rattle.bx_journal.specs.declared.version.Version.TheVariants.{Second}
-use Rattle.bx_journal.specs.Line.{start_line, save_line}
+use Rattle.bx_journal.specs.Line.{start_head, start_line, save_line}
+use Rattle.bx_journal.specs.Hex.{hex_digits}
 use Rattle.bx_journal.specs.DumpLine.{dump_line}
-use Rattle.bx_journal.specs.Entry.{row, rows, head_lines, head_text}
+use Rattle.bx_journal.specs.Entry.{row, rows, rows_text, head_lines, head_text}
 use Rattle.bx_journal.specs.Text.{ended, joined}
+use Rattle.bx_journal.proofs.HexLemmas.{length-hex_digits}
 
 range_more : (a n : ℕ) → range_with_len a (n + 1) ≡ range_with_len a n ++ (a + n) ∷ []
 range_more a zero = ap (λ x. x ∷ []) (omega arith)
@@ -98,3 +103,92 @@ head_written text n s is =
 
 pub take_whole : {A : Type 0} → (runs : List A) (k : ℕ) → length runs ≤ k → take k runs ≡ runs
 take_whole runs k all = take_all k runs all
+
+-- what the rows of a run before a place, and the row there, make of the text
+pub row_step : (text bytes : List ℕ) (run : Run) (k to : ℕ) → bytes ≡ run.bytes → to ≡ min (16 * k + 16) (length bytes)
+    → (text ++ rows_text (map (row run) (range_with_len 0 k))) ++ ended (dump_line (run.at + 16 * k) (take (to - 16 * k) (drop (16 * k) bytes)))
+    ≡ text ++ rows_text (map (row run) (range_with_len 0 (k + 1)))
+row_step text bytes run k to same is = row_written text _ _ bytes run k to same is refl refl
+
+rows_front_by : (run : Run) (k d : ℕ) → (rest : List ℕ) × (rows_text (map (row run) (range_with_len 0 (k + d))) ≡ rows_text (map (row run) (range_with_len 0 k)) ++ rest)
+rows_front_by run k zero =
+    let none : k + 0 ≡ k = omega arith in
+    ([], ap (λ n. rows_text (map (row run) (range_with_len 0 n))) none ∙ sym (append-nil (rows_text (map (row run) (range_with_len 0 k)))))
+rows_front_by run k (suc d) =
+    let more : k + suc d ≡ (k + d) + 1 = omega arith in
+    let before = rows_front_by run k d in
+    let last : List ℕ = ended (dump_line (row run (k + d)).at (row run (k + d)).bytes) in (
+      before.0 ++ last,
+      ap (λ n. rows_text (map (row run) (range_with_len 0 n))) more ∙ row_more run (k + d) ∙ ap (λ t. t ++ last) before.1
+          ∙ append_assoc (rows_text (map (row run) (range_with_len 0 k))) before.0 last,
+    )
+
+-- the rows before a place are a front of all
+pub rows_front : (run : Run) (k : ℕ) → k ≤ (length run.bytes + 15) / 16 → (rest : List ℕ) × (rows_text (rows run) ≡ rows_text (map (row run) (range_with_len 0 k)) ++ rest)
+unfolding rows
+rows_front run k le =
+    let count : k + ((length run.bytes + 15) / 16 - k) ≡ (length run.bytes + 15) / 16 = omega arith in
+    let front = rows_front_by run k ((length run.bytes + 15) / 16 - k) in
+    (front.0, ap (λ n. rows_text (map (row run) (range_with_len 0 n))) (sym count) ∙ front.1)
+
+pub rows_all : (run : Run) (k : ℕ) → k ≡ (length run.bytes + 15) / 16 → rows_text (map (row run) (range_with_len 0 k)) ≡ rows_text (rows run)
+unfolding rows
+rows_all run k is = ap (λ n. rows_text (map (row run) (range_with_len 0 n))) is
+
+pub runs_step : {A : Type 0} → (runs : List (Piece A)) (run : Piece A) (k : ℕ) → k < length runs → run ≡ get_or runs k run
+    → rows_text (flat_map rows (map run_of (take (k + 1) runs))) ≡ rows_text (flat_map rows (map run_of (take k runs))) ++ rows_text (rows (run_of run))
+runs_step runs run k inside is = sym (runs_more [] _ _ runs run k inside is refl refl)
+
+-- the first runs are a front of all
+pub runs_front : {A : Type 0} → (runs : List (Piece A)) (k : ℕ) → rows_text (flat_map rows (map run_of runs)) ≡ rows_text (flat_map rows (map run_of (take k runs))) ++ rows_text (flat_map rows (map run_of (drop k runs)))
+runs_front runs k =
+    ap (λ rs. rows_text (flat_map rows (map run_of rs))) (sym (take-append-drop k runs))
+    ∙ ap (λ rs. rows_text (flat_map rows rs)) (map-append run_of (take k runs) (drop k runs))
+    ∙ ap rows_text (flat_map-append rows (map run_of (take k runs)) (map run_of (drop k runs)))
+    ∙ lines_more (flat_map rows (map run_of (take k runs))) (flat_map rows (map run_of (drop k runs)))
+
+pub head_is : (n : ℕ) (s : Kept) → head_text n s ≡ (ended (start_line Second n s.len) ++ rows_text (flat_map rows s.runs)) ++ ended (save_line n)
+head_is n s = head_written (ended (start_line Second n s.len) ++ rows_text (flat_map rows s.runs)) n s refl
+
+pub start_long : (n len : ℕ) → length (ended (start_line Second n len)) ≡ 34
+unfolding start_line start_head
+start_long n len =
+    let front : List ℕ = codes "change2 " ++ hex_digits 8 n ++ codes " " in
+    omega (
+      arith,
+      length-append (front ++ hex_digits 16 len) (10 ∷ []),
+      length-append front (hex_digits 16 len),
+      length-append (codes "change2 " ++ hex_digits 8 n) (codes " "),
+      length-append (codes "change2 ") (hex_digits 8 n),
+      length-hex_digits 8 n,
+      length-hex_digits 16 len,
+    )
+
+pub save_long : (n : ℕ) → length (ended (save_line n)) ≡ 14
+unfolding save_line
+save_long n = omega (arith, length-append (codes "save " ++ hex_digits 8 n) (10 ∷ []), length-append (codes "save ") (hex_digits 8 n), length-hex_digits 8 n)
+
+pub head_long : (n : ℕ) (s : Kept) → length (head_text n s) ≡ 48 + length (rows_text (flat_map rows s.runs))
+head_long n s =
+    let first : List ℕ = ended (start_line Second n s.len) in
+    let lines : List ℕ = rows_text (flat_map rows s.runs) in
+    omega (arith, ap length (head_is n s), length-append (first ++ lines) (ended (save_line n)), length-append first lines, start_long n s.len, save_long n)
+
+columns_long : (bytes : List ℕ) → length (hex_columns false 2 bytes 40) ≡ 40
+columns_long bytes = length-map-range_with_len (char_at (hex_place 2) (λ i. pair_of false (get_or bytes i 0)) (length bytes)) 0 40
+
+parts_long : (a c s : List ℕ) → length ((a ++ codes ": " ++ c ++ codes " " ++ s) ++ 10 ∷ []) ≡ length a + length c + length s + 4
+parts_long a c s =
+    omega (
+      arith,
+      length-append (a ++ codes ": " ++ c ++ codes " " ++ s) (10 ∷ []),
+      length-append (a ++ codes ": " ++ c ++ codes " ") s,
+      length-append (a ++ codes ": " ++ c) (codes " "),
+      length-append (a ++ codes ": ") c,
+      length-append a (codes ": "),
+    )
+
+pub row_long : (at : ℕ) (bytes : List ℕ) → length (ended (dump_line at bytes)) ≡ length (hex_text false 8 at) + 44 + length bytes
+unfolding dump_line
+row_long at bytes =
+    omega (arith, parts_long (hex_text false 8 at) (hex_columns false 2 bytes 40) (map shown_byte bytes), columns_long bytes, length-map bytes shown_byte)

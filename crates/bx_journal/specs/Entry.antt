@@ -20,6 +20,10 @@ rows run = map (row run) (range_with_len 0 ((length run.bytes + 15) / 16))
 unfoldable pub head_lines : ℕ → Kept → List (List ℕ)
 head_lines n s = start_line Second n s.len ∷ (map (λ p. dump_line p.at p.bytes) (flat_map rows s.runs) ++ save_line n ∷ [])
 
+-- the saved lines of these rows
+abbrev pub rows_text : List Run → List ℕ
+rows_text ps = joined (map (λ p. dump_line p.at p.bytes) ps)
+
 abbrev pub head_text : ℕ → Kept → List ℕ
 head_text n s = joined (head_lines n s)
 

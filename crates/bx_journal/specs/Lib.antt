@@ -21,3 +21,4 @@ pub mod Opening
 pub mod Standing
 pub mod Rows
 pub mod Undoing
+pub mod Page

@@ -8,8 +8,10 @@ ghost use Rattle.bx_journal.specs.Phase.{RecoversEither};
 
 use crate::SessionFault;
 use crate::images::save_image;
+use crate::lengths::head_len;
+use crate::page::new_page;
 use crate::steps::write_entry;
-use crate::writer::{entry_end, entry_head};
+use crate::writer::entry_end;
 use bx_image::{Change, Device, MAX_LEN, check};
 use bx_store::TextStore;
 use std::alloc::{Allocator, Global};
@@ -81,15 +83,25 @@ impl<D: Device, T: TextStore, A: Allocator + Clone> Session<D, T, A> {
         let after = check(change, len)?;
         let kept = save_image(self.alloc.clone()?, &mut self.device, change)?;
         let number = self.count + 1;
-        let head = entry_head(self.alloc.clone()?, number, &kept)?;
-        let end = entry_end(self.alloc.clone()?, number, after)?;
+        let head = head_len(&kept);
+        let end = entry_end(number, after);
+        let line = end.as_bytes();
+        let mut page = new_page(self.alloc.clone()?, head)?;
         self.device.reserve(after)?;
         let text_len = self.store.len()?;
         let most = text_len
-            .saturating_add(head.len() as u64)
-            .saturating_add(end.len() as u64);
+            .saturating_add(head)
+            .saturating_add(line.len() as u64);
         self.store.reserve(most)?;
-        match write_entry(&mut self.device, &mut self.store, change, &head, &end) {
+        match write_entry(
+            &mut self.device,
+            &mut self.store,
+            &mut page,
+            change,
+            number,
+            &kept,
+            line,
+        ) {
             Ok(()) => {
                 self.count = number;
                 Ok(number)

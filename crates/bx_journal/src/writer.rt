@@ -1,49 +1,56 @@
 //! The text of an entry.
-ghost use Rattle.std.specs.Prelude.{◌≡◌, ◌+◌, ◌<◌, ◌≤◌, ◌^◌, ◌++◌, [], ◌∷◌, flat_map, length, map, IfOk, OnOk, List};
+ghost use Rattle.std.specs.Prelude.{◌≡◌, ◌+◌, ◌<◌, ◌≤◌, ◌^◌, ◌++◌, [], ◌∷◌, flat_map, length, map, vec_capacity, OnOk, OnErr, is_err};
 ghost use Rattle.bx_image.specs.Change.{AllWithin};
+ghost use Rattle.bx_image.specs.Device.{GoesOn};
 ghost use Rattle.bx_image.specs.Image.{end_of};
-ghost use Rattle.bx_text.specs.Dump.{default_line};
-ghost use Rattle.bx_journal.specs.Kept.{Run, run_of, kept_of};
+ghost use Rattle.bx_store.specs.Store.{IsPartlyAppended};
+ghost use Rattle.bx_journal.specs.Kept.{run_of, kept_of};
 ghost use Rattle.bx_journal.specs.declared.version.Version.TheVariants.{Second};
 ghost use Rattle.bx_journal.specs.DumpLine.{dump_line};
-ghost use Rattle.bx_journal.specs.Line.{start_line, save_line, end_line};
-ghost use Rattle.bx_journal.specs.Entry.{row, rows, head_text, end_text};
-ghost use Rattle.bx_journal.specs.Text.{ended, joined};
+ghost use Rattle.bx_journal.specs.Line.{start_line, end_line};
+ghost use Rattle.bx_journal.specs.Entry.{rows, rows_text, head_text, end_text};
+ghost use Rattle.bx_journal.specs.Page.{IsPaged};
+ghost use Rattle.bx_journal.specs.Text.{ended};
 
 use crate::Version;
+use crate::page::{append_page, put_bytes};
 use crate::words::{Words, end_head, push_number, save_text, start_head};
-use bx_image::{MAX_LEN, Saved};
-use bx_text::{NoMemory, Piece, full_line, xxd_line};
+use bx_image::{DeviceFailed, Saved};
+use bx_store::TextStore;
+use bx_text::{LineText, Piece, full_line, xxd_line};
 use std::alloc::Allocator;
 
-/// The text of an entry up to and with its save line.
-pub fn entry_head<A: Allocator>(
-    alloc: A,
+/// Appends the text of an entry up to and with its save line, page by page. The page is empty before it.
+pub fn put_head<T: TextStore, A: Allocator>(
+    store: &mut T,
+    page: &mut Vec<u8, A>,
     number: u32,
     kept: &Saved<A>,
-) -> Result<Vec<u8, A>, NoMemory>
+) -> Result<(), DeviceFailed>
+    requires countable { T.failures store.old < u64.MAX }
     requires within { AllWithin kept.now.len kept.now.runs }
-    ensures { IfOk result (λ head. head.items ≡ head_text number (kept_of kept.now)) }
+    requires fits { T.honest store.old → length (T.text store.old) + length (head_text number (kept_of kept.now)) ≤ T.room store.old }
+    requires empty { page.old.items ≡ [] }
+    requires room { 82 ≤ vec_capacity page.old }
+    ensures ok { T.honest store.old → OnOk result (T.text store.new ≡ T.text store.old ++ head_text number (kept_of kept.now)) }
+    ensures fault { T.honest store.old → OnErr result (IsPartlyAppended (head_text number (kept_of kept.now)) (T.text store.old) (T.text store.new)) }
+    ensures goes_on { GoesOn T.honest T.room T.failures (is_err result) store.old store.new }
 {
-    let mut text = Vec::new(alloc);
-    push_words(&mut text, start_words(number, kept.len))?;
-    for run in kept.runs.as_slice() {
-        push_run(&mut text, run)?;
-    }
-    push_words(&mut text, save_text(number))?;
-    Ok(text)
+    put_words(store, page, start_words(number, kept.len))?;
+    put_runs(store, page, kept)?;
+    put_words(store, page, save_text(number))?;
+    append_page(store, page)
 }
 
 /// The line that ends an entry, with the length of the image after the change.
 #[tactic(auto, unfolding(crate::specs::Line::end_line))]
-pub fn entry_end<A: Allocator>(alloc: A, number: u32, after: u64) -> Result<Vec<u8, A>, NoMemory>
-    ensures { IfOk result (λ line. line.items ≡ end_text number after) }
+pub fn entry_end(number: u32, after: u64) -> Words
+    ensures text { result ≡ end_text number after }
 {
     let mut line = end_head(Version::Second, number);
     push_number(&mut line, 16, after);
-    let mut text = Vec::new(alloc);
-    push_words(&mut text, line)?;
-    Ok(text)
+    line.push(b'\n');
+    line
 }
 
 #[tactic(auto, unfolding(crate::specs::Line::start_line))]
@@ -56,71 +63,112 @@ fn start_words(number: u32, len: u64) -> Words
     line
 }
 
-/// Appends a line with its newline.
-fn push_words<A: Allocator>(text: &mut Vec<u8, A>, line: Words) -> Result<(), NoMemory>
-    requires { length line < 34 }
-    ensures { OnOk result (text.new.items ≡ text.old.items ++ ended line) }
+/// Puts a line with its newline.
+fn put_words<T: TextStore, A: Allocator>(
+    store: &mut T,
+    page: &mut Vec<u8, A>,
+    line: Words,
+) -> Result<(), DeviceFailed>
+    requires countable { T.failures store.old < u64.MAX }
+    requires fits { T.honest store.old → length (T.text store.old) + length page.old.items ≤ T.room store.old }
+    requires room { 82 ≤ vec_capacity page.old }
+    requires short { length line < 34 }
+    ensures ok { T.honest store.old → OnOk result (IsPaged (page.old.items ++ ended line) (T.text store.old) (T.text store.new) page.new.items) }
+    ensures fault { T.honest store.old → OnErr result (IsPartlyAppended (page.old.items ++ ended line) (T.text store.old) (T.text store.new)) }
+    ensures room { vec_capacity page.old ≤ vec_capacity page.new }
+    ensures goes_on { GoesOn T.honest T.room T.failures (is_err result) store.old store.new }
 {
     let mut line = line;
     line.push(b'\n');
-    push_bytes(text, line.as_bytes())
+    put_bytes(store, page, line.as_bytes())
 }
 
-fn push_bytes<A: Allocator>(text: &mut Vec<u8, A>, bytes: &[u8]) -> Result<(), NoMemory>
-    ensures { OnOk result (text.new.items ≡ text.old.items ++ bytes.now) }
+/// Puts the saved lines of each run.
+fn put_runs<T: TextStore, A: Allocator>(
+    store: &mut T,
+    page: &mut Vec<u8, A>,
+    kept: &Saved<A>,
+) -> Result<(), DeviceFailed>
+    requires countable { T.failures store.old < u64.MAX }
+    requires within { AllWithin kept.now.len kept.now.runs }
+    requires fits { T.honest store.old → length (T.text store.old) + length page.old.items + length (rows_text (flat_map rows (map run_of kept.now.runs))) ≤ T.room store.old }
+    requires room { 82 ≤ vec_capacity page.old }
+    ensures ok { T.honest store.old → OnOk result (IsPaged (page.old.items ++ rows_text (flat_map rows (map run_of kept.now.runs))) (T.text store.old) (T.text store.new) page.new.items) }
+    ensures fault { T.honest store.old → OnErr result (IsPartlyAppended (page.old.items ++ rows_text (flat_map rows (map run_of kept.now.runs))) (T.text store.old) (T.text store.new)) }
+    ensures room { vec_capacity page.old ≤ vec_capacity page.new }
+    ensures goes_on { GoesOn T.honest T.room T.failures (is_err result) store.old store.new }
 {
-    text.extend_from_slice(bytes).map_err(|_| NoMemory)
+    let _within_u64 = kept.len;
+    for run in kept.runs.as_slice() {
+        put_run(store, page, run)?;
+    }
+    Ok(())
 }
 
-/// Appends the saved lines of a run: 16 bytes on each, the last perhaps fewer.
-fn push_run<A: Allocator>(text: &mut Vec<u8, A>, run: &Piece<A>) -> Result<(), NoMemory>
-    requires { end_of run.now.at run.now.bytes < 2 ^ 64 }
-    ensures { OnOk result (text.new.items ≡ text.old.items ++ joined (map (λ (p : Run). dump_line p.at p.bytes) (rows (run_of run.now)))) }
+/// Puts the saved lines of a run: 16 bytes on each, the last perhaps fewer.
+fn put_run<T: TextStore, A: Allocator>(
+    store: &mut T,
+    page: &mut Vec<u8, A>,
+    run: &Piece<A>,
+) -> Result<(), DeviceFailed>
+    requires countable { T.failures store.old < u64.MAX }
+    requires within { end_of run.now.at run.now.bytes < 2 ^ 64 }
+    requires fits { T.honest store.old → length (T.text store.old) + length page.old.items + length (rows_text (rows (run_of run.now))) ≤ T.room store.old }
+    requires room { 82 ≤ vec_capacity page.old }
+    ensures ok { T.honest store.old → OnOk result (IsPaged (page.old.items ++ rows_text (rows (run_of run.now))) (T.text store.old) (T.text store.new) page.new.items) }
+    ensures fault { T.honest store.old → OnErr result (IsPartlyAppended (page.old.items ++ rows_text (rows (run_of run.now))) (T.text store.old) (T.text store.new)) }
+    ensures room { vec_capacity page.old ≤ vec_capacity page.new }
+    ensures goes_on { GoesOn T.honest T.room T.failures (is_err result) store.old store.new }
 {
     let bytes = run.bytes.as_slice();
     let count = (bytes.len() + 15) / 16;
     for k in 0..count {
         let from = 16 * k;
         let to = (from + 16).min(bytes.len());
-        push_row(text, run.at + from as u64, &bytes[from..to])?;
+        put_row(store, page, run.at + from as u64, &bytes[from..to])?;
     }
     Ok(())
 }
 
-/// Appends a saved line of at most 16 bytes.
-fn push_row<A: Allocator>(text: &mut Vec<u8, A>, at: u64, bytes: &[u8]) -> Result<(), NoMemory>
+/// Puts a saved line of at most 16 bytes.
+fn put_row<T: TextStore, A: Allocator>(
+    store: &mut T,
+    page: &mut Vec<u8, A>,
+    at: u64,
+    bytes: &[u8],
+) -> Result<(), DeviceFailed>
+    requires countable { T.failures store.old < u64.MAX }
     requires some { 0 < length bytes.now }
     requires few { length bytes.now ≤ 16 }
-    ensures { OnOk result (text.new.items ≡ text.old.items ++ ended (dump_line at bytes.now)) }
+    requires fits { T.honest store.old → length (T.text store.old) + length page.old.items ≤ T.room store.old }
+    requires room { 82 ≤ vec_capacity page.old }
+    ensures ok { T.honest store.old → OnOk result (IsPaged (page.old.items ++ ended (dump_line at bytes.now)) (T.text store.old) (T.text store.new) page.new.items) }
+    ensures fault { T.honest store.old → OnErr result (IsPartlyAppended (page.old.items ++ ended (dump_line at bytes.now)) (T.text store.old) (T.text store.new)) }
+    ensures room { vec_capacity page.old ≤ vec_capacity page.new }
+    ensures goes_on { GoesOn T.honest T.room T.failures (is_err result) store.old store.new }
 {
     if at > u32::MAX as u64 {
-        return push_any_row(text, at, bytes);
+        return put_bytes(store, page, row_of(at, bytes).as_bytes());
     }
     match bytes.as_array::<16>() {
-        Some(full) => push_full_row(text, at as u32, full),
-        None => push_any_row(text, at, bytes),
+        Some(full) => put_bytes(store, page, &full_row(at as u32, full)),
+        None => put_bytes(store, page, row_of(at, bytes).as_bytes()),
     }
 }
 
 #[tactic(auto, unfolding(crate::specs::DumpLine::dump_line))]
-fn push_any_row<A: Allocator>(text: &mut Vec<u8, A>, at: u64, bytes: &[u8]) -> Result<(), NoMemory>
+fn row_of(at: u64, bytes: &[u8]) -> LineText
     requires some { 0 < length bytes.now }
     requires few { length bytes.now ≤ 16 }
-    ensures { OnOk result (text.new.items ≡ text.old.items ++ ended (dump_line at bytes.now)) }
+    ensures { result ≡ ended (dump_line at bytes.now) }
 {
-    let line = xxd_line(at, bytes);
-    push_bytes(text, line.as_bytes())
+    xxd_line(at, bytes)
 }
 
 /// The same for 16 bytes at an address of 8 digits, at fixed places.
 #[tactic(auto, unfolding(crate::specs::DumpLine::dump_line))]
-fn push_full_row<A: Allocator>(
-    text: &mut Vec<u8, A>,
-    at: u32,
-    bytes: &[u8; 16],
-) -> Result<(), NoMemory>
-    ensures { OnOk result (text.new.items ≡ text.old.items ++ ended (dump_line at bytes.now)) }
+fn full_row(at: u32, bytes: &[u8; 16]) -> [u8; 68]
+    ensures { result ≡ ended (dump_line at bytes.now) }
 {
-    let line = full_line(at, bytes);
-    push_bytes(text, &line)
+    full_line(at, bytes)
 }

@@ -4,8 +4,8 @@ use Rattle.bx_journal.proofs.steps.append_head.Goals as goal
 
 pub returns-clause-ok : goal.returns-clause-ok
 returns-clause-ok g c honest x stack s starts =
-    on_ok_weaker c.append.result (head_ok _ _ x stack s _ starts) (c.append.ensures.ok honest)
+    on_ok_weaker c.put_head.result (head_ok _ _ x stack s _ starts) (c.put_head.ensures.ok honest)
 
 pub returns-clause-fault : goal.returns-clause-fault
 returns-clause-fault g c honest x stack s starts =
-    on_err_weaker c.append.result (head_fault _ _ x stack s _ starts) (c.append.ensures.failed honest)
+    on_err_weaker c.put_head.result (head_fault _ _ x stack s _ starts) (c.put_head.ensures.fault honest)

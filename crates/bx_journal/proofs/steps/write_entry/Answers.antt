@@ -3,6 +3,7 @@ use Rattle.std.specs.Prelude.{OnErr}
 use Rattle.std.proofs.lemmas.Result.{on_ok_weaker, on_err_weaker}
 use Rattle.bx_image.specs.Change.{effect, saved}
 use Rattle.bx_journal.specs.Kept.{kept_of}
+use Rattle.bx_journal.specs.Entry.{head_text}
 use Rattle.bx_journal.specs.Phase.{as_read, IsAtRest, RecoversEither}
 use Rattle.bx_journal.specs.declared.version.Version.TheVariants.{Second}
 use Rattle.bx_journal.proofs.ChangeSteps.{change_moves, ends_of}
@@ -28,7 +29,7 @@ returns-clause-ok g c device_honest store_honest stack writes =
     let is : y ≡ effect c.args.change.now x = c.in_ok-change_image.ensures.ok device_honest in
     let opened = c.in_ok-append_head.ensures.ok store_honest x stack (kept_of (saved c.args.change.now x)) writes.starts in
     let moved = change_moves (kept_of (saved c.args.change.now x)) (g.T.TextStore.text c.append_head.new.store) x y stack opened (c.change_image.ensures.taken_back device_honest) in
-    let ends = ends_of c.args.change.now (g.T.TextStore.text c.args.store.now) (g.T.TextStore.text c.append_head.new.store) x y stack c.args.head.now c.args.end.now writes moved is in
+    let ends = ends_of c.args.change.now (g.T.TextStore.text c.args.store.now) (g.T.TextStore.text c.append_head.new.store) x y stack (head_text c.args.number (kept_of c.args.kept.now)) c.args.end.now writes moved is in
     on_ok_weaker c.append_end.result (subst (λ z. IsAtRest (g.T.TextStore.text c.append_end.new.store) y (z ∷ stack)) is)
     (c.append_end.ensures.ok (c.append_head.ensures.goes_on.honesty.1 store_honest) y stack (as_read (kept_of (saved c.args.change.now x))) ends)
 
@@ -39,6 +40,6 @@ returns-clause-fault g c device_honest store_honest stack writes =
     let is : y ≡ effect c.args.change.now x = c.in_ok-change_image.ensures.ok device_honest in
     let opened = c.in_ok-append_head.ensures.ok store_honest x stack (kept_of (saved c.args.change.now x)) writes.starts in
     let moved = change_moves (kept_of (saved c.args.change.now x)) (g.T.TextStore.text c.append_head.new.store) x y stack opened (c.change_image.ensures.taken_back device_honest) in
-    let ends = ends_of c.args.change.now (g.T.TextStore.text c.args.store.now) (g.T.TextStore.text c.append_head.new.store) x y stack c.args.head.now c.args.end.now writes moved is in
+    let ends = ends_of c.args.change.now (g.T.TextStore.text c.args.store.now) (g.T.TextStore.text c.append_head.new.store) x y stack (head_text c.args.number (kept_of c.args.kept.now)) c.args.end.now writes moved is in
     on_err_weaker c.append_end.result (subst (λ z. RecoversEither (g.T.TextStore.text c.append_end.new.store) y stack (z ∷ stack)) is)
     (c.append_end.ensures.fault (c.append_head.ensures.goes_on.honesty.1 store_honest) y stack (as_read (kept_of (saved c.args.change.now x))) ends)

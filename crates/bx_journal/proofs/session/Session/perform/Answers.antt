@@ -38,7 +38,7 @@ module _ (g : _) (c : After-write_entry g) where
   store_honest : g.T.TextStore.honest c.args.self.now.store → g.T.TextStore.honest c.reserve-2.new.self
   store_honest honest = c.reserve-2.ensures.goes_on.honesty.1 (c.len-2.ensures.goes_on.honesty.1 honest)
 
-  prepared : g.D.Device.honest c.args.self.now.device → IsPrepared c.args.change.now x c.args.self.now.count (kept_of c.in_ok-kept.kept) c.in_ok-after.after c.deref.result.now c.deref-2.result.now
+  prepared : g.D.Device.honest c.args.self.now.device → IsPrepared c.args.change.now x c.args.self.now.count (kept_of c.in_ok-kept.kept) c.in_ok-after.after (head_text (c.args.self.now.count + 1) (kept_of c.in_ok-kept.kept)) c.as_bytes-line.result.now
   unfolding x read_same
   prepared honest =
       let read : g.D.Device.honest c.len.new.self = c.len.ensures.goes_on.honesty.1 honest in
@@ -51,16 +51,16 @@ module _ (g : _) (c : After-write_entry g) where
         kept = subst (IsOf (kept_of c.in_ok-kept.kept)) (read_same honest) (c.in_ok-kept.ensures.kept read);
         after_is = c.in_ok-after.ensures.len (g.D.Device.image c.args.self.now.device) (sym long);
         fits = c.in_ok-after.ensures.bound;
-        head_is = c.deref.ensures.value ∙ c.in_ok-head.ensures;
-        line_is = c.deref-2.ensures.value ∙ c.in_ok-end.ensures;
+        head_is = refl;
+        line_is = c.as_bytes-line.ensures.value ∙ c.entry_end-end.ensures.text;
       }
 
   writes : g.D.Device.honest c.args.self.now.device → g.T.TextStore.honest c.args.self.now.store → (stack : List (List ℕ)) → IsReady g.D.Device.image g.T.TextStore.text c.args.self.now stack
-      → WritesEntry c.args.change.now (g.T.TextStore.text c.reserve-2.new.self) (g.D.Device.image c.reserve.new.self) stack c.deref.result.now c.deref-2.result.now
+      → WritesEntry c.args.change.now (g.T.TextStore.text c.reserve-2.new.self) (g.D.Device.image c.reserve.new.self) stack (head_text (c.args.self.now.count + 1) (kept_of c.in_ok-kept.kept)) c.as_bytes-line.result.now
   unfolding x
   writes dh th stack ready =
-      let base = writes_entry c.args.change.now (g.T.TextStore.text c.args.self.now.store) (g.D.Device.image c.args.self.now.device) stack c.args.self.now.count (kept_of c.in_ok-kept.kept) c.in_ok-after.after c.deref.result.now c.deref-2.result.now (prepared dh) ready.rest ready.count in
-      let P : List ℕ → List ℕ → Type 0 = λ t y. WritesEntry c.args.change.now t y stack c.deref.result.now c.deref-2.result.now in
+      let base = writes_entry c.args.change.now (g.T.TextStore.text c.args.self.now.store) (g.D.Device.image c.args.self.now.device) stack c.args.self.now.count (kept_of c.in_ok-kept.kept) c.in_ok-after.after (head_text (c.args.self.now.count + 1) (kept_of c.in_ok-kept.kept)) c.as_bytes-line.result.now (prepared dh) ready.rest ready.count in
+      let P : List ℕ → List ℕ → Type 0 = λ t y. WritesEntry c.args.change.now t y stack (head_text (c.args.self.now.count + 1) (kept_of c.in_ok-kept.kept)) c.as_bytes-line.result.now in
       subst (λ t. P t (g.D.Device.image c.reserve.new.self)) (sym (text_same th)) (subst (P (g.T.TextStore.text c.args.self.now.store)) (sym (image_same dh)) base)
 
   pushed : g.D.Device.honest c.args.self.now.device → (stack : List (List ℕ)) → IsReady g.D.Device.image g.T.TextStore.text c.args.self.now stack
@@ -85,10 +85,10 @@ returns-in-Ok-clause-accepted g c dh th stack standing =
     let image : g.D.Device.image c.write_entry.new.device ≡ effect c.args.change.now x = c.in-Ok.ensures.image (device_honest g b dh) ∙ ap (effect c.args.change.now) (image_same g b dh) in
     let good : IsAsGood (kept_of (saved c.args.change.now x)) x (g.D.Device.image c.write_entry.new.device) =
     subst (λ z. IsAsGood (kept_of (saved c.args.change.now z)) z (g.D.Device.image c.write_entry.new.device)) (image_same g b dh) (c.in-Ok.ensures.back (device_honest g b dh)) in
-    let written : g.T.TextStore.text c.write_entry.new.store ≡ text ++ c.deref.result.now ++ c.deref-2.result.now =
-    c.in-Ok.ensures.text (store_honest g b th) ∙ ap (λ t. t ++ c.deref.result.now ++ c.deref-2.result.now) (text_same g b th) in
+    let written : g.T.TextStore.text c.write_entry.new.store ≡ text ++ (head_text (c.args.self.now.count + 1) (kept_of c.in_ok-kept.kept)) ++ c.as_bytes-line.result.now =
+    c.in-Ok.ensures.text (store_honest g b th) ∙ ap (λ t. t ++ (head_text (c.args.self.now.count + 1) (kept_of c.in_ok-kept.kept)) ++ c.as_bytes-line.result.now) (text_same g b th) in
     let stood : StandsFor (g.T.TextStore.text c.write_entry.new.store) (effect c.args.change.now x) (effect c.args.change.now x ∷ stack) =
-    performs c.args.change.now text (g.T.TextStore.text c.write_entry.new.store) x (g.D.Device.image c.write_entry.new.device) stack c.args.self.now.count (kept_of c.in_ok-kept.kept) c.in_ok-after.after c.deref.result.now c.deref-2.result.now
+    performs c.args.change.now text (g.T.TextStore.text c.write_entry.new.store) x (g.D.Device.image c.write_entry.new.device) stack c.args.self.now.count (kept_of c.in_ok-kept.kept) c.in_ok-after.after (head_text (c.args.self.now.count + 1) (kept_of c.in_ok-kept.kept)) c.as_bytes-line.result.now
     (prepared g b dh) standing.stands counted image good written in
     let moved : StandsFor (g.T.TextStore.text c.write_entry.new.store) (g.D.Device.image c.write_entry.new.device) (effect c.args.change.now x ∷ stack) =
     subst (λ z. StandsFor (g.T.TextStore.text c.write_entry.new.store) z (effect c.args.change.now x ∷ stack)) (sym image) stood in (
@@ -119,7 +119,7 @@ returns-in-Ok-clause-entry g c dh th =
     let p = prepared g b dh in
     let text : List ℕ = g.T.TextStore.text c.args.self.now.store in
     let written = c.in-Ok.ensures.text (store_honest g b th) in
-    entry_is (g.T.TextStore.text c.write_entry.new.store) (g.T.TextStore.text c.reserve-2.new.self) text c.deref.result.now c.deref-2.result.now
+    entry_is (g.T.TextStore.text c.write_entry.new.store) (g.T.TextStore.text c.reserve-2.new.self) text (head_text (c.args.self.now.count + 1) (kept_of c.in_ok-kept.kept)) c.as_bytes-line.result.now
     (head_text (c.args.self.now.count + 1) (kept_of (saved c.args.change.now x))) (end_text (c.args.self.now.count + 1) (length (effect c.args.change.now x)))
     written (text_same g b th) (p.head_is ∙ ap (head_text (c.args.self.now.count + 1)) p.saved_is) (p.line_is ∙ ap (end_text (c.args.self.now.count + 1)) p.after_is)
   where
