@@ -91,12 +91,12 @@ module _ (r : Reading) (t : Tally) (line : List ℕ) (is : tally_of r ≡ t) whe
       → LeadsTo r line (record { count = number; told = after; place = BetweenPlace })
   end_counts number v after place one is_end =
       let at : HasForm r.stage (EndingPlace v) = subst (HasForm r.stage) place form in
-      let n : suc (length r.entries) ≡ number = omega (arith, counted, one) in
-      (
+      let n : suc (length r.entries) ≡ number = omega (arith, counted, one) in (
         record { entries = record { saved = at.0; after = after } ∷ r.entries; stage = Between },
         ap (λ z. next_at r.entries z line) at.1 ∙ ends r.entries at.0 number v line after n is_end,
         ap (λ m. made m after BetweenPlace) n,
       )
+
 -- the text is read up to what is left of it
 pub record IsTallied (text rest : List ℕ) (t : Tally) : Type 0 where
   pub reading : Reading

@@ -11,8 +11,7 @@ returns-then-is_save c es s e same = (Ending c.args.version s, saves es c.args.n
 
 pub returns : goal.returns
 returns c es s e same =
-    let p : Run = record { at = c.in_ok-saved_in.field-0.at; bytes = take c.in_ok-saved_in.field-0.count c.in_ok-saved_in.field-0.bytes } in
-    (
+    let p : Run = record { at = c.in_ok-saved_in.field-0.at; bytes = take c.in_ok-saved_in.field-0.count c.in_ok-saved_in.field-0.bytes } in (
       Saving c.args.version (record { len = s.len; runs = with_run s.runs p }),
       adds es c.args.number c.args.version s c.args.line.now e p (sym c.is_save.ensures ∙ c.if-is_save.false) (ap (λ n. saved_in n c.args.line.now) same ∙ c.in_ok-saved_in.ensures),
       ap (SavingPlace c.args.version) same,

@@ -66,7 +66,7 @@ pub returns-in-Some-clause-keeps_err : goal.returns-in-Some-clause-keeps_err
 returns-in-Some-clause-keeps_err g c dh th stack rec =
     err_always c.open_counted.result
     (subst (λ t. Recovers t (g.D.Device.image c.open_counted.new.device) stack) (sym (c.read_all.ensures.text th))
-      (subst (λ x. Recovers (g.T.TextStore.text c.args.store.now) x stack) (sym (c.open_counted.ensures.image dh)) rec))
+    (subst (λ x. Recovers (g.T.TextStore.text c.args.store.now) x stack) (sym (c.open_counted.ensures.image dh)) rec))
 
 pub returns-in-Some-clause-counted : goal.returns-in-Some-clause-counted
 returns-in-Some-clause-counted g c dh th stack rec =
