@@ -2,7 +2,7 @@ use Rattle.std.proofs.Common.{◌≡◌, ℕ, ◌≤◌, length, ap, ◌∙◌, 
 use Rattle.std.proofs.lemmas.Grind.{common_steps}
 use Rattle.bx_journal.specs.declared.fault.SessionFault.TheVariants.{Damaged}
 use Rattle.bx_journal.specs.Parsed.{entries_of}
-use Rattle.bx_journal.specs.Undoing.{IsFinished}
+use Rattle.bx_journal.specs.Undoing.{AgainFault, IsFinished}
 use Rattle.bx_journal.proofs.ReadLemmas.{length-entries_of}
 use Rattle.bx_journal.proofs.AgainLemmas.{in_step}
 use Rattle.bx_journal.proofs.SavedBound.{saved_countable}
@@ -14,6 +14,12 @@ returns-in_err-read-clause-undamaged g c =
     let none : (line : ℕ) → c.in_err-read.field-0.0 ≡ Damaged line → ⊥ =
     in_step (g.T.TextStore.honest c.self.inside.store) (g.T.TextStore.text c.self.inside.store) c.self.inside.count c.in_err-read.field-0.0 th has c.in_err-read.ensures.fault in
     grind (arith, common_steps, none))
+
+pub returns-in_err-read-clause-fault : goal.returns-in_err-read-clause-fault
+returns-in_err-read-clause-fault g c =
+    rw (← c.self.view_is) (
+    let fault : AgainFault (g.T.TextStore.honest c.self.inside.store) (g.T.TextStore.text c.self.inside.store) c.self.inside.count c.in_err-read.field-0.0 = c.in_err-read.ensures.fault in
+    grind (arith, common_steps, fault))
 
 pub rows-requires-clause-few : goal.rows-requires-clause-few
 rows-requires-clause-few g c =
@@ -32,3 +38,6 @@ returns-clause-whole g c =
       subst (λ t. IsFinished t (entries_of c.in_ok-read.read.entries.items)) (c.in_ok-read.ensures.bytes th) read.finished,
       length-entries_of c.in_ok-read.read.entries.items ∙ read.counted,
     ))
+
+pub returns-clause-store_honesty : goal.returns-clause-store_honesty
+returns-clause-store_honesty g c = rw (← c.self.view_is) c.read_again.ensures.honesty
