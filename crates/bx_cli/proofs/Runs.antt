@@ -5,7 +5,7 @@ use Rattle.std.proofs.lemmas.List.Elements.{All-append}
 use Rattle.bx_cli.specs.declared.command.Command.{Command}
 use Rattle.bx_cli.specs.declared.command.Reply.{Reply}
 use Rattle.bx_cli.specs.Standing.{Standing, CountsOn}
-use Rattle.bx_journal.specs.declared.session.Session.{Session}
+use Rattle.bx_journal.specs.SessionView.{SessionView}
 use Rattle.bx_cli.specs.Run.{CommandStep, CommandRun, Unfailed, IsCounted}
 
 -- each run of what is left makes a run of the whole list
@@ -79,13 +79,13 @@ all_one P x h zero d within = h
 all_one P x h (suc k) d within = absurd (omega arith)
 
 -- how the counts of failed calls stand after some commands
-pub record HasCounted {D T A : Type 0} (device_failures : D → ℕ) (store_failures : T → ℕ) (first now : Session D T A) (i : ℕ) (replies : List Reply) : Type 0 where
+pub record HasCounted {D T : Type 0} (device_failures : D → ℕ) (store_failures : T → ℕ) (first now : SessionView D T) (i : ℕ) (replies : List Reply) : Type 0 where
   pub device_least : device_failures first.device ≤ device_failures now.device
   pub store_least : store_failures first.store ≤ store_failures now.store
   pub most : device_failures now.device + store_failures now.store ≤ device_failures first.device + store_failures first.store + i
   pub unfailed : device_failures now.device + store_failures now.store ≡ device_failures first.device + store_failures first.store → All Unfailed replies
 
-pub counted_none : {D T A : Type 0} (device_failures : D → ℕ) (store_failures : T → ℕ) (first : Session D T A) → HasCounted device_failures store_failures first first 0 []
+pub counted_none : {D T : Type 0} (device_failures : D → ℕ) (store_failures : T → ℕ) (first : SessionView D T) → HasCounted device_failures store_failures first first 0 []
 counted_none device_failures store_failures first = record {
   device_least = omega arith;
   store_least = omega arith;
@@ -93,7 +93,7 @@ counted_none device_failures store_failures first = record {
   unfailed = λ same k d within. absurd (omega arith);
 }
 
-pub counted_more : {D T A : Type 0} (device_failures : D → ℕ) (store_failures : T → ℕ) (first now next : Session D T A) (i : ℕ) (replies : List Reply) (reply : Reply)
+pub counted_more : {D T : Type 0} (device_failures : D → ℕ) (store_failures : T → ℕ) (first now next : SessionView D T) (i : ℕ) (replies : List Reply) (reply : Reply)
     → HasCounted device_failures store_failures first now i replies → CountsOn device_failures store_failures now next → IsCounted device_failures store_failures now next reply
     → HasCounted device_failures store_failures first next (i + 1) (replies ++ reply ∷ [])
 counted_more device_failures store_failures first now next i replies reply has on failed = record {

@@ -7,7 +7,7 @@ use Rattle.std.proofs.lemmas.List.{length-append, append_assoc, append-nil, drop
 use Rattle.bx_image.specs.declared.change.Change.{Change}
 use Rattle.bx_image.specs.declared.change.TheConstants.{MAX_LEN}
 use Rattle.bx_image.specs.Change.{Fits}
-use Rattle.bx_journal.specs.declared.session.Session.{Session}
+use Rattle.bx_journal.specs.SessionView.{SessionView}
 use Rattle.bx_journal.specs.declared.fault.SessionFault.{SessionFault}
 use Rattle.bx_journal.specs.declared.fault.SessionFault.TheVariants.{NoMemory, TooLarge, DeviceFailed, Damaged, TooFew, JournalFull, Interrupted, Broken, LengthDiffers}
 use Rattle.bx_journal.specs.Standing.{IsStanding, PerformFault}
@@ -29,7 +29,7 @@ use Rattle.bx_cli.specs.Standing.{Standing, PerformUp, UndoUp}
 use Rattle.bx_cli.proofs.Steps.{refusal, true_is_not_false}
 
 -- image, text and count are what they were
-pub stays : {D T A : Type 0} (image : D → List ℕ) (text : T → List ℕ) (old new : Session D T A) (stack : List (List ℕ))
+pub stays : {D T : Type 0} (image : D → List ℕ) (text : T → List ℕ) (old new : SessionView D T) (stack : List (List ℕ))
     → IsStanding image text old stack → IsSame image text old new → IsStanding image text new stack
 stays image text old new stack standing same =
     let Text : List ℕ → Type 0 = λ t. StandsFor t (image old.device) stack in
@@ -40,13 +40,13 @@ stays image text old new stack standing same =
       whole = same.broken ∙ standing.whole;
     }
 
-changes_standing : {D T A : Type 0} (image : D → List ℕ) (text : T → List ℕ) (s : Session D T A) (stack : List (List ℕ)) → IsStanding image text s stack → changes_of stack ≡ s.count
+changes_standing : {D T : Type 0} (image : D → List ℕ) (text : T → List ℕ) (s : SessionView D T) (stack : List (List ℕ)) → IsStanding image text s stack → changes_of stack ≡ s.count
 changes_standing image text s stack standing = let count = standing.count in omega arith
 
-top_standing : {D T A : Type 0} (image : D → List ℕ) (text : T → List ℕ) (s : Session D T A) (stack : List (List ℕ)) → IsStanding image text s stack → top stack ≡ image s.device
+top_standing : {D T : Type 0} (image : D → List ℕ) (text : T → List ℕ) (s : SessionView D T) (stack : List (List ℕ)) → IsStanding image text s stack → top stack ≡ image s.device
 top_standing image text s stack standing = ap top standing.stands.stack_is ∙ top_of standing.stands.entries (image s.device)
 
-count_standing : {D T A : Type 0} (image : D → List ℕ) (text : T → List ℕ) (s : Session D T A) (stack : List (List ℕ)) → IsStanding image text s stack → HasCount (text s.store) s.count
+count_standing : {D T : Type 0} (image : D → List ℕ) (text : T → List ℕ) (s : SessionView D T) (stack : List (List ℕ)) → IsStanding image text s stack → HasCount (text s.store) s.count
 count_standing image text s stack standing =
     let st = standing.stands in
     let stacked : length stack ≡ suc (length st.entries) = ap length st.stack_is ∙ length-stack_of st.entries (image s.device) in
@@ -54,7 +54,7 @@ count_standing image text s stack standing =
     (st.entries, record { reads = st.reads; whole = st.whole }, omega arith)
 
 -- a change that was refused, by no device
-pub perform_refused : {D T A : Type 0} (hd : Type 0) (ht : Type 0) (image : D → List ℕ) (text : T → List ℕ) (old new : Session D T A) (c : Change A) (e : SessionFault)
+pub perform_refused : {D T A : Type 0} (hd : Type 0) (ht : Type 0) (image : D → List ℕ) (text : T → List ℕ) (old new : SessionView D T) (c : Change A) (e : SessionFault)
     → ((old.is_broken ≡ true) ↔ IsErrOf (refusal e) Broken)
     → (IsErrOf (refusal e) JournalFull ↔ ((old.is_broken ≡ false) × (65535 ≤ old.count)))
     → (hd → IsErrOf (refusal e) TooLarge → Fits c (length (image old.device)) MAX_LEN → ⊥)
@@ -84,7 +84,7 @@ perform_refused hd ht image text old new c (TooFew have) broken full large kind 
 perform_refused hd ht image text old new c (LengthDiffers expected) broken full large kind refused device store stack standing unfailed = absurd kind
 
 -- an undo that was refused, by no device
-pub undo_refused : {D T A : Type 0} (hd : Type 0) (ht : Type 0) (image : D → List ℕ) (text : T → List ℕ) (old new : Session D T A) (k : ℕ) (e : SessionFault)
+pub undo_refused : {D T : Type 0} (hd : Type 0) (ht : Type 0) (image : D → List ℕ) (text : T → List ℕ) (old new : SessionView D T) (k : ℕ) (e : SessionFault)
     → ((old.is_broken ≡ true) ↔ IsErrOf (refusal e) Broken)
     → (((old.is_broken ≡ false) × (old.count < k)) ↔ IsErrOf (refusal e) (TooFew old.count))
     → UndoFault old.count e
@@ -110,7 +110,7 @@ undo_refused hd ht image text old new k TooLarge broken few kind undamaged refus
 undo_refused hd ht image text old new k JournalFull broken few kind undamaged refused device store stack standing unfailed = absurd kind
 undo_refused hd ht image text old new k (LengthDiffers expected) broken few kind undamaged refused device store stack standing unfailed = absurd kind
 
-abbrev pub AreHonest : {D T A : Type 0} → (D → Type 0) → (T → Type 0) → Session D T A → Type 0
+abbrev pub AreHonest : {D T : Type 0} → (D → Type 0) → (T → Type 0) → SessionView D T → Type 0
 AreHonest device store s = device s.device × store s.store
 
 -- each run of what is left, from stack to stack, makes a run of the whole list

@@ -4,7 +4,7 @@ use Rattle.std.specs.Result.{IsErrOf}
 use Rattle.bx_image.specs.declared.change.Change.{Change}
 use Rattle.bx_image.specs.declared.change.TheConstants.{MAX_LEN}
 use Rattle.bx_image.specs.Change.{effect, Fits}
-use Rattle.bx_journal.specs.declared.session.Session.{Session}
+use Rattle.bx_journal.specs.SessionView.{SessionView}
 use Rattle.bx_journal.specs.declared.fault.SessionFault.{SessionFault}
 use Rattle.bx_journal.specs.declared.fault.SessionFault.TheVariants.{NoMemory, TooLarge, DeviceFailed, Damaged, TooFew, JournalFull, Interrupted, Broken, LengthDiffers}
 use Rattle.bx_journal.specs.Standing.{IsStanding, PerformFault}
@@ -24,7 +24,7 @@ use Rattle.bx_cli.specs.Run.{HasFailed, made_reply}
 use Rattle.bx_cli.specs.Standing.{Standing, HoldsAt, PerformFrom, UndoFrom}
 
 -- image, text and count are what they were: the session is where it was
-pub ready_same : {D T A : Type 0} (image : D → List ℕ) (text : T → List ℕ) (old new : Session D T A) (stack : List (List ℕ))
+pub ready_same : {D T : Type 0} (image : D → List ℕ) (text : T → List ℕ) (old new : SessionView D T) (stack : List (List ℕ))
     → IsReady image text old stack → IsSame image text old new → IsReady image text new stack
 ready_same image text old new stack ready same =
     let Text : List ℕ → Type 0 = λ t. IsAtRest t (image old.device) stack in
@@ -38,17 +38,17 @@ ready_same image text old new stack ready same =
 pub true_is_not_false : true ≡ false → ⊥
 true_is_not_false e = cc
 
-pub up_not_broken : {D T A : Type 0} (image : D → List ℕ) (text : T → List ℕ) (s : Session D T A) (stack : List (List ℕ))
+pub up_not_broken : {D T : Type 0} (image : D → List ℕ) (text : T → List ℕ) (s : SessionView D T) (stack : List (List ℕ))
     → IsReady image text s stack → s.is_broken ≡ true → ⊥
 up_not_broken image text s stack ready broken = true_is_not_false (sym broken ∙ ready.whole)
 
 -- a session that may go on stands for its stack
-pub standing : {D T A : Type 0} (image : D → List ℕ) (text : T → List ℕ) (s : Session D T A) (stack : List (List ℕ))
+pub standing : {D T : Type 0} (image : D → List ℕ) (text : T → List ℕ) (s : SessionView D T) (stack : List (List ℕ))
     → IsReady image text s stack → IsStanding image text s stack
 standing image text s stack ready = record { stands = ready.rest.stands; count = ready.count; whole = ready.whole }
 
 -- a change that was made
-pub perform_ok : {D T A : Type 0} (hd : D → Type 0) (ht : T → Type 0) (image : D → List ℕ) (text : T → List ℕ) (old new : Session D T A) (c : Change A) (n : ℕ)
+pub perform_ok : {D T A : Type 0} (hd : D → Type 0) (ht : T → Type 0) (image : D → List ℕ) (text : T → List ℕ) (old new : SessionView D T) (c : Change A) (n : ℕ)
     → (hd old.device → ht old.store → (stack : List (List ℕ)) → IsStanding image text old stack
     → PerformStep stack c (Ok n) (effect c (top stack) ∷ stack) × IsStanding image text new (effect c (top stack) ∷ stack))
     → (hd old.device → ht old.store → (stack : List (List ℕ)) → IsReady image text old stack → IsReady image text new (effect c (top stack) ∷ stack))
@@ -65,7 +65,7 @@ abbrev pub refusal : SessionFault → Result ℕ SessionFault
 refusal e = Err e
 
 -- a stopped session refuses all, and stays
-pub stays_down : {D T A : Type 0} (hd : D → Type 0) (ht : T → Type 0) (image : D → List ℕ) (text : T → List ℕ) (old new : Session D T A) (e : SessionFault) (stack : List (List ℕ))
+pub stays_down : {D T : Type 0} (hd : D → Type 0) (ht : T → Type 0) (image : D → List ℕ) (text : T → List ℕ) (old new : SessionView D T) (e : SessionFault) (stack : List (List ℕ))
     → ((old.is_broken ≡ true) ↔ IsErrOf (refusal e) Broken)
     → (hd old.device → ht old.store → AfterFault e (Unit {0}) (IsSame image text old new))
     → (hd new.device ↔ hd old.device) → (ht new.store ↔ ht old.store)
@@ -84,15 +84,15 @@ stays_down hd ht image text old new e stack broken refused device store h =
     }
 
 -- what a session's top and count are
-pub top_of_ready : {D T A : Type 0} (image : D → List ℕ) (text : T → List ℕ) (s : Session D T A) (stack : List (List ℕ))
+pub top_of_ready : {D T : Type 0} (image : D → List ℕ) (text : T → List ℕ) (s : SessionView D T) (stack : List (List ℕ))
     → IsReady image text s stack → top stack ≡ image s.device
 top_of_ready image text s stack ready = top_of_rest (text s.store) (image s.device) stack ready.rest
 
-pub changes_of_ready : {D T A : Type 0} (image : D → List ℕ) (text : T → List ℕ) (s : Session D T A) (stack : List (List ℕ))
+pub changes_of_ready : {D T : Type 0} (image : D → List ℕ) (text : T → List ℕ) (s : SessionView D T) (stack : List (List ℕ))
     → IsReady image text s stack → changes_of stack ≡ s.count
 changes_of_ready image text s stack ready = let count = ready.count in omega arith
 
-pub has_count : {D T A : Type 0} (image : D → List ℕ) (text : T → List ℕ) (s : Session D T A) (stack : List (List ℕ))
+pub has_count : {D T : Type 0} (image : D → List ℕ) (text : T → List ℕ) (s : SessionView D T) (stack : List (List ℕ))
     → IsReady image text s stack → HasCount (text s.store) s.count
 has_count image text s stack ready =
     let st = ready.rest.stands in
@@ -101,7 +101,7 @@ has_count image text s stack ready =
     (st.entries, record { reads = st.reads; whole = st.whole }, omega arith)
 
 -- a change that was refused, or stopped
-pub perform_err : {D T A : Type 0} (hd : D → Type 0) (ht : T → Type 0) (image : D → List ℕ) (text : T → List ℕ) (old new : Session D T A) (c : Change A) (e : SessionFault)
+pub perform_err : {D T A : Type 0} (hd : D → Type 0) (ht : T → Type 0) (image : D → List ℕ) (text : T → List ℕ) (old new : SessionView D T) (c : Change A) (e : SessionFault)
     → (hd old.device → ht old.store → (stack : List (List ℕ)) → IsReady image text old stack
     → AfterFault e (RecoversEither (text new.store) (image new.device) stack (effect c (top stack) ∷ stack)) (IsSame image text old new))
     → ((old.is_broken ≡ true) ↔ IsErrOf (refusal e) Broken)
@@ -149,7 +149,7 @@ perform_err hd ht image text old new c (TooFew have) fault broken full large fau
 perform_err hd ht image text old new c (LengthDiffers expected) fault broken full large faults refused breaks device store (Standing.Up stack) h = absurd faults
 
 -- changes that were taken back
-pub undo_ok : {D T A : Type 0} (hd : D → Type 0) (ht : T → Type 0) (image : D → List ℕ) (text : T → List ℕ) (old new : Session D T A) (k left : ℕ)
+pub undo_ok : {D T : Type 0} (hd : D → Type 0) (ht : T → Type 0) (image : D → List ℕ) (text : T → List ℕ) (old new : SessionView D T) (k left : ℕ)
     → (hd old.device → ht old.store → (stack : List (List ℕ)) → IsStanding image text old stack
     → UndoStep stack k (Ok left) (drop k stack) × IsStanding image text new (drop k stack))
     → (hd old.device → ht old.store → (stack : List (List ℕ)) → IsReady image text old stack → IsReady image text new (drop k stack))
@@ -163,7 +163,7 @@ undo_ok hd ht image text old new k left accepted sound broken device store (Stan
     let bad : Ok left ≡ Err Broken = broken.0 h.stands.0 in absurd (cc)
 
 -- an undo that was refused, or stopped
-pub undo_err : {D T A : Type 0} (hd : D → Type 0) (ht : T → Type 0) (image : D → List ℕ) (text : T → List ℕ) (old new : Session D T A) (k : ℕ) (e : SessionFault)
+pub undo_err : {D T : Type 0} (hd : D → Type 0) (ht : T → Type 0) (image : D → List ℕ) (text : T → List ℕ) (old new : SessionView D T) (k : ℕ) (e : SessionFault)
     → (hd old.device → ht old.store → (stack : List (List ℕ)) → IsReady image text old stack
     → AfterFault e (RecoversBelow (text new.store) (image new.device) stack k) (IsSame image text old new))
     → ((old.is_broken ≡ true) ↔ IsErrOf (refusal e) Broken)

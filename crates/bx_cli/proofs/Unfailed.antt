@@ -7,7 +7,7 @@ use Rattle.bx_journal.specs.declared.fault.SessionFault.TheVariants.{NoMemory, T
 use Rattle.bx_cli.specs.declared.command.Command.{Command}
 use Rattle.bx_cli.specs.declared.command.Command.TheVariants.{Revert, RevertPlain, Dd, Undo}
 use Rattle.bx_cli.specs.declared.command.Reply.{Reply}
-use Rattle.bx_journal.specs.declared.session.Session.{Session}
+use Rattle.bx_journal.specs.SessionView.{SessionView}
 use Rattle.bx_journal.specs.Session.{IsReady}
 use Rattle.bx_cli.specs.Standing.{Standing, HoldsAt, PerformFrom, UndoFrom}
 use Rattle.bx_dd.specs.declared.counts.Counts.{Counts}
@@ -94,7 +94,7 @@ unfailed_runs remaining start after (c ∷ list) (p ∷ replies) (now, step, res
     (later.0, later.1, (up.0, (subst Step up.1 step, unfailed), later.2))
 
 -- a session whose devices didn't fail stands where the stacks' run ends
-pub stands_at_top : {D T R A : Type 0} (remaining : R → Option (List ℕ)) (hd : D → Type 0) (ht : T → Type 0) (image : D → List ℕ) (text : T → List ℕ) (new : Session D T A) (stack : List (List ℕ)) (list : List (Command R A)) (replies : List Reply)
+pub stands_at_top : {D T R A : Type 0} (remaining : R → Option (List ℕ)) (hd : D → Type 0) (ht : T → Type 0) (image : D → List ℕ) (text : T → List ℕ) (new : SessionView D T) (stack : List (List ℕ)) (list : List (Command R A)) (replies : List Reply)
     → ((after : Standing) × HoldsAt hd ht image text new after × CommandRun remaining (Standing.Up stack) list replies after)
     → All Unfailed replies
     → (top : List (List ℕ)) × IsReady image text new top × StackRun remaining stack list replies top

@@ -13,7 +13,7 @@ use Rattle.bx_cli.specs.declared.command.Reply.{Reply}
 use Rattle.bx_cli.specs.declared.command.Reply.TheVariants.{Changed, Copied, Undone, Refused}
 use Rattle.bx_read.specs.declared.fault.ReadFault.TheVariants.{NoMemory as ReadNoMemory}
 use Rattle.bx_cli.specs.declared.fault.Fault.TheVariants.{DeviceFailed, Interrupted}
-use Rattle.bx_journal.specs.declared.session.Session.{Session}
+use Rattle.bx_journal.specs.SessionView.{SessionView}
 use Rattle.bx_cli.specs.declared.changes.DdChange.{DdChange}
 use Rattle.bx_cli.specs.Command.{dump_change, plain_change}
 use Rattle.bx_cli.specs.Copy.{Makes}
@@ -81,7 +81,7 @@ HasFailed (Refused Interrupted) = Unit {0}
 HasFailed p = ⊥
 
 -- a failure raised a count
-abbrev pub IsCounted : {D T A : Type 0} → (D → ℕ) → (T → ℕ) → Session D T A → Session D T A → Reply → Type 0
+abbrev pub IsCounted : {D T : Type 0} → (D → ℕ) → (T → ℕ) → SessionView D T → SessionView D T → Reply → Type 0
 IsCounted device_failures store_failures old new reply =
     HasFailed reply → device_failures old.device + store_failures old.store < device_failures new.device + store_failures new.store
 
@@ -101,5 +101,5 @@ StackRun remaining before (c ∷ list) (p ∷ replies) after =
     (now : List (List ℕ)) × StackStep remaining before c p now × StackRun remaining now list replies after
 
 -- the session's pair stands for a stack to which the step leads
-abbrev pub StandsThen : {D T A : Type 0} → (D → List ℕ) → (T → List ℕ) → Session D T A → (List (List ℕ) → Type 0) → Type 0
+abbrev pub StandsThen : {D T : Type 0} → (D → List ℕ) → (T → List ℕ) → SessionView D T → (List (List ℕ) → Type 0) → Type 0
 StandsThen image text s Step = (top : List (List ℕ)) × IsStanding image text s top × Step top

@@ -2,7 +2,7 @@
 use Rattle.std.specs.Prelude.{◌≡◌, ◌⊎◌, ◌≤◌, ℕ, ◌+◌, true, Result, Ok, Err, List, ◌∷◌, drop}
 use Rattle.bx_image.specs.declared.change.Change.{Change}
 use Rattle.bx_image.specs.Change.{effect}
-use Rattle.bx_journal.specs.declared.session.Session.{Session}
+use Rattle.bx_journal.specs.SessionView.{SessionView}
 use Rattle.bx_journal.specs.declared.fault.SessionFault.{SessionFault}
 use Rattle.bx_journal.specs.declared.fault.SessionFault.TheVariants.{DeviceFailed, JournalFull, Interrupted, Broken}
 use Rattle.bx_journal.specs.Machine.{PerformStep, UndoStep, top, changes_of}
@@ -14,13 +14,13 @@ pub data Standing : Type 0 where
   Up : List (List ℕ) → Standing
   Down : List (List ℕ) → Standing
 
-abbrev pub StandsAt : {D T A : Type 0} → (D → List ℕ) → (T → List ℕ) → Session D T A → Standing → Type 0
+abbrev pub StandsAt : {D T : Type 0} → (D → List ℕ) → (T → List ℕ) → SessionView D T → Standing → Type 0
 StandsAt image text s (Up stack) = IsReady image text s stack
 StandsAt image text s (Down stack) = (s.is_broken ≡ true) × Recovers (text s.store) (image s.device) stack
 
 -- both devices are honest, and the session stands there
-pub record HoldsAt {D T A : Type 0} (device_honest : D → Type 0) (store_honest : T → Type 0) (image : D → List ℕ) (text : T → List ℕ)
-    (s : Session D T A) (standing : Standing) : Type 0 where
+pub record HoldsAt {D T : Type 0} (device_honest : D → Type 0) (store_honest : T → Type 0) (image : D → List ℕ) (text : T → List ℕ)
+    (s : SessionView D T) (standing : Standing) : Type 0 where
   pub device : device_honest s.device
   pub store : store_honest s.store
   pub stands : StandsAt image text s standing
@@ -52,7 +52,7 @@ UndoFrom (Up old) k r after = UndoUp old k r after
 UndoFrom (Down old) k r after = (r ≡ Err Broken) × (after ≡ Down old)
 
 -- The counts of failed calls: one of them rises by one and the other stays, or none rises
-pub record CountsOn {D T A : Type 0} (device_failures : D → ℕ) (store_failures : T → ℕ) (old new : Session D T A) : Type 0 where
+pub record CountsOn {D T : Type 0} (device_failures : D → ℕ) (store_failures : T → ℕ) (old new : SessionView D T) : Type 0 where
   pub device_least : device_failures old.device ≤ device_failures new.device
   pub store_least : store_failures old.store ≤ store_failures new.store
   pub most : device_failures new.device + store_failures new.store ≤ device_failures old.device + store_failures old.store + 1

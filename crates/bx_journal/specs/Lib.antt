@@ -13,6 +13,7 @@ pub mod Mark
 pub mod Parsed
 pub mod Phase
 pub mod Plain
+pub mod SessionView
 pub mod Session
 pub mod Stack
 pub mod Step

@@ -15,6 +15,7 @@ use crate::writer::entry_end;
 use bx_image::{Change, Device, MAX_LEN, check};
 use bx_store::TextStore;
 use std::alloc::{Allocator, Global};
+use std::marker::Model;
 
 const MOST_CHANGES: u32 = 65_535;
 
@@ -27,6 +28,14 @@ pub struct Session<D: Device, T: TextStore, A: Allocator = Global> {
     pub(crate) store: T,
     pub(crate) count: u32,
     pub(crate) is_broken: bool,
+}
+
+impl<D: Device, T: TextStore, A: Allocator> Model for Session<D, T, A> {
+    ghost use Rattle.bx_journal.specs.SessionView.{SessionView};
+
+    ghost Value = { SessionView D T };
+
+    ghost view = { λ s. record { device = s.device; store = s.store; count = s.count; is_broken = s.is_broken } };
 }
 
 impl<D: Device, T: TextStore, A: Allocator + Clone> Session<D, T, A> {
