@@ -13,7 +13,8 @@ use Rattle.bx_journal.specs.declared.fault.SessionFault.TheVariants.{NoMemory, T
 use Rattle.bx_journal.specs.Standing.{IsStanding, PerformFault}
 use Rattle.bx_journal.specs.Undoing.{HasCount, UndoFault}
 use Rattle.bx_journal.specs.Machine.{top, changes_of}
-use Rattle.bx_journal.specs.Session.{IsSame, AfterFault}
+use Rattle.bx_journal.specs.Calls.{AfterFault}
+use Rattle.bx_journal.specs.Session.{IsSame}
 use Rattle.bx_journal.specs.Stack.{StandsFor}
 use Rattle.bx_journal.proofs.Phases.{length-stack_of}
 use Rattle.bx_journal.proofs.Ready.{top_of}

@@ -10,8 +10,8 @@ use Rattle.bx_journal.specs.declared.fault.SessionFault.TheVariants.{NoMemory, T
 use Rattle.bx_journal.specs.Standing.{IsStanding, PerformFault}
 use Rattle.bx_journal.specs.Undoing.{HasCount, UndoFault}
 use Rattle.bx_journal.specs.Machine.{PerformStep, UndoStep, top, changes_of}
-use Rattle.bx_journal.specs.Session.{IsReady, IsSame, AfterFault}
-use Rattle.bx_journal.specs.Calls.{RecoversBelow}
+use Rattle.bx_journal.specs.Session.{IsReady, IsSame}
+use Rattle.bx_journal.specs.Calls.{AfterFault, RecoversBelow}
 use Rattle.bx_journal.specs.Opening.{FaultCounts}
 use Rattle.bx_journal.specs.Phase.{IsAtRest, RecoversEither}
 use Rattle.bx_journal.specs.Stack.{Recovers}

@@ -17,7 +17,7 @@ use Rattle.bx_journal.specs.Stack.{HaveLengths, Recovers, image_at, stack_of}
 use Rattle.bx_journal.specs.Mark.{IsMark}
 use Rattle.bx_journal.specs.Journal.{HasRead}
 use Rattle.bx_journal.specs.Parsed.{entries_of, stage_of, reading_of, told_by}
-use Rattle.bx_journal.specs.Calls.{how_of, Differs, OpenFault, AfterFaultOf}
+use Rattle.bx_journal.specs.Calls.{how_of, Differs, OpenFault, AfterFault}
 use Rattle.bx_journal.specs.Opening.{IsOpened, LookFault, RefusesLength, FaultCounts}
 use Rattle.bx_journal.proofs.ReadLemmas.{length-entries_of}
 use Rattle.bx_journal.proofs.Sane.{IsSane, read_sane, have_lengths, length-restore}
@@ -191,7 +191,7 @@ counts_beside JournalFull d t new h = (h.0, refl)
 counts_beside Broken d t new h = (h.0, refl)
 counts_beside (LengthDiffers n) d t new h = (h.0, refl)
 
-pub after_same : (e : SessionFault) (P : Type 0) → P → AfterFaultOf e (Unit {0}) P
+pub after_same : (e : SessionFault) (P : Type 0) → P → AfterFault e (Unit {0}) P
 after_same Interrupted P p = tt
 after_same DeviceFailed P p = p
 after_same NoMemory P p = p

@@ -48,6 +48,6 @@ abbrev pub RecoversBelow : List ℕ → List ℕ → List (List ℕ) → ℕ →
 RecoversBelow text x stack k = (j : ℕ) × (j ≤ k) × Recovers text x (drop j stack)
 
 -- an interruption leaves the one, each other fault the other
-abbrev pub AfterFaultOf : SessionFault → Type 0 → Type 0 → Type 0
-AfterFaultOf Interrupted interrupted same = interrupted
-AfterFaultOf e interrupted same = same
+abbrev pub AfterFault : SessionFault → Type 0 → Type 0 → Type 0
+AfterFault Interrupted interrupted same = interrupted
+AfterFault e interrupted same = same

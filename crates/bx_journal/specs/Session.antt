@@ -1,7 +1,5 @@
 -- What a session over a device and a store is.
 use Rattle.std.specs.Prelude.{◌≡◌, ℕ, suc, false, List, length}
-use Rattle.bx_journal.specs.declared.fault.SessionFault.{SessionFault}
-use Rattle.bx_journal.specs.declared.fault.SessionFault.TheVariants.{Interrupted}
 use Rattle.bx_journal.specs.SessionView.{SessionView}
 use Rattle.bx_journal.specs.Phase.{IsAtRest}
 
@@ -17,8 +15,3 @@ pub record IsSame {D T : Type 0} (image : D → List ℕ) (text : T → List ℕ
   pub text_same : text new.store ≡ text old.store
   pub count : new.count ≡ old.count
   pub broken : new.is_broken ≡ old.is_broken
-
--- an interruption leaves the one, each other fault the other
-abbrev pub AfterFault : SessionFault → Type 0 → Type 0 → Type 0
-AfterFault Interrupted interrupted same = interrupted
-AfterFault e interrupted same = same

@@ -12,7 +12,7 @@ use std::alloc::Allocator;
 impl<D: Device, T: TextStore, A: Allocator + Clone> Session<D, T, A> {
     ghost use Rattle.bx_journal.specs.Session.{IsReady};
     ghost use Rattle.bx_journal.specs.Standing.{IsStanding};
-    ghost use Rattle.bx_journal.specs.Calls.{AfterFaultOf, Differs, OpenFault};
+    ghost use Rattle.bx_journal.specs.Calls.{AfterFault, Differs, OpenFault};
     ghost use Rattle.bx_journal.specs.Opening.{FaultCounts, IsOpened, RefusesLength, RefusesText};
 
     /// Opens a pair. An unfinished entry is dropped, or its change is taken back. An `Err` hands both back.
@@ -49,7 +49,7 @@ impl<D: Device, T: TextStore, A: Allocator + Clone> Session<D, T, A> {
             → IfErr result (λ e. Recovers (T.text e.1) (D.image e.0) stack) }
         ensures lengths_kept { D.honest device → T.honest store → (stack : List (List ℕ)) → Recovers (T.text store) (D.image device) stack
             → IfErr result (λ e. (n : ℕ) → e.2 ≡ SessionFault.LengthDiffers n → ⊥) }
-        ensures refused { D.honest device → T.honest store → IfErr result (λ e. AfterFaultOf e.2 (Unit {0})
+        ensures refused { D.honest device → T.honest store → IfErr result (λ e. AfterFault e.2 (Unit {0})
             ((T.text e.1 ≡ T.text store) × (D.image e.0 ≡ D.image device))) }
         ensures honesty { IfOk result (λ o. (D.honest o.0.device ↔ D.honest device) × (T.honest o.0.store ↔ T.honest store)) }
         ensures honesty_err { IfErr result (λ e. (D.honest e.0 ↔ D.honest device) × (T.honest e.1 ↔ T.honest store)) }

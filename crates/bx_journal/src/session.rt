@@ -39,7 +39,8 @@ impl<D: Device, T: TextStore, A: Allocator> Model for Session<D, T, A> {
 }
 
 impl<D: Device, T: TextStore, A: Allocator + Clone> Session<D, T, A> {
-    ghost use Rattle.bx_journal.specs.Session.{IsReady, IsSame, AfterFault};
+    ghost use Rattle.bx_journal.specs.Calls.{AfterFault};
+    ghost use Rattle.bx_journal.specs.Session.{IsReady, IsSame};
     ghost use Rattle.bx_journal.specs.Standing.{IsStanding, PerformFault};
     ghost use Rattle.bx_journal.specs.Opening.{FaultCounts};
 

@@ -49,9 +49,9 @@ fn make_room<D: Device, T: TextStore, A: Allocator>(
 }
 
 impl<D: Device, T: TextStore, A: Allocator + Clone> Session<D, T, A> {
-    ghost use Rattle.bx_journal.specs.Session.{IsReady, IsSame, AfterFault};
+    ghost use Rattle.bx_journal.specs.Session.{IsReady, IsSame};
     ghost use Rattle.bx_journal.specs.Standing.{IsStanding};
-    ghost use Rattle.bx_journal.specs.Calls.{RecoversBelow};
+    ghost use Rattle.bx_journal.specs.Calls.{AfterFault, RecoversBelow};
     ghost use Rattle.bx_journal.specs.Opening.{FaultCounts};
     ghost use Rattle.bx_journal.specs.Undoing.{IsOutOfStep, UndoFault};
 

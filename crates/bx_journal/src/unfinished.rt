@@ -1,6 +1,6 @@
 //! What opening finds, and how it takes back what is unfinished.
 ghost use Rattle.std.specs.Prelude.{◌≡◌, ◌↔◌, ◌⊎◌, Some, ◌+◌, ◌<◌, ◌≤◌, List, ℕ, length, suc, OnOk, OnErr, IfOk, IfErr, IfSome, MatchResult};
-ghost use Rattle.bx_journal.specs.Calls.{AfterFaultOf, Differs, OpenFault};
+ghost use Rattle.bx_journal.specs.Calls.{AfterFault, Differs, OpenFault};
 ghost use Rattle.bx_journal.specs.Journal.{HasRead};
 ghost use Rattle.bx_journal.specs.Opening.{FaultCounts, OneMore, HasRoomFor, IsOpened, LookFault, RefusesLength, RefusesText};
 ghost use Rattle.bx_journal.specs.Parsed.{entries_of, reading_of, stage_of};
@@ -152,7 +152,7 @@ pub fn recover_read<D: Device, T: TextStore, A: Allocator>(
     ensures counted { D.honest device.old → T.honest store.old → (stack : List (List ℕ)) → Recovers (T.text store.old) (D.image device.old) stack
         → IfOk result (λ o. length stack ≡ suc o.changes) }
     ensures undamaged { IfErr result (λ e. (line : ℕ) → e ≡ SessionFault.Damaged line → ⊥) }
-    ensures refused { D.honest device.old → T.honest store.old → IfErr result (λ e. AfterFaultOf e (Unit {0})
+    ensures refused { D.honest device.old → T.honest store.old → IfErr result (λ e. AfterFault e (Unit {0})
         ((T.text store.new ≡ T.text store.old) × (D.image device.new ≡ D.image device.old))) }
     ensures device_honesty { D.honest device.new ↔ D.honest device.old }
     ensures store_honesty { T.honest store.new ↔ T.honest store.old }
@@ -220,7 +220,7 @@ pub fn recover<D: Device, T: TextStore, A: Allocator + Clone>(
         → OnErr result (Recovers (T.text store.new) (D.image device.new) stack) }
     ensures counted { D.honest device.old → T.honest store.old → (stack : List (List ℕ)) → Recovers (T.text store.old) (D.image device.old) stack
         → IfOk result (λ o. length stack ≡ suc o.changes) }
-    ensures refused { D.honest device.old → T.honest store.old → IfErr result (λ e. AfterFaultOf e (Unit {0})
+    ensures refused { D.honest device.old → T.honest store.old → IfErr result (λ e. AfterFault e (Unit {0})
         ((T.text store.new ≡ T.text store.old) × (D.image device.new ≡ D.image device.old))) }
     ensures device_honesty { D.honest device.new ↔ D.honest device.old }
     ensures store_honesty { T.honest store.new ↔ T.honest store.old }
