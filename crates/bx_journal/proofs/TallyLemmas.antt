@@ -17,7 +17,7 @@ use Rattle.bx_journal.specs.Plain.{HasNoNewline}
 use Rattle.bx_journal.specs.Stack.{HaveLengths, IsSound, Recovers, StandsFor, image_at, recovered, stack_of}
 use Rattle.bx_journal.specs.Phase.{IsAtRest}
 use Rattle.bx_journal.specs.declared.fault.SessionFault.TheVariants.{DeviceFailed, Damaged, LengthDiffers}
-use Rattle.bx_journal.specs.Calls.{how_of, Differs, OpenFault, AfterFaultOf}
+use Rattle.bx_journal.specs.Calls.{how_of, Differs, OpenFault, AfterFault}
 use Rattle.bx_journal.specs.Opening.{IsOpened, RefusesLength, FaultCounts}
 use Rattle.bx_journal.specs.Undoing.{IsFinished}
 use Rattle.bx_journal.specs.Tally.{place_of, tally_of, IsCounted}
@@ -214,7 +214,7 @@ pub ok_then : {T E P : Type 0} (Q : T → Type 0) (r : Result T E) → P → IfO
 ok_then Q (Ok v) p = λ q. p
 ok_then Q (Err e) p = tt
 
-pub err_same : {T P : Type 0} (r : Result T SessionFault) → P → IfErr r (λ e. AfterFaultOf e (Unit {0}) P)
+pub err_same : {T P : Type 0} (r : Result T SessionFault) → P → IfErr r (λ e. AfterFault e (Unit {0}) P)
 err_same (Ok v) p = tt
 err_same (Err e) p = after_same e _ p
 
