@@ -409,6 +409,24 @@ each_of_dump() { # each_of_dump ARG ..
     [ "$wrong" = 0 ] && say 1 "each read and write of $*" "$total runs" || say 0 "each read and write of $*" "$wrong wrong"
 }
 
+# The same for words that are wrong: status 2, or 1 where memory is refused.
+each_of_words() { # each_of_words ARG ..
+    local n total wrong=0 refused=0 status
+    : > input
+    shimmed a 0 "$@"
+    total=$(cat count)
+    for n in $(seq 1 "$total"); do
+        shimmed a "$n" "$@"
+        status=$?
+        case "$status $(cat err)" in
+            "1 bx: out of memory") refused=$((refused + 1)) ;;
+            "2 bx: bad arguments") ;;
+            *) wrong=$((wrong + 1)) ;;
+        esac
+    done
+    [ "$wrong" = 0 ] && [ "$refused" -gt 0 ] && say 1 "each memory request of $*" "$refused of $total refused" || say 0 "each memory request of $*" "$wrong of $total wrong"
+}
+
 failing_calls() {
     if ! build_shim; then
         echo "left out: each memory request, read and write (no C compiler)"
@@ -421,17 +439,23 @@ failing_calls() {
     each_request "revert" ABCDEFGH none revert -f dump img
     each_request "revert -p" ABCDEFGH none revert -p -s 3 -f plain img
     each_request "revert over a journal" ABxyEFGH text revert -f dump img
+    each_request "dd onto an image" ABxyEFGH text dd if=plain of=img obs=3 seek=1 conv=ucase
     each_request "undo" ABxyEFGH text undo img
     each_request "log" ABxyEFGH text log img
     each_call "revert" ABCDEFGH none ABCDEFGH revert -f dump img
     each_call "revert over a journal" ABxyEFGH text ABCDEFGH revert -f dump img
+    each_call "dd onto an image" ABxyEFGH text ABCDEFGH dd if=plain of=img obs=3 seek=1 conv=ucase
     each_call "undo" ABxyEFGH text ABCDEFGH undo img
     each_of_dump xxd
     each_of_dump xxd -i
     each_of_dump od -t x2
     each_of_dump hexdump -C
     each_of_dump strings -t x
+    each_of_dump dd cbs=4 conv=block,ucase
     each_of_dump --help
+    each_of_words xxd -c 300
+    each_of_words bogus
+    each_of_words undo -k 1k img
 }
 
 # A case of the toolchain's runs: an input, and the words, one a line.

@@ -109,6 +109,11 @@ fn accepted_words(rt: HostRuntime) -> Result<(), Fail> {
     ] {
         assert_eq!(rt; number(rt.alloc(), line), 0, "at {line}");
     }
+    Ok(())
+}
+
+#[test]
+fn words_of_help(rt: HostRuntime) -> Result<(), Fail> {
     for line in [
         "--help",
         "help xxd",

@@ -9,6 +9,7 @@ use bx_store::{MemText, TextStore};
 use std::alloc::Global;
 use std::io;
 use std::io::{ErrorKind, Read};
+use std::process::Abort;
 use std::test::Fail;
 
 /// The reply to dd with these operands, an input and a session that has seen no failure.
@@ -118,51 +119,104 @@ fn notrunc_and_sync_block(rt: HostRuntime) -> Result<(), Fail> {
     Ok(())
 }
 
-// What each run of dd with these operands makes of an empty image.
-#[test]
-fn conversions(rt: HostRuntime) -> Result<(), Fail> {
-    let alloc = rt.alloc();
+/// What dd with these operands makes of an empty image: the input, the image then, blocks, and records that were cut.
+struct Made {
+    line: &'static str,
+    input: &'static str,
+    image: &'static str,
+    blocks: [u64; 4],
+    cut: u64,
+}
+
+/// Each row on the image that the one before it left.
+fn assert_made(rt: &impl Abort, alloc: Global, rows: &[Made]) -> Result<(), Fail> {
     let mut session = fresh(alloc, b"")?;
     let mut number = 0u32;
-    for (line, input, output, blocks, cut) in [
-        ("ibs=3 conv=swab", "ABCDEF", "BACEDF", [2, 0, 0, 1], 0),
-        (
-            "cbs=4 conv=block",
-            "ab\nlongline\n",
-            "ab  long",
-            [0, 1, 0, 1],
-            1,
-        ),
-        ("cbs=4 conv=unblock", "ab  cd", "ab\ncd\n", [0, 1, 0, 1], 0),
-        (
-            "ibs=3 cbs=4 conv=block,ucase",
-            "ab\nlongline\n",
-            "AB  LONG",
-            [4, 0, 0, 1],
-            1,
-        ),
-        ("ibs=4 conv=sync", "abcde", "abcde\0\0\0", [1, 1, 0, 1], 0),
-        (
-            "ibs=2 obs=2 skip=1 count=1 conv=ucase",
-            "abcdef",
-            "CD",
-            [1, 0, 1, 0],
-            0,
-        ),
-        ("skip=9", "abc", "", [0, 0, 0, 0], 0),
-        ("count=0", "abc", "", [0, 0, 0, 0], 0),
-    ] {
+    for row in rows {
+        let line = row.line;
         number = number.saturating_add(1);
         assert_eq!(rt;
-            dd(alloc, &mut session, line, input.as_bytes())?,
-            copied(number, blocks, cut),
+            dd(alloc, &mut session, line, row.input.as_bytes())?,
+            copied(number, row.blocks, row.cut),
             "at {line}"
         );
         let (next, image, _) = look(alloc, session)?;
         session = next;
-        assert!(rt; image.as_slice() == output.as_bytes(), "at {line}");
+        assert!(rt; image.as_slice() == row.image.as_bytes(), "at {line}");
     }
     Ok(())
+}
+
+const CONVERSIONS: [Made; 5] = [
+    Made {
+        line: "ibs=3 conv=swab",
+        input: "ABCDEF",
+        image: "BACEDF",
+        blocks: [2, 0, 0, 1],
+        cut: 0,
+    },
+    Made {
+        line: "cbs=4 conv=block",
+        input: "ab\nlongline\n",
+        image: "ab  long",
+        blocks: [0, 1, 0, 1],
+        cut: 1,
+    },
+    Made {
+        line: "cbs=4 conv=unblock",
+        input: "ab  cd",
+        image: "ab\ncd\n",
+        blocks: [0, 1, 0, 1],
+        cut: 0,
+    },
+    Made {
+        line: "ibs=3 cbs=4 conv=block,ucase",
+        input: "ab\nlongline\n",
+        image: "AB  LONG",
+        blocks: [4, 0, 0, 1],
+        cut: 1,
+    },
+    Made {
+        line: "ibs=4 conv=sync",
+        input: "abcde",
+        image: "abcde\0\0\0",
+        blocks: [1, 1, 0, 1],
+        cut: 0,
+    },
+];
+
+#[test]
+fn conversions(rt: HostRuntime) -> Result<(), Fail> {
+    assert_made(&rt, rt.alloc(), &CONVERSIONS)
+}
+
+const PARTS: [Made; 3] = [
+    Made {
+        line: "ibs=2 obs=2 skip=1 count=1 conv=ucase",
+        input: "abcdef",
+        image: "CD",
+        blocks: [1, 0, 1, 0],
+        cut: 0,
+    },
+    Made {
+        line: "skip=9",
+        input: "abc",
+        image: "",
+        blocks: [0, 0, 0, 0],
+        cut: 0,
+    },
+    Made {
+        line: "count=0",
+        input: "abc",
+        image: "",
+        blocks: [0, 0, 0, 0],
+        cut: 0,
+    },
+];
+
+#[test]
+fn parts_of_an_input(rt: HostRuntime) -> Result<(), Fail> {
+    assert_made(&rt, rt.alloc(), &PARTS)
 }
 
 #[test]

@@ -384,28 +384,42 @@ fn open_fused(
     })
 }
 
-/// Stops the opening of a pair at each call: the stack that opening finds stays. Tells how often it was stopped.
+/// Stops the opening of a pair at one call: the stack that opening finds stays. Answers what is left, if it was stopped.
+fn stopped_opening(
+    rt: &impl Abort,
+    alloc: Global,
+    pair: (&[u8], &[u8]),
+    images: &Images,
+    changes: u32,
+    fused: Fused,
+) -> Result<Option<Found<MemImage, MemText>>, Fail> {
+    let found = open_fused(rt, alloc, pair, fused)?;
+    if !found.stopped {
+        return Ok(None);
+    }
+    let left = (found.device.as_slice(), found.store.as_slice());
+    assert_eq!(rt; assert_recovers(rt, alloc, left, images, 0)?, changes);
+    Ok(Some(found))
+}
+
+/// Stops the opening of a pair at each call, and then that of what is left. Tells how often it was stopped.
 fn assert_openings(
     rt: &impl Abort,
     alloc: Global,
     pair: (&[u8], &[u8]),
     images: &Images,
     changes: u32,
-    again: bool,
 ) -> Result<u32, Fail> {
     let mut stops = 0u32;
     for kind in 0..OPENING_KINDS {
         for pass in 0..MOST_CALLS {
-            let found = open_fused(rt, alloc, pair, fuse_of(kind, pass))?;
-            if !found.stopped {
+            let fused = fuse_of(kind, pass);
+            let Some(found) = stopped_opening(rt, alloc, pair, images, changes, fused)? else {
                 break;
-            }
-            stops = stops.saturating_add(1);
+            };
             let left = (found.device.as_slice(), found.store.as_slice());
-            assert_eq!(rt; assert_recovers(rt, alloc, left, images, 0)?, changes);
-            if again {
-                stops = stops.saturating_add(assert_once_more(rt, alloc, left, images, changes)?);
-            }
+            let more = assert_once_more(rt, alloc, left, images, changes)?;
+            stops = stops.saturating_add(more).saturating_add(1);
         }
     }
     Ok(stops)
@@ -422,13 +436,11 @@ fn assert_once_more(
     let mut stops = 0u32;
     for kind in 0..OPENING_KINDS {
         for pass in 0..MOST_CALLS {
-            let found = open_fused(rt, alloc, pair, fuse_of(kind, pass))?;
-            if !found.stopped {
+            let fused = fuse_of(kind, pass);
+            if stopped_opening(rt, alloc, pair, images, changes, fused)?.is_none() {
                 break;
             }
             stops = stops.saturating_add(1);
-            let left = (found.device.as_slice(), found.store.as_slice());
-            assert_eq!(rt; assert_recovers(rt, alloc, left, images, 0)?, changes);
         }
     }
     Ok(stops)
@@ -449,7 +461,7 @@ fn assert_stops(rt: &impl Abort, alloc: Global, script: &Script<'_>) -> Result<(
                 break;
             }
             stops = stops.saturating_add(1);
-            let more = assert_openings(rt, alloc, pair, &left.images, changes, true)?;
+            let more = assert_openings(rt, alloc, pair, &left.images, changes)?;
             openings = openings.saturating_add(more);
         }
         assert_eq!(rt; course, Course::Whole);

@@ -253,23 +253,64 @@ fn assert_writer(
 
 const ACTS: [Act; 4] = [Act::Fail, Act::Nothing, Act::Interrupt, Act::Half];
 
-#[test]
-fn readers_at_each_call(rt: HostRuntime) -> Result<(), Fail> {
-    let alloc = rt.alloc();
+/// Which side of a dump does something at one call.
+#[derive(Clone, Copy)]
+enum Side {
+    Reader,
+    Writer,
+}
+
+impl Side {
+    /// Tells whether the call came.
+    fn assert(
+        self,
+        rt: &impl Abort,
+        alloc: Global,
+        job: &Job,
+        bytes: &[u8],
+        turn: Turn,
+    ) -> Result<bool, Fail> {
+        match self {
+            Side::Reader => assert_reader(rt, alloc, job, bytes, turn),
+            Side::Writer => assert_writer(rt, alloc, job, bytes, turn),
+        }
+    }
+}
+
+/// Something happens at each call of one side, under each dump. Tells how often.
+fn turns_of(rt: &impl Abort, alloc: Global, side: Side) -> Result<u32, Fail> {
     let bytes = sample(alloc, 600)?;
     let mut turns = 0u32;
     for line in lines(alloc)?.as_slice() {
         let job = job(alloc, line)?;
         for act in ACTS {
-            for left in 0..MOST_CALLS {
-                let turn = Turn::new(act, left);
-                if !assert_reader(&rt, alloc, &job, bytes.as_slice(), turn)? {
-                    break;
-                }
-                turns = turns.saturating_add(1);
-            }
+            let came = calls_of(rt, alloc, side, &job, bytes.as_slice(), act)?;
+            turns = turns.saturating_add(came);
         }
     }
+    Ok(turns)
+}
+
+/// The same act at each call that comes. Tells how many came.
+fn calls_of(
+    rt: &impl Abort,
+    alloc: Global,
+    side: Side,
+    job: &Job,
+    bytes: &[u8],
+    act: Act,
+) -> Result<u32, Fail> {
+    for left in 0..MOST_CALLS {
+        if !side.assert(rt, alloc, job, bytes, Turn::new(act, left))? {
+            return Ok(left);
+        }
+    }
+    Ok(MOST_CALLS)
+}
+
+#[test]
+fn readers_at_each_call(rt: HostRuntime) -> Result<(), Fail> {
+    let turns = turns_of(&rt, rt.alloc(), Side::Reader)?;
     println!(rt; "{turns} readers")?;
     assert!(rt; turns > 200);
     Ok(())
@@ -277,21 +318,7 @@ fn readers_at_each_call(rt: HostRuntime) -> Result<(), Fail> {
 
 #[test]
 fn writers_at_each_call(rt: HostRuntime) -> Result<(), Fail> {
-    let alloc = rt.alloc();
-    let bytes = sample(alloc, 600)?;
-    let mut turns = 0u32;
-    for line in lines(alloc)?.as_slice() {
-        let job = job(alloc, line)?;
-        for act in ACTS {
-            for left in 0..MOST_CALLS {
-                let turn = Turn::new(act, left);
-                if !assert_writer(&rt, alloc, &job, bytes.as_slice(), turn)? {
-                    break;
-                }
-                turns = turns.saturating_add(1);
-            }
-        }
-    }
+    let turns = turns_of(&rt, rt.alloc(), Side::Writer)?;
     println!(rt; "{turns} writers")?;
     assert!(rt; turns > 400);
     Ok(())
