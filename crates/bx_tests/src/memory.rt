@@ -299,5 +299,6 @@ fn growths_of_opening(rt: HostRuntime) -> Result<(), Fail> {
     let number = 1;
     sweep_opening(&rt, rt.alloc(), whole, How::Restored { number }, 2)?;
     let done = "change 00000001 00000040\n00000030: 4142\nsave 00000001\ndone 00000001\n";
-    sweep_opening(&rt, rt.alloc(), done, How::Clean, 2)
+    // Finished entries are counted, and only the text is held.
+    sweep_opening(&rt, rt.alloc(), done, How::Clean, 1)
 }
