@@ -4,3 +4,4 @@ pub mod FixedLemmas
 pub mod PartsLemmas
 pub mod PiecesLemmas
 pub mod NumberLemmas
+pub mod LaneLemmas
