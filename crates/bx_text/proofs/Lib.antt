@@ -5,3 +5,4 @@ pub mod PartsLemmas
 pub mod RangeLemmas
 pub mod PiecesLemmas
 pub mod NumberLemmas
+pub mod LaneLemmas
