@@ -6,6 +6,7 @@ mod fast;
 mod fault;
 mod field;
 mod fold;
+mod lanes;
 mod line;
 mod number;
 mod numbers;
