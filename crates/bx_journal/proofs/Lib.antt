@@ -39,3 +39,5 @@ pub mod Performed
 pub mod PieceBound
 pub mod SavedBound
 pub mod PageLemmas
+pub mod DigitLanes
+pub mod PartLemmas
