@@ -6,7 +6,7 @@ use Rattle.std.specs.List.{flat_map, range_with_len}
 use Rattle.std.proofs.lemmas.Slice.{take-put_mid}
 use Rattle.std.proofs.lemmas.List.{take_more, take_more_set, length-set, length-take-le, length-drop, length-replicate, get_or-replicate, ext_get_or}
 use Rattle.std.proofs.lemmas.Grind.{flat_map-append}
-use Rattle.bx_dump.proofs.LinesLemmas.{flat_map_split}
+use Rattle.bx_text.proofs.RangeLemmas.{flat_map_split}
 use Rattle.bx_dump.specs.Cells.{piece_at, grouped}
 
 -- two characters more

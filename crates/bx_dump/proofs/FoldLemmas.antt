@@ -10,7 +10,7 @@ use Rattle.std.proofs.Math.Seq.{drop-append-add}
 use Rattle.bx_text.specs.declared.fold.Fold.{Fold}
 use Rattle.bx_text.specs.declared.fold.Show.TheVariants.{Line, Star, Nothing}
 use Rattle.bx_text.specs.Fold.{line_bytes, is_hidden, was_hidden, show_at, line_text, lines_to, line_count, folded, HasTaken, IsTaken}
-use Rattle.bx_dump.proofs.LinesLemmas.{flat_map_along, flat_map_split}
+use Rattle.bx_text.proofs.RangeLemmas.{flat_map_along, flat_map_split}
 
 pos16 : 0 < 16
 pos16 = omega arith

@@ -8,7 +8,7 @@ use Rattle.std.proofs.lemmas.List.{length-take-le, drop-drop, take-append-drop, 
 use Rattle.std.proofs.lemmas.List.Folds.{prefix_len-append}
 use Rattle.std.proofs.lemmas.List.Sums.{prefix_len-le-length}
 use Rattle.bx_dump.specs.declared.od_options.Address.{Address}
-use Rattle.bx_dump.specs.Strings.{is_printable}
+use Rattle.bx_text.specs.Ascii.{is_printable}
 use Rattle.bx_dump.specs.Scan.{scan_text, scan_run, AllPrint, EndsQuiet, IsQuiet, four_print}
 use Rattle.bx_dump.proofs.ScanLemmas.{both, ends_quiet}
 

@@ -7,7 +7,8 @@ use Rattle.std.proofs.lemmas.Bool.Decides.{nat_tests}
 use Rattle.std.specs.Prelude.{slice_index}
 use Rattle.std.proofs.Math.Seq.{take-add}
 use Rattle.bx_dump.specs.declared.od_options.Address.{Address}
-use Rattle.bx_dump.specs.Strings.{is_printable, place_text}
+use Rattle.bx_text.specs.Ascii.{is_printable}
+use Rattle.bx_dump.specs.Strings.{place_text}
 use Rattle.bx_dump.specs.declared.od_options.Address.TheVariants.{Octal, Decimal, Hexadecimal, Without}
 use Rattle.bx_dump.specs.Scan.{scan_text, scan_run, grown_text, end_text, AllPrint, NonePrints, cost_of, pending, IsKept, EndsQuiet, IsQuiet}
 

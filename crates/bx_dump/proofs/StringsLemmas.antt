@@ -4,14 +4,15 @@ use Rattle.std.specs.Prelude.{nat_lt, nat_le, ◌==◌, codes, if◌then◌else�
 use Rattle.std.specs.List.{prefix_len}
 use Rattle.std.proofs.lemmas.Bool.{cases_lt, cases_eq, eq-eqb, ne_eqb}
 use Rattle.std.proofs.lemmas.Bool.Decides.{nat_tests}
-use Rattle.bx_dump.proofs.LinesLemmas.{flat_map_along}
+use Rattle.bx_text.proofs.RangeLemmas.{flat_map_along}
 use Rattle.std.specs.Prelude.{Option}
 use Rattle.std.proofs.lemmas.List.{take-append-le}
 use Rattle.bx_text.specs.declared.fault.IoFault.{IoFault}
 use Rattle.bx_dump.specs.Dumped.{DumpsFront}
 use Rattle.bx_dump.proofs.ScanLemmas.{both}
 use Rattle.bx_dump.specs.declared.od_options.Address.{Address}
-use Rattle.bx_dump.specs.Strings.{is_printable, place_text, is_run_start, line_at, runs_text, strings_text}
+use Rattle.bx_text.specs.Ascii.{is_printable}
+use Rattle.bx_dump.specs.Strings.{place_text, is_run_start, line_at, runs_text, strings_text}
 use Rattle.bx_dump.specs.Scan.{scan_text, scan_run, grown_text, end_text}
 
 -- what a run that stands right before x leaves to be written

@@ -4,7 +4,8 @@ use Rattle.std.specs.Int.{w64, trailing_zeros}
 use Rattle.std.specs.Io.KnownBytes.{Appends, Consumes, IsAtEnd}
 use Rattle.bx_dump.specs.declared.od_options.Address.{Address}
 use Rattle.bx_dump.specs.declared.od_options.Address.TheVariants.{Octal, Decimal, Hexadecimal, Without}
-use Rattle.bx_dump.specs.Strings.{is_printable, place_text}
+use Rattle.bx_text.specs.Ascii.{is_printable}
+use Rattle.bx_dump.specs.Strings.{place_text}
 
 -- what is known with one more byte of a run: all of it once it is long enough, then each byte
 abbrev pub grown_text : ℕ → Address → ℕ → List ℕ → ℕ → List ℕ

@@ -2,7 +2,7 @@
 ghost use Rattle.std.specs.Prelude.{◌≡◌, ℕ, ◌+◌, ◌<◌, ◌≤◌, true, false, length, take, drop};
 ghost use Rattle.std.specs.List.{prefix_len};
 ghost use Rattle.bx_dump.specs.Scan.{first_set, four_print};
-ghost use Rattle.bx_dump.specs.Strings.{is_printable};
+ghost use Rattle.bx_text.specs.Ascii.{is_printable};
 
 use std::simd::prelude::*;
 

@@ -3,7 +3,8 @@ ghost use Rattle.std.specs.Prelude.{◌≡◌, ℕ, ◌+◌, ◌-◌, ◌*◌, �
 ghost use Rattle.std.specs.List.{prefix_len};
 ghost use Rattle.bx_dump.specs.Dumped.{DumpsAll, DumpsFront};
 ghost use Rattle.bx_dump.specs.Scan.{scan_text, scan_run, IsKept, ScansAll, pending, cost_of, end_text, AllPrint, EndsQuiet, IsQuiet};
-ghost use Rattle.bx_dump.specs.Strings.{is_printable, place_text, strings_text};
+ghost use Rattle.bx_text.specs.Ascii.{is_printable};
+ghost use Rattle.bx_dump.specs.Strings.{place_text, strings_text};
 
 use crate::lanes::{four_in, printing_in};
 use crate::od_options::Address;

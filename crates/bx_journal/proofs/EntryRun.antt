@@ -14,7 +14,8 @@ use Rattle.bx_journal.specs.Hex.{hex_digits}
 use Rattle.bx_journal.specs.DumpLine.{dump_line, piece_of}
 use Rattle.bx_journal.specs.Line.{start_line, save_line, end_line, saved_in}
 use Rattle.bx_journal.specs.Entry.{rows, head_lines}
-use Rattle.bx_journal.specs.Text.{IsPrefix, Reading, Entry, Between, Saving, Ending, IsRest, next, next_at, begins, may_begin, is_short, is_printable, begins_with_s}
+use Rattle.bx_text.specs.Ascii.{is_printable}
+use Rattle.bx_journal.specs.Text.{IsPrefix, Reading, Entry, Between, Saving, Ending, IsRest, next, next_at, begins, may_begin, is_short, begins_with_s}
 use Rattle.bx_journal.proofs.Written.{IsSavedLine, saved_line}
 use Rattle.bx_journal.proofs.Runs.{SafeRun}
 use Rattle.bx_journal.proofs.SavedLines.{saved_reads}

@@ -7,7 +7,7 @@ use Rattle.std.specs.Str.{bytes_eq}
 use Rattle.std.proofs.Math.Seq.{take-append_seam, drop-cons}
 use Rattle.std.proofs.Common.{get_or, add-one, not}
 use Rattle.std.specs.List.{list_all}
-use Rattle.bx_journal.specs.Text.{is_printable}
+use Rattle.bx_text.specs.Ascii.{is_printable}
 use Rattle.std.proofs.Math.Nat.{pow-suc, le-div_iff_mul-le}
 use Rattle.bx_image.specs.declared.change.TheConstants.{MAX_LEN}
 use Rattle.bx_journal.specs.Hex.{hex_digits, hex_value, number_after}

@@ -12,7 +12,8 @@ use Rattle.bx_journal.specs.declared.version.Version.{Version}
 use Rattle.bx_journal.specs.declared.version.Version.TheVariants.{First, Second}
 use Rattle.bx_journal.specs.Hex.{hex_digits, number_after, number_of}
 use Rattle.bx_journal.specs.Line.{digits_of, start_size, start_head, start_line, save_line, end_head, end_line, behind, at_most, length_in, after_in}
-use Rattle.bx_journal.specs.Text.{is_printable, is_short}
+use Rattle.bx_text.specs.Ascii.{is_printable}
+use Rattle.bx_journal.specs.Text.{is_short}
 use Rattle.bx_journal.specs.Plain.{HasNoNewline}
 use Rattle.bx_journal.proofs.Splits.{plain-append}
 use Rattle.bx_journal.proofs.HexLemmas.{length-hex_digits, number_of-hex_digits, plain-hex_digits, printable-hex_digits}

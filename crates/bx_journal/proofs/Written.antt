@@ -10,7 +10,8 @@ use Rattle.bx_read.specs.Laws.{line_text, IsWritten}
 use Rattle.bx_journal.specs.Kept.{Run}
 use Rattle.bx_journal.specs.Plain.{HasNoNewline}
 use Rattle.bx_journal.specs.DumpLine.{dump_line, piece_of}
-use Rattle.bx_journal.specs.Text.{IsPrefix, is_short, is_printable, begins_with_s}
+use Rattle.bx_text.specs.Ascii.{is_printable}
+use Rattle.bx_journal.specs.Text.{IsPrefix, is_short, begins_with_s}
 
 pub record IsSavedLine (line : List ℕ) (piece : Run) : Type 0 where
   pub reads : piece_of line ≡ Some piece

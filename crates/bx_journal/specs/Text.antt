@@ -3,6 +3,7 @@ use Rattle.std.specs.Prelude.{◌≡◌, ◌⊎◌, ◌<◌, ◌≤◌, ℕ, suc
 use Rattle.std.specs.Option.{option_and_then, option_map, option_or}
 use Rattle.std.specs.List.{list_all}
 use Rattle.std.specs.Str.{bytes_eq}
+use Rattle.bx_text.specs.Ascii.{is_printable}
 use Rattle.bx_image.specs.declared.change.TheConstants.{MAX_LEN}
 use Rattle.bx_journal.specs.Kept.{Kept, with_run}
 use Rattle.bx_journal.specs.declared.version.Version.{Version}
@@ -81,9 +82,6 @@ after_lines r (line ∷ lines) = option_and_then (λ q. after_lines q lines) (ne
 
 abbrev pub IsPrefix : List ℕ → List ℕ → Type 0
 IsPrefix front text = (rest : List ℕ) × (text ≡ front ++ rest)
-
-abbrev pub is_printable : ℕ → Bool
-is_printable b = nat_le 32 b && nat_le b 126
 
 -- at most 75 bytes that print
 abbrev pub is_short : List ℕ → Bool

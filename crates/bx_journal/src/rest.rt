@@ -3,7 +3,8 @@ ghost use Rattle.std.specs.Prelude.{◌≡◌, ◌↔◌, ◌+◌, ◌<◌, ◌�
 ghost use Rattle.bx_journal.specs.Front.{IsNumberFront, IsStartFront};
 ghost use Rattle.std.specs.Prelude.{◌^◌};
 ghost use Rattle.bx_journal.specs.Line.{digits_of, start_line as start_words};
-ghost use Rattle.bx_journal.specs.Text.{Between as Resting, Saving as Keeping, Ending as Closing, Entry, IsPrefix, IsRest, is_short as short, is_printable};
+ghost use Rattle.bx_text.specs.Ascii.{is_printable};
+ghost use Rattle.bx_journal.specs.Text.{Between as Resting, Saving as Keeping, Ending as Closing, Entry, IsPrefix, IsRest, is_short as short};
 ghost use Rattle.bx_journal.specs.Parsed.{told_by, stage_of};
 ghost use Rattle.bx_journal.specs.declared.version.Version.{Version as Form};
 ghost use Rattle.bx_journal.specs.Kept.{Kept as Record};

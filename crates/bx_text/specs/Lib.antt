@@ -1,4 +1,5 @@
 pub mod Field
+pub mod Ascii
 pub mod Dump
 pub mod Radix
 pub mod Stream

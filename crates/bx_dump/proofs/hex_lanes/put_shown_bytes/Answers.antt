@@ -1,4 +1,4 @@
-use Rattle.std.proofs.Common.{◌≡◌, ◌*◌, ◌/◌, ◌++◌, length, take, drop, map, sym, ap, ◌∙◌}
+use Rattle.std.proofs.Common.{◌*◌, ◌/◌, ◌++◌, length, take, drop, map, sym, ap, ◌∙◌}
 use Rattle.std.proofs.lemmas.List.{take_rest, take-append-drop, map-append}
 use Rattle.bx_text.specs.Dump.{shown_byte}
 use Rattle.bx_dump.proofs.hex_lanes.put_shown_bytes.Goals as goal

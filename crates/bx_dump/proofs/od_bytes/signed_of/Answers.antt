@@ -1,4 +1,4 @@
-use Rattle.std.proofs.Common.{◌≡◌, ℕ, ◌<◌, [], ◌∷◌, get_or, false, true, refl}
+use Rattle.std.proofs.Common.{◌≡◌, ℕ, ◌<◌, [], get_or, true, refl}
 use Rattle.std.specs.Prelude.{bytes_eq}
 use Rattle.std.specs.Fmt.{digits}
 use Rattle.std.proofs.lemmas.Bool.{agree_below_at}

@@ -1,6 +1,6 @@
 use Rattle.std.proofs.Common.{◌≡◌, ◌+◌, ◌-◌, ◌≤◌, length, drop}
 use Rattle.std.specs.List.{prefix_len}
-use Rattle.bx_dump.specs.Strings.{is_printable}
+use Rattle.bx_text.specs.Ascii.{is_printable}
 use Rattle.bx_dump.proofs.printable.printable_len.Given as goal
 
 abbrev pub invariant-loop-done : goal.invariant-loop-done
