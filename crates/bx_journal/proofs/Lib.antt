@@ -39,3 +39,4 @@ pub mod Performed
 pub mod PieceBound
 pub mod SavedBound
 pub mod PageLemmas
+pub mod NearRows

@@ -1,11 +1,11 @@
-use Rattle.std.proofs.Common.{◌≡◌, ℕ, ◌+◌, ◌-◌, ◌*◌, ◌^◌, min, List, length, map, take, drop, ap, ◌∙◌, arith, length-append, length-take, length-drop}
+use Rattle.std.proofs.Common.{◌≡◌, ℕ, ◌-◌, ◌*◌, ◌^◌, min, List, length, map, drop, ap, ◌∙◌, arith, length-append, length-take, length-drop}
 use Rattle.std.specs.List.{range_with_len}
 use Rattle.bx_journal.specs.Kept.{Run, run_of}
 use Rattle.bx_journal.specs.DumpLine.{dump_line}
 use Rattle.bx_journal.specs.Entry.{row, rows_text}
 use Rattle.bx_journal.specs.Text.{ended}
 use Rattle.bx_journal.proofs.WriterLemmas.{row_more, rows_all}
-use Rattle.bx_journal.proofs.lengths.run_len.Goals as goal
+use Rattle.bx_journal.proofs.lengths.far_run_len.Goals as goal
 
 pub loop-k-preserved : goal.loop-k-preserved
 loop-k-preserved g c =
