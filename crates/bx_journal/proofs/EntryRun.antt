@@ -1,5 +1,5 @@
 -- A written entry may be cut anywhere.
-use Rattle.std.proofs.Common.{◌≡◌, ℕ, suc, ◌+◌, ◌<◌, ◌≤◌, Bool, true, false, List, [], ◌∷◌, ◌++◌, length, length-append, get_or, refl, sym, subst, inl, inr, arith, append_assoc, append-nil, Some, None, map}
+use Rattle.std.proofs.Common.{◌≡◌, ℕ, suc, ◌+◌, ◌<◌, ◌≤◌, Bool, true, false, List, [], ◌∷◌, ◌++◌, length, length-append, refl, sym, subst, inl, inr, arith, append_assoc, append-nil, Some, None, map}
 use Rattle.std.specs.Prelude.{◌&&◌, flat_map, nat_le, nat_lt, if◌then◌else◌}
 use Rattle.std.specs.List.{list_all}
 use Rattle.std.specs.Str.{bytes_eq}
@@ -34,19 +34,6 @@ between es = record { entries = es; stage = Between }
 not_save : (line rest : List ℕ) → begins_with_s line ≡ false → bytes_eq line (115 ∷ rest) ≡ false
 not_save [] rest h = refl
 not_save (b ∷ line) rest h = rw h refl
-
--- a line that doesn't begin as a save line
-pub save_apart : (n : ℕ) (line : List ℕ) → begins_with_s line ≡ false → bytes_eq line (save_line n) ≡ false
-unfolding save_line
-save_apart n line apart = not_save line (97 ∷ 118 ∷ 101 ∷ 32 ∷ hex_digits 8 n) apart
-
-pub nothing_apart : (line : List ℕ) → length line ≡ 0 → begins_with_s line ≡ false
-nothing_apart [] none = refl
-nothing_apart (b ∷ line) none = absurd (omega arith)
-
-pub first_apart : (line : List ℕ) → (get_or line 0 0 ≡ 115 → ⊥) → begins_with_s line ≡ false
-first_apart [] apart = refl
-first_apart (b ∷ line) apart = grind (arith, common_steps, apart)
 
 pub save_rest : (es : List Entry) (v : Version) (s : Kept) (t : List ℕ) → IsPrefix t (save_line (suc (length es))) → IsRest es (Saving v s) t
 unfolding save_line

@@ -40,3 +40,5 @@ pub mod PieceBound
 pub mod SavedBound
 pub mod PageLemmas
 pub mod NearRows
+pub mod DigitLanes
+pub mod PartLemmas

@@ -4,9 +4,11 @@
 mod again;
 mod calls;
 mod closing;
+mod ends;
 mod fault;
 mod images;
 mod journal;
+mod lanes;
 mod laws;
 mod lengths;
 mod line;

@@ -7,7 +7,7 @@ ghost use Rattle.bx_journal.specs.Line.{at_most as most, length_in as length_rea
 
 use crate::Version;
 use crate::version::width_of;
-use crate::words::{behind, end_head, number_of, save_text, start_head};
+use crate::words::{behind_end, behind_start, is_numbered, number_of};
 use bx_image::MAX_LEN;
 use bx_read::{FullLine, Line, full_text};
 use bx_text::{Bytes, NoMemory, Piece};
@@ -42,43 +42,35 @@ pub fn length_in(version: Version, number: u32, line: &[u8]) -> Option<u64>
     if line.len() != start_size_of(version) {
         return None;
     }
-    let head = start_head(version, number);
-    let digits = behind(head.as_bytes(), line)?;
+    let digits = behind_start(version, number, line)?;
     at_most_longest(number_of(width_of(version), digits))
 }
 
 /// Whether the line ends what the entry of this number saves.
+#[tactic(auto, unfolding(crate::specs::Line::save_line))]
 #[inline(always)]
 pub fn is_save(number: u32, line: &[u8]) -> bool
     ensures { result ≡ bytes_eq line.now (save_line number) }
 {
-    if line.is_empty() {
-        return false;
-    }
-    if line[0] != b's' {
-        return false;
-    }
-    let text = save_text(number);
-    line == text.as_bytes()
+    is_numbered(b"save ", number, line)
 }
 
 /// The length after the change, where the line ends the entry of this version and number. The first version has none.
-#[tactic(auto, unfolding(crate::specs::Line::after_in, crate::specs::Line::end_line))]
+#[tactic(auto, unfolding(crate::specs::Line::after_in, crate::specs::Line::end_line, crate::specs::Line::end_head))]
 #[inline(always)]
 pub fn after_in(version: Version, number: u32, line: &[u8]) -> Option<Option<u64>>
     ensures { result ≡ after_read version number line.now }
 {
-    let head = end_head(version, number);
     match version {
         Version::First => {
-            if line == head.as_bytes() {
+            if is_numbered(b"done ", number, line) {
                 Some(None)
             } else {
                 None
             }
         }
         Version::Second => {
-            let digits = behind(head.as_bytes(), line)?;
+            let digits = behind_end(number, line)?;
             Some(Some(at_most_longest(number_of(16, digits))?))
         }
     }
@@ -118,22 +110,11 @@ fn within(len: u64, line: SavedLine) -> Option<SavedLine>
     Some(line)
 }
 
-/// What a saved line gives in an entry of an image of this length.
-#[inline]
-pub fn saved_in(len: u64, line: &[u8]) -> Option<SavedLine>
+/// What a saved line of any form gives in an entry of an image of this length.
+#[inline(never)]
+fn any_in(len: u64, line: &[u8]) -> Option<SavedLine>
     ensures { MatchOption result (saved_read len line.now ≡ None) (λ l. saved_read len line.now ≡ Some (record { at = l.at; bytes = take l.count l.bytes })) }
 {
-    if let Some(full) = full_in(line) {
-        let bytes = full.bytes;
-        return within(
-            len,
-            SavedLine {
-                at: full.at,
-                bytes,
-                count: 16,
-            },
-        );
-    }
     let Ok(read) = Line::parse(line, 1) else {
         return None;
     };
@@ -152,6 +133,25 @@ pub fn saved_in(len: u64, line: &[u8]) -> Option<SavedLine>
             count,
         },
     )
+}
+
+/// What a saved line gives in an entry of an image of this length.
+#[inline]
+pub fn saved_in(len: u64, line: &[u8]) -> Option<SavedLine>
+    ensures { MatchOption result (saved_read len line.now ≡ None) (λ l. saved_read len line.now ≡ Some (record { at = l.at; bytes = take l.count l.bytes })) }
+{
+    if let Some(full) = full_in(line) {
+        let bytes = full.bytes;
+        return within(
+            len,
+            SavedLine {
+                at: full.at,
+                bytes,
+                count: 16,
+            },
+        );
+    }
+    any_in(len, line)
 }
 
 /// These bytes at an address, in memory of their own.

@@ -9,13 +9,12 @@ ghost use Rattle.bx_journal.specs.Parsed.{told_by, stage_of};
 ghost use Rattle.bx_journal.specs.declared.version.Version.{Version as Form};
 ghost use Rattle.bx_journal.specs.Kept.{Kept as Record};
 
+use crate::step::MOST_CHANGES;
 use crate::version::width_of;
 use crate::words::{end_head, number, push_number, save_text, start_head};
 use crate::{StageRead, Version};
 use bx_image::MAX_LEN;
 use std::alloc::Allocator;
-
-const MOST_CHANGES: u32 = 65_535;
 
 const MOST_SHORT: usize = 75;
 

@@ -10,14 +10,13 @@ use crate::SessionFault;
 use crate::images::save_image;
 use crate::lengths::head_len;
 use crate::page::new_page;
+use crate::step::MOST_CHANGES;
 use crate::steps::write_entry;
 use crate::writer::entry_end;
 use bx_image::{Change, Device, MAX_LEN, check};
 use bx_store::TextStore;
 use std::alloc::{Allocator, Global};
 use std::marker::Model;
-
-const MOST_CHANGES: u32 = 65_535;
 
 /// An image and the journal of its changes. After a fault in the middle of writing it is broken: it answers
 /// `Broken` until the pair is opened again.

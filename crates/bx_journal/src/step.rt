@@ -13,6 +13,7 @@ use bx_image::Saved;
 use bx_text::{NoMemory, Piece, Pieces};
 use std::alloc::Allocator;
 
+/// How many changes a journal holds.
 pub const MOST_CHANGES: u32 = 65_535;
 
 /// The length in a line that begins an entry of this version, where the entry may begin with it.

@@ -1,11 +1,13 @@
 //! A journal's text whose entries are counted, and of which nothing else is kept.
-ghost use Rattle.std.specs.Prelude.{◌≡◌, ◌+◌, ◌<◌, ◌≤◌, List, ℕ, suc, length, Some, IfSome};
+ghost use Rattle.std.specs.Prelude.{◌≡◌, ◌+◌, ◌<◌, ◌≤◌, ◌++◌, ◌∷◌, List, ℕ, suc, length, take, drop, Some, IfSome, IfNone};
 ghost use Rattle.bx_journal.specs.Kept.{Kept as Record};
+ghost use Rattle.bx_journal.specs.Plain.{HasNoNewline};
 ghost use Rattle.bx_journal.specs.Tally.{IsCounted, tally_of, place_of};
 ghost use Rattle.bx_journal.specs.Text.{Between as Resting, Saving as Keeping, Entry, Reading, Stage, next, next_at};
 ghost use Rattle.bx_journal.specs.Parsed.{told_by};
 
 use crate::Version;
+use crate::ends::end_at;
 use crate::journal::line_end;
 use crate::line::{after_in, is_save, saved_in};
 use crate::step::{MOST_CHANGES, begin};
@@ -96,6 +98,34 @@ fn take_one(tally: Tally, line: &[u8]) -> Option<Tally>
     }
 }
 
+/// Where the first newline is, if the line is of the length that most lines have at this place: those of the second
+/// version, and saved lines of 16 bytes.
+#[inline(always)]
+fn usual_end(place: Place, text: &[u8]) -> Option<usize>
+    ensures { IfSome result (λ i. (i < length text.now) × HasNoNewline (take i text.now) × (text.now ≡ take i text.now ++ 10 ∷ drop (i + 1) text.now)) }
+{
+    match place {
+        Place::Between => end_at(33, text),
+        Place::Saving { .. } => match end_at(67, text) {
+            Some(i) => Some(i),
+            None => end_at(13, text),
+        },
+        Place::Ending { .. } => end_at(31, text),
+    }
+}
+
+/// Where the first newline is.
+#[inline(always)]
+fn next_end(place: Place, text: &[u8]) -> Option<usize>
+    ensures found { IfSome result (λ i. (i < length text.now) × HasNoNewline (take i text.now) × (text.now ≡ take i text.now ++ 10 ∷ drop (i + 1) text.now)) }
+    ensures none { IfNone result (HasNoNewline text.now) }
+{
+    match usual_end(place, text) {
+        Some(i) => Some(i),
+        None => line_end(text),
+    }
+}
+
 /// How many entries a text has, and the length that the last one tells.
 #[derive(Clone, Copy)]
 pub struct Counted {
@@ -113,7 +143,7 @@ pub fn count_entries(text: &[u8]) -> Option<Counted>
         place: Place::Between,
     };
     let mut rest = text;
-    while let Some(i) = line_end(rest) {
+    while let Some(i) = next_end(tally.place, rest) {
         tally = take_one(tally, &rest[..i])?;
         let (_, behind) = rest.split_at(i + 1);
         rest = behind;

@@ -25,6 +25,15 @@ fn longest_of<A: Allocator>(entries: &[EntryRead<A>]) -> u64
     longest
 }
 
+/// How many changes stand when so many are undone.
+#[inline]
+fn count_left(count: u32, undone: u32) -> u32
+    requires { undone ≤ count }
+    ensures { result + undone ≡ count }
+{
+    count - undone
+}
+
 /// Makes room for taking back the last k entries. It changes nothing.
 fn make_room<D: Device, T: TextStore, A: Allocator>(
     device: &mut D,
@@ -114,7 +123,7 @@ impl<D: Device, T: TextStore, A: Allocator + Clone> Session<D, T, A> {
             k,
         ) {
             Ok(()) => {
-                self.count -= k;
+                self.count = count_left(self.count, k);
                 Ok(self.count)
             }
             Err(_) => {

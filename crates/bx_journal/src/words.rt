@@ -1,9 +1,11 @@
 //! The words and numbers of a journal's lines.
 ghost use Rattle.std.specs.Prelude.{◌≡◌, ◌+◌, ◌^◌, ◌<◌, ◌≤◌, ◌++◌, codes, length, MatchOption, None, Some};
+ghost use Rattle.std.specs.Str.{bytes_eq};
 ghost use Rattle.bx_journal.specs.Hex.{hex_digits, hex_value, number_after, number_of as number_read};
 ghost use Rattle.bx_journal.specs.Line.{start_head as start_front, save_line, end_head as end_front, behind as behind_front};
 
 use crate::Version;
+use crate::lanes::sixteen;
 use bx_text::{ShortText, hex_field, put_address};
 
 /// A line of a journal but for its saved lines, or the front of one.
@@ -21,16 +23,14 @@ pub fn push_number(line: &mut Words, width: u8, n: u64)
     line.push_all(hex_field(n, width, false).as_bytes());
 }
 
-/// Appends a number in 8 digits.
+/// A number in 8 digits.
 #[inline(always)]
-fn push_eight(line: &mut Words, n: u32)
-    requires { length line.old + 8 ≤ 34 }
-    ensures text { line.new ≡ line.old ++ hex_digits 8 n }
-    ensures long { length line.new ≡ length line.old + 8 }
+fn eight_digits(n: u32) -> [u8; 8]
+    ensures { result ≡ hex_digits 8 n }
 {
     let mut digits = [b'0'; 8];
     put_address(&mut digits, n);
-    line.push_all(&digits);
+    digits
 }
 
 /// A word and a number of 8 digits.
@@ -42,7 +42,7 @@ fn numbered(word: &[u8], number: u32) -> Words
 {
     let mut line = Words::new();
     line.push_all(word);
-    push_eight(&mut line, number);
+    line.push_all(&eight_digits(number));
     line
 }
 
@@ -94,16 +94,79 @@ pub fn end_head(version: Version, number: u32) -> Words
     }
 }
 
-/// What follows the front in a line that begins with it.
+/// Whether two texts of one length are the same. All of both is looked at: where the length is known that takes no loop.
 #[inline(always)]
-pub fn behind<'a>(front: &[u8], line: &'a [u8]) -> Option<&'a [u8]>
-    ensures { MatchOption result (behind_front front.now line.now ≡ None) (λ rest. behind_front front.now line.now ≡ Some rest.now) }
+fn is_same(text: &[u8], other: &[u8]) -> bool
+    requires { length text.now ≡ length other.now }
+    ensures { result ≡ bytes_eq text.now other.now }
 {
-    if line.len() < front.len() {
+    let mut same = true;
+    for i in 0..text.len() {
+        same &= text[i] == other[i];
+    }
+    same
+}
+
+/// What follows a word, a number of 8 digits and a space in a line that begins with them.
+#[inline(always)]
+fn behind_number<'a>(word: &[u8], number: u32, line: &'a [u8]) -> Option<&'a [u8]>
+    requires { length word.now ≤ 8 }
+    ensures { MatchOption result (behind_front (word.now ++ hex_digits 8 number ++ codes " ") line.now ≡ None)
+        (λ rest. behind_front (word.now ++ hex_digits 8 number ++ codes " ") line.now ≡ Some rest.now) }
+{
+    if line.len() < word.len() + 9 {
         return None;
     }
-    let (start, rest) = line.split_at(front.len());
-    if start == front { Some(rest) } else { None }
+    let (front, rest) = line.split_at(word.len());
+    let (digits, rest) = rest.split_at(8);
+    let (space, rest) = rest.split_at(1);
+    if !is_same(front, word) {
+        return None;
+    }
+    if !is_same(digits, &eight_digits(number)) {
+        return None;
+    }
+    if space[0] != b' ' {
+        return None;
+    }
+    Some(rest)
+}
+
+/// Whether the line is a word and a number of 8 digits.
+#[inline(always)]
+pub fn is_numbered(word: &[u8], number: u32, line: &[u8]) -> bool
+    requires { length word.now ≤ 8 }
+    ensures { result ≡ bytes_eq line.now (word.now ++ hex_digits 8 number) }
+{
+    if line.len() != word.len() + 8 {
+        return false;
+    }
+    let (front, digits) = line.split_at(word.len());
+    if !is_same(front, word) {
+        return false;
+    }
+    is_same(digits, &eight_digits(number))
+}
+
+/// What follows the head of the line that begins an entry, in a line that has it.
+#[tactic(auto, unfolding(crate::specs::Line::start_head))]
+#[inline(always)]
+pub fn behind_start(version: Version, number: u32, line: &[u8]) -> Option<&[u8]>
+    ensures { MatchOption result (behind_front (start_front version number) line.now ≡ None) (λ rest. behind_front (start_front version number) line.now ≡ Some rest.now) }
+{
+    match version {
+        Version::First => behind_number(b"change ", number, line),
+        Version::Second => behind_number(b"change2 ", number, line),
+    }
+}
+
+/// What follows the head of the line that ends an entry of the second version, in a line that has it.
+#[tactic(auto, unfolding(crate::specs::Line::end_head))]
+#[inline(always)]
+pub fn behind_end(number: u32, line: &[u8]) -> Option<&[u8]>
+    ensures { MatchOption result (behind_front (end_front Version.Second number) line.now ≡ None) (λ rest. behind_front (end_front Version.Second number) line.now ≡ Some rest.now) }
+{
+    behind_number(b"done2 ", number, line)
 }
 
 #[inline(always)]
@@ -139,6 +202,11 @@ pub fn number_of(width: usize, text: &[u8]) -> Option<u64>
 {
     if text.len() != width {
         return None;
+    }
+    if text.len() == 16 {
+        if let Some(n) = sixteen(text) {
+            return Some(n);
+        }
     }
     number(text)
 }

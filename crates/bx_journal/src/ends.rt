@@ -1,0 +1,30 @@
+//! Where lines end.
+ghost use Rattle.std.specs.Prelude.{◌≡◌, ◌+◌, ◌<◌, ◌++◌, ◌∷◌, length, take, drop, IfSome, IsFalse};
+ghost use Rattle.bx_journal.specs.Plain.{HasNoNewline};
+
+/// Whether a newline is among the bytes.
+#[inline(always)]
+fn has_newline(bytes: &[u8]) -> bool
+    ensures { IsFalse result → HasNoNewline bytes.now }
+{
+    let mut found = false;
+    for byte in bytes {
+        found |= *byte == b'\n';
+    }
+    found
+}
+
+/// The place, where the first newline is at it. A place that is known takes no loop.
+#[inline(always)]
+pub fn end_at(place: usize, text: &[u8]) -> Option<usize>
+    ensures { IfSome result (λ i. (i < length text.now) × HasNoNewline (take i text.now) × (text.now ≡ take i text.now ++ 10 ∷ drop (i + 1) text.now)) }
+{
+    if text.len() <= place {
+        return None;
+    }
+    let (line, rest) = text.split_at(place);
+    if rest[0] != b'\n' || has_newline(line) {
+        return None;
+    }
+    Some(place)
+}
