@@ -39,5 +39,6 @@ pub mod Performed
 pub mod PieceBound
 pub mod SavedBound
 pub mod PageLemmas
+pub mod NearRows
 pub mod DigitLanes
 pub mod PartLemmas

@@ -34,8 +34,23 @@ fn row_len(at: u64, count: usize) -> u64
     address_len(at) + 44 + count as u64
 }
 
+/// The first address that has more than 8 digits.
+const NINE_DIGITS: u64 = 1 << 32;
+
 /// How long the saved lines of a run are, at most `u64::MAX`.
 fn run_len<A: Allocator>(run: &Piece<A>) -> u64
+    requires { end_of run.now.at run.now.bytes < 2 ^ 64 }
+    ensures { result ≡ min (length (rows_text (rows (run_of run.now)))) (2 ^ 64 - 1) }
+{
+    let len = run.bytes.as_slice().len() as u64;
+    if len < NINE_DIGITS.saturating_sub(run.at) {
+        return 52 * ((len + 15) / 16) + len;
+    }
+    far_run_len(run)
+}
+
+/// The same, line by line.
+fn far_run_len<A: Allocator>(run: &Piece<A>) -> u64
     requires { end_of run.now.at run.now.bytes < 2 ^ 64 }
     ensures { result ≡ min (length (rows_text (rows (run_of run.now)))) (2 ^ 64 - 1) }
 {

@@ -10,7 +10,7 @@ use bx_text::NoMemory;
 use std::alloc::Allocator;
 
 /// A page has at most so many bytes, and room for each line.
-const MOST: u64 = 65_536;
+const MOST: u64 = 262_144;
 
 const LEAST: u64 = 82;
 
@@ -41,6 +41,28 @@ pub fn append_page<T: TextStore, A: Allocator>(
     Ok(())
 }
 
+/// Makes room in the page for so many bytes: where it has none, the page is appended.
+#[inline]
+pub fn make_room<T: TextStore, A: Allocator>(
+    store: &mut T,
+    page: &mut Vec<u8, A>,
+    more: usize,
+) -> Result<(), DeviceFailed>
+    requires countable { T.failures store.old < u64.MAX }
+    requires fits { T.honest store.old → length (T.text store.old) + length page.old.items ≤ T.room store.old }
+    requires room { more ≤ vec_capacity page.old }
+    ensures ok { T.honest store.old → OnOk result (IsPaged page.old.items (T.text store.old) (T.text store.new) page.new.items) }
+    ensures fault { T.honest store.old → OnErr result (IsPartlyAppended page.old.items (T.text store.old) (T.text store.new)) }
+    ensures free { OnOk result (length page.new.items + more ≤ vec_capacity page.new) }
+    ensures room { vec_capacity page.old ≤ vec_capacity page.new }
+    ensures goes_on { GoesOn T.honest T.room T.failures (is_err result) store.old store.new }
+{
+    if more > page.capacity() - page.len() {
+        append_page(store, page)?;
+    }
+    Ok(())
+}
+
 /// Puts bytes behind those that wait in the page. Where it has no room for them, it is appended first.
 pub fn put_bytes<T: TextStore, A: Allocator>(
     store: &mut T,
@@ -55,9 +77,7 @@ pub fn put_bytes<T: TextStore, A: Allocator>(
     ensures room { vec_capacity page.old ≤ vec_capacity page.new }
     ensures goes_on { GoesOn T.honest T.room T.failures (is_err result) store.old store.new }
 {
-    if bytes.len() > page.capacity() - page.len() {
-        append_page(store, page)?;
-    }
+    make_room(store, page, bytes.len())?;
     let _ = page.extend_from_slice(bytes);
     Ok(())
 }

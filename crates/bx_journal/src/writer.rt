@@ -13,11 +13,11 @@ ghost use Rattle.bx_journal.specs.Page.{IsPaged};
 ghost use Rattle.bx_journal.specs.Text.{ended};
 
 use crate::Version;
-use crate::page::{append_page, put_bytes};
+use crate::page::{append_page, make_room, put_bytes};
 use crate::words::{Words, end_head, push_number, save_text, start_head};
 use bx_image::{DeviceFailed, Saved};
 use bx_store::TextStore;
-use bx_text::{LineText, Piece, full_line, xxd_line};
+use bx_text::{LineText, Piece, put_full_line, xxd_line};
 use std::alloc::Allocator;
 
 /// Appends the text of an entry up to and with its save line, page by page. The page is empty before it.
@@ -151,7 +151,7 @@ fn put_row<T: TextStore, A: Allocator>(
         return put_bytes(store, page, row_of(at, bytes).as_bytes());
     }
     match bytes.as_array::<16>() {
-        Some(full) => put_bytes(store, page, &full_row(at as u32, full)),
+        Some(full) => put_full_row(store, page, at as u32, full),
         None => put_bytes(store, page, row_of(at, bytes).as_bytes()),
     }
 }
@@ -165,10 +165,44 @@ fn row_of(at: u64, bytes: &[u8]) -> LineText
     xxd_line(at, bytes)
 }
 
-/// The same for 16 bytes at an address of 8 digits, at fixed places.
-#[tactic(auto, unfolding(crate::specs::DumpLine::dump_line))]
-fn full_row(at: u32, bytes: &[u8; 16]) -> [u8; 68]
-    ensures { result ≡ ended (dump_line at bytes.now) }
+/// Puts a saved line of 16 bytes at an address of 8 digits.
+fn put_full_row<T: TextStore, A: Allocator>(
+    store: &mut T,
+    page: &mut Vec<u8, A>,
+    at: u32,
+    bytes: &[u8; 16],
+) -> Result<(), DeviceFailed>
+    requires countable { T.failures store.old < u64.MAX }
+    requires fits { T.honest store.old → length (T.text store.old) + length page.old.items ≤ T.room store.old }
+    requires room { 82 ≤ vec_capacity page.old }
+    ensures ok { T.honest store.old → OnOk result (IsPaged (page.old.items ++ ended (dump_line at bytes.now)) (T.text store.old) (T.text store.new) page.new.items) }
+    ensures fault { T.honest store.old → OnErr result (IsPartlyAppended (page.old.items ++ ended (dump_line at bytes.now)) (T.text store.old) (T.text store.new)) }
+    ensures room { vec_capacity page.old ≤ vec_capacity page.new }
+    ensures goes_on { GoesOn T.honest T.room T.failures (is_err result) store.old store.new }
 {
-    full_line(at, bytes)
+    make_room(store, page, 68)?;
+    push_full_row(page, at, bytes);
+    Ok(())
+}
+
+/// Writes the line into the page, behind what waits there.
+fn push_full_row<A: Allocator>(page: &mut Vec<u8, A>, at: u32, bytes: &[u8; 16])
+    requires { length page.old.items + 68 ≤ vec_capacity page.old }
+    ensures line { page.new.items ≡ page.old.items ++ ended (dump_line at bytes.now) }
+    ensures room { vec_capacity page.old ≤ vec_capacity page.new }
+{
+    let from = page.len();
+    let _ = page.extend_from_slice(&[b' '; 68]);
+    let (_, line) = page.as_mut_slice().split_at_mut(from);
+    full_row(line, at, bytes);
+}
+
+/// The line at its place.
+#[inline]
+#[tactic(auto, unfolding(crate::specs::DumpLine::dump_line))]
+fn full_row(line: &mut [u8], at: u32, bytes: &[u8; 16])
+    requires { length line.old ≡ 68 }
+    ensures { line.new ≡ ended (dump_line at bytes.now) }
+{
+    put_full_line(line, at, bytes);
 }

@@ -1,5 +1,5 @@
 //! A text in a file.
-ghost use Rattle.std.specs.Prelude.{◌≡◌, ◌↔◌, ◌+◌, ◌^◌, ◌-◌, ◌<◌, ◌≤◌, ◌++◌, length, take, IfOk, OnOk, OnErr, IsOk, false, if◌then◌else◌};
+ghost use Rattle.std.specs.Prelude.{◌≡◌, ◌↔◌, ◌+◌, ◌^◌, ◌-◌, ◌<◌, ◌≤◌, ◌++◌, length, take, drop, vec_len, IfOk, OnOk, OnErr, IsOk, false, if◌then◌else◌};
 ghost use Rattle.bx_image.specs.File.{IsCutOnTheWay};
 ghost use Rattle.bx_image.specs.Device.{GoesOn};
 ghost use Rattle.bx_store.specs.Store.{IsPartlyAppended, has_failed};
@@ -28,6 +28,29 @@ impl<F: RandomAccess> FileText<F> {
     }
 }
 
+// So many bytes are filled with zeros and then read, while they are still at hand.
+const PART: usize = 262_144;
+
+// Reads so many bytes more, behind those that were read.
+fn read_more<F: RandomAccess, A: Allocator>(
+    file: &mut F,
+    bytes: &mut Vec<u8, A>,
+    more: usize,
+) -> Result<(), TextFault>
+    requires sum { vec_len bytes.old + more < 2 ^ 64 }
+    requires range { F.honest file.old → vec_len bytes.old + more ≤ length (F.content file.old) }
+    ensures len { OnOk result (vec_len bytes.new ≡ vec_len bytes.old + more) }
+    ensures bytes { F.honest file.old → OnOk result (bytes.new.items ≡ bytes.old.items ++ take more (drop (vec_len bytes.old) (F.content file.old))) }
+    ensures content { F.honest file.old → F.content file.new ≡ F.content file.old }
+    ensures honesty { F.honest file.new ↔ F.honest file.old }
+{
+    let from = bytes.len();
+    bytes.resize(from + more, 0)?;
+    let (_, part) = bytes.as_mut_slice().split_at_mut(from);
+    read_full(file, from as u64, part)?;
+    Ok(())
+}
+
 // All the bytes that a file has.
 fn read_whole<F: RandomAccess, A: Allocator>(
     file: &mut F,
@@ -37,10 +60,12 @@ fn read_whole<F: RandomAccess, A: Allocator>(
     ensures content { F.honest file.old → F.content file.new ≡ F.content file.old }
     ensures honesty { F.honest file.new ↔ F.honest file.old }
 {
-    let len = size_of(file)?;
-    let mut bytes = Vec::new(alloc);
-    bytes.resize(len as usize, 0)?;
-    read_full(file, 0, bytes.as_mut_slice())?;
+    let len = size_of(file)? as usize;
+    let mut bytes = Vec::with_capacity(alloc, len)?;
+    while bytes.len() < len {
+        let more = PART.min(len - bytes.len());
+        read_more(file, &mut bytes, more)?;
+    }
     Ok(bytes)
 }
 

@@ -1,4 +1,4 @@
-use Rattle.std.proofs.Common.{◌≡◌, ℕ, List, [], ◌++◌, length, map, ap, sym, ◌∙◌, arith, append_assoc, length-append}
+use Rattle.std.proofs.Common.{◌≡◌, ℕ, List, [], ◌++◌, ap, sym, ◌∙◌, arith, append_assoc, length-append}
 use Rattle.std.specs.Prelude.{flat_map}
 use Rattle.std.proofs.lemmas.Result.{on_ok_weaker, on_err_weaker}
 use Rattle.bx_journal.specs.Kept.{Kept, kept_of}
@@ -8,7 +8,7 @@ use Rattle.bx_journal.specs.Entry.{rows, rows_text, head_text}
 use Rattle.bx_journal.specs.Page.{IsPaged}
 use Rattle.bx_journal.specs.Text.{ended}
 use Rattle.bx_journal.proofs.PageLemmas.{paged_is, paged_more, paged_all, paged_length, part_is, part_front, part_behind, part_last, at_err}
-use Rattle.bx_journal.proofs.WriterLemmas.{head_is, head_long, start_long, save_long}
+use Rattle.bx_journal.proofs.WriterLemmas.{head_is, head_long, start_long}
 use Rattle.bx_journal.proofs.writer.put_head.Goals as goal
 
 abbrev first_of : ℕ → Kept → List ℕ

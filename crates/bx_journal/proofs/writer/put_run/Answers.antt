@@ -1,9 +1,7 @@
-use Rattle.std.proofs.Common.{◌≡◌, ℕ, ◌+◌, ◌-◌, ◌*◌, ◌/◌, ◌≤◌, List, [], ◌++◌, length, map, take, drop, ap, sym, ◌∙◌, arith, append_assoc, append-nil, length-append}
+use Rattle.std.proofs.Common.{ℕ, ◌+◌, List, [], ◌++◌, length, map, ap, sym, ◌∙◌, arith, append_assoc, append-nil, length-append}
 use Rattle.std.specs.List.{range_with_len}
 use Rattle.bx_journal.specs.Kept.{Run, run_of}
-use Rattle.bx_journal.specs.DumpLine.{dump_line}
 use Rattle.bx_journal.specs.Entry.{row, rows, rows_text}
-use Rattle.bx_journal.specs.Text.{ended}
 use Rattle.bx_image.proofs.Devices.{GoesOn_refl, GoesOn_then}
 use Rattle.bx_journal.proofs.PageLemmas.{paged_here, paged_is, paged_step, part_step, paged_length, at_err}
 use Rattle.bx_journal.proofs.WriterLemmas.{row_step, rows_front, rows_all}
