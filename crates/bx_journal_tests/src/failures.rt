@@ -101,12 +101,12 @@ fn one_page(
     Ok((image, fused.into_inner()))
 }
 
-// The head of the second entry takes five pages.
+// The head of the second entry is longer than a page.
 #[test]
 fn stopped_between_pages(rt: HostRuntime) -> Result<(), Fail> {
     let alloc = rt.alloc();
-    let change = write(alloc, 0, filled(alloc, b'x', 65_536)?.as_slice())?;
-    let (mut session, _) = over(alloc, filled(alloc, 0, 65_536)?.as_slice(), b"")?;
+    let change = write(alloc, 0, filled(alloc, b'x', 131_072)?.as_slice())?;
+    let (mut session, _) = over(alloc, filled(alloc, 0, 131_072)?.as_slice(), b"")?;
     session.perform(&write(alloc, 1, b"a")?)?;
     let (image, text) = session.close();
     let bytes = image.as_slice().to_vec(alloc)?;
