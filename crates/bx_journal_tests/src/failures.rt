@@ -1,9 +1,9 @@
 //! Devices that fail on purpose.
 use crate::tools::{PATCHED, assert_left, image, opened, over, refused, text, write};
-use bx_image::{FuseImage, MemImage, Part};
+use bx_image::{Change, FuseImage, MemImage, Part};
 use bx_journal::{How, SessionFault};
 use bx_store::{FuseText, MemText};
-use std::alloc::Global;
+use std::alloc::{AllocError, Global};
 use std::process::Abort;
 use std::test::Fail;
 
@@ -79,6 +79,51 @@ fn undo_stopped_midway(rt: HostRuntime) -> Result<(), Fail> {
     assert_eq!(rt; found.changes, 1);
     let (image, _) = session.close();
     assert!(rt; image.as_slice() == b"a".as_slice());
+    Ok(())
+}
+
+fn filled(alloc: Global, byte: u8, len: usize) -> Result<Vec<u8>, AllocError> {
+    vec![in alloc; byte; len]
+}
+
+// A change of which the text gets one page.
+fn one_page(
+    alloc: Global,
+    rt: &impl Abort,
+    image: MemImage,
+    text: MemText,
+    change: &Change,
+) -> Result<(MemImage, MemText), Fail> {
+    let fused = FuseText::new(text, 1, Part::Nothing, false);
+    let (mut session, _) = opened(alloc, image, fused)?;
+    assert_eq!(rt; session.perform(change), Err(SessionFault::Interrupted));
+    let (image, fused) = session.close();
+    Ok((image, fused.into_inner()))
+}
+
+// The head of the second entry is longer than a page.
+#[test]
+fn stopped_between_pages(rt: HostRuntime) -> Result<(), Fail> {
+    let alloc = rt.alloc();
+    let change = write(alloc, 0, filled(alloc, b'x', 131_072)?.as_slice())?;
+    let (mut session, _) = over(alloc, filled(alloc, 0, 131_072)?.as_slice(), b"")?;
+    session.perform(&write(alloc, 1, b"a")?)?;
+    let (image, text) = session.close();
+    let bytes = image.as_slice().to_vec(alloc)?;
+    let before = text.as_slice().to_vec(alloc)?;
+    let (image, left) = one_page(alloc, &rt, image, text, &change)?;
+    let (mut session, _) = over(alloc, bytes.as_slice(), before.as_slice())?;
+    session.perform(&change)?;
+    let (_image, whole) = session.close();
+    assert!(rt; image.as_slice() == bytes.as_slice());
+    assert!(rt; left.as_slice().starts_with(before.as_slice()));
+    assert!(rt; whole.as_slice().starts_with(left.as_slice()));
+    assert!(rt; left.as_slice().len() > before.len());
+    assert!(rt; !left.as_slice().ends_with(b"save 00000002\n"));
+    let (session, found) = over(alloc, image.as_slice(), left.as_slice())?;
+    assert_eq!(rt; found.how, How::Dropped);
+    assert_eq!(rt; found.changes, 1);
+    assert_left(&rt, session, bytes.as_slice(), before.as_slice());
     Ok(())
 }
 
