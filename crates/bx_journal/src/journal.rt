@@ -1,13 +1,12 @@
 //! All of a journal's text.
-ghost use Rattle.std.specs.Prelude.{◌≡◌, ◌+◌, ◌<◌, ◌≤◌, ◌++◌, ◌∷◌, length, take, drop, IfOk, IfErr, IfSome, IfNone};
-ghost use Rattle.bx_journal.specs.Plain.{HasNoNewline};
+ghost use Rattle.std.specs.Prelude.{IfOk, IfErr};
 ghost use Rattle.bx_journal.specs.Text.{Reads, split};
 ghost use Rattle.bx_journal.specs.Parsed.{reading_of};
 
+use crate::ends::line_end;
 use crate::rest::rest_fits;
 use crate::step::{take_line, told_length};
 use crate::{EntryRead, SessionFault, StageRead};
-use memchr::memchr;
 use std::alloc::{Allocator, Global};
 
 /// What was read. The last newline is before `whole`.
@@ -16,15 +15,6 @@ pub struct JournalRead<A: Allocator = Global> {
     pub entries: Vec<EntryRead<A>, A>,
     pub stage: StageRead<A>,
     pub whole: u64,
-}
-
-/// Where the first newline is.
-#[inline]
-pub fn line_end(text: &[u8]) -> Option<usize>
-    ensures found { IfSome result (λ i. (i < length text.now) × HasNoNewline (take i text.now) × (text.now ≡ take i text.now ++ 10 ∷ drop (i + 1) text.now)) }
-    ensures none { IfNone result (HasNoNewline text.now) }
-{
-    memchr(b'\n', text)
 }
 
 ghost use Rattle.bx_journal.specs.Journal.{HasRead};

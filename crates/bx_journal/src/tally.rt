@@ -7,8 +7,7 @@ ghost use Rattle.bx_journal.specs.Text.{Between as Resting, Saving as Keeping, E
 ghost use Rattle.bx_journal.specs.Parsed.{told_by};
 
 use crate::Version;
-use crate::ends::end_at;
-use crate::journal::line_end;
+use crate::ends::{end_at, line_end};
 use crate::line::{after_in, is_save, saved_in};
 use crate::step::{MOST_CHANGES, begin};
 

@@ -3,7 +3,7 @@ use Rattle.std.specs.Prelude.{IfSome, IfNone}
 use Rattle.memchr.specs.Find.{is_byte, IsFirstByte}
 use Rattle.bx_journal.specs.Plain.{HasNoNewline}
 use Rattle.bx_journal.proofs.ReadLoop.{plain_to, plain_all, parts_at}
-use Rattle.bx_journal.proofs.journal.line_end.Goals as goal
+use Rattle.bx_journal.proofs.ends.first_newline.Goals as goal
 
 found : (text : List ℕ) (r : Option ℕ) → IsFirstByte (is_byte 10) text r → IfSome r (λ i. (i < length text) × HasNoNewline (take i text) × (text ≡ take i text ++ 10 ∷ drop (i + 1) text))
 found text None f = tt
