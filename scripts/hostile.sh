@@ -157,6 +157,7 @@ END
 streams() {
     local command status well
     head -c 1000000 /dev/zero > zeros
+    letters 1000000 a > text_bytes # more than a pipe holds, so that the writer meets the closed end
     head -c 100000 "$bx" > bytes
     patched > text
     for command in "xxd bytes" "xxd -i bytes" "xxd -p bytes" "od bytes" "hexdump -C bytes" "strings bytes" "xxd --help" "log img" "undo -k 0 img"; do
@@ -168,7 +169,7 @@ streams() {
         [ "$status" = 1 ] && grep -q '^bx: write failed after [0-9]* bytes$' err && well=1
         say "$well" "$command to a full device" "status $status, $(tail -n 1 err)"
     done
-    for command in "xxd zeros" "od -v zeros" "hexdump -C -v zeros" "xxd -p zeros" "strings -n 1 bytes"; do
+    for command in "xxd zeros" "od -v zeros" "hexdump -C -v zeros" "xxd -p zeros" "strings text_bytes"; do
         # shellcheck disable=SC2086
         { timeout 60 "$bx" $command 2> err; echo $? > status; } | head -c 10 > /dev/null
         status=$(cat status)
