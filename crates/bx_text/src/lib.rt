@@ -18,7 +18,7 @@ mod tests;
 mod words;
 
 pub use bytes::Bytes;
-pub use fast::{full_line, put_address, put_full_line, put_pairs, put_text};
+pub use fast::{put_address, put_full_line, put_pairs, put_text};
 pub use fault::{IoFault, NoMemory};
 pub use field::{Field, Radix, ShortText, dec_field, hex_digit, hex_field, oct_field};
 pub use fold::{Fold, Show};
