@@ -11,8 +11,6 @@ mod listing;
 mod options;
 mod plan;
 mod run;
-#[cfg(test)]
-mod tests;
 
 pub use command::{Command, Reply};
 pub use dump::{Done, run_dump};

@@ -23,9 +23,3 @@ pub use parsing::parse;
 pub use plan::Plan;
 pub use whole::convert_whole;
 
-#[cfg(test)]
-mod hostile_tests;
-#[cfg(test)]
-mod ration;
-#[cfg(test)]
-mod tests;

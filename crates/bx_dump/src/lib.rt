@@ -34,9 +34,3 @@ pub use xxd_columns::Digits;
 pub use xxd_dump::xxd;
 pub use xxd_options::{XxdOptions, XxdStyle};
 
-#[cfg(test)]
-mod od_tests;
-#[cfg(test)]
-mod printable_tests;
-#[cfg(test)]
-mod xxd_tests;

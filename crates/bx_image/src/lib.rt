@@ -21,19 +21,3 @@ pub use memory::MemImage;
 pub use pages::PagedImage;
 pub use record::{Saved, save};
 
-#[cfg(test)]
-mod change_tests;
-#[cfg(test)]
-mod device_tests;
-#[cfg(test)]
-mod file_tests;
-#[cfg(test)]
-mod growth_tests;
-#[cfg(test)]
-mod pages_tests;
-#[cfg(test)]
-mod ration;
-#[cfg(test)]
-mod slow;
-#[cfg(test)]
-mod slow_tests;

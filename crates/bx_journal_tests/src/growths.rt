@@ -1,9 +1,9 @@
 //! Each growth of a session's calls refused in turn.
-use crate::ration::ration;
 use crate::tools::{PATCHED, image, text};
 use bumpalo::Bump;
 use bx_image::{Change, MemImage};
 use bx_journal::{Session, SessionFault};
+use bx_ration::ration;
 use bx_store::MemText;
 use bx_text::{Bytes, Piece, Pieces};
 use std::alloc::{AllocError, Global};

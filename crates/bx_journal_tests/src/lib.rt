@@ -8,8 +8,6 @@ mod failures;
 #[cfg(test)]
 mod growths;
 #[cfg(test)]
-mod ration;
-#[cfg(test)]
 mod rows;
 #[cfg(test)]
 mod script;

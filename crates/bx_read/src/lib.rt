@@ -10,10 +10,6 @@ mod laws;
 mod line;
 mod lines;
 mod plain;
-#[cfg(test)]
-mod ration;
-#[cfg(test)]
-mod tests;
 
 pub use dump::read_dump;
 pub use fault::ReadFault;

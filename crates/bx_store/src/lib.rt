@@ -15,5 +15,3 @@ pub use fuse::FuseText;
 pub use memory::MemText;
 pub use store::{MOST, TextStore};
 
-#[cfg(test)]
-mod tests;

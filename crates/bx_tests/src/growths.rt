@@ -1,6 +1,6 @@
 //! Calls below the session, with each growth refused in turn; and a heap that takes memory back.
 use crate::model::Images;
-use crate::ration::{ALIGN, arena, squeeze, used};
+use bx_ration::{ALIGN, arena, squeeze, used};
 use crate::scripts::PATCHED;
 use crate::session::{Ask, command};
 use bumpalo::Bump;

@@ -24,8 +24,6 @@ mod places;
 #[cfg(test)]
 mod random;
 #[cfg(test)]
-mod ration;
-#[cfg(test)]
 mod rows;
 #[cfg(test)]
 mod script;

@@ -1,6 +1,6 @@
 //! Each growth of each call that takes memory, refused in turn.
 use crate::dd::copied;
-use crate::ration::{ALIGN, arena, squeeze, used};
+use bx_ration::{ALIGN, arena, squeeze, used};
 use crate::scripts::{OVERLAPPED, PATCHED};
 use crate::session::{Ask, command};
 use bumpalo::Bump;

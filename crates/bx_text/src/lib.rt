@@ -13,8 +13,6 @@ mod numbers;
 mod pieces;
 mod stream;
 mod tables;
-#[cfg(test)]
-mod tests;
 mod words;
 
 pub use bytes::Bytes;
