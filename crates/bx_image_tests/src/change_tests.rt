@@ -1,7 +1,7 @@
 //! Changes, what is saved before them, and the way back.
 use crate::guarded::{
-    assert_applied, assert_bytes, assert_content, assert_faults, assert_length, content, fill,
-    length, saved,
+    assert_applied, assert_bytes, assert_content, assert_faults, assert_length, assert_number,
+    content, fill, length, saved,
 };
 use bx_image::{Change, Device, MAX_LEN, MemImage, PagedImage, TooLarge, check};
 use bx_text::{Bytes, Piece, Pieces};
@@ -42,7 +42,7 @@ pub fn change<A: Allocator + Clone>(
 }
 
 fn assert_same_piece(rt: &impl Abort, found: &Piece, wanted: &Piece) {
-    assert_eq!(rt; found.at, wanted.at);
+    assert_number(rt, found.at, wanted.at);
     assert_bytes(rt, found.bytes.as_slice(), wanted.bytes.as_slice());
 }
 
@@ -84,7 +84,7 @@ fn assert_change<D: Device>(
 ) -> Result<(), Fail> {
     let before = content(rt, alloc, device)?;
     let saved = saved(rt, alloc, device, change)?;
-    assert_eq!(rt; saved.len, before.len() as u64);
+    assert_number(rt, saved.len, before.len() as u64);
     assert_same_pieces(rt, saved.runs.as_slice(), runs);
     assert_performs(rt, alloc, device, change, after)?;
     assert_performs(rt, alloc, device, &saved.into_change(), before.as_slice())

@@ -5,6 +5,7 @@ use crate::guarded::{
     reserve, write,
 };
 use bx_image::{Device, DeviceFailed, FileImage, RandomAccess, Stop};
+use std::alloc::Global;
 use std::fs::{self, File, Files};
 use std::io;
 use std::process::Abort;
@@ -146,18 +147,28 @@ fn read(
     image.read_at(at, buf)
 }
 
-fn write_and_cut(rt: &impl Abort, image: &mut FileImage) -> Result<(), Fail> {
+fn assert_reads(
+    rt: &impl Abort,
+    alloc: Global,
+    image: &mut FileImage,
+    at: u64,
+    wanted: &[u8],
+) -> Result<(), Fail> {
+    let mut bytes = vec![in alloc; 9u8; wanted.len()]?;
+    read(rt, image, at, bytes.as_mut_slice())?;
+    assert_bytes(rt, bytes.as_slice(), wanted);
+    Ok(())
+}
+
+fn write_and_cut(rt: &impl Abort, alloc: Global, image: &mut FileImage) -> Result<(), Fail> {
     assert_length(rt, image, 0)?;
     reserve(image, 1 << 63)?;
     write(rt, image, 2, b"xyz")?;
-    let mut bytes = [9; 5];
-    read(rt, image, 0, &mut bytes)?;
-    assert_bytes(rt, &bytes, b"\0\0xyz");
+    assert_reads(rt, alloc, image, 0, b"\0\0xyz")?;
     cut(rt, image, 3)?;
     cut(rt, image, 5)?;
-    read(rt, image, 0, &mut bytes)?;
-    assert_bytes(rt, &bytes, b"\0\0x\0\0");
-    assert_failed(rt, read(rt, image, 1, &mut bytes));
+    assert_reads(rt, alloc, image, 0, b"\0\0x\0\0")?;
+    assert_failed(rt, read(rt, image, 1, &mut [9; 5]));
     assert_faults(rt, image, 1);
     Ok(())
 }
@@ -172,7 +183,7 @@ fn refuse_writes(rt: &impl Abort, image: &mut FileImage) {
 #[test]
 fn image_in_a_file(rt: HostRuntime) -> Result<(), Fail> {
     let name = "bx_image_in_a_file.tmp";
-    write_and_cut(&rt, &mut new_file(&rt, name)?)?;
+    write_and_cut(&rt, rt.alloc(), &mut new_file(&rt, name)?)?;
     refuse_writes(&rt, &mut FileImage::new(File::open(&rt, name)?));
     fs::remove_file(&rt, name)?;
     Ok(())
@@ -184,17 +195,14 @@ const FAR: u64 = 0x1_4000_0000;
 // Eight gibibytes and a byte.
 const FARTHER: u64 = 0x2_0000_0001;
 
-fn write_far(rt: &impl Abort, image: &mut FileImage) -> Result<(), Fail> {
+fn write_far(rt: &impl Abort, alloc: Global, image: &mut FileImage) -> Result<(), Fail> {
     write(rt, image, FAR, b"far")?;
     assert_length(rt, image, FAR + 3)?;
-    let mut bytes = [9; 4];
-    read(rt, image, FAR - 1, &mut bytes)?;
-    assert_bytes(rt, &bytes, b"\0far");
+    assert_reads(rt, alloc, image, FAR - 1, b"\0far")?;
     cut(rt, image, FAR + 1)?;
     cut(rt, image, FARTHER)?;
     assert_length(rt, image, FARTHER)?;
-    read(rt, image, FAR, &mut bytes)?;
-    assert_bytes(rt, &bytes, b"f\0\0\0");
+    assert_reads(rt, alloc, image, FAR, b"f\0\0\0")?;
     assert_faults(rt, image, 0);
     Ok(())
 }
@@ -202,7 +210,7 @@ fn write_far(rt: &impl Abort, image: &mut FileImage) -> Result<(), Fail> {
 #[test]
 fn past_four_gibibytes(rt: HostRuntime) -> Result<(), Fail> {
     let name = "bx_image_past_four_gibibytes.tmp";
-    write_far(&rt, &mut new_file(&rt, name)?)?;
+    write_far(&rt, rt.alloc(), &mut new_file(&rt, name)?)?;
     fs::remove_file(&rt, name)?;
     Ok(())
 }

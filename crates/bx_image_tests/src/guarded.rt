@@ -100,13 +100,17 @@ pub fn assert_applied<D: Device>(
     Ok(())
 }
 
+pub fn assert_number(rt: &impl Abort, found: u64, wanted: u64) {
+    assert_eq!(rt; found, wanted);
+}
+
 pub fn assert_length<D: Device>(rt: &impl Abort, device: &mut D, len: u64) -> Result<(), Fail> {
-    assert_eq!(rt; length(rt, device)?, len);
+    assert_number(rt, length(rt, device)?, len);
     Ok(())
 }
 
 pub fn assert_faults<D: Device>(rt: &impl Abort, device: &D, count: u64) {
-    assert_eq!(rt; device.faults(), count);
+    assert_number(rt, device.faults(), count);
 }
 
 /// A call of a device failed.

@@ -1,7 +1,7 @@
 use crate::change_tests::{assert_same_pieces, change, pieces};
 use crate::guarded::{
-    assert_applied, assert_content, assert_faults, assert_length, content, cut, length, reserve,
-    room, saved, write,
+    assert_applied, assert_content, assert_faults, assert_length, assert_number, content, cut,
+    length, reserve, room, saved, write,
 };
 use bx_image::{Change, Device, PagedImage, Saved};
 use linked_list_allocator::LocalHeap;
@@ -39,7 +39,7 @@ fn cut_behind_a_page<D: Device>(rt: &impl Abort, alloc: Global, image: &mut D) -
     let runs = pieces(alloc, &[(4096, b"B")])?;
     let saved = changed(rt, alloc, image, &change)?;
     assert_length(rt, image, 4096)?;
-    assert_eq!(rt; saved.len, 4097);
+    assert_number(rt, saved.len, 4097);
     assert_same_pieces(rt, saved.runs.as_slice(), runs.as_slice());
     assert_applied(rt, image, &saved.into_change(), 0)
 }
@@ -106,13 +106,13 @@ fn growth_to_three<D: Device>(rt: &impl Abort, image: &mut D) -> Growth {
     if reserve(image, 3 * 4096).is_ok() {
         return Growth::Taken;
     }
-    assert_eq!(rt; room(image), before);
+    assert_number(rt, room(image), before);
     Growth::Refused
 }
 
 fn assert_kept<D: Device>(rt: &impl Abort, alloc: Global, image: &mut D) -> Result<(), Fail> {
     let bytes = content(rt, alloc, image)?;
-    assert_eq!(rt; bytes.len(), 4096);
+    assert_number(rt, bytes.len() as u64, 4096);
     assert!(rt; bytes.as_slice().starts_with(b"kept"));
     Ok(())
 }
@@ -138,7 +138,7 @@ fn growth_within(rt: &impl Abort, alloc: Global, bytes: usize) -> Result<Growth,
 // More pages than there can be.
 fn refuse_too_many<D: Device>(rt: &impl Abort, image: &mut D) {
     assert!(rt; reserve(image, 0x4000_0000_0000_0001).is_err());
-    assert_eq!(rt; room(image), 0);
+    assert_number(rt, room(image), 0);
 }
 
 #[test]

@@ -1,6 +1,6 @@
 //! Some hundreds of small changes, compared with the slow program.
 use crate::change_tests::{assert_performs, assert_same_pieces, change};
-use crate::guarded::{fill, saved};
+use crate::guarded::{assert_number, fill, saved};
 use crate::slow::{slow_effect, slow_saved};
 use bx_image::{Change, Device, MemImage, PagedImage, check};
 use bx_text::Piece;
@@ -27,7 +27,7 @@ fn assert_agrees<D: Device>(
 ) -> Result<(), Fail> {
     fill(rt, device, IMAGE)?;
     let saved = saved(rt, alloc, device, change)?;
-    assert_eq!(rt; saved.len, IMAGE.len() as u64);
+    assert_number(rt, saved.len, IMAGE.len() as u64);
     assert_same_pieces(rt, saved.runs.as_slice(), wanted.runs);
     assert_performs(rt, alloc, device, change, wanted.effect)
 }
@@ -37,7 +37,7 @@ fn assert_agrees_on_both(rt: &impl Abort, alloc: Global, change: &Change) -> Res
     check(change, IMAGE.len() as u64)?;
     let effect = slow_effect(alloc, change, IMAGE)?;
     let kept = slow_saved(alloc, change, IMAGE)?;
-    assert_eq!(rt; kept.len, IMAGE.len() as u64);
+    assert_number(rt, kept.len, IMAGE.len() as u64);
     let wanted = Wanted {
         effect: effect.as_slice(),
         runs: kept.runs.as_slice(),
