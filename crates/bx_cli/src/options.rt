@@ -265,6 +265,17 @@ fn one_of<'a>(
     Ok(group)
 }
 
+/// The command with at most one of these options at a time.
+fn with_group<'a>(
+    alloc: Global,
+    command: Command<'a>,
+    id: &'static str,
+    members: &[&'static str],
+) -> Result<Command<'a>, AllocError> {
+    let group = one_of(alloc, id, members)?;
+    command.group(group)
+}
+
 /// A command that reads FILE, or standard input.
 fn reader<'a>(
     alloc: Global,
@@ -295,9 +306,9 @@ fn od<'a>(alloc: Global) -> Result<Command<'a>, AllocError> {
         .about("Dump bytes as numbers or characters")
         .after_help(
             "COUNT: decimal, 0x and hexadecimal, or 0 and octal; then b (512), k (1024) or m (1048576).\n\nEXAMPLES:\n  bx od -A x -t x1 disk.img     bytes in hexadecimal, with hexadecimal addresses\n  bx od -c -N 64 notes.txt      the first 64 bytes as characters\n  bx od -t u4 -j 1k disk.img    numbers of 4 bytes, from byte 1024 on",
-        )
-        .group(one_of(alloc, "type", &OD_TYPES)?)?;
-    reader(alloc, command, &OD)
+        );
+    let typed = with_group(alloc, command, "type", &OD_TYPES)?;
+    reader(alloc, typed, &OD)
 }
 
 fn xxd<'a>(alloc: Global) -> Result<Command<'a>, AllocError> {
@@ -305,10 +316,10 @@ fn xxd<'a>(alloc: Global) -> Result<Command<'a>, AllocError> {
         .about("Dump bytes in hexadecimal")
         .after_help(
             "Numbers: decimal, 0x and hexadecimal, or 0 and octal.\n\nEXAMPLES:\n  bx xxd -l 512 disk.img                   the first 512 bytes\n  bx xxd -s 0x1000 -c 8 -g 1 disk.img      from byte 4096 on, 8 bytes on a line\n  bx xxd -p key.bin | bx revert -p image   the bytes of one file onto another",
-        )
-        .group(one_of(alloc, "style", &XXD_STYLES)?)?
-        .group(one_of(alloc, "case", &XXD_CASES)?)?;
-    reader(alloc, command, &XXD)
+        );
+    let styled = with_group(alloc, command, "style", &XXD_STYLES)?;
+    let cased = with_group(alloc, styled, "case", &XXD_CASES)?;
+    reader(alloc, cased, &XXD)
 }
 
 fn hexdump<'a>(alloc: Global) -> Result<Command<'a>, AllocError> {

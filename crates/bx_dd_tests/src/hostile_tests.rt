@@ -1,12 +1,13 @@
 // Readers that give little, stop or fail, and memory that is refused.
-use crate::tests::{plan, words};
-use bx_dd::{DdFault, parse, report, transfer};
+use crate::tests::{assert_bytes, assert_fault, assert_number, converted, plan, words};
+use bx_dd::{Counts, DdFault, Plan, parse, report, transfer};
 use bx_ration::ration;
-use bx_text::Words;
+use bx_text::{Bytes, Words};
 use linked_list_allocator::LocalHeap;
 use std::alloc::{Allocator, Global};
 use std::io;
 use std::io::{ErrorKind, Read};
+use std::process::Abort;
 use std::test::Fail;
 
 // Gives one byte at a time, after so many interruptions. It fails once so many bytes were given.
@@ -47,16 +48,50 @@ fn trickling(rest: &[u8], interruptions: u32, fails_after: u32) -> Trickle<'_> {
     }
 }
 
+fn expect_synced(
+    rt: &impl Abort,
+    alloc: Global,
+    plan: &Plan,
+    interruptions: u32,
+) -> Result<(), DdFault> {
+    let mut from = trickling(b"abcdefghij", interruptions, 100);
+    let transfer = converted(alloc, &mut from, plan)?;
+    assert_bytes(rt, transfer.bytes.as_slice(), b"abcdefghij\0\0");
+    assert_number(rt, transfer.counts.whole_in, 2);
+    assert_number(rt, transfer.counts.part_in, 1);
+    Ok(())
+}
+
 #[test]
 fn readers_that_give_little(rt: HostRuntime) -> Result<(), Fail> {
-    let alloc = rt.alloc();
-    let sync = plan(alloc, &["ibs=4", "conv=sync"])?;
-    for interruptions in [0, 1, 999] {
-        let mut reader = trickling(b"abcdefghij", interruptions, 100);
-        let transfer = transfer(alloc, &mut reader, &sync)?;
-        assert!(rt; transfer.bytes.as_slice() == b"abcdefghij\0\0".as_slice());
-        assert_eq!(rt; (transfer.counts.whole_in, transfer.counts.part_in), (2, 1));
+    let sync = plan(rt.alloc(), &["ibs=4", "conv=sync"])?;
+    expect_synced(&rt, rt.alloc(), &sync, 0)?;
+    expect_synced(&rt, rt.alloc(), &sync, 1)?;
+    expect_synced(&rt, rt.alloc(), &sync, 999)?;
+    Ok(())
+}
+
+fn expect_read_failed(
+    rt: &impl Abort,
+    alloc: Global,
+    plan: &Plan,
+    interruptions: u32,
+    fails_after: u32,
+) {
+    let mut from = trickling(b"abcdefghij", interruptions, fails_after);
+    match converted(alloc, &mut from, plan) {
+        Ok(_) => assert!(rt; false, "{interruptions} {fails_after}"),
+        Err(fault) => assert_fault(rt, fault, DdFault::ReadFailed),
     }
+}
+
+// Nothing past skip and count is asked for.
+fn expect_few(rt: &impl Abort, alloc: Global) -> Result<(), DdFault> {
+    let few = plan(alloc, &["ibs=2", "skip=1", "count=1"])?;
+    let mut from = trickling(b"abcdefghij", 0, 4);
+    let transfer = converted(alloc, &mut from, &few)?;
+    assert_bytes(rt, transfer.bytes.as_slice(), b"cd");
+    assert_bytes(rt, from.rest, b"efghij");
     Ok(())
 }
 
@@ -64,32 +99,39 @@ fn readers_that_give_little(rt: HostRuntime) -> Result<(), Fail> {
 fn readers_that_fail(rt: HostRuntime) -> Result<(), Fail> {
     let alloc = rt.alloc();
     let plain = plan(alloc, &["ibs=2"])?;
-    for (interruptions, fails_after) in [(1000, 100), (0, 0), (0, 5), (0, 10)] {
-        let mut reader = trickling(b"abcdefghij", interruptions, fails_after);
-        match transfer(alloc, &mut reader, &plain) {
-            Ok(_) => assert!(rt; false, "{interruptions} {fails_after}"),
-            Err(fault) => assert_eq!(rt; fault, DdFault::ReadFailed),
-        }
-    }
-    // Nothing past skip and count is asked for.
-    let few = plan(alloc, &["ibs=2", "skip=1", "count=1"])?;
-    let mut reader = trickling(b"abcdefghij", 0, 4);
-    let transfer = transfer(alloc, &mut reader, &few)?;
-    assert!(rt; transfer.bytes.as_slice() == b"cd".as_slice());
-    assert_eq!(rt; reader.rest.len(), 6);
+    expect_read_failed(&rt, alloc, &plain, 1000, 100);
+    expect_read_failed(&rt, alloc, &plain, 0, 0);
+    expect_read_failed(&rt, alloc, &plain, 0, 5);
+    expect_read_failed(&rt, alloc, &plain, 0, 10);
+    expect_few(&rt, alloc)?;
     Ok(())
+}
+
+fn is_reported<A: Allocator>(alloc: A, counts: &Counts) -> Result<bool, DdFault> {
+    let text = report(alloc, counts)?;
+    let wanted = b"4+0 records in\n0+1 records out\n1 truncated record\n";
+    Ok(text.as_slice() == wanted.as_slice())
+}
+
+fn is_put<A: Allocator>(alloc: A, plan: &Plan<A>, bytes: Bytes<A>) -> Result<bool, DdFault> {
+    let change = plan.change(alloc, bytes)?;
+    Ok(change.writes.as_slice().len() == 1)
+}
+
+// Converts, and makes the report and the change.
+fn later_steps<A: Allocator + Clone>(alloc: A, plan: &Plan<A>) -> Result<bool, DdFault> {
+    let mut from = b"ab\nlongline\n".as_slice();
+    let transfer = transfer(alloc.clone()?, &mut from, plan)?;
+    let right = transfer.bytes.as_slice() == b"AB  LONG".as_slice();
+    let reported = is_reported(alloc.clone()?, &transfer.counts)?;
+    let put = is_put(alloc, plan, transfer.bytes)?;
+    Ok(right && reported && put)
 }
 
 // Parses, converts, and makes the report and the change.
 fn all_steps<A: Allocator + Clone>(alloc: A, words: &Words) -> Result<bool, DdFault> {
     let plan = parse(alloc.clone()?, words)?;
-    let mut reader = b"ab\nlongline\n".as_slice();
-    let transfer = transfer(alloc.clone()?, &mut reader, &plan)?;
-    let text = report(alloc.clone()?, &transfer.counts)?;
-    let right = transfer.bytes.as_slice() == b"AB  LONG".as_slice()
-        && text.as_slice() == b"4+0 records in\n0+1 records out\n1 truncated record\n".as_slice();
-    let change = plan.change(alloc, transfer.bytes)?;
-    Ok(right && change.writes.as_slice().len() == 1)
+    later_steps(alloc, &plan)
 }
 
 fn operands(alloc: Global) -> Result<Words, bx_text::NoMemory> {
@@ -99,30 +141,44 @@ fn operands(alloc: Global) -> Result<Words, bx_text::NoMemory> {
     )
 }
 
+// Whether so many bytes of an arena are enough. Where they are, all is right, and else memory was refused.
+fn is_enough(rt: &impl Abort, alloc: Global, words: &Words, bytes: usize) -> Result<bool, Fail> {
+    let bump = ration(alloc, bytes)?;
+    match all_steps(&bump, words) {
+        Ok(right) => {
+            assert!(rt; right);
+            Ok(true)
+        }
+        Err(fault) => {
+            assert_fault(rt, fault, DdFault::NoMemory);
+            Ok(false)
+        }
+    }
+}
+
 #[test]
 fn each_growth_refused(rt: HostRuntime) -> Result<(), Fail> {
     let words = operands(rt.alloc())?;
     let mut refused = 0u32;
     let mut found = false;
     for bytes in 0..2000usize {
-        let bump = ration(rt.alloc(), bytes)?;
-        match all_steps(&bump, &words) {
-            Ok(right) => {
-                assert!(rt; right);
-                found = true;
-            }
-            Err(fault) => {
-                assert_eq!(rt; fault, DdFault::NoMemory);
-                refused = refused.saturating_add(1);
-            }
-        }
+        found = is_enough(&rt, rt.alloc(), &words, bytes)?;
         if found {
             break;
         }
+        refused = refused.saturating_add(1);
     }
     assert!(rt; found);
     assert!(rt; refused > 8);
     Ok(())
+}
+
+// Whether so many bytes of a heap are enough. All goes back to it.
+fn goes_back(rt: &impl Abort, alloc: Global, words: &Words, bytes: usize) -> Result<bool, Fail> {
+    let heap = LocalHeap::new(alloc, bytes)?;
+    let found = all_steps(&heap, words).is_ok();
+    assert_eq!(rt; heap.used(), 0);
+    Ok(found)
 }
 
 #[test]
@@ -130,9 +186,7 @@ fn nothing_is_lost(rt: HostRuntime) -> Result<(), Fail> {
     let words = operands(rt.alloc())?;
     let mut found = false;
     for units in 1..200usize {
-        let heap = LocalHeap::new(rt.alloc(), units * 16)?;
-        found = all_steps(&heap, &words).is_ok();
-        assert_eq!(rt; heap.used(), 0);
+        found = goes_back(&rt, rt.alloc(), &words, units * 16)?;
         if found {
             break;
         }

@@ -1,10 +1,14 @@
 // The worked rows of dd.
+ghost use Rattle.std.specs.Prelude.{◌≡◌, ◌<◌, IfOk};
+
 use bx_dd::{
-    Convert, Counts, DdFault, Letters, Plan, Shape, convert_whole, parse, report, transfer,
+    Convert, Counts, DdFault, Letters, Plan, Shape, Transfer, convert_whole, parse, report,
+    transfer,
 };
-use bx_image::{Device, MemImage, apply, check, save};
-use bx_text::{NoMemory, Words};
+use bx_image::{Change, Device, ImageFault, MemImage, Saved, apply, check, save};
+use bx_text::{Name, NoMemory, Words};
 use std::alloc::Global;
+use std::io::Read;
 use std::process::Abort;
 use std::test::Fail;
 
@@ -17,8 +21,27 @@ pub fn words(alloc: Global, operands: &[&str]) -> Result<Words, NoMemory> {
 }
 
 pub fn plan(alloc: Global, operands: &[&str]) -> Result<Plan, DdFault> {
-    let words = words(alloc, operands).map_err(|_| DdFault::NoMemory)?;
+    let Ok(words) = words(alloc, operands) else {
+        return Err(DdFault::NoMemory);
+    };
     parse(alloc, &words)
+}
+
+/// What is made of all that a reader gives. A test carries no facts about it.
+pub fn converted(alloc: Global, from: &mut impl Read, plan: &Plan) -> Result<Transfer, DdFault> {
+    transfer(alloc, from, plan)
+}
+
+pub fn assert_bytes(rt: &impl Abort, found: &[u8], wanted: &[u8]) {
+    assert!(rt; found == wanted);
+}
+
+pub fn assert_number(rt: &impl Abort, found: u64, wanted: u64) {
+    assert_eq!(rt; found, wanted);
+}
+
+pub fn assert_fault(rt: &impl Abort, found: DdFault, wanted: DdFault) {
+    assert_eq!(rt; found, wanted);
 }
 
 fn counts(whole_in: u64, part_in: u64, whole_out: u64, part_out: u64, cut: u64) -> Counts {
@@ -31,6 +54,10 @@ fn counts(whole_in: u64, part_in: u64, whole_out: u64, part_out: u64, cut: u64) 
     }
 }
 
+fn assert_counts(rt: &impl Abort, found: Counts, wanted: Counts) {
+    assert_eq!(rt; found, wanted);
+}
+
 fn expect(
     rt: &impl Abort,
     alloc: Global,
@@ -39,26 +66,38 @@ fn expect(
     output: &[u8],
     counted: Counts,
 ) -> Result<(), DdFault> {
-    let mut reader = input;
-    let transfer = transfer(alloc, &mut reader, &plan(alloc, operands)?)?;
-    assert!(rt; transfer.bytes.as_slice() == output);
-    assert_eq!(rt; transfer.counts, counted);
+    let plan = plan(alloc, operands)?;
+    let mut from = input;
+    let transfer = converted(alloc, &mut from, &plan)?;
+    assert_bytes(rt, transfer.bytes.as_slice(), output);
+    assert_counts(rt, transfer.counts, counted);
+    Ok(())
+}
+
+fn expect_report(
+    rt: &impl Abort,
+    alloc: Global,
+    counts: Counts,
+    text: &str,
+) -> Result<(), DdFault> {
+    let found = report(alloc, &counts)?;
+    assert_bytes(rt, found.as_slice(), text.as_bytes());
     Ok(())
 }
 
 #[test]
 fn swab_odd_block(rt: HostRuntime) -> Result<(), Fail> {
-    let operands = ["ibs=3", "conv=swab"];
+    let alloc = rt.alloc();
+    let counted = counts(2, 0, 0, 1, 0);
     expect(
         &rt,
-        rt.alloc(),
-        &operands,
+        alloc,
+        &["ibs=3", "conv=swab"],
         b"ABCDEF",
         b"BACEDF",
-        counts(2, 0, 0, 1, 0),
+        counted,
     )?;
-    let text = report(rt.alloc(), &counts(2, 0, 0, 1, 0))?;
-    assert!(rt; text.as_slice() == b"2+0 records in\n0+1 records out\n".as_slice());
+    expect_report(&rt, alloc, counted, "2+0 records in\n0+1 records out\n")?;
     Ok(())
 }
 
@@ -66,115 +105,141 @@ fn swab_odd_block(rt: HostRuntime) -> Result<(), Fail> {
 fn block_and_unblock(rt: HostRuntime) -> Result<(), Fail> {
     let alloc = rt.alloc();
     let block = ["cbs=4", "conv=block"];
-    expect(
-        &rt,
-        alloc,
-        &block,
-        b"ab\nlongline\n",
-        b"ab  long",
-        counts(0, 1, 0, 1, 1),
-    )?;
-    let text = report(alloc, &counts(0, 1, 0, 1, 1))?;
-    assert!(rt;
-        text.as_slice() == b"0+1 records in\n0+1 records out\n1 truncated record\n".as_slice()
-    );
-    let text = report(alloc, &counts(0, 0, 0, 0, 12))?;
-    assert!(rt;
-        text.as_slice() == b"0+0 records in\n0+0 records out\n12 truncated records\n".as_slice()
-    );
+    let counted = counts(0, 1, 0, 1, 1);
+    expect(&rt, alloc, &block, b"ab\nlongline\n", b"ab  long", counted)?;
+    let text = "0+1 records in\n0+1 records out\n1 truncated record\n";
+    expect_report(&rt, alloc, counted, text)?;
+    let text = "0+0 records in\n0+0 records out\n12 truncated records\n";
+    expect_report(&rt, alloc, counts(0, 0, 0, 0, 12), text)?;
     let unblock = ["conv=unblock", "cbs=4"];
-    expect(
-        &rt,
-        alloc,
-        &unblock,
-        b"ab  cd",
-        b"ab\ncd\n",
-        counts(0, 1, 0, 1, 0),
-    )?;
+    let counted = counts(0, 1, 0, 1, 0);
+    expect(&rt, alloc, &unblock, b"ab  cd", b"ab\ncd\n", counted)?;
     Ok(())
 }
 
 #[test]
 fn sync_skip_count(rt: HostRuntime) -> Result<(), Fail> {
     let alloc = rt.alloc();
+    let sync = ["ibs=4", "conv=sync"];
     expect(
         &rt,
         alloc,
-        &["ibs=4", "conv=sync"],
+        &sync,
         b"abcde",
         b"abcde\0\0\0",
         counts(1, 1, 0, 1, 0),
     )?;
-    let operands = ["ibs=2", "obs=2", "skip=1", "count=1", "conv=ucase"];
-    expect(
-        &rt,
-        alloc,
-        &operands,
-        b"abcdef",
-        b"CD",
-        counts(1, 0, 1, 0, 0),
-    )?;
-    expect(&rt, alloc, &["skip=9"], b"abc", b"", counts(0, 0, 0, 0, 0))?;
-    expect(&rt, alloc, &["count=0"], b"abc", b"", counts(0, 0, 0, 0, 0))?;
+    let second = ["ibs=2", "obs=2", "skip=1", "count=1", "conv=ucase"];
+    expect(&rt, alloc, &second, b"abcdef", b"CD", counts(1, 0, 1, 0, 0))?;
+    let none = counts(0, 0, 0, 0, 0);
+    expect(&rt, alloc, &["skip=9"], b"abc", b"", none)?;
+    expect(&rt, alloc, &["count=0"], b"abc", b"", none)?;
     Ok(())
+}
+
+fn refuse(rt: &impl Abort, alloc: Global, operands: &[&str], fault: DdFault) {
+    match plan(alloc, operands) {
+        Ok(_) => assert!(rt; false, "{fault}"),
+        Err(found) => assert_fault(rt, found, fault),
+    }
+}
+
+fn refuse_words(rt: &impl Abort, alloc: Global) {
+    let unknown = DdFault::UnknownOperand(1);
+    refuse(rt, alloc, &["foo=1"], unknown);
+    refuse(rt, alloc, &["ibs"], unknown);
+    refuse(rt, alloc, &["if="], unknown);
+    refuse(rt, alloc, &["conv=swab,"], unknown);
+}
+
+fn refuse_numbers(rt: &impl Abort, alloc: Global) {
+    refuse(rt, alloc, &["ibs=1q"], DdFault::BadNumber(1));
+    refuse(rt, alloc, &["ibs=1kB"], DdFault::BadNumber(1));
+    let large = DdFault::NumberTooLarge(1);
+    refuse(rt, alloc, &["ibs=16777217"], large);
+    refuse(rt, alloc, &["count=1099511627776"], large);
+    refuse(rt, alloc, &["seek=1G", "obs=1M"], large);
+    let large = DdFault::NumberTooLarge(2);
+    refuse(rt, alloc, &["ibs=16777216", "skip=16777217"], large);
+    refuse(rt, alloc, &["obs=0"], DdFault::ZeroSize(1));
+    refuse(rt, alloc, &["obs=0", "foo=1"], DdFault::ZeroSize(1));
+}
+
+fn refuse_pairs(rt: &impl Abort, alloc: Global) {
+    refuse(rt, alloc, &["conv=lcase,ucase"], DdFault::Conflict);
+    let shapes = ["cbs=4", "conv=unblock,block"];
+    refuse(rt, alloc, &shapes, DdFault::Conflict);
+    refuse(rt, alloc, &["conv=block", "bs=1"], DdFault::MissingCbs);
+    refuse(rt, alloc, &["bs=1", "bs=2"], DdFault::Repeated(2));
+    refuse(rt, alloc, &["bs=1", "bs=q"], DdFault::Repeated(2));
 }
 
 #[test]
 fn operand_faults(rt: HostRuntime) -> Result<(), Fail> {
     let alloc = rt.alloc();
-    let rows: [(&str, &str, DdFault); 17] = [
-        ("foo=1", "", DdFault::UnknownOperand(1)),
-        ("ibs", "", DdFault::UnknownOperand(1)),
-        ("if=", "", DdFault::UnknownOperand(1)),
-        ("conv=swab,", "", DdFault::UnknownOperand(1)),
-        ("ibs=1q", "", DdFault::BadNumber(1)),
-        ("ibs=1kB", "", DdFault::BadNumber(1)),
-        ("ibs=16777217", "", DdFault::NumberTooLarge(1)),
-        ("count=1099511627776", "", DdFault::NumberTooLarge(1)),
-        ("obs=0", "", DdFault::ZeroSize(1)),
-        ("conv=lcase,ucase", "", DdFault::Conflict),
-        ("cbs=4", "conv=unblock,block", DdFault::Conflict),
-        ("conv=block", "bs=1", DdFault::MissingCbs),
-        ("bs=1", "bs=2", DdFault::Repeated(2)),
-        ("bs=1", "bs=q", DdFault::Repeated(2)),
-        ("ibs=16777216", "skip=16777217", DdFault::NumberTooLarge(2)),
-        ("seek=1G", "obs=1M", DdFault::NumberTooLarge(1)),
-        ("obs=0", "foo=1", DdFault::ZeroSize(1)),
-    ];
-    for (first, second, fault) in rows {
-        let mut list = words(alloc, &[first])?;
-        if !second.is_empty() {
-            list.push(second)?;
-        }
-        match parse(alloc, &list) {
-            Ok(_) => assert!(rt; false, "{first} {second}"),
-            Err(found) => assert_eq!(rt; found, fault, "{first} {second}"),
-        }
-    }
-    assert_eq!(rt; plan(alloc, &["ibs=2x3k"])?.ibs, 6144);
+    refuse_words(&rt, alloc);
+    refuse_numbers(&rt, alloc);
+    refuse_pairs(&rt, alloc);
+    assert_number(&rt, plan(alloc, &["ibs=2x3k"])?.ibs, 6144);
     Ok(())
 }
 
-#[test]
-fn fault_texts(rt: HostRuntime) -> Result<(), Fail> {
-    let rows = [
-        (DdFault::NoMemory, "out of memory"),
-        (DdFault::ReadFailed, "read failed"),
-        (DdFault::InputTooLong, "input too long"),
-        (DdFault::UnknownOperand(1), "operand 1: unknown"),
-        (DdFault::BadNumber(2), "operand 2: bad number"),
-        (DdFault::NumberTooLarge(3), "operand 3: number too large"),
-        (DdFault::ZeroSize(4), "operand 4: zero size"),
-        (DdFault::Conflict, "conflicting conversions"),
-        (DdFault::MissingCbs, "cbs is missing"),
-        (DdFault::Repeated(15), "operand 15: given twice"),
-        (DdFault::SeekWithoutOutput, "seek needs an output file"),
-    ];
-    for (fault, text) in rows {
-        let shown = fault.to_string(rt.alloc())?;
-        assert!(rt; shown.as_str() == text);
+fn expect_text(rt: &impl Abort, alloc: Global, fault: DdFault, text: &str) {
+    match fault.to_string(alloc) {
+        Ok(shown) => assert_bytes(rt, shown.as_bytes(), text.as_bytes()),
+        Err(_) => assert!(rt; false),
     }
-    Ok(())
+}
+
+#[test]
+fn fault_texts(rt: HostRuntime) {
+    let alloc = rt.alloc();
+    expect_text(&rt, alloc, DdFault::NoMemory, "out of memory");
+    expect_text(&rt, alloc, DdFault::ReadFailed, "read failed");
+    expect_text(&rt, alloc, DdFault::InputTooLong, "input too long");
+    expect_text(&rt, alloc, DdFault::UnknownOperand(1), "operand 1: unknown");
+    expect_text(&rt, alloc, DdFault::BadNumber(2), "operand 2: bad number");
+    expect_text(
+        &rt,
+        alloc,
+        DdFault::NumberTooLarge(3),
+        "operand 3: number too large",
+    );
+    expect_text(&rt, alloc, DdFault::ZeroSize(4), "operand 4: zero size");
+    expect_text(&rt, alloc, DdFault::Conflict, "conflicting conversions");
+    expect_text(&rt, alloc, DdFault::MissingCbs, "cbs is missing");
+    expect_text(&rt, alloc, DdFault::Repeated(15), "operand 15: given twice");
+    expect_text(
+        &rt,
+        alloc,
+        DdFault::SeekWithoutOutput,
+        "seek needs an output file",
+    );
+}
+
+fn assert_name(rt: &impl Abort, found: &Option<Name>, wanted: &str) {
+    match found {
+        Some(name) => assert!(rt; name.as_str() == wanted),
+        None => assert!(rt; false),
+    }
+}
+
+fn assert_sizes(rt: &impl Abort, plan: &Plan) {
+    assert_number(rt, plan.ibs, 3);
+    assert_number(rt, plan.obs, 3);
+    assert_number(rt, plan.cbs, 5);
+    assert_number(rt, plan.skip, 1);
+    assert_number(rt, plan.seek, 2);
+    assert_eq!(rt; plan.count, Some(4));
+}
+
+fn assert_conversions(rt: &impl Abort, plan: &Plan) {
+    assert!(rt; plan.swab);
+    assert!(rt; plan.sync);
+    assert!(rt; plan.notrunc);
+    assert!(rt; plan.letters == Letters::Lower);
+    assert!(rt; plan.shape == Shape::Block);
+    assert_eq!(rt; plan.for_stream(), Err(DdFault::SeekWithoutOutput));
 }
 
 #[test]
@@ -191,43 +256,86 @@ fn a_whole_plan(rt: HostRuntime) -> Result<(), Fail> {
         "conv=swab,sync,swab,notrunc,lcase,block",
     ];
     let plan = plan(rt.alloc(), &operands)?;
-    assert!(rt;
-        plan.input
-            .as_ref()
-            .is_some_and(|name| name.as_str() == "a=b")
-    );
-    assert!(rt;
-        plan.output
-            .as_ref()
-            .is_some_and(|name| name.as_str() == "c")
-    );
-    assert_eq!(rt; (plan.ibs, plan.obs, plan.cbs), (3, 3, 5));
-    assert_eq!(rt; (plan.skip, plan.seek, plan.count), (1, 2, Some(4)));
-    assert_eq!(rt; (plan.swab, plan.sync, plan.notrunc), (true, true, true));
-    assert_eq!(rt; (plan.letters, plan.shape), (Letters::Lower, Shape::Block));
-    assert_eq!(rt; plan.for_stream(), Err(DdFault::SeekWithoutOutput));
+    assert_name(&rt, &plan.input, "a=b");
+    assert_name(&rt, &plan.output, "c");
+    assert_sizes(&rt, &plan);
+    assert_conversions(&rt, &plan);
     Ok(())
+}
+
+fn assert_progress(rt: &impl Abort, convert: &Convert, taken: u64, held: u64) {
+    assert_number(rt, convert.taken(), taken);
+    assert_number(rt, convert.held(), held);
+}
+
+// One block of three bytes more: so many were then taken, and so many are held.
+fn next_block(
+    rt: &impl Abort,
+    convert: Convert,
+    block: &[u8],
+    taken: u64,
+    held: u64,
+) -> Result<Convert, DdFault>
+    requires { convert.form.ibs ≡ 3 }
+    ensures { IfOk result (λ c. c.form.ibs ≡ 3) }
+{
+    let before = convert.taken();
+    assert!(rt; before < 1000);
+    assert!(rt; before % 3 == 0);
+    assert!(rt; block.len() == 3);
+    let convert = convert.block(block)?;
+    assert_progress(rt, &convert, taken, held);
+    Ok(convert)
 }
 
 #[test]
 fn held_after_each_block(rt: HostRuntime) -> Result<(), Fail> {
-    let alloc = rt.alloc();
-    let plan = plan(alloc, &["ibs=3", "cbs=4", "conv=block,ucase"])?;
+    let plan = plan(rt.alloc(), &["ibs=3", "cbs=4", "conv=block,ucase"])?;
     assert_eq!(rt; plan.ibs, 3);
-    let convert = Convert::new(alloc, &plan)?.block(b"ab\n")?;
-    assert_eq!(rt; (convert.taken(), convert.held()), (3, 0));
-    assert!(rt; convert.out() == b"AB  ".as_slice());
-    let convert = convert.block(b"lon")?;
-    assert_eq!(rt; (convert.taken(), convert.held()), (6, 3));
-    let convert = convert.block(b"gli")?;
-    assert_eq!(rt; (convert.taken(), convert.held()), (9, 4));
-    let convert = convert.block(b"ne\n")?;
-    assert_eq!(rt; (convert.taken(), convert.held()), (12, 0));
-    assert!(rt; convert.out() == b"AB  LONG".as_slice());
+    let convert = Convert::new(rt.alloc(), &plan)?;
+    let convert = next_block(&rt, convert, b"ab\n", 3, 0)?;
+    assert_bytes(&rt, convert.out(), b"AB  ");
+    let convert = next_block(&rt, convert, b"lon", 6, 3)?;
+    let convert = next_block(&rt, convert, b"gli", 9, 4)?;
+    let convert = next_block(&rt, convert, b"ne\n", 12, 0)?;
+    assert_bytes(&rt, convert.out(), b"AB  LONG");
     let transfer = convert.finish()?;
-    assert!(rt; transfer.bytes.as_slice() == b"AB  LONG".as_slice());
-    assert_eq!(rt; transfer.counts, counts(4, 0, 0, 1, 1));
+    assert_bytes(&rt, transfer.bytes.as_slice(), b"AB  LONG");
+    assert_counts(&rt, transfer.counts, counts(4, 0, 0, 1, 1));
     Ok(())
+}
+
+fn assert_countable<D: Device>(rt: &impl Abort, device: &D)
+    ensures { D.failures device.now < u64.MAX }
+{
+    assert!(rt; device.faults() < u64::MAX);
+}
+
+fn saved<D: Device>(
+    rt: &impl Abort,
+    alloc: Global,
+    device: &mut D,
+    change: &Change,
+) -> Result<Saved, ImageFault> {
+    assert_countable(rt, device);
+    save(alloc, device, change)
+}
+
+fn perform<D: Device>(rt: &impl Abort, device: &mut D, change: &Change) -> Result<(), Fail> {
+    assert_countable(rt, device);
+    let len = device.len()?;
+    device.reserve(check(change, len)?)?;
+    assert_countable(rt, device);
+    apply(device, change)?;
+    Ok(())
+}
+
+// The change that puts what is made of an input onto an image.
+fn change_of(alloc: Global, operands: &[&str], input: &[u8]) -> Result<Change, DdFault> {
+    let plan = plan(alloc, operands)?;
+    let mut from = input;
+    let transfer = converted(alloc, &mut from, &plan)?;
+    plan.change(alloc, transfer.bytes)
 }
 
 // Puts what is made of an input onto an image, and takes it back.
@@ -239,20 +347,13 @@ fn onto_image(
     old: &[u8],
     new: &[u8],
 ) -> Result<(), Fail> {
-    let mut reader = input;
-    let plan = plan(alloc, operands)?;
-    let transfer = transfer(alloc, &mut reader, &plan)?;
-    let change = plan.change(alloc, transfer.bytes)?;
+    let change = change_of(alloc, operands, input)?;
     let mut image = MemImage::from_vec(old.to_vec(alloc)?);
-    let len = check(&change, old.len() as u64)?;
-    let saved = save(alloc, &mut image, &change)?;
-    image.reserve(len)?;
-    image.reserve(saved.len)?;
-    apply(&mut image, &change)?;
-    assert!(rt; image.as_slice() == new);
-    let back = saved.into_change();
-    apply(&mut image, &back)?;
-    assert!(rt; image.as_slice() == old);
+    let saved = saved(rt, alloc, &mut image, &change)?;
+    perform(rt, &mut image, &change)?;
+    assert_bytes(rt, image.as_slice(), new);
+    perform(rt, &mut image, &saved.into_change())?;
+    assert_bytes(rt, image.as_slice(), old);
     Ok(())
 }
 
@@ -270,14 +371,8 @@ fn dd_empty_input(rt: HostRuntime) -> Result<(), Fail> {
     let operands = ["obs=4", "seek=2"];
     expect(&rt, alloc, &operands, b"", b"", counts(0, 0, 0, 0, 0))?;
     onto_image(&rt, alloc, &operands, b"", b"abc", b"abc\0\0\0\0\0")?;
-    onto_image(
-        &rt,
-        alloc,
-        &["obs=4", "seek=2", "conv=notrunc"],
-        b"",
-        b"abc",
-        b"abc",
-    )
+    let kept = ["obs=4", "seek=2", "conv=notrunc"];
+    onto_image(&rt, alloc, &kept, b"", b"abc", b"abc")
 }
 
 #[test]
@@ -297,15 +392,19 @@ fn notrunc_and_sync_block(rt: HostRuntime) -> Result<(), Fail> {
     Ok(())
 }
 
+fn expect_same(rt: &impl Abort, alloc: Global, plan: &Plan, input: &[u8]) -> Result<(), DdFault> {
+    let mut from = input;
+    let transfer = converted(alloc, &mut from, plan)?;
+    assert_bytes(rt, transfer.bytes.as_slice(), input);
+    Ok(())
+}
+
 #[test]
 fn every_length(rt: HostRuntime) -> Result<(), Fail> {
-    let alloc = rt.alloc();
-    let plan = plan(alloc, &[])?;
+    let plan = plan(rt.alloc(), &[])?;
     let bytes = [7u8; 600];
     for n in 0..=600usize {
-        let mut reader = &bytes[..n];
-        let transfer = transfer(alloc, &mut reader, &plan)?;
-        assert!(rt; transfer.bytes.as_slice() == &bytes[..n]);
+        expect_same(&rt, rt.alloc(), &plan, &bytes[..n])?;
     }
     Ok(())
 }
@@ -313,29 +412,29 @@ fn every_length(rt: HostRuntime) -> Result<(), Fail> {
 const TEXT: &[u8] = b"one\ntwo  \n\na longer Line with  spaces   \nq\xe9\xff\0\n\nlast";
 
 // The converter, block by block, and the plain program over the whole input agree.
-fn agree(rt: &impl Abort, alloc: Global, operands: &[&str]) -> Result<(), Fail> {
+fn agree(rt: &impl Abort, alloc: Global, plan: &Plan, input: &[u8]) -> Result<(), Fail> {
+    let mut from = input;
+    let fast = converted(alloc, &mut from, plan)?;
+    let plain = convert_whole(alloc, plan.form(), input)?;
+    assert_bytes(rt, fast.bytes.as_slice(), plain.as_slice());
+    Ok(())
+}
+
+fn agree_on_text(rt: &impl Abort, alloc: Global, operands: &[&str]) -> Result<(), Fail> {
     let plan = plan(alloc, operands)?;
     for n in 0..=TEXT.len() {
-        let mut reader = &TEXT[..n];
-        let fast = transfer(alloc, &mut reader, &plan)?;
-        let plain = convert_whole(alloc, plan.form(), &TEXT[..n])?;
-        assert!(rt; fast.bytes.as_slice() == plain.as_slice());
+        agree(rt, alloc, &plan, &TEXT[..n])?;
     }
     Ok(())
 }
 
 #[test]
 fn converter_and_plain_program(rt: HostRuntime) -> Result<(), Fail> {
-    let rows = [
-        ["ibs=3", "cbs=5", "conv=swab"],
-        ["ibs=7", "cbs=5", "conv=sync,ucase"],
-        ["ibs=1", "cbs=5", "conv=block"],
-        ["ibs=3", "cbs=5", "conv=block,sync,swab"],
-        ["ibs=16", "cbs=5", "conv=unblock,lcase"],
-        ["ibs=2", "cbs=3", "conv=unblock,sync"],
-    ];
-    for operands in &rows {
-        agree(&rt, rt.alloc(), operands)?;
-    }
-    Ok(())
+    let alloc = rt.alloc();
+    agree_on_text(&rt, alloc, &["ibs=3", "cbs=5", "conv=swab"])?;
+    agree_on_text(&rt, alloc, &["ibs=7", "cbs=5", "conv=sync,ucase"])?;
+    agree_on_text(&rt, alloc, &["ibs=1", "cbs=5", "conv=block"])?;
+    agree_on_text(&rt, alloc, &["ibs=3", "cbs=5", "conv=block,sync,swab"])?;
+    agree_on_text(&rt, alloc, &["ibs=16", "cbs=5", "conv=unblock,lcase"])?;
+    agree_on_text(&rt, alloc, &["ibs=2", "cbs=3", "conv=unblock,sync"])
 }

@@ -7,7 +7,7 @@ ghost use Rattle.bx_dump.specs.Cells.{bits_of, piece_at, grouped};
 
 use crate::hex_lanes::{put_fours, put_shown_bytes, put_sixteen};
 use crate::xxd_tables::bits;
-use bx_text::{blank, digits_of, hex_digit, hex_field};
+use bx_text::{blank, hex_digit, hex_field, put_address};
 
 /// Puts the two digits of each byte, byte by byte.
 fn put_few_pairs(cells: &mut [u8], bytes: &[u8], upper: bool)
@@ -120,24 +120,6 @@ fn put_grouped(field: &mut [u8], cells: &[u8], piece: usize, count: usize)
     let (last, gap) = rest.split_at_mut(left.len());
     last.copy_from_slice(left);
     blank(gap);
-}
-
-/// Puts an address as 8 digits.
-#[inline(always)]
-pub fn put_address(field: &mut [u8], at: u32)
-    requires { length field.old ≡ 8 }
-    ensures { field.new ≡ hex_text false 8 at }
-{
-    let above = at / 256;
-    let higher = above / 256;
-    let highest = higher / 256;
-    let (first, rest) = field.split_at_mut(2);
-    let (second, rest) = rest.split_at_mut(2);
-    let (third, fourth) = rest.split_at_mut(2);
-    first.copy_from_slice(&digits_of((highest % 256) as u8));
-    second.copy_from_slice(&digits_of((higher % 256) as u8));
-    third.copy_from_slice(&digits_of((above % 256) as u8));
-    fourth.copy_from_slice(&digits_of((at % 256) as u8));
 }
 
 /// Puts an address of at least 8 digits at the front, and answers how long it is.

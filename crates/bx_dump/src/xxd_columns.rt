@@ -4,8 +4,9 @@ ghost use Rattle.std.specs.List.{flat_map};
 ghost use Rattle.bx_dump.specs.Lines.{in_lines};
 ghost use Rattle.bx_dump.specs.Xxd.{cell_of, cell_width, columns_width, columns_line};
 
-use crate::xxd_cells::{put_address, put_at, put_bits, put_body, put_pairs};
+use crate::xxd_cells::{put_at, put_bits, put_body, put_pairs};
 use crate::xxd_lines::{LineForm, Put};
+use bx_text::put_address;
 
 /// How a byte is written.
 #[derive(Clone, Copy, Debug, PartialEq, Eq)]

@@ -2,6 +2,8 @@
 #![tactic(auto)]
 
 #[cfg(test)]
+mod expected;
+#[cfg(test)]
 mod od_tests;
 #[cfg(test)]
 mod printable_tests;

@@ -1,7 +1,9 @@
-ghost use Rattle.std.specs.Prelude.{◌<◌, ◌≤◌};
+ghost use Rattle.std.specs.Prelude.{◌≡◌, ◌<◌, ◌≤◌};
 
+use crate::expected::{assert_answer, assert_bytes};
 use bx_dump::{Address, StringsOptions, strings};
 use bx_text::IoFault;
+use std::alloc::{AllocError, Global};
 use std::io::{self, ErrorKind, Read, Write};
 use std::process::Abort;
 use std::test::Fail;
@@ -52,34 +54,48 @@ const FOUR: StringsOptions = StringsOptions {
     offsets: Address::Without,
 };
 
-/// Checks the runs of an input.
-fn expect<R: Abort + AllocGlobal>(
+/// Checks the runs of what a reader gives.
+fn expect_of<R: Abort + AllocGlobal>(
     rt: &R,
-    input: &[u8],
-    least: u16,
-    offsets: Address,
-    text: &str,
-) -> Result<(), Fail>
-    requires some { 0 < least }
-    requires few { least ≤ 4096 }
+    from: &mut impl Read,
+    o: &StringsOptions,
+    answer: Result<u64, IoFault>,
+    text: &[u8],
+)
+    requires some { 0 < o.now.least }
+    requires few { o.now.least ≤ 4096 }
+{
+    let mut out = Vec::new(rt.alloc());
+    let found = strings(from, &mut out, o);
+    assert_answer(rt, found, answer);
+    assert_bytes(rt, out.as_slice(), text);
+}
+
+/// Checks the runs of an input.
+fn expect<R: Abort + AllocGlobal>(rt: &R, input: &[u8], o: &StringsOptions, text: &[u8])
+    requires some { 0 < o.now.least }
+    requires few { o.now.least ≤ 4096 }
 {
     let mut from = input;
-    let mut out = Vec::new(rt.alloc());
-    let o = StringsOptions { least, offsets };
-    assert_eq!(rt; strings(&mut from, &mut out, &o), Ok(input.len() as u64));
-    assert_eq!(rt; out.as_slice(), text.as_bytes());
-    Ok(())
+    expect_of(rt, &mut from, o, Ok(input.len() as u64), text);
+}
+
+fn options(least: u16, offsets: Address) -> StringsOptions
+    ensures { result.least ≡ least }
+{
+    StringsOptions { least, offsets }
 }
 
 #[test]
-fn strings_offsets(rt: HostRuntime) -> Result<(), Fail> {
+fn strings_offsets(rt: HostRuntime) {
     let input = b"ab\0hello\n\x01world!";
-    expect(&rt, input, 4, Address::Hexadecimal, "3 hello\na world!\n")?;
-    expect(&rt, b"\0abc", 3, Address::Decimal, "1 abc\n")?;
+    let text = b"3 hello\na world!\n";
+    expect(&rt, input, &options(4, Address::Hexadecimal), text);
+    expect(&rt, b"\0abc", &options(3, Address::Decimal), b"1 abc\n");
     let zeros = b"\0\0\0\0\0\0\0\0wxyz";
-    expect(&rt, zeros, 4, Address::Octal, "10 wxyz\n")?;
-    expect(&rt, b"abc", 4, Address::Without, "")?;
-    expect(&rt, b"", 4, Address::Without, "")
+    expect(&rt, zeros, &options(4, Address::Octal), b"10 wxyz\n");
+    expect(&rt, b"abc", &FOUR, b"");
+    expect(&rt, b"", &FOUR, b"");
 }
 
 /// Checks a run of so many bytes that begins `before` bytes behind the input's start.
@@ -93,19 +109,15 @@ fn expect_run<R: Abort + AllocGlobal>(
     requires few { least ≤ 4096 }
 {
     let mut input = vec![in rt.alloc(); 0u8; before]?;
-    let run = vec![in rt.alloc(); b'a'; count]?;
+    let mut run = vec![in rt.alloc(); b'a'; count]?;
     input.extend_from_slice(run.as_slice())?;
-    let mut from = input.as_slice();
-    let mut out = Vec::new(rt.alloc());
-    let o = StringsOptions {
-        least,
-        offsets: Address::Without,
-    };
-    let all = input.len() as u64;
-    assert_eq!(rt; strings(&mut from, &mut out, &o), Ok(all));
-    let mut text = run;
-    text.push(b'\n')?;
-    assert_eq!(rt; out.as_slice(), text.as_slice());
+    run.push(b'\n')?;
+    expect(
+        rt,
+        input.as_slice(),
+        &options(least, Address::Without),
+        run.as_slice(),
+    );
     Ok(())
 }
 
@@ -121,7 +133,7 @@ fn strings_edges(rt: HostRuntime) -> Result<(), Fail> {
 }
 
 #[test]
-fn strings_of_slow_readers(rt: HostRuntime) -> Result<(), Fail> {
+fn strings_of_slow_readers(rt: HostRuntime) {
     for most in [1, 2, 3, 7] {
         let mut from = Slow {
             bytes: b"ab\0hello\n\x01world!",
@@ -129,15 +141,11 @@ fn strings_of_slow_readers(rt: HostRuntime) -> Result<(), Fail> {
             interruptions: 999,
             fails: false,
         };
-        let mut out = Vec::new(rt.alloc());
-        assert_eq!(rt; strings(&mut from, &mut out, &FOUR), Ok(16));
-        assert_eq!(rt; out.as_slice(), b"hello\nworld!\n".as_slice());
+        expect_of(&rt, &mut from, &FOUR, Ok(16), b"hello\nworld!\n");
     }
-    Ok(())
 }
 
-#[test]
-fn strings_of_broken_streams(rt: HostRuntime) -> Result<(), Fail> {
+fn stop_at_a_read<R: Abort + AllocGlobal>(rt: &R) {
     let mut from = Slow {
         bytes: b"abcdef",
         most: 4,
@@ -145,31 +153,33 @@ fn strings_of_broken_streams(rt: HostRuntime) -> Result<(), Fail> {
         fails: true,
     };
     let mut out = Vec::new(rt.alloc());
-    assert_eq!(rt;
-        strings(&mut from, &mut out, &FOUR),
-        Err(IoFault::ReadFailed)
-    );
-    for room in [0, 3, 6] {
-        let mut from = b"abcdef".as_slice();
-        let mut to = Full { room };
-        let fault = IoFault::WriteFailed {
-            written: room as u64,
-        };
-        assert_eq!(rt; strings(&mut from, &mut to, &FOUR), Err(fault));
-    }
-    Ok(())
+    let found = strings(&mut from, &mut out, &FOUR);
+    assert_answer(rt, found, Err(IoFault::ReadFailed));
+}
+
+fn stop_at_a_write(rt: &impl Abort, room: usize) {
+    let mut from = b"abcdef".as_slice();
+    let mut to = Full { room };
+    let fault = IoFault::WriteFailed {
+        written: room as u64,
+    };
+    assert_answer(rt, strings(&mut from, &mut to, &FOUR), Err(fault));
 }
 
 #[test]
-fn strings_of_each_length(rt: HostRuntime) -> Result<(), Fail> {
+fn strings_of_broken_streams(rt: HostRuntime) {
+    stop_at_a_read(&rt);
+    for room in [0, 3, 6] {
+        stop_at_a_write(&rt, room);
+    }
+}
+
+#[test]
+fn strings_of_each_length(rt: HostRuntime) {
     let zeros = [0u8; 600];
     for n in 0..601usize {
-        let mut from = &zeros[..n];
-        let mut out = Vec::new(rt.alloc());
-        assert_eq!(rt; strings(&mut from, &mut out, &FOUR), Ok(n as u64));
-        assert_eq!(rt; out.len(), 0);
+        expect(&rt, &zeros[..n], &FOUR, b"");
     }
-    Ok(())
 }
 
 /// A reader that gives so many bytes, then so many, and then the rest.
@@ -196,61 +206,62 @@ impl Read for Pieces<'_> {
 
 #[test]
 fn strings_of_every_split(rt: HostRuntime) {
-    for first in 1..16usize {
-        for second in 1..16usize {
-            let mut from = Pieces {
-                bytes: b"ab\0hello\n\x01world!",
-                first,
-                second,
-            };
-            let mut out = Vec::new(rt.alloc());
-            assert_eq!(rt; strings(&mut from, &mut out, &FOUR), Ok(16));
-            assert_eq!(rt; out.as_slice(), b"hello\nworld!\n".as_slice());
-        }
+    for both in 0..15 * 15usize {
+        let mut from = Pieces {
+            bytes: b"ab\0hello\n\x01world!",
+            first: both / 15 + 1,
+            second: both % 15 + 1,
+        };
+        expect_of(&rt, &mut from, &FOUR, Ok(16), b"hello\nworld!\n");
     }
+}
+
+/// Two runs behind so many zeros.
+fn two_runs(alloc: Global, before: usize) -> Result<Vec<u8>, AllocError> {
+    let mut input = vec![in alloc; 0u8; before]?;
+    input.extend_from_slice(b"four\x1fyes\x7f\x7f!no way~\0\x80")?;
+    input.extend_from_slice(&[0xffu8; 40])?;
+    Ok(input)
 }
 
 #[test]
 fn strings_at_every_place(rt: HostRuntime) -> Result<(), Fail> {
     for before in 0..80usize {
-        let mut input = vec![in rt.alloc(); 0u8; before]?;
-        input.extend_from_slice(b"four\x1fyes\x7f\x7f!no way~\0\x80")?;
-        input.extend_from_slice(&[0xffu8; 40])?;
-        let mut from = input.as_slice();
-        let mut out = Vec::new(rt.alloc());
-        let all = input.len() as u64;
-        assert_eq!(rt; strings(&mut from, &mut out, &FOUR), Ok(all));
-        assert_eq!(rt; out.as_slice(), b"four\n!no way~\n".as_slice());
+        let input = two_runs(rt.alloc(), before)?;
+        expect(&rt, input.as_slice(), &FOUR, b"four\n!no way~\n");
     }
     Ok(())
 }
 
-#[test]
-fn strings_of_every_byte(rt: HostRuntime) -> Result<(), Fail> {
-    for byte in 0..=255u8 {
-        let input = [b'w', b'x', b'y', b'z', byte, b'w', b'x', b'y', b'z'];
-        let mut from = input.as_slice();
-        let mut out = Vec::new(rt.alloc());
-        assert_eq!(rt; strings(&mut from, &mut out, &FOUR), Ok(9));
-        let mut text = Vec::new(rt.alloc());
-        if byte >= 0x20 && byte < 0x7f {
-            text.extend_from_slice(&input)?;
-        } else {
-            text.extend_from_slice(b"wxyz\nwxyz")?;
-        }
-        text.push(b'\n')?;
-        assert_eq!(rt; out.as_slice(), text.as_slice());
+fn expect_around<R: Abort + AllocGlobal>(rt: &R, byte: u8) {
+    let input = [b'w', b'x', b'y', b'z', byte, b'w', b'x', b'y', b'z'];
+    if byte >= 0x20 && byte < 0x7f {
+        let line = [b'w', b'x', b'y', b'z', byte, b'w', b'x', b'y', b'z', b'\n'];
+        expect(rt, &input, &FOUR, &line);
+    } else {
+        expect(rt, &input, &FOUR, b"wxyz\nwxyz\n");
     }
-    Ok(())
+}
+
+#[test]
+fn strings_of_every_byte(rt: HostRuntime) {
+    for byte in 0..=255u8 {
+        expect_around(&rt, byte);
+    }
+}
+
+fn expect_length<R: Abort + AllocGlobal>(rt: &R, input: &[u8], len: usize) {
+    let mut from = input;
+    let mut out = Vec::new(rt.alloc());
+    let found = strings(&mut from, &mut out, &FOUR);
+    assert_answer(rt, found, Ok(input.len() as u64));
+    assert_eq!(rt; out.len(), len);
 }
 
 #[test]
 fn strings_of_each_printing_length(rt: HostRuntime) {
     let letters = [b'a'; 600];
     for n in 0..601usize {
-        let mut from = &letters[..n];
-        let mut out = Vec::new(rt.alloc());
-        assert_eq!(rt; strings(&mut from, &mut out, &FOUR), Ok(n as u64));
-        assert_eq!(rt; out.len(), if n < 4 { 0 } else { n + 1 });
+        expect_length(&rt, &letters[..n], if n < 4 { 0 } else { n + 1 });
     }
 }

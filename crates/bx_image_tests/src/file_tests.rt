@@ -1,7 +1,13 @@
-ghost use Rattle.std.specs.Prelude.{◌≡◌, []};
+ghost use Rattle.std.specs.Prelude.{[]};
 
+use crate::guarded::{
+    assert_bytes, assert_countable, assert_failed, assert_faults, assert_length, cut, length,
+    reserve, write,
+};
 use bx_image::{Device, DeviceFailed, FileImage, RandomAccess, Stop};
-use std::fs::{self, File};
+use std::fs::{self, File, Files};
+use std::io;
+use std::process::Abort;
 use std::test::Fail;
 
 /// A file of 16 bytes that moves three bytes a call, after some interruptions.
@@ -63,9 +69,7 @@ impl RandomAccess for Slow {
     }
 }
 
-fn slow_image(interruptions: u32) -> FileImage<Slow>
-    ensures { ⟦<FileImage<Slow> as Device>⟧.failures result ≡ 0 }
-{
+fn slow_image(interruptions: u32) -> FileImage<Slow> {
     FileImage::new(Slow {
         bytes: *b"0123456789abcdef",
         interruptions,
@@ -73,90 +77,132 @@ fn slow_image(interruptions: u32) -> FileImage<Slow>
     })
 }
 
+fn read_slow(
+    rt: &impl Abort,
+    image: &mut FileImage<Slow>,
+    at: u64,
+    buf: &mut [u8],
+) -> Result<(), DeviceFailed> {
+    assert_countable(rt, image);
+    image.read_at(at, buf)
+}
+
+// The calls go through.
+fn short_calls(rt: &impl Abort, image: &mut FileImage<Slow>) -> Result<(), Fail> {
+    assert_length(rt, image, 16)?;
+    write(rt, image, 4, b"ABCDEFGH")?;
+    let mut bytes = [0; 10];
+    read_slow(rt, image, 3, &mut bytes)?;
+    assert_bytes(rt, &bytes, b"3ABCDEFGHc");
+    cut(rt, image, 16)?;
+    assert_faults(rt, image, 0);
+    Ok(())
+}
+
+// No step goes past the end, and the file keeps its length.
+fn calls_past_the_end(rt: &impl Abort, image: &mut FileImage<Slow>) {
+    assert_failed(rt, read_slow(rt, image, 10, &mut [0; 10]));
+    assert_failed(rt, write(rt, image, 14, b"xyz"));
+    assert_failed(rt, cut(rt, image, 3));
+    assert_faults(rt, image, 3);
+}
+
 #[test]
 fn short_and_interrupted_calls(rt: HostRuntime) -> Result<(), Fail> {
     let mut image = slow_image(999);
-    assert_eq!(rt; image.len(), Ok(16));
-    image.write_at(4, b"ABCDEFGH")?;
-    let mut bytes = [0; 10];
-    image.read_at(3, &mut bytes)?;
-    assert_eq!(rt; bytes, *b"3ABCDEFGHc");
-    image.set_len(16)?;
-    assert_eq!(rt; image.faults(), 0);
-    assert_eq!(rt; image.read_at(10, &mut bytes), Err(DeviceFailed));
-    assert_eq!(rt; image.write_at(14, b"xyz"), Err(DeviceFailed));
-    assert_eq!(rt; image.set_len(3), Err(DeviceFailed));
-    assert_eq!(rt; image.faults(), 3);
+    short_calls(&rt, &mut image)?;
+    calls_past_the_end(&rt, &mut image);
     Ok(())
 }
 
 #[test]
-fn a_thousand_interruptions(rt: HostRuntime) -> Result<(), Fail> {
+fn a_thousand_interruptions(rt: HostRuntime) {
     let mut image = slow_image(1000);
-    let mut bytes = [0; 1];
-    assert_eq!(rt; image.len(), Err(DeviceFailed));
-    assert_eq!(rt; image.faults(), 1);
-    let mut image = slow_image(1000);
-    assert_eq!(rt; image.read_at(0, &mut bytes), Err(DeviceFailed));
-    let mut image = slow_image(1000);
-    assert_eq!(rt; image.write_at(0, b"x"), Err(DeviceFailed));
-    let mut image = slow_image(1000);
-    assert_eq!(rt; image.set_len(16), Err(DeviceFailed));
-    Ok(())
+    assert!(rt; length(&rt, &mut image).is_err());
+    assert_faults(&rt, &image, 1);
+    assert_failed(&rt, read_slow(&rt, &mut slow_image(1000), 0, &mut [0; 1]));
+    assert_failed(&rt, write(&rt, &mut slow_image(1000), 0, b"x"));
+    assert_failed(&rt, cut(&rt, &mut slow_image(1000), 16));
 }
 
-#[test]
-fn image_in_a_file(rt: HostRuntime) -> Result<(), Fail> {
-    let name = "bx_image_in_a_file.tmp";
+// An empty file of this name.
+fn new_file<R: Files<File = File>>(rt: &R, name: &str) -> io::Result<FileImage> {
     let file = File::options()
         .read(true)
         .write(true)
         .create(true)
         .truncate(true)
-        .open(&rt, name)?;
-    let mut image = FileImage::new(file);
-    assert_eq!(rt; image.len(), Ok(0));
-    assert_eq!(rt; image.reserve(1 << 63), Ok(()));
-    image.write_at(2, b"xyz")?;
+        .open(rt, name)?;
+    Ok(FileImage::new(file))
+}
+
+fn read(
+    rt: &impl Abort,
+    image: &mut FileImage,
+    at: u64,
+    buf: &mut [u8],
+) -> Result<(), DeviceFailed> {
+    assert_countable(rt, image);
+    image.read_at(at, buf)
+}
+
+fn write_and_cut(rt: &impl Abort, image: &mut FileImage) -> Result<(), Fail> {
+    assert_length(rt, image, 0)?;
+    reserve(image, 1 << 63)?;
+    write(rt, image, 2, b"xyz")?;
     let mut bytes = [9; 5];
-    image.read_at(0, &mut bytes)?;
-    assert_eq!(rt; bytes, *b"\0\0xyz");
-    image.set_len(3)?;
-    image.set_len(5)?;
-    image.read_at(0, &mut bytes)?;
-    assert_eq!(rt; bytes, *b"\0\0x\0\0");
-    assert_eq!(rt; image.read_at(1, &mut bytes), Err(DeviceFailed));
-    assert_eq!(rt; image.faults(), 1);
-    let mut closed = FileImage::new(File::open(&rt, name)?);
-    assert_eq!(rt; closed.write_at(0, b"A"), Err(DeviceFailed));
-    assert_eq!(rt; closed.set_len(0), Err(DeviceFailed));
-    assert_eq!(rt; closed.faults(), 2);
+    read(rt, image, 0, &mut bytes)?;
+    assert_bytes(rt, &bytes, b"\0\0xyz");
+    cut(rt, image, 3)?;
+    cut(rt, image, 5)?;
+    read(rt, image, 0, &mut bytes)?;
+    assert_bytes(rt, &bytes, b"\0\0x\0\0");
+    assert_failed(rt, read(rt, image, 1, &mut bytes));
+    assert_faults(rt, image, 1);
+    Ok(())
+}
+
+// A file that is open for reading alone.
+fn refuse_writes(rt: &impl Abort, image: &mut FileImage) {
+    assert_failed(rt, write(rt, image, 0, b"A"));
+    assert_failed(rt, cut(rt, image, 0));
+    assert_faults(rt, image, 2);
+}
+
+#[test]
+fn image_in_a_file(rt: HostRuntime) -> Result<(), Fail> {
+    let name = "bx_image_in_a_file.tmp";
+    write_and_cut(&rt, &mut new_file(&rt, name)?)?;
+    refuse_writes(&rt, &mut FileImage::new(File::open(&rt, name)?));
     fs::remove_file(&rt, name)?;
+    Ok(())
+}
+
+// Five gibibytes.
+const FAR: u64 = 0x1_4000_0000;
+
+// Eight gibibytes and a byte.
+const FARTHER: u64 = 0x2_0000_0001;
+
+fn write_far(rt: &impl Abort, image: &mut FileImage) -> Result<(), Fail> {
+    write(rt, image, FAR, b"far")?;
+    assert_length(rt, image, FAR + 3)?;
+    let mut bytes = [9; 4];
+    read(rt, image, FAR - 1, &mut bytes)?;
+    assert_bytes(rt, &bytes, b"\0far");
+    cut(rt, image, FAR + 1)?;
+    cut(rt, image, FARTHER)?;
+    assert_length(rt, image, FARTHER)?;
+    read(rt, image, FAR, &mut bytes)?;
+    assert_bytes(rt, &bytes, b"f\0\0\0");
+    assert_faults(rt, image, 0);
     Ok(())
 }
 
 #[test]
 fn past_four_gibibytes(rt: HostRuntime) -> Result<(), Fail> {
     let name = "bx_image_past_four_gibibytes.tmp";
-    let file = File::options()
-        .read(true)
-        .write(true)
-        .create(true)
-        .truncate(true)
-        .open(&rt, name)?;
-    let mut image = FileImage::new(file);
-    let far = 5 << 30;
-    image.write_at(far, b"far")?;
-    assert_eq!(rt; image.len(), Ok(far + 3));
-    let mut bytes = [9; 4];
-    image.read_at(far - 1, &mut bytes)?;
-    assert_eq!(rt; bytes, *b"\0far");
-    image.set_len(far + 1)?;
-    image.set_len((1 << 33) + 1)?;
-    assert_eq!(rt; image.len(), Ok((1 << 33) + 1));
-    image.read_at(far, &mut bytes)?;
-    assert_eq!(rt; bytes, *b"f\0\0\0");
-    assert_eq!(rt; image.faults(), 0);
+    write_far(&rt, &mut new_file(&rt, name)?)?;
     fs::remove_file(&rt, name)?;
     Ok(())
 }

@@ -10,6 +10,8 @@ mod file_tests;
 #[cfg(test)]
 mod growth_tests;
 #[cfg(test)]
+mod guarded;
+#[cfg(test)]
 mod pages_tests;
 #[cfg(test)]
 mod slow;

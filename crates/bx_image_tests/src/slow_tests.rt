@@ -1,44 +1,35 @@
 //! Some hundreds of small changes, compared with the slow program.
-ghost use Rattle.std.specs.Prelude.{◌<◌};
-
-use crate::change_tests::{change, content, perform};
+use crate::change_tests::{assert_performs, assert_same_pieces, change};
+use crate::guarded::{fill, saved};
 use crate::slow::{slow_effect, slow_saved};
-use bx_image::{Change, Device, MemImage, PagedImage, Saved, check, save};
+use bx_image::{Change, Device, MemImage, PagedImage, check};
+use bx_text::Piece;
 use std::alloc::Global;
 use std::process::Abort;
 use std::test::Fail;
 
 const IMAGE: &[u8] = b"ABCD";
 
-fn assert_same_runs(rt: &impl Abort, saved: &Saved, slow: &Saved) {
-    let (found, runs) = (saved.runs.as_slice(), slow.runs.as_slice());
-    assert_eq!(rt; saved.len, slow.len);
-    assert_eq!(rt; found.len(), runs.len());
-    for (run, other) in found.iter().zip(runs) {
-        assert_eq!(rt; run.at, other.at);
-        assert!(rt; run.bytes.as_slice() == other.bytes.as_slice());
-    }
+// What the slow program gives.
+#[derive(Clone, Copy)]
+struct Wanted<'a> {
+    effect: &'a [u8],
+    runs: &'a [Piece],
 }
 
 // The device saves these runs, and has these bytes after the change.
-#[tactic(auto, using(bx_image::proofs::Devices::GoesOn_then))]
 fn assert_agrees<D: Device>(
     rt: &impl Abort,
     alloc: Global,
     device: &mut D,
     change: &Change,
-    effect: &[u8],
-    kept: &Saved,
-) -> Result<(), Fail>
-    requires { D.failures device.old < u64.MAX }
-{
-    let saved = save(alloc, device, change)?;
-    assert_same_runs(rt, &saved, kept);
-    let len = perform(device, change)?;
-    assert_eq!(rt; len, effect.len() as u64);
-    let changed = content(alloc, device)?;
-    assert!(rt; changed.as_slice() == effect);
-    Ok(())
+    wanted: Wanted,
+) -> Result<(), Fail> {
+    fill(rt, device, IMAGE)?;
+    let saved = saved(rt, alloc, device, change)?;
+    assert_eq!(rt; saved.len, IMAGE.len() as u64);
+    assert_same_pieces(rt, saved.runs.as_slice(), wanted.runs);
+    assert_performs(rt, alloc, device, change, wanted.effect)
 }
 
 // In memory and in pages.
@@ -46,27 +37,41 @@ fn assert_agrees_on_both(rt: &impl Abort, alloc: Global, change: &Change) -> Res
     check(change, IMAGE.len() as u64)?;
     let effect = slow_effect(alloc, change, IMAGE)?;
     let kept = slow_saved(alloc, change, IMAGE)?;
-    let mut memory = MemImage::from_vec(IMAGE.to_vec(alloc)?);
-    assert_agrees(rt, alloc, &mut memory, change, effect.as_slice(), &kept)?;
-    let mut pages = PagedImage::new(alloc);
-    pages.reserve(IMAGE.len() as u64)?;
-    pages.write_at(0, IMAGE)?;
-    assert_agrees(rt, alloc, &mut pages, change, effect.as_slice(), &kept)
+    assert_eq!(rt; kept.len, IMAGE.len() as u64);
+    let wanted = Wanted {
+        effect: effect.as_slice(),
+        runs: kept.runs.as_slice(),
+    };
+    assert_agrees(rt, alloc, &mut MemImage::new(alloc), change, wanted)?;
+    assert_agrees(rt, alloc, &mut PagedImage::new(alloc), change, wanted)
+}
+
+// Two writes of up to two bytes at the first six addresses.
+fn assert_agrees_at(
+    rt: &impl Abort,
+    alloc: Global,
+    base: Option<u64>,
+    first: u64,
+    second: u64,
+) -> Result<(), Fail> {
+    let one = &b"vw"[..(first % 3) as usize];
+    let other = &b"yz"[..(second % 3) as usize];
+    let change = change(alloc, base, &[(first / 3, one), (second / 3, other)])?;
+    assert_agrees_on_both(rt, alloc, &change)
+}
+
+fn assert_agrees_from(rt: &impl Abort, alloc: Global, base: Option<u64>) -> Result<(), Fail> {
+    for both in 0..18 * 18u64 {
+        assert_agrees_at(rt, alloc, base, both / 18, both % 18)?;
+    }
+    Ok(())
 }
 
 // Bases and pairs of writes of up to two bytes.
 #[test]
 fn agrees_with_the_slow_program(rt: HostRuntime) -> Result<(), Fail> {
-    let alloc = rt.alloc();
     for base in [None, Some(0), Some(2), Some(6)] {
-        for first in 0..18u64 {
-            for second in 0..18u64 {
-                let one = &b"vw"[..(first % 3) as usize];
-                let other = &b"yz"[..(second % 3) as usize];
-                let change = change(alloc, base, &[(first / 3, one), (second / 3, other)])?;
-                assert_agrees_on_both(&rt, alloc, &change)?;
-            }
-        }
+        assert_agrees_from(&rt, rt.alloc(), base)?;
     }
     Ok(())
 }

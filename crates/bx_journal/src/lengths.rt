@@ -37,6 +37,9 @@ fn row_len(at: u64, count: usize) -> u64
 /// The first address that has more than 8 digits.
 const NINE_DIGITS: u64 = 1 << 32;
 
+/// What a saved line has beside the text of its bytes: 8 digits, a colon, the columns with the spaces around them, a newline.
+const BESIDE_TEXT: u64 = 52;
+
 /// How long the saved lines of a run are, at most `u64::MAX`.
 fn run_len<A: Allocator>(run: &Piece<A>) -> u64
     requires { end_of run.now.at run.now.bytes < 2 ^ 64 }
@@ -44,7 +47,7 @@ fn run_len<A: Allocator>(run: &Piece<A>) -> u64
 {
     let len = run.bytes.as_slice().len() as u64;
     if len < NINE_DIGITS.saturating_sub(run.at) {
-        return 52 * ((len + 15) / 16) + len;
+        return BESIDE_TEXT * ((len + 15) / 16) + len;
     }
     far_run_len(run)
 }
@@ -70,6 +73,7 @@ pub fn head_len<A: Allocator>(kept: &Saved<A>) -> u64
     requires within { AllWithin kept.now.len kept.now.runs }
     ensures { (n : ℕ) → result ≡ min (length (head_text n (kept_of kept.now))) (2 ^ 64 - 1) }
 {
+    // (that this is a u64 bounds where each run ends)
     let _within_u64 = kept.len;
     let mut total = OUTER_LINES;
     for run in kept.runs.as_slice() {

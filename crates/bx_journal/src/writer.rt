@@ -98,6 +98,7 @@ fn put_runs<T: TextStore, A: Allocator>(
     ensures room { vec_capacity page.old ≤ vec_capacity page.new }
     ensures goes_on { GoesOn T.honest T.room T.failures (is_err result) store.old store.new }
 {
+    // (that this is a u64 bounds where each run ends)
     let _within_u64 = kept.len;
     for run in kept.runs.as_slice() {
         put_run(store, page, run)?;
