@@ -22,4 +22,3 @@ pub use form::{Form, Letters, Shape};
 pub use parsing::parse;
 pub use plan::Plan;
 pub use whole::convert_whole;
-

@@ -33,4 +33,3 @@ pub use printable::{StringsOptions, strings};
 pub use xxd_columns::Digits;
 pub use xxd_dump::xxd;
 pub use xxd_options::{XxdOptions, XxdStyle};
-

@@ -20,4 +20,3 @@ pub use laws::{law_place, law_restore, law_runs};
 pub use memory::MemImage;
 pub use pages::PagedImage;
 pub use record::{Saved, save};
-

@@ -1,5 +1,5 @@
 //! Texts that are damaged, cut off, or told of another image.
-use crate::script::{assert_pair, on_both, pair_of};
+use crate::script::assert_run;
 use crate::tools::PATCHED;
 use bx_journal::{How, Recovered, SessionFault};
 use std::fs::File;
@@ -18,10 +18,8 @@ fn assert_refused<R>(
 where
     R: Files<File = File> + AllocGlobal + Abort,
 {
-    let start = pair_of(rt.alloc(), image, journal)?;
-    let left = on_both(rt, name, &start, Err(fault), &[])?;
-    assert_pair(rt, &left, image, journal);
-    Ok(())
+    let pair = (image, journal);
+    assert_run(rt, name, pair, Err(fault), &[], pair)
 }
 
 /// Opening leaves this image and no journal.
@@ -35,11 +33,9 @@ fn assert_recovers<R>(
 where
     R: Files<File = File> + AllocGlobal + Abort,
 {
-    let start = pair_of(rt.alloc(), bytes, journal)?;
     let found = Ok(Recovered { how, changes: 0 });
-    let left = on_both(rt, "assert_recovers", &start, found, &[])?;
-    assert_pair(rt, &left, image, b"");
-    Ok(())
+    let name = "assert_recovers";
+    assert_run(rt, name, (bytes, journal), found, &[], (image, b""))
 }
 
 #[test]

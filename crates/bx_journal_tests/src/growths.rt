@@ -1,5 +1,5 @@
 //! Each growth of a session's calls refused in turn.
-use crate::tools::{PATCHED, image, text};
+use crate::tools::{PATCHED, image, open, text};
 use bumpalo::Bump;
 use bx_image::{Change, MemImage};
 use bx_journal::{Session, SessionFault};
@@ -13,7 +13,7 @@ use std::test::Fail;
 const MOST_WORDS: usize = 200;
 
 /// The call whose growth was refused.
-#[derive(Clone, Copy, Debug, PartialEq, Eq)]
+#[derive(Clone, Copy)]
 enum Refused {
     Opening,
     Building,
@@ -33,47 +33,89 @@ fn patch(bump: &Bump) -> Result<Change<&Bump>, AllocError> {
     })
 }
 
-fn open<'a>(
+type Arena<'a> = Session<MemImage, MemText, &'a Bump>;
+
+fn is_no_memory(fault: SessionFault) -> bool {
+    fault == SessionFault::NoMemory
+}
+
+// Opens with memory for some of it. A refusal gives both devices back.
+fn opening<'a>(rt: &impl Abort, alloc: Global, bump: &'a Bump) -> Result<Option<Arena<'a>>, Fail> {
+    match open(bump, image(alloc, b"ABxyEFGH")?, text(alloc, PATCHED)?) {
+        Ok((session, _)) => Ok(Some(session)),
+        Err((device, store, fault)) => {
+            assert!(rt; is_no_memory(fault));
+            assert!(rt; device.as_slice() == b"ABxyEFGH".as_slice());
+            assert!(rt; store.as_slice() == PATCHED);
+            Ok(None)
+        }
+    }
+}
+
+// With memory again, the session has so many changes.
+fn assert_rows<'a>(
+    rt: &impl Abort,
     bump: &'a Bump,
-    device: MemImage,
-    store: MemText,
-) -> Result<Session<MemImage, MemText, &'a Bump>, (MemImage, MemText, SessionFault)> {
-    let (session, _) = Session::open(bump, device, store)?;
-    Ok(session)
+    session: &mut Arena<'a>,
+    rows: usize,
+) -> Result<(), Fail> {
+    bump.set_allocation_limit(None);
+    assert!(rt; session.log()?.len() == rows);
+    Ok(())
+}
+
+// Changes the image; tells whether it was refused.
+fn changing<'a>(
+    rt: &impl Abort,
+    bump: &'a Bump,
+    session: &mut Arena<'a>,
+    change: &Change<&'a Bump>,
+) -> Result<bool, Fail> {
+    let Err(fault) = session.perform(change) else {
+        return Ok(false);
+    };
+    assert!(rt; is_no_memory(fault));
+    assert_rows(rt, bump, session, 1)?;
+    assert!(rt; session.perform(change)? == 2);
+    Ok(true)
+}
+
+// Lists the changes; tells whether it was refused.
+fn listing<'a>(rt: &impl Abort, bump: &'a Bump, session: &mut Arena<'a>) -> Result<bool, Fail> {
+    let Err(fault) = session.log() else {
+        return Ok(false);
+    };
+    assert!(rt; is_no_memory(fault));
+    assert_rows(rt, bump, session, 2)?;
+    Ok(true)
+}
+
+// Undoes both changes; tells whether it was refused.
+fn undoing<'a>(rt: &impl Abort, bump: &'a Bump, session: &mut Arena<'a>) -> Result<bool, Fail> {
+    let Err(fault) = session.undo(2) else {
+        return Ok(false);
+    };
+    assert!(rt; is_no_memory(fault));
+    assert_rows(rt, bump, session, 2)?;
+    assert!(rt; session.undo(2)? == 0);
+    Ok(true)
 }
 
 // Opens, changes, lists and undoes with memory for some of it. What is refused changes nothing.
-fn run(rt: &impl Abort, alloc: Global, bump: &Bump) -> Result<Refused, Fail> {
-    let mut session = match open(bump, image(alloc, b"ABxyEFGH")?, text(alloc, PATCHED)?) {
-        Ok(session) => session,
-        Err((device, store, fault)) => {
-            assert_eq!(rt; fault, SessionFault::NoMemory);
-            assert!(rt; device.as_slice() == b"ABxyEFGH".as_slice());
-            assert!(rt; store.as_slice() == PATCHED);
-            return Ok(Refused::Opening);
-        }
+fn run<'a>(rt: &impl Abort, alloc: Global, bump: &'a Bump) -> Result<Refused, Fail> {
+    let Some(mut session) = opening(rt, alloc, bump)? else {
+        return Ok(Refused::Opening);
     };
     let Ok(change) = patch(bump) else {
         return Ok(Refused::Building);
     };
-    if let Err(fault) = session.perform(&change) {
-        assert_eq!(rt; fault, SessionFault::NoMemory);
-        bump.set_allocation_limit(None);
-        assert_eq!(rt; session.log()?.len(), 1);
-        assert_eq!(rt; session.perform(&change)?, 2);
+    if changing(rt, bump, &mut session, &change)? {
         return Ok(Refused::Changing);
     }
-    if let Err(fault) = session.log() {
-        assert_eq!(rt; fault, SessionFault::NoMemory);
-        bump.set_allocation_limit(None);
-        assert_eq!(rt; session.log()?.len(), 2);
+    if listing(rt, bump, &mut session)? {
         return Ok(Refused::Listing);
     }
-    if let Err(fault) = session.undo(2) {
-        assert_eq!(rt; fault, SessionFault::NoMemory);
-        bump.set_allocation_limit(None);
-        assert_eq!(rt; session.log()?.len(), 2);
-        assert_eq!(rt; session.undo(2)?, 0);
+    if undoing(rt, bump, &mut session)? {
         return Ok(Refused::Undoing);
     }
     Ok(Refused::None)

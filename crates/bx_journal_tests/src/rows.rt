@@ -1,14 +1,11 @@
 //! Changes, undoing and opening, over memory and over files.
-use crate::script::{Step, assert_pair, clean, on_both, pair_of};
+use crate::script::{Step, assert_pair, assert_run, clean, on_both, pair_of, writes};
 use crate::tools::{PATCHED, PATCHED_FIRST, nothing, over};
 use bx_journal::{LogRow, SessionFault};
+use std::process::Abort;
 use std::test::Fail;
 
-fn writes(at: u64, bytes: &'static [u8], number: u32) -> Step {
-    Step::Write { at, bytes, number }
-}
-
-fn undoes(count: u32, left: u32) -> Step {
+fn undoes(count: u32, left: u32) -> Step<'static> {
     Step::Undo {
         count,
         answer: Ok(left),
@@ -19,25 +16,27 @@ fn undoes(count: u32, left: u32) -> Step {
 fn patch_and_undo(rt: HostRuntime) -> Result<(), Fail> {
     let name = "patch_and_undo";
     assert_eq!(rt; PATCHED.len(), 134);
-    let start = pair_of(rt.alloc(), b"ABCDEFGH", b"")?;
-    let patched = on_both(&rt, name, &start, clean(0), &[writes(2, b"xy", 1)])?;
-    assert_pair(&rt, &patched, b"ABxyEFGH", PATCHED);
-    let undone = on_both(&rt, name, &patched, clean(1), &[undoes(1, 0)])?;
-    assert_pair(&rt, &undone, b"ABCDEFGH", b"");
-    Ok(())
+    let first: (&[u8], &[u8]) = (b"ABCDEFGH", b"");
+    let patched: (&[u8], &[u8]) = (b"ABxyEFGH", PATCHED);
+    assert_run(&rt, name, first, clean(0), &[writes(2, b"xy", 1)], patched)?;
+    assert_run(&rt, name, patched, clean(1), &[undoes(1, 0)], first)
 }
 
-#[test]
-fn log_of_a_patch(rt: HostRuntime) -> Result<(), Fail> {
-    let (mut session, _) = over(rt.alloc(), b"ABxyEFGH", PATCHED)?;
+// The row of the patch.
+fn assert_row(rt: &impl Abort, rows: &[LogRow]) {
     let row = LogRow {
         number: 1,
         old_len: 8,
         saved: 2,
     };
-    assert_eq!(rt; session.log()?.as_slice(), [row].as_slice());
-    assert_eq!(rt; session.changes(), 1);
-    assert_eq!(rt; session.faults(), 0);
+    assert!(rt; rows == [row].as_slice());
+}
+
+#[test]
+fn log_of_a_patch(rt: HostRuntime) -> Result<(), Fail> {
+    let (mut session, _) = over(rt.alloc(), b"ABxyEFGH", PATCHED)?;
+    assert_row(&rt, session.log()?.as_slice());
+    assert!(rt; session.changes() == 1 && session.faults() == 0);
     Ok(())
 }
 
@@ -46,27 +45,20 @@ fn gap_and_undo(rt: HostRuntime) -> Result<(), Fail> {
     let name = "gap_and_undo";
     let journal =
         b"change2 00000001 0000000000000002\nsave 00000001\ndone2 00000001 0000000000000006\n";
-    let start = pair_of(rt.alloc(), b"AB", b"")?;
-    let grown = on_both(&rt, name, &start, clean(0), &[writes(5, b"Z", 1)])?;
-    assert_pair(&rt, &grown, b"AB\0\0\0Z", journal);
-    let undone = on_both(&rt, name, &grown, clean(1), &[undoes(1, 0)])?;
-    assert_pair(&rt, &undone, b"AB", b"");
-    Ok(())
+    let first: (&[u8], &[u8]) = (b"AB", b"");
+    let grown: (&[u8], &[u8]) = (b"AB\0\0\0Z", journal);
+    assert_run(&rt, name, first, clean(0), &[writes(5, b"Z", 1)], grown)?;
+    assert_run(&rt, name, grown, clean(1), &[undoes(1, 0)], first)
 }
 
 #[test]
 fn three_patches_reopened(rt: HostRuntime) -> Result<(), Fail> {
     let name = "three_patches_reopened";
-    let mut steps = Vec::new(rt.alloc());
-    steps.push(writes(0, b"a", 1))?;
-    steps.push(writes(0, b"b", 2))?;
-    steps.push(writes(0, b"c", 3))?;
+    let patches = [writes(0, b"a", 1), writes(0, b"b", 2), writes(0, b"c", 3)];
     let start = pair_of(rt.alloc(), b"A", b"")?;
-    let three = on_both(&rt, name, &start, clean(0), &steps)?;
+    let three = on_both(&rt, name, &start, clean(0), &patches)?;
     assert!(rt; three.image.as_slice() == b"c".as_slice());
-    steps.clear();
-    steps.push(undoes(2, 1))?;
-    steps.push(writes(0, b"d", 2))?;
+    let steps = [undoes(2, 1), writes(0, b"d", 2)];
     let other = on_both(&rt, name, &three, clean(3), &steps)?;
     assert!(rt; other.image.as_slice() == b"d".as_slice());
     Ok(())
@@ -74,16 +66,13 @@ fn three_patches_reopened(rt: HostRuntime) -> Result<(), Fail> {
 
 #[test]
 fn too_many_undos(rt: HostRuntime) -> Result<(), Fail> {
-    let mut steps = Vec::new(rt.alloc());
-    steps.push(Step::Undo {
+    let refused = Step::Undo {
         count: 2,
         answer: Err(SessionFault::TooFew { have: 1 }),
-    })?;
-    steps.push(undoes(0, 1))?;
-    let start = pair_of(rt.alloc(), b"ABxyEFGH", PATCHED)?;
-    let same = on_both(&rt, "too_many_undos", &start, clean(1), &steps)?;
-    assert_pair(&rt, &same, b"ABxyEFGH", PATCHED);
-    Ok(())
+    };
+    let steps = [refused, undoes(0, 1)];
+    let patched: (&[u8], &[u8]) = (b"ABxyEFGH", PATCHED);
+    assert_run(&rt, "too_many_undos", patched, clean(1), &steps, patched)
 }
 
 #[test]
@@ -101,10 +90,15 @@ fn old_journal_under_new_entry(rt: HostRuntime) -> Result<(), Fail> {
 fn old_form_grows_image_on_undo(rt: HostRuntime) -> Result<(), Fail> {
     let name = "old_form_grows_image_on_undo";
     let journal = b"change 00000001 00000005\nsave 00000001\ndone 00000001\n";
-    let start = pair_of(rt.alloc(), b"AB", journal)?;
-    let grown = on_both(&rt, name, &start, clean(1), &[undoes(1, 0)])?;
-    assert_pair(&rt, &grown, b"AB\0\0\0", b"");
-    Ok(())
+    let grown: (&[u8], &[u8]) = (b"AB\0\0\0", b"");
+    assert_run(
+        &rt,
+        name,
+        (b"AB", journal),
+        clean(1),
+        &[undoes(1, 0)],
+        grown,
+    )
 }
 
 #[test]

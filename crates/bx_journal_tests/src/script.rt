@@ -1,7 +1,5 @@
 //! Sessions that run over memory and over files alike.
-ghost use Rattle.std.specs.Prelude.{◌<◌};
-
-use crate::tools::{image, text, write};
+use crate::tools::{image, open, text, write};
 use bx_image::{Device, FileImage};
 use bx_journal::{How, Recovered, Session, SessionFault};
 use bx_store::{FileText, TextStore};
@@ -13,16 +11,29 @@ use std::test::Fail;
 
 /// A call of a session, and what it has to answer.
 #[derive(Clone, Copy)]
-pub enum Step {
+pub enum Step<'a> {
     Write {
         at: u64,
-        bytes: &'static [u8],
-        number: u32,
+        bytes: &'a [u8],
+        answer: Result<u32, SessionFault>,
     },
     Undo {
         count: u32,
         answer: Result<u32, SessionFault>,
     },
+    /// The list of changes has so many rows.
+    List {
+        rows: u32,
+    },
+}
+
+/// A write that is the change of this number.
+pub fn writes(at: u64, bytes: &[u8], number: u32) -> Step<'_> {
+    Step::Write {
+        at,
+        bytes,
+        answer: Ok(number),
+    }
 }
 
 /// The bytes of an image and of its journal.
@@ -52,51 +63,46 @@ pub fn assert_pair(rt: &impl Abort, pair: &Pair, image: &[u8], journal: &[u8]) {
     assert!(rt; pair.journal.as_slice() == journal);
 }
 
-fn take<D: Device, T: TextStore>(
+/// Makes a call, and tells whether it answers as it has to.
+fn is_right<D: Device, T: TextStore>(
     alloc: Global,
     session: &mut Session<D, T>,
-    step: Step,
-) -> Result<(), Fail> {
+    step: Step<'_>,
+) -> Result<bool, Fail> {
     if session.faults() == u64::MAX {
-        Err("a device has failed too often")?;
+        return Ok(false);
     }
     match step {
-        Step::Write { at, bytes, number } => {
-            if session.perform(&write(alloc, at, bytes)?) != Ok(number) {
-                Err("a change was not answered by its number")?;
-            }
+        Step::Write { at, bytes, answer } => {
+            Ok(session.perform(&write(alloc, at, bytes)?) == answer)
         }
-        Step::Undo { count, answer } => {
-            if session.undo(count) != answer {
-                Err("an undo was answered otherwise")?;
-            }
+        Step::Undo { count, answer } => Ok(session.undo(count) == answer),
+        Step::List { rows } => {
+            let listed = session.log()?.len();
+            Ok(session.changes() == rows && listed == rows as usize)
         }
     }
-    Ok(())
 }
 
 /// Opens the pair and makes the calls.
-fn sit<D: Device + Drop, T: TextStore + Drop>(
+pub fn sit<D: Device + Drop, T: TextStore + Drop>(
     alloc: Global,
     rt: &impl Abort,
     device: D,
     store: T,
     found: Result<Recovered, SessionFault>,
-    steps: &[Step],
-) -> Result<(D, T), Fail>
-    requires device_countable { D.failures device < u64.MAX }
-    requires store_countable { T.failures store < u64.MAX }
-{
-    match Session::open(alloc, device, store) {
+    steps: &[Step<'_>],
+) -> Result<(D, T), Fail> {
+    match open(alloc, device, store) {
         Ok((mut session, recovered)) => {
-            assert_eq!(rt; Ok(recovered), found);
-            for step in steps {
-                take(alloc, &mut session, *step)?;
+            assert!(rt; Ok(recovered) == found);
+            for (i, step) in steps.iter().enumerate() {
+                assert!(rt; is_right(alloc, &mut session, *step)?, "at {i}");
             }
             Ok(session.close())
         }
         Err((device, store, fault)) => {
-            assert_eq!(rt; Err(fault), found);
+            assert!(rt; Err(fault) == found);
             Ok((device, store))
         }
     }
@@ -112,7 +118,7 @@ fn on_files<R>(
     name: &str,
     start: &Pair,
     found: Result<Recovered, SessionFault>,
-    steps: &[Step],
+    steps: &[Step<'_>],
 ) -> Result<Pair, Fail>
 where
     R: Files<File = File> + AllocGlobal + Abort,
@@ -140,7 +146,7 @@ pub fn on_memory(
     rt: &impl Abort,
     start: &Pair,
     found: Result<Recovered, SessionFault>,
-    steps: &[Step],
+    steps: &[Step<'_>],
 ) -> Result<Pair, Fail> {
     let device = image(alloc, start.image.as_slice())?;
     let store = text(alloc, start.journal.as_slice())?;
@@ -154,7 +160,7 @@ pub fn on_both<R>(
     name: &str,
     start: &Pair,
     found: Result<Recovered, SessionFault>,
-    steps: &[Step],
+    steps: &[Step<'_>],
 ) -> Result<Pair, Fail>
 where
     R: Files<File = File> + AllocGlobal + Abort,
@@ -163,4 +169,22 @@ where
     let other = on_files(rt, name, start, found, steps)?;
     assert_pair(rt, &other, left.image.as_slice(), left.journal.as_slice());
     Ok(left)
+}
+
+/// The session over both, from these bytes to those.
+pub fn assert_run<R>(
+    rt: &R,
+    name: &str,
+    start: (&[u8], &[u8]),
+    found: Result<Recovered, SessionFault>,
+    steps: &[Step<'_>],
+    end: (&[u8], &[u8]),
+) -> Result<(), Fail>
+where
+    R: Files<File = File> + AllocGlobal + Abort,
+{
+    let start = pair_of(rt.alloc(), start.0, start.1)?;
+    let left = on_both(rt, name, &start, found, steps)?;
+    assert_pair(rt, &left, end.0, end.1);
+    Ok(())
 }

@@ -1,13 +1,13 @@
 //! What the tests are made of.
-ghost use Rattle.std.specs.Prelude.{◌≡◌, ◌<◌, IfOk, OnOk};
-
 use bx_image::{Change, Device, MemImage};
 use bx_journal::{Recovered, Session, SessionFault};
 use bx_store::{MemText, TextStore};
 use bx_text::{Bytes, Piece, Pieces};
-use std::alloc::{AllocError, Global};
-use std::process::Abort;
+use std::alloc::{AllocError, Allocator, Global};
 use std::test::Fail;
+
+/// No test comes near so many failed calls.
+const MANY: u64 = 100_000;
 
 /// The journal of a patch of two bytes at 2 of `ABCDEFGH`.
 pub const PATCHED: &[u8] =
@@ -44,57 +44,29 @@ pub fn text(alloc: Global, bytes: &[u8]) -> Result<MemText, AllocError> {
     Ok(MemText::from_vec(bytes.to_vec(alloc)?))
 }
 
-/// A session that was opened; a refusal gives the devices up.
-pub fn opened<D: Device + Drop, T: TextStore + Drop>(
-    alloc: Global,
+/// Opens a pair, or hands it back.
+pub fn open<D: Device, T: TextStore, A: Allocator + Clone>(
+    alloc: A,
     device: D,
     store: T,
-) -> Result<(Session<D, T>, Recovered), SessionFault>
-    requires device_countable { D.failures device < u64.MAX }
-    requires store_countable { T.failures store < u64.MAX }
-    ensures { IfOk result (λ o. (D.failures o.0.device ≡ D.failures device) × (T.failures o.0.store ≡ T.failures store)) }
-{
-    match Session::open(alloc, device, store) {
-        Ok(found) => Ok(found),
-        Err((_, _, fault)) => Err(fault),
+) -> Result<(Session<D, T, A>, Recovered), (D, T, SessionFault)> {
+    if device.faults() > MANY {
+        return Err((device, store, SessionFault::DeviceFailed));
     }
+    if store.faults() > MANY {
+        return Err((device, store, SessionFault::DeviceFailed));
+    }
+    Session::open(alloc, device, store)
 }
 
-/// A session over these bytes in memory.
+/// A session over these bytes in memory; a refusal gives the devices up.
 pub fn over(
     alloc: Global,
     bytes: &[u8],
     journal: &[u8],
 ) -> Result<(Session<MemImage, MemText>, Recovered), Fail> {
-    Ok(opened(alloc, image(alloc, bytes)?, text(alloc, journal)?)?)
-}
-
-/// What a session leaves.
-pub fn assert_left(
-    rt: &impl Abort,
-    session: Session<MemImage, MemText>,
-    bytes: &[u8],
-    journal: &[u8],
-) {
-    let (device, store) = session.close();
-    assert!(rt; device.as_slice() == bytes);
-    assert!(rt; store.as_slice() == journal);
-}
-
-/// What opening hands back where it is refused.
-pub fn refused<D: Device + Drop, T: TextStore + Drop>(
-    alloc: Global,
-    device: D,
-    store: T,
-) -> Option<(D, T, SessionFault)>
-    requires device_countable { D.failures device < u64.MAX }
-    requires store_countable { T.failures store < u64.MAX }
-{
-    match Session::open(alloc, device, store) {
-        Ok((session, _)) => {
-            let (_device, _store) = session.close();
-            None
-        }
-        Err(given) => Some(given),
+    match open(alloc, image(alloc, bytes)?, text(alloc, journal)?) {
+        Ok(found) => Ok(found),
+        Err((_, _, fault)) => Err(fault.into()),
     }
 }

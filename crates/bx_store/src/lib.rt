@@ -14,4 +14,3 @@ pub use file::FileText;
 pub use fuse::FuseText;
 pub use memory::MemText;
 pub use store::{MOST, TextStore};
-
