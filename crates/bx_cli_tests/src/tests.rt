@@ -1,30 +1,130 @@
-use bx_cli::{DdJob, Done, Fault, Job, XxdLook, plan_words, run_dump};
+use bx_cli::{Done, Fault, Job, XxdLook, plan_words, run_dump};
 use bx_dd::Counts;
 use bx_dump::Kind;
-use bx_text::Words;
+use bx_text::{Name, NoMemory, Words};
 use std::alloc::Global;
+use std::io::{Read, Write};
+use std::process::Abort;
 use std::test::Fail;
 
 const HELP: u8 = 255;
 
-fn plan(alloc: Global, line: &str) -> Result<Job, Fault> {
+fn add(words: &mut Words, word: &str) -> Result<(), NoMemory> {
+    words.push(word)
+}
+
+fn words_of(alloc: Global, line: &str) -> Result<Words, NoMemory> {
     let mut words = Words::new(alloc)?;
     for word in line.split(' ') {
-        words.push(word)?;
+        add(&mut words, word)?;
     }
+    Ok(words)
+}
+
+fn plan(alloc: Global, line: &str) -> Result<Job, Fault> {
+    let words = words_of(alloc, line)?;
     plan_words(alloc, &words)
 }
 
-fn number(alloc: Global, line: &str) -> u8 {
+fn is_named(name: &Option<Name>, text: &str) -> bool {
+    match name {
+        Some(found) => found.as_str() == text,
+        None => false,
+    }
+}
+
+fn is_bits(job: &Job) -> bool {
+    match job {
+        Job::Xxd(xxd) => {
+            xxd.cols == 8 && xxd.group == 1 && xxd.look == XxdLook::Bits && is_named(&xxd.file, "f")
+        }
+        _ => false,
+    }
+}
+
+fn is_chars(job: &Job) -> bool {
+    match job {
+        Job::Od(od) => od.kind == Kind::Chars && od.skip == 267 && od.limit == Some(2048),
+        _ => false,
+    }
+}
+
+fn is_undo(job: &Job) -> bool {
+    match job {
+        Job::Undo { count, journal, .. } => *count == 1 && journal.as_str() == "i.bxj",
+        _ => false,
+    }
+}
+
+// dd to a stream.
+fn is_stream(job: &Job) -> bool {
+    match job {
+        Job::Dd(dd) => dd.plan.ibs == 6144 && dd.journal.is_none() && job.is_dump(),
+        _ => false,
+    }
+}
+
+// dd onto an image.
+fn is_onto(job: &Job) -> bool {
+    match job {
+        Job::Dd(dd) => is_named(&dd.journal, "b.bxj") && !job.is_dump(),
+        _ => false,
+    }
+}
+
+fn is_help(job: &Job) -> bool {
+    match job {
+        Job::Help { .. } => true,
+        _ => false,
+    }
+}
+
+/// Which job a line has to give.
+#[derive(Clone, Copy)]
+enum Wanted {
+    Bits,
+    Chars,
+    Undo,
+    Stream,
+    Onto,
+    Help,
+}
+
+impl Wanted {
+    fn fits(&self, job: &Job) -> bool {
+        match self {
+            Wanted::Bits => is_bits(job),
+            Wanted::Chars => is_chars(job),
+            Wanted::Undo => is_undo(job),
+            Wanted::Stream => is_stream(job),
+            Wanted::Onto => is_onto(job),
+            Wanted::Help => is_help(job),
+        }
+    }
+}
+
+// Whether the line gives the wanted job.
+fn gives(alloc: Global, line: &str, wanted: Wanted) -> Result<bool, Fault> {
     match plan(alloc, line) {
-        Ok(Job::Help { .. }) => HELP,
-        Ok(_) => 0,
+        Ok(job) => Ok(wanted.fits(&job)),
+        Err(fault) => Err(fault),
+    }
+}
+
+fn number(alloc: Global, line: &str) -> u8 {
+    match gives(alloc, line, Wanted::Help) {
+        Ok(true) => HELP,
+        Ok(false) => 0,
         Err(fault) => fault.number(),
     }
 }
 
+fn assert_number(rt: &impl Abort, alloc: Global, line: &str, wanted: u8) {
+    assert!(rt; number(alloc, line) == wanted, "at {line}");
+}
+
 #[test]
-fn usage_faults(rt: HostRuntime) -> Result<(), Fail> {
+fn usage_faults(rt: HostRuntime) {
     for line in [
         "",
         "bogus",
@@ -59,13 +159,12 @@ fn usage_faults(rt: HostRuntime) -> Result<(), Fail> {
         "strings -t n",
         "strings -8",
     ] {
-        assert_eq!(rt; number(rt.alloc(), line), 50, "at {line}");
+        assert_number(&rt, rt.alloc(), line, 50);
     }
-    Ok(())
 }
 
 #[test]
-fn usage_faults_of_changes(rt: HostRuntime) -> Result<(), Fail> {
+fn usage_faults_of_changes(rt: HostRuntime) {
     for line in [
         "undo",
         "undo -k 65536 i",
@@ -81,13 +180,12 @@ fn usage_faults_of_changes(rt: HostRuntime) -> Result<(), Fail> {
         "dd -J",
         "dd -J a -J b of=c",
     ] {
-        assert_eq!(rt; number(rt.alloc(), line), 50, "at {line}");
+        assert_number(&rt, rt.alloc(), line, 50);
     }
-    Ok(())
 }
 
 #[test]
-fn accepted_words(rt: HostRuntime) -> Result<(), Fail> {
+fn accepted_words(rt: HostRuntime) {
     for line in [
         "xxd",
         "xxd -c8 f",
@@ -107,13 +205,12 @@ fn accepted_words(rt: HostRuntime) -> Result<(), Fail> {
         "dd if=a -J j of=b bs=1k",
         "dd conv=ucase,notrunc seek=2 of=b",
     ] {
-        assert_eq!(rt; number(rt.alloc(), line), 0, "at {line}");
+        assert_number(&rt, rt.alloc(), line, 0);
     }
-    Ok(())
 }
 
 #[test]
-fn words_of_help(rt: HostRuntime) -> Result<(), Fail> {
+fn words_of_help(rt: HostRuntime) {
     for line in [
         "--help",
         "help xxd",
@@ -122,34 +219,35 @@ fn words_of_help(rt: HostRuntime) -> Result<(), Fail> {
         "dd --help",
         "--version",
     ] {
-        assert_eq!(rt; number(rt.alloc(), line), HELP, "at {line}");
+        assert_number(&rt, rt.alloc(), line, HELP);
     }
-    Ok(())
+}
+
+fn assert_planned(rt: &impl Abort, alloc: Global, line: &str, wanted: Wanted) {
+    assert!(rt; gives(alloc, line, wanted) == Ok(true), "at {line}");
 }
 
 #[test]
-fn planned_values(rt: HostRuntime) -> Result<(), Fail> {
-    let Job::Xxd(xxd) = plan(rt.alloc(), "xxd -b -c 010 f")? else {
-        return Err(Fault::Usage)?;
-    };
-    assert_eq!(rt; (xxd.cols, xxd.group), (8, 1));
-    assert!(rt; xxd.look == XxdLook::Bits);
-    assert!(rt; matches!(&xxd.file, Some(name) if name.as_str() == "f"));
-    let Job::Od(od) = plan(rt.alloc(), "od -c -j 0x10b -N 2k")? else {
-        return Err(Fault::Usage)?;
-    };
-    assert!(rt; od.kind == Kind::Chars);
-    assert_eq!(rt; (od.skip, od.limit), (267, Some(2048)));
-    let Job::Undo { count, journal, .. } = plan(rt.alloc(), "undo i")? else {
-        return Err(Fault::Usage)?;
-    };
-    assert_eq!(rt; count, 1);
-    assert_eq!(rt; journal.as_str(), "i.bxj");
-    Ok(())
+fn planned_values(rt: HostRuntime) {
+    let alloc = rt.alloc();
+    assert_planned(&rt, alloc, "xxd -b -c 010 f", Wanted::Bits);
+    assert_planned(&rt, alloc, "od -c -j 0x10b -N 2k", Wanted::Chars);
+    assert_planned(&rt, alloc, "undo i", Wanted::Undo);
+}
+
+fn shows(alloc: Global, fault: Fault, text: &str) -> bool {
+    match format!(in alloc; "{fault}") {
+        Ok(shown) => shown.as_str() == text,
+        Err(_) => false,
+    }
+}
+
+fn assert_shown(rt: &impl Abort, alloc: Global, fault: Fault, text: &str) {
+    assert!(rt; shows(alloc, fault, text), "no {text}");
 }
 
 #[test]
-fn fault_texts(rt: HostRuntime) -> Result<(), Fail> {
+fn fault_texts(rt: HostRuntime) {
     for (fault, text) in [
         (
             Fault::WriteFailed { written: 20 },
@@ -168,15 +266,17 @@ fn fault_texts(rt: HostRuntime) -> Result<(), Fail> {
         (Fault::Usage, "bad arguments"),
         (Fault::OpenFailed, "cannot open file"),
     ] {
-        let shown = format!(in rt.alloc(); "{fault}")?;
-        assert_eq!(rt; shown.as_str(), text);
+        assert_shown(&rt, rt.alloc(), fault, text);
     }
-    Ok(())
+}
+
+fn assert_fault(rt: &impl Abort, alloc: Global, line: &str, fault: Fault) {
+    assert!(rt; gives(alloc, line, Wanted::Help) == Err(fault), "at {line}");
 }
 
 // The operands come before the journal's name, and each fault has its place.
 #[test]
-fn operand_faults(rt: HostRuntime) -> Result<(), Fail> {
+fn operand_faults(rt: HostRuntime) {
     for (line, fault) in [
         ("dd foo=1", Fault::UnknownOperand { place: 1 }),
         ("dd foo", Fault::UnknownOperand { place: 1 }),
@@ -190,37 +290,44 @@ fn operand_faults(rt: HostRuntime) -> Result<(), Fail> {
         ("dd conv=block", Fault::MissingCbs),
         ("dd bs=1 bs=2", Fault::Repeated { place: 2 }),
     ] {
-        match plan(rt.alloc(), line) {
-            Ok(_) => assert!(rt; false, "at {line}"),
-            Err(found) => assert_eq!(rt; found, fault, "at {line}"),
-        }
-    }
-    Ok(())
-}
-
-fn dd_job(alloc: Global, line: &str) -> Result<DdJob, Fault> {
-    match plan(alloc, line)? {
-        Job::Dd(dd) => Ok(dd),
-        _ => Err(Fault::Usage),
+        assert_fault(&rt, rt.alloc(), line, fault);
     }
 }
 
 #[test]
-fn dd_jobs(rt: HostRuntime) -> Result<(), Fail> {
-    let stream = dd_job(rt.alloc(), "dd -J j ibs=2x3k conv=ucase if=a")?;
-    assert_eq!(rt; stream.plan.ibs, 6144);
-    assert!(rt; stream.journal.is_none());
-    assert!(rt; Job::Dd(stream).is_dump());
-    let onto = dd_job(rt.alloc(), "dd of=b")?;
-    assert!(rt; matches!(&onto.journal, Some(name) if name.as_str() == "b.bxj"));
-    assert!(rt; !Job::Dd(onto).is_dump());
+fn dd_jobs(rt: HostRuntime) {
+    let line = "dd -J j ibs=2x3k conv=ucase if=a";
+    assert_planned(&rt, rt.alloc(), line, Wanted::Stream);
+    assert_planned(&rt, rt.alloc(), "dd of=b", Wanted::Onto);
+}
+
+fn run_on<R: Read, W: Write>(
+    alloc: Global,
+    job: &Job,
+    input: &mut R,
+    out: &mut W,
+) -> Result<Done, Fault> {
+    run_dump(alloc, job, input, out)
+}
+
+// The job over three bytes answers this and writes these bytes.
+fn assert_copy(
+    rt: &impl Abort,
+    alloc: Global,
+    line: &str,
+    outcome: Result<Done, Fault>,
+    bytes: &[u8],
+) -> Result<(), Fail> {
+    let job = plan(alloc, line)?;
+    let mut out = Vec::new(alloc);
+    let found = run_on(alloc, &job, &mut b"abc".as_slice(), &mut out);
+    assert!(rt; found == outcome, "at {line}");
+    assert!(rt; out.as_slice() == bytes, "at {line}");
     Ok(())
 }
 
 #[test]
 fn copies_out(rt: HostRuntime) -> Result<(), Fail> {
-    let job = plan(rt.alloc(), "dd conv=ucase")?;
-    let mut out = Vec::new(rt.alloc());
     let counts = Counts {
         whole_in: 0,
         part_in: 1,
@@ -228,28 +335,15 @@ fn copies_out(rt: HostRuntime) -> Result<(), Fail> {
         part_out: 1,
         cut: 0,
     };
-    assert_eq!(rt;
-        run_dump(rt.alloc(), &job, &mut b"abc".as_slice(), &mut out),
-        Ok(Done::Copied(counts))
-    );
-    assert!(rt; out.as_slice() == b"ABC".as_slice());
-    Ok(())
+    let outcome = Ok(Done::Copied(counts));
+    assert_copy(&rt, rt.alloc(), "dd conv=ucase", outcome, b"ABC")
 }
 
 // dd onto an image is no dump, and a stream can't be sought.
 #[test]
 fn copies_nothing_out(rt: HostRuntime) -> Result<(), Fail> {
-    for (line, fault) in [
-        ("dd of=b", Fault::Usage),
-        ("dd seek=1", Fault::SeekWithoutOutput),
-    ] {
-        let job = plan(rt.alloc(), line)?;
-        let mut out = Vec::new(rt.alloc());
-        assert_eq!(rt;
-            run_dump(rt.alloc(), &job, &mut b"abc".as_slice(), &mut out),
-            Err(fault)
-        );
-        assert!(rt; out.is_empty());
-    }
-    Ok(())
+    let alloc = rt.alloc();
+    assert_copy(&rt, alloc, "dd of=b", Err(Fault::Usage), b"")?;
+    let unsought = Err(Fault::SeekWithoutOutput);
+    assert_copy(&rt, alloc, "dd seek=1", unsought, b"")
 }
