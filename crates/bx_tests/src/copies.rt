@@ -1,9 +1,10 @@
 //! Transfers of dd with random operands, against a plain slow program.
 ghost use Rattle.std.specs.Prelude.{◌<◌};
 
-use crate::dd::{copied, reply};
+use crate::dd::copied;
 use crate::model::{Images, put};
 use crate::random::Dice;
+use crate::session::{Ask, assert_reply};
 use bx_image::Device;
 use bx_journal::Session;
 use bx_store::TextStore;
@@ -117,16 +118,13 @@ pub fn copy<D: Device, T: TextStore>(
     }
     put(&mut image, at, output.as_slice())?;
     images.push(image)?;
-    let line = operands.line(alloc)?;
-    let found = reply(alloc, session, line.as_str(), input.as_slice())?;
     let read = blocks(
         operands.selected(input.as_slice()).len(),
         operands.block_in(),
     );
     let written = blocks(output.len(), operands.block_out());
-    assert_eq!(rt;
-        found,
-        copied(images.changes(), [read.0, read.1, written.0, written.1], 0)
-    );
-    Ok(())
+    let counts = [read.0, read.1, written.0, written.1];
+    let line = operands.line(alloc)?;
+    let ask = Ask::Dd(line.as_str(), input.as_slice());
+    assert_reply(rt, alloc, session, ask, copied(images.changes(), counts, 0))
 }

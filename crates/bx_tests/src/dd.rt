@@ -1,41 +1,17 @@
 // dd as a command on an image.
-use crate::mem_session::{MemSession, fresh, look, undo};
-use crate::session::words;
+use crate::places::{Memory, Place};
+use crate::script::{Script, play, reopened};
+use crate::session::{Ask, assert_reply, opened, words};
 use bx_cli::{Command, Fault, Reply, run_all};
 use bx_dd::Counts;
-use bx_image::{Device, PagedImage};
+use bx_image::{MemImage, PagedImage};
 use bx_journal::Session;
-use bx_store::{MemText, TextStore};
-use std::alloc::Global;
+use bx_store::MemText;
+use std::alloc::{AllocError, Global};
 use std::io;
 use std::io::{ErrorKind, Read};
 use std::process::Abort;
 use std::test::Fail;
-
-/// The reply to dd with these operands, an input and a session that has seen no failure.
-pub fn reply<D: Device, T: TextStore, R: Read + Drop>(
-    alloc: Global,
-    session: &mut Session<D, T>,
-    line: &str,
-    input: R,
-) -> Result<Reply, Fault> {
-    if session.faults() > 0 {
-        return Err(Fault::DeviceFailed);
-    }
-    let operands = words(alloc, line)?;
-    let mut list = Vec::new(alloc);
-    list.push(Command::Dd { operands, input })
-        .map_err(|_| Fault::NoMemory)?;
-    let replies = run_all(alloc, session, list.as_mut_slice())?;
-    match replies.first() {
-        Some(reply) => Ok(*reply),
-        None => Err(Fault::NoMemory),
-    }
-}
-
-fn dd(alloc: Global, session: &mut MemSession, line: &str, input: &[u8]) -> Result<Reply, Fault> {
-    reply(alloc, session, line, input)
-}
 
 /// A change of this number; whole and part blocks in, and out, and records that were cut.
 pub fn copied(number: u32, blocks: [u64; 4], cut: u64) -> Reply {
@@ -51,72 +27,48 @@ pub fn copied(number: u32, blocks: [u64; 4], cut: u64) -> Reply {
     }
 }
 
+const UNDONE: Reply = Reply::Undone { left: 0 };
+
 #[test]
 fn dd_cuts_tail(rt: HostRuntime) -> Result<(), Fail> {
-    let alloc = rt.alloc();
-    let mut session = fresh(alloc, b"0123456789")?;
-    assert_eq!(rt;
-        dd(alloc, &mut session, "obs=4 seek=1", b"xy")?,
-        copied(1, [0, 1, 0, 1], 0)
-    );
-    let (mut session, image, text) = look(alloc, session)?;
-    assert!(rt; image.as_slice() == b"0123xy".as_slice());
     let journal =
         "change2 00000001 000000000000000a\n00000004: 3435 3637 3839                           456789\nsave 00000001\ndone2 00000001 0000000000000006\n";
-    assert!(rt; text.as_slice() == journal.as_bytes());
-    assert_eq!(rt; undo(alloc, &mut session, 1)?, Reply::Undone { left: 0 });
-    let (_, image, text) = look(alloc, session)?;
-    assert!(rt; image.as_slice() == b"0123456789".as_slice());
-    assert!(rt; text.is_empty());
-    Ok(())
+    let mut script = Script::new(rt.alloc(), b"0123456789");
+    let cut = Ask::Dd("obs=4 seek=1", b"xy");
+    script.then_text(cut, copied(1, [0, 1, 0, 1], 0), b"0123xy", journal)?;
+    script.then_text(Ask::Undo(1), UNDONE, b"0123456789", "")?;
+    play(&rt, rt.alloc(), &Memory, &script)
 }
 
 #[test]
 fn dd_empty_input(rt: HostRuntime) -> Result<(), Fail> {
-    let alloc = rt.alloc();
-    let mut session = fresh(alloc, b"abc")?;
-    let nothing = [0, 0, 0, 0];
-    assert_eq!(rt;
-        dd(alloc, &mut session, "obs=4 seek=2", b"")?,
-        copied(1, nothing, 0)
-    );
-    let (mut session, image, _) = look(alloc, session)?;
-    assert!(rt; image.as_slice() == b"abc\0\0\0\0\0".as_slice());
-    assert_eq!(rt; undo(alloc, &mut session, 1)?, Reply::Undone { left: 0 });
-    let (mut session, image, _) = look(alloc, session)?;
-    assert!(rt; image.as_slice() == b"abc".as_slice());
-    assert_eq!(rt;
-        dd(alloc, &mut session, "obs=4 seek=2 conv=notrunc", b"")?,
-        copied(1, nothing, 0)
-    );
-    let (_, image, text) = look(alloc, session)?;
-    assert!(rt; image.as_slice() == b"abc".as_slice());
     let journal =
-        b"change2 00000001 0000000000000003\nsave 00000001\ndone2 00000001 0000000000000003\n";
-    assert!(rt; text.as_slice() == journal.as_slice());
-    Ok(())
+        "change2 00000001 0000000000000003\nsave 00000001\ndone2 00000001 0000000000000003\n";
+    let nothing = copied(1, [0, 0, 0, 0], 0);
+    let mut script = Script::new(rt.alloc(), b"abc");
+    script.then(Ask::Dd("obs=4 seek=2", b""), nothing, b"abc\0\0\0\0\0")?;
+    script.then(Ask::Undo(1), UNDONE, b"abc")?;
+    let kept = Ask::Dd("obs=4 seek=2 conv=notrunc", b"");
+    script.then_text(kept, nothing, b"abc", journal)?;
+    play(&rt, rt.alloc(), &Memory, &script)
 }
 
 #[test]
 fn notrunc_and_sync_block(rt: HostRuntime) -> Result<(), Fail> {
-    let alloc = rt.alloc();
-    let mut session = fresh(alloc, b"0123456789")?;
-    assert_eq!(rt;
-        dd(alloc, &mut session, "obs=4 seek=1 conv=notrunc", b"xy")?,
-        copied(1, [0, 1, 0, 1], 0)
-    );
-    let (mut session, image, _) = look(alloc, session)?;
-    assert!(rt; image.as_slice() == b"0123xy6789".as_slice());
-    assert_eq!(rt; undo(alloc, &mut session, 1)?, Reply::Undone { left: 0 });
-    let (mut session, image, _) = look(alloc, session)?;
-    assert!(rt; image.as_slice() == b"0123456789".as_slice());
-    assert_eq!(rt;
-        dd(alloc, &mut session, "ibs=4 cbs=2 conv=sync,block", b"a\nb")?,
-        copied(1, [0, 1, 0, 1], 0)
-    );
-    let (_, image, _) = look(alloc, session)?;
-    assert!(rt; image.as_slice() == b"a b ".as_slice());
-    Ok(())
+    let part = copied(1, [0, 1, 0, 1], 0);
+    let mut script = Script::new(rt.alloc(), b"0123456789");
+    script.then(
+        Ask::Dd("obs=4 seek=1 conv=notrunc", b"xy"),
+        part,
+        b"0123xy6789",
+    )?;
+    script.then(Ask::Undo(1), UNDONE, b"0123456789")?;
+    script.then(
+        Ask::Dd("ibs=4 cbs=2 conv=sync,block", b"a\nb"),
+        part,
+        b"a b ",
+    )?;
+    play(&rt, rt.alloc(), &Memory, &script)
 }
 
 /// What dd with these operands makes of an empty image: the input, the image then, blocks, and records that were cut.
@@ -129,22 +81,16 @@ struct Made {
 }
 
 /// Each row on the image that the one before it left.
-fn assert_made(rt: &impl Abort, alloc: Global, rows: &[Made]) -> Result<(), Fail> {
-    let mut session = fresh(alloc, b"")?;
+fn script_of(alloc: Global, rows: &[Made]) -> Result<Script<'static>, AllocError> {
+    let mut script = Script::new(alloc, b"");
     let mut number = 0u32;
     for row in rows {
-        let line = row.line;
         number = number.saturating_add(1);
-        assert_eq!(rt;
-            dd(alloc, &mut session, line, row.input.as_bytes())?,
-            copied(number, row.blocks, row.cut),
-            "at {line}"
-        );
-        let (next, image, _) = look(alloc, session)?;
-        session = next;
-        assert!(rt; image.as_slice() == row.image.as_bytes(), "at {line}");
+        let ask = Ask::Dd(row.line, row.input.as_bytes());
+        let reply = copied(number, row.blocks, row.cut);
+        script.then(ask, reply, row.image.as_bytes())?;
     }
-    Ok(())
+    Ok(script)
 }
 
 const CONVERSIONS: [Made; 5] = [
@@ -187,7 +133,12 @@ const CONVERSIONS: [Made; 5] = [
 
 #[test]
 fn conversions(rt: HostRuntime) -> Result<(), Fail> {
-    assert_made(&rt, rt.alloc(), &CONVERSIONS)
+    play(
+        &rt,
+        rt.alloc(),
+        &Memory,
+        &script_of(rt.alloc(), &CONVERSIONS)?,
+    )
 }
 
 const PARTS: [Made; 3] = [
@@ -216,41 +167,32 @@ const PARTS: [Made; 3] = [
 
 #[test]
 fn parts_of_an_input(rt: HostRuntime) -> Result<(), Fail> {
-    assert_made(&rt, rt.alloc(), &PARTS)
+    play(&rt, rt.alloc(), &Memory, &script_of(rt.alloc(), &PARTS)?)
 }
+
+/// Operands that are refused. The greatest image is one byte short of what the last asks for.
+const REFUSED: [(&str, Fault); 9] = [
+    ("foo=1", Fault::UnknownOperand { place: 1 }),
+    ("ibs=1q", Fault::BadNumber { place: 1 }),
+    ("ibs=16777217", Fault::NumberTooLarge { place: 1 }),
+    ("obs=0", Fault::ZeroSize { place: 1 }),
+    ("conv=lcase,ucase", Fault::Conflict),
+    ("conv=block", Fault::MissingCbs),
+    ("bs=1 bs=2", Fault::Repeated { place: 2 }),
+    (
+        "seek=281474976710655 bs=1",
+        Fault::NumberTooLarge { place: 1 },
+    ),
+    ("seek=16777216 bs=16777216", Fault::TooLarge),
+];
 
 #[test]
 fn operand_faults(rt: HostRuntime) -> Result<(), Fail> {
-    let alloc = rt.alloc();
-    let mut session = fresh(alloc, b"xyz")?;
-    for (line, fault) in [
-        ("foo=1", Fault::UnknownOperand { place: 1 }),
-        ("ibs=1q", Fault::BadNumber { place: 1 }),
-        ("ibs=16777217", Fault::NumberTooLarge { place: 1 }),
-        ("obs=0", Fault::ZeroSize { place: 1 }),
-        ("conv=lcase,ucase", Fault::Conflict),
-        ("conv=block", Fault::MissingCbs),
-        ("bs=1 bs=2", Fault::Repeated { place: 2 }),
-        (
-            "seek=281474976710655 bs=1",
-            Fault::NumberTooLarge { place: 1 },
-        ),
-    ] {
-        assert_eq!(rt;
-            dd(alloc, &mut session, line, b"ab")?,
-            Reply::Refused(fault),
-            "at {line}"
-        );
+    let mut script = Script::new(rt.alloc(), b"xyz");
+    for row in REFUSED.as_slice() {
+        script.then(Ask::Dd(row.0, b"ab"), Reply::Refused(row.1), b"xyz")?;
     }
-    // The greatest image is one byte short of what this seek asks for.
-    assert_eq!(rt;
-        dd(alloc, &mut session, "seek=16777216 bs=16777216", b"ab")?,
-        Reply::Refused(Fault::TooLarge)
-    );
-    let (_, image, text) = look(alloc, session)?;
-    assert!(rt; image.as_slice() == b"xyz".as_slice());
-    assert!(rt; text.is_empty());
-    Ok(())
+    play(&rt, rt.alloc(), &Memory, &script)
 }
 
 // Interrupted so often, then a byte at a time, and after so many bytes a failure.
@@ -291,34 +233,39 @@ fn trickling(rest: &[u8], interruptions: u32, fails_after: u32) -> Trickle<'_> {
     }
 }
 
+/// The reply to dd with these operands, and a session that has seen no failure.
+fn assert_trickled(
+    rt: &impl Abort,
+    alloc: Global,
+    session: &mut Session<MemImage, MemText>,
+    line: &str,
+    input: Trickle<'_>,
+    expected: Reply,
+) -> Result<(), Fail> {
+    let operands = words(alloc, line)?;
+    let replies = run_all(alloc, session, &mut [Command::Dd { operands, input }])?;
+    assert!(rt; replies.first() == Some(&expected), "at {line}");
+    Ok(())
+}
+
 // A failed read refuses the command, and nothing was changed; the next command goes on.
 #[test]
 fn slow_and_broken_inputs(rt: HostRuntime) -> Result<(), Fail> {
     let alloc = rt.alloc();
-    let mut session = fresh(alloc, b"01234567")?;
+    let (image, text) = Memory.pair(alloc, b"01234567", b"")?;
+    let (mut session, _) = opened(alloc, image, text)?;
+    let failed = Reply::Refused(Fault::ReadFailed);
     for (interruptions, fails_after) in [(1000, 100), (0, 0), (0, 3), (0, 5)] {
         let input = trickling(b"abcde", interruptions, fails_after);
-        assert_eq!(rt;
-            reply(alloc, &mut session, "ibs=2", input)?,
-            Reply::Refused(Fault::ReadFailed)
-        );
+        assert_trickled(&rt, alloc, &mut session, "ibs=2", input, failed)?;
     }
-    let (mut session, image, text) = look(alloc, session)?;
-    assert!(rt; image.as_slice() == b"01234567".as_slice());
-    assert!(rt; text.is_empty());
+    let mut session = reopened(&rt, alloc, &Memory, session, b"01234567", Some(b""))?;
     // Four bytes are enough for the first two blocks.
     let input = trickling(b"abcde", 999, 4);
-    assert_eq!(rt;
-        reply(
-            alloc,
-            &mut session,
-            "bs=2 skip=1 count=1 seek=1 conv=notrunc",
-            input
-        )?,
-        copied(1, [1, 0, 1, 0], 0)
-    );
-    let (_, image, _) = look(alloc, session)?;
-    assert!(rt; image.as_slice() == b"01cd4567".as_slice());
+    let line = "bs=2 skip=1 count=1 seek=1 conv=notrunc";
+    let block = copied(1, [1, 0, 1, 0], 0);
+    assert_trickled(&rt, alloc, &mut session, line, input, block)?;
+    let _session = reopened(&rt, alloc, &Memory, session, b"01cd4567", None)?;
     Ok(())
 }
 
@@ -326,24 +273,11 @@ fn slow_and_broken_inputs(rt: HostRuntime) -> Result<(), Fail> {
 #[test]
 fn page_boundary(rt: HostRuntime) -> Result<(), Fail> {
     let alloc = rt.alloc();
-    let image = PagedImage::new(alloc);
-    let text = MemText::from_vec(Vec::new(alloc));
-    let Ok((mut session, _)) = Session::open(alloc, image, text) else {
-        return Err(Fault::DeviceFailed)?;
-    };
-    assert_eq!(rt;
-        reply(
-            alloc,
-            &mut session,
-            "bs=4095 seek=1 count=1",
-            b"AB".as_slice()
-        )?,
-        copied(1, [0, 1, 0, 1], 0)
-    );
-    assert_eq!(rt;
-        reply(alloc, &mut session, "obs=4096 seek=1", b"".as_slice())?,
-        copied(2, [0, 0, 0, 0], 0)
-    );
+    let (mut session, _) = opened(alloc, PagedImage::new(alloc), MemText::new(alloc))?;
+    let over = Ask::Dd("bs=4095 seek=1 count=1", b"AB");
+    assert_reply(&rt, alloc, &mut session, over, copied(1, [0, 1, 0, 1], 0))?;
+    let cut = Ask::Dd("obs=4096 seek=1", b"");
+    assert_reply(&rt, alloc, &mut session, cut, copied(2, [0, 0, 0, 0], 0))?;
     let (_, text) = session.close();
     let saved = "\n00001000: 42                                       B\nsave 00000002\n";
     let shown = str::from_utf8(text.as_slice()).unwrap_or("");

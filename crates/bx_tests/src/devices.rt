@@ -1,8 +1,9 @@
 //! Devices that fail at each of their calls: what is left is opened again, and has the stack that recovery promises.
 use crate::model::Images;
+use crate::places::{Memory, Place};
 use crate::script::{Row, Script};
 use crate::scripts::failing;
-use crate::session::{Ask, ask_for, open};
+use crate::session::{Ask, ask_for, assert_reply, open, opened};
 use bx_cli::{Fault, Reply};
 use bx_image::{Device, FuseImage, MemImage, Part};
 use bx_journal::Session;
@@ -15,7 +16,7 @@ use std::test::Fail;
 const MOST_CALLS: u64 = 200;
 
 /// What a run came to.
-#[derive(Clone, Copy, Debug, PartialEq, Eq)]
+#[derive(Clone, Copy, PartialEq, Eq)]
 enum Course {
     /// No call failed.
     Whole,
@@ -25,14 +26,20 @@ enum Course {
     Stopped,
 }
 
-/// A pair that a run left, and the stacks that it may stand for: those with at least so many changes.
+/// The stacks that a run may leave: those of the images with at least so many changes.
+#[derive(Drop)]
+struct Standing {
+    images: Images,
+    least: u32,
+    course: Course,
+}
+
+/// A pair that a run left, and the stacks that it may stand for.
 #[derive(Drop)]
 struct Left<D, T> {
     device: D,
     store: T,
-    images: Images,
-    least: u32,
-    course: Course,
+    standing: Standing,
 }
 
 /// Which calls fail.
@@ -44,82 +51,96 @@ enum Fused {
     TextReads(u64),
 }
 
-/// What the reply to a row makes of the images.
-fn follow(
+/// A row that nothing stopped.
+fn follow_whole(
     rt: &impl Abort,
     alloc: Global,
-    left: (&mut Images, &mut u32, &mut Course),
+    images: &mut Images,
     row: &Row<'_>,
     reply: Reply,
 ) -> Result<(), Fail> {
-    let (images, least, course) = left;
-    let have = images.changes();
-    match (*course, reply) {
-        (Course::Stopped, _) => assert_eq!(rt; reply, Reply::Refused(Fault::Broken)),
-        (_, Reply::Refused(Fault::DeviceFailed)) => *course = Course::Refused,
-        (Course::Refused, Reply::Undone { left }) => {
-            assert!(rt; images.undo(have.saturating_sub(left)));
-            *least = images.changes();
+    assert!(rt; reply == row.reply);
+    match reply {
+        Reply::Changed { .. } | Reply::Copied { .. } => {
+            images.push(row.image.to_vec(alloc)?)?;
         }
-        (Course::Refused, _) => assert_eq!(rt; reply, Reply::Refused(Fault::TooFew { have })),
-        (_, Reply::Refused(Fault::Interrupted)) => {
-            *course = Course::Stopped;
-            *least = have;
-            match row.ask {
-                Ask::Undo(k) => *least = have.saturating_sub(k),
-                _ => images.push(row.image.to_vec(alloc)?)?,
-            }
+        Reply::Undone { left } => {
+            let _ = images.undo(images.changes().saturating_sub(left));
         }
-        _ => {
-            assert_eq!(rt; reply, row.reply);
-            match reply {
-                Reply::Changed { .. } | Reply::Copied { .. } => {
-                    images.push(row.image.to_vec(alloc)?)?;
-                }
-                Reply::Undone { left } => {
-                    let _ = images.undo(have.saturating_sub(left));
-                }
-                Reply::Refused(_) => {}
-            }
-            *least = images.changes();
-        }
+        Reply::Refused(_) => {}
     }
     Ok(())
 }
 
+/// A row that was stopped in the middle. Answers how many changes stand at least.
+fn follow_stopped(alloc: Global, images: &mut Images, row: &Row<'_>) -> Result<u32, AllocError> {
+    let have = images.changes();
+    match row.ask {
+        Ask::Undo(k) => Ok(have.saturating_sub(k)),
+        _ => {
+            images.push(row.image.to_vec(alloc)?)?;
+            Ok(have)
+        }
+    }
+}
+
+/// A row behind one that was refused.
+fn follow_refused(rt: &impl Abort, images: &mut Images, reply: Reply) {
+    let have = images.changes();
+    match reply {
+        Reply::Undone { left } => assert!(rt; images.undo(have.saturating_sub(left))),
+        _ => assert!(rt; reply == Reply::Refused(Fault::TooFew { have })),
+    }
+}
+
+/// What the reply to a row makes of the images.
+fn follow(
+    rt: &impl Abort,
+    alloc: Global,
+    standing: &mut Standing,
+    row: &Row<'_>,
+    reply: Reply,
+) -> Result<(), Fail> {
+    match (standing.course, reply) {
+        (Course::Stopped, _) => {
+            assert!(rt; reply == Reply::Refused(Fault::Broken));
+            return Ok(());
+        }
+        (_, Reply::Refused(Fault::DeviceFailed)) => {
+            standing.course = Course::Refused;
+            return Ok(());
+        }
+        (Course::Refused, _) => follow_refused(rt, &mut standing.images, reply),
+        (_, Reply::Refused(Fault::Interrupted)) => {
+            standing.course = Course::Stopped;
+            standing.least = follow_stopped(alloc, &mut standing.images, row)?;
+            return Ok(());
+        }
+        _ => follow_whole(rt, alloc, &mut standing.images, row, reply)?,
+    }
+    standing.least = standing.images.changes();
+    Ok(())
+}
+
 /// Runs the commands on a session, and closes it.
-fn run_rows<D: Device, T: TextStore>(
+fn run_rows<D: Device + Drop, T: TextStore + Drop>(
     rt: &impl Abort,
     alloc: Global,
     session: Session<D, T>,
-    images: Images,
+    standing: Standing,
     rows: &[Row<'_>],
-) -> Result<Left<D, T>, Fail>
-where
-    D: Drop,
-    T: Drop,
-{
+) -> Result<Left<D, T>, Fail> {
     let mut session = session;
-    let mut images = images;
-    let mut least = 0;
-    let mut course = Course::Whole;
+    let mut standing = standing;
     for row in rows {
         let reply = ask_for(alloc, &mut session, row.ask)?;
-        follow(
-            rt,
-            alloc,
-            (&mut images, &mut least, &mut course),
-            row,
-            reply,
-        )?;
+        follow(rt, alloc, &mut standing, row, reply)?;
     }
     let (device, store) = session.close();
     Ok(Left {
         device,
         store,
-        images,
-        least,
-        course,
+        standing,
     })
 }
 
@@ -131,17 +152,20 @@ fn run_on<D: Device + Drop, T: TextStore + Drop>(
     store: T,
     script: &Script<'_>,
 ) -> Result<Left<D, T>, Fail> {
-    let images = Images::new(alloc, script.first)?;
+    let mut standing = Standing {
+        images: Images::new(alloc, script.first)?,
+        least: 0,
+        course: Course::Whole,
+    };
     match open(alloc, device, store) {
-        Ok((session, _)) => run_rows(rt, alloc, session, images, script.rows.as_slice()),
+        Ok((session, _)) => run_rows(rt, alloc, session, standing, script.rows.as_slice()),
         Err((device, store, fault)) => {
-            assert_eq!(rt; fault, Fault::DeviceFailed);
+            assert!(rt; fault == Fault::DeviceFailed);
+            standing.course = Course::Refused;
             Ok(Left {
                 device,
                 store,
-                images,
-                least: 0,
-                course: Course::Refused,
+                standing,
             })
         }
     }
@@ -151,16 +175,12 @@ fn from_image<T>(left: Left<FuseImage<MemImage>, T>) -> Left<MemImage, T> {
     let Left {
         device,
         store,
-        images,
-        least,
-        course,
+        standing,
     } = left;
     Left {
         device: device.into_inner(),
         store,
-        images,
-        least,
-        course,
+        standing,
     }
 }
 
@@ -168,17 +188,34 @@ fn from_text<D>(left: Left<D, FuseText<MemText>>) -> Left<D, MemText> {
     let Left {
         device,
         store,
-        images,
-        least,
-        course,
+        standing,
     } = left;
     Left {
         device,
         store: store.into_inner(),
-        images,
-        least,
-        course,
+        standing,
     }
+}
+
+fn run_fused_image(
+    rt: &impl Abort,
+    alloc: Global,
+    script: &Script<'_>,
+    image: FuseImage<MemImage>,
+) -> Result<Left<MemImage, MemText>, Fail> {
+    let left = run_on(rt, alloc, image, MemText::new(alloc), script)?;
+    Ok(from_image(left))
+}
+
+fn run_fused_text(
+    rt: &impl Abort,
+    alloc: Global,
+    script: &Script<'_>,
+    image: MemImage,
+    text: FuseText<MemText>,
+) -> Result<Left<MemImage, MemText>, Fail> {
+    let left = run_on(rt, alloc, image, text, script)?;
+    Ok(from_text(left))
 }
 
 /// Runs a script on a pair of which one device fails.
@@ -192,25 +229,36 @@ fn run_fused(
     let text = MemText::new(alloc);
     match fused {
         Fused::Image(pass, part, once) => {
-            let image = FuseImage::new(image, pass, part, once);
-            Ok(from_image(run_on(rt, alloc, image, text, script)?))
+            run_fused_image(rt, alloc, script, FuseImage::new(image, pass, part, once))
         }
         Fused::Text(pass, part, once) => {
             let text = FuseText::new(text, pass, part, once);
-            Ok(from_text(run_on(rt, alloc, image, text, script)?))
+            run_fused_text(rt, alloc, script, image, text)
         }
         Fused::ImageReads(pass) => {
-            let image = FuseImage::on_reads(image, pass);
-            Ok(from_image(run_on(rt, alloc, image, text, script)?))
+            run_fused_image(rt, alloc, script, FuseImage::on_reads(image, pass))
         }
         Fused::TextReads(pass) => {
-            let text = FuseText::on_reads(text, pass);
-            Ok(from_text(run_on(rt, alloc, image, text, script)?))
+            run_fused_text(rt, alloc, script, image, FuseText::on_reads(text, pass))
         }
     }
 }
 
 type MemSession = Session<MemImage, MemText>;
+
+/// Closes the session and opens the pair again: it has the newest image, and each change.
+fn again(
+    rt: &impl Abort,
+    alloc: Global,
+    session: MemSession,
+    images: &Images,
+) -> Result<MemSession, Fail> {
+    let (device, store) = session.close();
+    assert!(rt; device.as_slice() == images.top());
+    let (session, found) = opened(alloc, device, store)?;
+    assert!(rt; found.changes == images.changes());
+    Ok(session)
+}
 
 /// Takes the changes back one by one: each image is that of the list.
 fn assert_stack(
@@ -221,17 +269,16 @@ fn assert_stack(
 ) -> Result<(), Fail> {
     let mut session = session;
     for _ in 0..images.changes().saturating_add(1) {
-        let (device, store) = session.close();
-        assert!(rt; device.as_slice() == images.top());
-        let Ok((same, found)) = open(alloc, device, store) else {
-            return Err(Fault::Interrupted.into());
-        };
-        session = same;
-        assert_eq!(rt; found.changes, images.changes());
+        session = again(rt, alloc, session, images)?;
         if images.undo(1) {
             let left = images.changes();
-            let reply = ask_for(alloc, &mut session, Ask::Undo(1))?;
-            assert_eq!(rt; reply, Reply::Undone { left });
+            assert_reply(
+                rt,
+                alloc,
+                &mut session,
+                Ask::Undo(1),
+                Reply::Undone { left },
+            )?;
         }
     }
     let (_, store) = session.close();
@@ -247,22 +294,14 @@ fn assert_recovers(
     images: &Images,
     least: u32,
 ) -> Result<u32, Fail> {
-    let (device, store) = copied(alloc, pair)?;
-    let Ok((session, found)) = open(alloc, device, store) else {
-        return Err(Fault::Interrupted.into());
-    };
+    let (device, store) = Memory.pair(alloc, pair.0, pair.1)?;
+    let (session, found) = opened(alloc, device, store)?;
     let mut stack = images.all(alloc)?;
     assert!(rt; least <= found.changes && found.changes <= stack.changes());
     let _ = stack.undo(stack.changes().saturating_sub(found.changes));
-    assert_eq!(rt; stack.changes(), found.changes);
+    assert!(rt; stack.changes() == found.changes);
     assert_stack(rt, alloc, session, &mut stack)?;
     Ok(found.changes)
-}
-
-fn copied(alloc: Global, pair: (&[u8], &[u8])) -> Result<(MemImage, MemText), AllocError> {
-    let (image, text) = pair;
-    let image = MemImage::from_vec(image.to_vec(alloc)?);
-    Ok((image, MemText::from_vec(text.to_vec(alloc)?)))
 }
 
 /// The kinds of failing devices: the first of them for opening, and all for a run.
@@ -367,7 +406,7 @@ fn open_fused(
     pair: (&[u8], &[u8]),
     fused: Fused,
 ) -> Result<Found<MemImage, MemText>, Fail> {
-    let (image, text) = copied(alloc, pair)?;
+    let (image, text) = Memory.pair(alloc, pair.0, pair.1)?;
     Ok(match fused {
         Fused::Image(pass, part, once) => {
             open_fused_image(rt, alloc, FuseImage::new(image, pass, part, once), text)
@@ -398,7 +437,8 @@ fn stopped_opening(
         return Ok(None);
     }
     let left = (found.device.as_slice(), found.store.as_slice());
-    assert_eq!(rt; assert_recovers(rt, alloc, left, images, 0)?, changes);
+    let found_changes = assert_recovers(rt, alloc, left, images, 0)?;
+    assert!(rt; found_changes == changes);
     Ok(Some(found))
 }
 
@@ -455,16 +495,17 @@ fn assert_stops(rt: &impl Abort, alloc: Global, script: &Script<'_>) -> Result<(
         for pass in 0..MOST_CALLS {
             let left = run_fused(rt, alloc, script, fuse_of(kind, pass))?;
             let pair = (left.device.as_slice(), left.store.as_slice());
-            let changes = assert_recovers(rt, alloc, pair, &left.images, left.least)?;
-            course = left.course;
+            let images = &left.standing.images;
+            let changes = assert_recovers(rt, alloc, pair, images, left.standing.least)?;
+            course = left.standing.course;
             if course == Course::Whole {
                 break;
             }
             stops = stops.saturating_add(1);
-            let more = assert_openings(rt, alloc, pair, &left.images, changes)?;
+            let more = assert_openings(rt, alloc, pair, images, changes)?;
             openings = openings.saturating_add(more);
         }
-        assert_eq!(rt; course, Course::Whole);
+        assert!(rt; course == Course::Whole);
     }
     Ok((stops, openings))
 }
@@ -479,7 +520,7 @@ fn runs_stopped_at_each_call(rt: HostRuntime) -> Result<(), Fail> {
         stops = stops.saturating_add(more);
         openings = openings.saturating_add(opened);
     }
-    println!(rt; "{stops} runs and {openings} openings stopped").map_err(|_| Fault::ReadFailed)?;
+    println!(rt; "{stops} runs and {openings} openings stopped")?;
     assert!(rt; stops > 100 && openings > 1000);
     Ok(())
 }

@@ -1,12 +1,12 @@
 //! Calls below the session, with each growth refused in turn; and a heap that takes memory back.
 use crate::model::Images;
-use bx_ration::{ALIGN, arena, squeeze, used};
 use crate::scripts::PATCHED;
-use crate::session::{Ask, command};
+use crate::session::{Ask, command, open};
 use bumpalo::Bump;
 use bx_cli::{Fault, Reply, run_all};
 use bx_image::MemImage;
 use bx_journal::{Session, SessionFault};
+use bx_ration::{ALIGN, arena, squeeze, used};
 use bx_read::{read_dump, read_plain};
 use bx_store::MemText;
 use bx_text::{Source, Words};
@@ -65,7 +65,7 @@ fn sweep(rt: &impl Abort, alloc: Global, call: Call) -> Result<u32, Fail> {
                 assert!(rt; right);
                 return Ok(count);
             }
-            Err(fault) => assert_eq!(rt; fault, Fault::NoMemory),
+            Err(fault) => assert!(rt; fault == Fault::NoMemory),
         }
         if bytes % ALIGN == 0 && used(&bump, bytes) != last {
             last = used(&bump, bytes);
@@ -90,25 +90,43 @@ fn growths_of_readers(rt: HostRuntime) -> Result<(), Fail> {
     Ok(())
 }
 
-/// Lists the changes with so many bytes: the rows, or nothing.
-fn list<'a>(rt: &impl Abort, bump: &'a Bump, bytes: usize) -> Result<(bool, usize), Fail> {
+/// A session whose image, text and rows stand in an arena.
+type ArenaSession<'a> = Session<MemImage<&'a Bump>, MemText<&'a Bump>, &'a Bump>;
+
+fn open_in(bump: &Bump) -> Result<ArenaSession<'_>, Fail> {
     let image = MemImage::from_vec(b"ABxyEFGH".to_vec(bump)?);
     let text = MemText::from_vec(PATCHED.as_bytes().to_vec(bump)?);
-    let Ok((mut session, _)) = Session::open(bump, image, text) else {
-        return Err(Fault::NoMemory.into());
-    };
+    match open(bump, image, text) {
+        Ok((session, _)) => Ok(session),
+        Err(_) => Err(Fault::NoMemory.into()),
+    }
+}
+
+/// Squeezes the arena, and lists the changes: whether there is one row, or a refusal; and how many bytes were taken.
+fn list_in<'a>(
+    rt: &impl Abort,
+    bump: &'a Bump,
+    session: &mut ArenaSession<'a>,
+    bytes: usize,
+) -> Result<(bool, usize), Fail> {
     squeeze(bump, bytes)?;
     let listed = session.log();
     let taken = used(bump, bytes);
     bump.set_allocation_limit(None);
-    let right = match listed {
-        Ok(rows) => rows.len() == 1,
+    match listed {
+        Ok(rows) => Ok((rows.len() == 1, taken)),
         Err(fault) => {
-            assert_eq!(rt; fault, SessionFault::NoMemory);
-            assert_eq!(rt; session.log()?.len(), 1);
-            false
+            assert!(rt; fault == SessionFault::NoMemory);
+            Ok((false, taken))
         }
-    };
+    }
+}
+
+/// Lists the changes with so many bytes: the rows, or nothing.
+fn list<'a>(rt: &impl Abort, bump: &'a Bump, bytes: usize) -> Result<(bool, usize), Fail> {
+    let mut session = open_in(bump)?;
+    let (right, taken) = list_in(rt, bump, &mut session, bytes)?;
+    assert!(rt; session.log()?.len() == 1);
     let (image, text) = session.close();
     assert!(rt; image.as_slice() == b"ABxyEFGH".as_slice());
     assert!(rt; text.as_slice() == PATCHED.as_bytes());
@@ -160,7 +178,32 @@ fn run_three<'a>(
     Ok(run_all(heap, session, &mut list)?)
 }
 
-/// Follows the replies: a refused command leaves the images.
+/// Whether a refused command leaves so many changes.
+fn is_refused(fault: Fault, have: u32) -> bool {
+    fault == Fault::TooFew { have } || fault == Fault::NoMemory
+}
+
+/// Follows a reply: a refused command leaves the images.
+fn follow_one(
+    rt: &impl Abort,
+    alloc: Global,
+    images: &mut Images,
+    reply: Reply,
+    image: &[u8],
+) -> Result<(), Fail> {
+    match reply {
+        Reply::Changed { number } => {
+            images.push(image.to_vec(alloc)?)?;
+            assert!(rt; number == images.changes());
+        }
+        Reply::Undone { left } => assert!(rt; images.undo(1) && left == images.changes()),
+        Reply::Copied { .. } => assert!(rt; false),
+        Reply::Refused(fault) => assert!(rt; is_refused(fault, images.changes())),
+    }
+    Ok(())
+}
+
+/// Follows the replies.
 fn follow(
     rt: &impl Abort,
     alloc: Global,
@@ -168,25 +211,13 @@ fn follow(
     replies: &[Reply],
 ) -> Result<(), Fail> {
     for (reply, image) in replies.iter().zip([b"aBCDEFGH", b"bbbbbbbb", b"........"]) {
-        match reply {
-            Reply::Changed { number } => {
-                images.push(image.to_vec(alloc)?)?;
-                assert_eq!(rt; *number, images.changes());
-            }
-            Reply::Undone { left } => {
-                assert!(rt; images.undo(1));
-                assert_eq!(rt; *left, images.changes());
-            }
-            Reply::Copied { .. } => assert!(rt; false),
-            Reply::Refused(Fault::TooFew { have }) => assert_eq!(rt; *have, images.changes()),
-            Reply::Refused(fault) => assert_eq!(rt; *fault, Fault::NoMemory),
-        }
+        follow_one(rt, alloc, images, *reply, image)?;
     }
     Ok(())
 }
 
 /// What became of the three.
-#[derive(Clone, Copy, Debug, PartialEq, Eq)]
+#[derive(Clone, Copy)]
 enum Outcome {
     Nothing,
     Some,
@@ -211,22 +242,48 @@ fn outcome_of(replies: &[Reply]) -> Outcome {
     }
 }
 
+/// The three commands on a session: what became of them, and of the images.
+fn follow_three<'a>(
+    rt: &impl Abort,
+    alloc: Global,
+    heap: &'a LocalHeap,
+    session: &mut HeapSession<'a>,
+    images: &mut Images,
+    large: &str,
+) -> Result<Outcome, Fail> {
+    match run_three(heap, session, large) {
+        Ok(replies) => {
+            follow(rt, alloc, images, replies.as_slice())?;
+            Ok(outcome_of(replies.as_slice()))
+        }
+        Err(_) => Ok(Outcome::Nothing),
+    }
+}
+
+/// The three commands in a heap: the image that they leave is the newest of the images.
+fn three_in<'a>(
+    rt: &impl Abort,
+    alloc: Global,
+    heap: &'a LocalHeap,
+    large: &str,
+) -> Result<Outcome, Fail> {
+    let mut images = Images::new(alloc, b"ABCDEFGH")?;
+    let image = MemImage::from_vec(b"ABCDEFGH".to_vec(alloc)?);
+    let Ok((mut session, _)) = open(heap, image, MemText::new(alloc)) else {
+        return Ok(Outcome::Nothing);
+    };
+    let found = follow_three(rt, alloc, heap, &mut session, &mut images, large)?;
+    assert!(rt; session.changes() == images.changes());
+    let (device, _) = session.close();
+    assert!(rt; device.as_slice() == images.top());
+    Ok(found)
+}
+
 /// The three commands in a heap of so many bytes, which all come back.
 fn in_heap(rt: &impl Abort, alloc: Global, bytes: usize, large: &str) -> Result<Outcome, Fail> {
     let heap = LocalHeap::new(alloc, bytes)?;
-    let mut images = Images::new(alloc, b"ABCDEFGH")?;
-    let mut found = Outcome::Nothing;
-    let image = MemImage::from_vec(b"ABCDEFGH".to_vec(alloc)?);
-    if let Ok((mut session, _)) = Session::open(&heap, image, MemText::new(alloc)) {
-        if let Ok(replies) = run_three(&heap, &mut session, large) {
-            follow(rt, alloc, &mut images, replies.as_slice())?;
-            found = outcome_of(replies.as_slice());
-        }
-        assert_eq!(rt; session.changes(), images.changes());
-        let (device, _) = session.close();
-        assert!(rt; device.as_slice() == images.top());
-    }
-    assert_eq!(rt; heap.used(), 0);
+    let found = three_in(rt, alloc, &heap, large)?;
+    assert!(rt; heap.used() == 0);
     Ok(found)
 }
 

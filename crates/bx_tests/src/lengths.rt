@@ -1,5 +1,5 @@
 //! Changes of every length up to some, with ample memory.
-use crate::session::{Ask, ask_for, opened};
+use crate::session::{Ask, assert_reply, opened};
 use bx_cli::Reply;
 use bx_image::MemImage;
 use bx_store::MemText;
@@ -12,10 +12,10 @@ fn write_and_undo(rt: &impl Abort, alloc: Global, digits: &str) -> Result<(), Fa
     let zeros = vec![in alloc; 0u8; 600]?;
     let image = MemImage::from_vec(zeros.as_slice().to_vec(alloc)?);
     let (mut session, _) = opened(alloc, image, MemText::new(alloc))?;
-    let reply = ask_for(alloc, &mut session, Ask::Plain(digits, 0))?;
-    assert_eq!(rt; reply, Reply::Changed { number: 1 });
-    let reply = ask_for(alloc, &mut session, Ask::Undo(1))?;
-    assert_eq!(rt; reply, Reply::Undone { left: 0 });
+    let changed = Reply::Changed { number: 1 };
+    assert_reply(rt, alloc, &mut session, Ask::Plain(digits, 0), changed)?;
+    let undone = Reply::Undone { left: 0 };
+    assert_reply(rt, alloc, &mut session, Ask::Undo(1), undone)?;
     let (device, store) = session.close();
     assert!(rt; device.as_slice() == zeros.as_slice());
     assert!(rt; store.as_slice().is_empty());

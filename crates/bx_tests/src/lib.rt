@@ -14,8 +14,6 @@ mod judge;
 #[cfg(test)]
 mod lengths;
 #[cfg(test)]
-mod mem_session;
-#[cfg(test)]
 mod memory;
 #[cfg(test)]
 mod model;

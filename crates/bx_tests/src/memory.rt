@@ -1,12 +1,12 @@
 //! Each growth of each call that takes memory, refused in turn.
 use crate::dd::copied;
-use bx_ration::{ALIGN, arena, squeeze, used};
 use crate::scripts::{OVERLAPPED, PATCHED};
 use crate::session::{Ask, command};
 use bumpalo::Bump;
 use bx_cli::{Fault, Reply, run_all};
 use bx_image::MemImage;
 use bx_journal::{How, Session, SessionFault};
+use bx_ration::{ALIGN, arena, squeeze, used};
 use bx_store::MemText;
 use std::alloc::{AllocError, Global};
 use std::process::Abort;

@@ -5,7 +5,7 @@ use crate::copies::copy;
 use crate::model::{Images, put};
 use crate::places::{Files, Memory, Pages, Place};
 use crate::script::reopened;
-use crate::session::{Ask, ask_for, opened};
+use crate::session::{Ask, assert_reply, opened};
 use bx_cli::{Fault, Reply};
 use bx_image::Device;
 use bx_journal::Session;
@@ -54,6 +54,14 @@ fn push_hex(text: &mut String, alloc: Global, bytes: &[u8]) -> Result<(), AllocE
     Ok(())
 }
 
+/// A line of a dump.
+fn push_line(text: &mut String, alloc: Global, at: u32, bytes: &[u8]) -> Result<(), AllocError> {
+    let address = format!(in alloc; "{at:x}: ")?;
+    text.push_str(address.as_str())?;
+    push_hex(text, alloc, bytes)?;
+    text.push_str("\n")
+}
+
 /// A dump of some pieces, which may overlap and lie past the end; they are put onto `image` at the offset too.
 fn dump(
     dice: &mut Dice,
@@ -67,10 +75,7 @@ fn dump(
         let bytes = dice.bytes(alloc, 20)?;
         let place = at.saturating_add(offset);
         put(image, place as usize, bytes.as_slice())?;
-        let address = format!(in alloc; "{at:x}: ")?;
-        text.push_str(address.as_str())?;
-        push_hex(&mut text, alloc, bytes.as_slice())?;
-        text.push_str("\n")?;
+        push_line(&mut text, alloc, at, bytes.as_slice())?;
     }
     Ok(text)
 }
@@ -88,9 +93,8 @@ fn revert<D: Device, T: TextStore>(
     let text = dump(dice, alloc, &mut image, offset)?;
     images.push(image)?;
     let number = images.changes();
-    let reply = ask_for(alloc, session, Ask::Shifted(text.as_str(), offset))?;
-    assert_eq!(rt; reply, Reply::Changed { number });
-    Ok(())
+    let ask = Ask::Shifted(text.as_str(), offset);
+    assert_reply(rt, alloc, session, ask, Reply::Changed { number })
 }
 
 /// Plain hexadecimal at a place.
@@ -109,9 +113,8 @@ fn plain<D: Device, T: TextStore>(
     let mut text = String::new(alloc);
     push_hex(&mut text, alloc, bytes.as_slice())?;
     let number = images.changes();
-    let reply = ask_for(alloc, session, Ask::Plain(text.as_str(), at))?;
-    assert_eq!(rt; reply, Reply::Changed { number });
-    Ok(())
+    let ask = Ask::Plain(text.as_str(), at);
+    assert_reply(rt, alloc, session, ask, Reply::Changed { number })
 }
 
 /// An undo of some changes, at times of more than there are.
@@ -124,14 +127,13 @@ fn undo<D: Device, T: TextStore>(
 ) -> Result<(), Fail> {
     let have = images.changes();
     let k = dice.roll(4).saturating_add(dice.roll(2) * dice.roll(4));
-    let reply = ask_for(alloc, session, Ask::Undo(k))?;
-    if images.undo(k) {
+    let expected = if images.undo(k) {
         let left = images.changes();
-        assert_eq!(rt; reply, Reply::Undone { left });
+        Reply::Undone { left }
     } else {
-        assert_eq!(rt; reply, Reply::Refused(Fault::TooFew { have }));
-    }
-    Ok(())
+        Reply::Refused(Fault::TooFew { have })
+    };
+    assert_reply(rt, alloc, session, Ask::Undo(k), expected)
 }
 
 /// A dump whose second line is bad.
@@ -143,9 +145,8 @@ fn faulty<D: Device, T: TextStore>(
 ) -> Result<(), Fail> {
     let at = dice.roll(60);
     let text = format!(in alloc; "{at:x}: 41\n{at:x}: 4142434\n")?;
-    let reply = ask_for(alloc, session, Ask::Revert(text.as_str()))?;
-    assert_eq!(rt; reply, Reply::Refused(Fault::BadPair { line: 2 }));
-    Ok(())
+    let bad = Reply::Refused(Fault::BadPair { line: 2 });
+    assert_reply(rt, alloc, session, Ask::Revert(text.as_str()), bad)
 }
 
 fn one<D: Device, T: TextStore>(
@@ -176,8 +177,8 @@ fn unwind<D: Device + Drop, T: TextStore + Drop, P: Place<D, T>>(
     for _ in 0..images.changes() {
         let _ = images.undo(1);
         let left = images.changes();
-        let reply = ask_for(alloc, &mut session, Ask::Undo(1))?;
-        assert_eq!(rt; reply, Reply::Undone { left });
+        let undone = Reply::Undone { left };
+        assert_reply(rt, alloc, &mut session, Ask::Undo(1), undone)?;
         session = reopened(rt, alloc, place, session, images.top(), None)?;
     }
     let _session = reopened(rt, alloc, place, session, images.top(), Some(b""))?;

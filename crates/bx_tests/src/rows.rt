@@ -2,7 +2,7 @@
 use crate::places::{Files, Memory, Pages, Place};
 use crate::script::play_all;
 use crate::scripts::{PATCHED, all};
-use crate::session::{Ask, ask_for, log, opened};
+use crate::session::{Ask, assert_reply, log, opened};
 use bx_cli::{Reply, log_text};
 use bx_image::{Device, MemImage};
 use bx_journal::{How, LogRow};
@@ -52,18 +52,19 @@ fn log_of_patch<D: Device + Drop, T: TextStore + Drop, P: Place<D, T>>(
     let (device, store) = place.pair(alloc, b"ABCDEFGH", b"")?;
     let (mut session, _) = opened(alloc, device, store)?;
     let patch = Ask::Revert("00000002: 7879\n");
-    assert_eq!(rt;
-        ask_for(alloc, &mut session, patch)?,
-        Reply::Changed { number: 1 }
-    );
-    let rows = log(&mut session)?;
+    let changed = Reply::Changed { number: 1 };
+    assert_reply(rt, alloc, &mut session, patch, changed)?;
+    assert_one_row(rt, alloc, log(&mut session)?.as_slice())
+}
+
+fn assert_one_row(rt: &impl Abort, alloc: Global, rows: &[LogRow]) -> Result<(), Fail> {
     let row = LogRow {
         number: 1,
         old_len: 8,
         saved: 2,
     };
-    assert_eq!(rt; rows.as_slice(), [row].as_slice());
-    assert_eq!(rt; log_text(alloc, rows.as_slice())?.as_str(), "1 8 2\n");
+    assert_eq!(rt; rows, [row].as_slice());
+    assert_eq!(rt; log_text(alloc, rows)?.as_str(), "1 8 2\n");
     Ok(())
 }
 
@@ -80,29 +81,35 @@ fn logs(rt: HostRuntime) -> Result<(), Fail> {
     files.clear()
 }
 
+/// Opens a pair, which has so many changes and nothing behind them, and asks for one thing. Answers the pair that is left.
+fn asked(
+    rt: &impl Abort,
+    alloc: Global,
+    pair: (MemImage, MemText),
+    changes: u32,
+    ask: Ask<'_>,
+    expected: Reply,
+) -> Result<(MemImage, MemText), Fail> {
+    let (image, text) = pair;
+    let (mut session, found) = opened(alloc, image, text)?;
+    assert!(rt; found.how == How::Clean && found.changes == changes);
+    assert_reply(rt, alloc, &mut session, ask, expected)?;
+    Ok(session.close())
+}
+
 // The same journal as an older program wrote it.
 #[test]
 fn old_journal_under_new_entry(rt: HostRuntime) -> Result<(), Fail> {
     let old =
         b"change 00000001 00000008\n00000002: 4344                                     CD\nsave 00000001\ndone 00000001\n";
     let alloc = rt.alloc();
-    assert_eq!(rt; (old.len(), PATCHED.len()), (107, 134));
-    let image = MemImage::from_vec(b"ABxyEFGH".to_vec(alloc)?);
-    let text = MemText::from_vec(old.to_vec(alloc)?);
-    let (mut session, found) = opened(alloc, image, text)?;
-    assert_eq!(rt; (found.how, found.changes), (How::Clean, 1));
-    assert_eq!(rt;
-        ask_for(alloc, &mut session, Ask::Revert("0: 5a"))?,
-        Reply::Changed { number: 2 }
-    );
-    let (image, text) = session.close();
-    assert_eq!(rt; text.as_slice().len(), 240);
-    let (mut session, _) = opened(alloc, image, text)?;
-    assert_eq!(rt;
-        ask_for(alloc, &mut session, Ask::Undo(2))?,
-        Reply::Undone { left: 0 }
-    );
-    let (image, text) = session.close();
+    assert!(rt; old.len() == 107 && PATCHED.len() == 134);
+    let pair = Memory.pair(alloc, b"ABxyEFGH", old)?;
+    let changed = Reply::Changed { number: 2 };
+    let pair = asked(&rt, alloc, pair, 1, Ask::Revert("0: 5a"), changed)?;
+    assert!(rt; pair.1.as_slice().len() == 240);
+    let undone = Reply::Undone { left: 0 };
+    let (image, text) = asked(&rt, alloc, pair, 2, Ask::Undo(2), undone)?;
     assert!(rt; image.as_slice() == b"ABCDEFGH".as_slice());
     assert!(rt; text.as_slice().is_empty());
     Ok(())

@@ -3,7 +3,9 @@ ghost use Rattle.std.specs.Prelude.{All, IfOk};
 ghost use Rattle.bx_cli.specs.Command.{IsNear};
 
 use crate::places::Place;
-use crate::session::{Ask, SliceCommand, ask_for, command, image_bytes, opened, run, text_bytes};
+use crate::session::{
+    Ask, SliceCommand, assert_reply, command, image_bytes, opened, run, text_bytes,
+};
 use bx_cli::{Fault, Reply};
 use bx_image::Device;
 use bx_journal::{How, Session};
@@ -95,8 +97,7 @@ pub fn reopened<D: Device + Drop, T: TextStore + Drop, P: Place<D, T>>(
     }
     let (device, store) = place.again(device, store)?;
     let (session, found) = opened(alloc, device, store)?;
-    assert_eq!(rt; found.how, How::Clean);
-    assert_eq!(rt; found.changes, changes);
+    assert!(rt; found.how == How::Clean && found.changes == changes);
     Ok(session)
 }
 
@@ -124,7 +125,7 @@ pub fn play<D: Device + Drop, T: TextStore + Drop, P: Place<D, T>>(
     for row in script.rows.as_slice() {
         let (same, before) = text_of(alloc, place, session)?;
         session = same;
-        assert_eq!(rt; ask_for(alloc, &mut session, row.ask)?, row.reply);
+        assert_reply(rt, alloc, &mut session, row.ask, row.reply)?;
         session = match (row.reply, row.text) {
             (Reply::Refused(_), _) => {
                 let text = before.as_slice();

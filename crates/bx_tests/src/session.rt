@@ -8,6 +8,8 @@ use bx_journal::{LogRow, Recovered, Session};
 use bx_store::TextStore;
 use bx_text::{Bytes, Piece, Pieces, Words};
 use std::alloc::{Allocator, Global};
+use std::process::Abort;
+use std::test::Fail;
 
 /// No test comes near so many failed calls, or so long a list.
 const MANY: u64 = 100_000;
@@ -73,11 +75,11 @@ pub fn command<'a, A: Allocator + Clone>(
 }
 
 /// Opens a pair, or hands it back.
-pub fn open<D: Device, T: TextStore>(
-    alloc: Global,
+pub fn open<D: Device, T: TextStore, A: Allocator + Clone>(
+    alloc: A,
     device: D,
     store: T,
-) -> Result<(Session<D, T>, Recovered), (D, T, Fault)> {
+) -> Result<(Session<D, T, A>, Recovered), (D, T, Fault)> {
     if device.faults() > MANY {
         return Err((device, store, Fault::DeviceFailed));
     }
@@ -142,13 +144,17 @@ fn cut<D: Device, T: TextStore>(
     at: u32,
     byte: u8,
 ) -> Result<Reply, Fault> {
+    let bytes = Bytes::from_vec([byte].to_vec(alloc)?);
     let mut pieces = Vec::new(alloc);
-    pieces
+    if pieces
         .push(Piece {
             at: at as u64,
-            bytes: Bytes::from_vec([byte].to_vec(alloc)?),
+            bytes,
         })
-        .map_err(|_| Fault::NoMemory)?;
+        .is_err()
+    {
+        return Err(Fault::NoMemory);
+    }
     let change = Change {
         base: Some(base as u64),
         writes: Pieces::from_vec(pieces),
@@ -172,6 +178,18 @@ pub fn ask_for<D: Device, T: TextStore>(
         return cut(alloc, session, base, at, byte);
     }
     run_command(alloc, session, command(alloc, asked)?)
+}
+
+/// Asks for one thing, which has to be answered so.
+pub fn assert_reply<D: Device, T: TextStore>(
+    rt: &impl Abort,
+    alloc: Global,
+    session: &mut Session<D, T>,
+    asked: Ask<'_>,
+    expected: Reply,
+) -> Result<(), Fail> {
+    assert_eq!(rt; ask_for(alloc, session, asked)?, expected);
+    Ok(())
 }
 
 /// The bytes of an image.

@@ -1,9 +1,11 @@
 //! Texts that are cut off or changed: opening answers what the slow judge answers.
 use crate::judge::{Verdict, judge};
+use crate::places::{Memory, Place};
 use crate::scripts::{EMPTY, OVERLAPPED, PATCHED};
-use crate::session::{Ask, ask_for};
+use crate::session::{Ask, ask_for, open, opened};
+use bx_cli::Fault;
 use bx_image::MemImage;
-use bx_journal::{Recovered, Session, SessionFault};
+use bx_journal::Recovered;
 use bx_store::MemText;
 use std::alloc::{AllocError, Global};
 use std::process::Abort;
@@ -13,41 +15,53 @@ use std::test::Fail;
 const THREE: &str =
     "change2 00000001 0000000000000001\n00000000: 41                                       A\nsave 00000001\ndone2 00000001 0000000000000001\nchange2 00000002 0000000000000001\n00000000: 61                                       a\nsave 00000002\ndone2 00000002 0000000000000001\nchange2 00000003 0000000000000001\n00000000: 62                                       b\nsave 00000003\ndone2 00000003 0000000000000001\n";
 
-type MemSession = Session<MemImage, MemText>;
+/// A line of a journal in the first form: lengths of 8 digits, and none behind.
+fn first_line(alloc: Global, line: &str) -> Result<String, AllocError> {
+    let mut words = line.split(' ');
+    match (words.next(), words.next(), words.next()) {
+        (Some("change2"), Some(number), Some(len)) => {
+            let len = len.strip_prefix("00000000").unwrap_or(len);
+            format!(in alloc; "change {number} {len}\n")
+        }
+        (Some("done2"), Some(number), _) => format!(in alloc; "done {number}\n"),
+        _ => format!(in alloc; "{line}\n"),
+    }
+}
 
-/// The same journal in the first form: lengths of 8 digits, and none behind.
+/// The same journal in the first form.
 fn first_form(alloc: Global, text: &str) -> Result<String, AllocError> {
     let mut first = String::new(alloc);
     for line in text.lines() {
-        let mut words = line.split(' ');
-        match (words.next(), words.next(), words.next()) {
-            (Some("change2"), Some(number), Some(len)) => {
-                let len = len.strip_prefix("00000000").unwrap_or(len);
-                let shown = format!(in alloc; "change {number} {len}\n")?;
-                first.push_str(shown.as_str())?;
-            }
-            (Some("done2"), Some(number), _) => {
-                let shown = format!(in alloc; "done {number}\n")?;
-                first.push_str(shown.as_str())?;
-            }
-            _ => {
-                first.push_str(line)?;
-                first.push_str("\n")?;
-            }
-        }
+        first.push_str(first_line(alloc, line)?.as_str())?;
     }
     Ok(first)
+}
+
+/// Undoing all leaves this image, and no text.
+fn unwinds(
+    rt: &impl Abort,
+    alloc: Global,
+    pair: (MemImage, MemText),
+    changes: u32,
+    first: &[u8],
+) -> Result<bool, Fail> {
+    let (device, store) = pair;
+    let (mut session, _) = opened(alloc, device, store)?;
+    let _ = ask_for(alloc, &mut session, Ask::Undo(changes))?;
+    let (device, store) = session.close();
+    assert!(rt; device.as_slice() == first);
+    Ok(store.as_slice().is_empty())
 }
 
 /// What is left agrees with what the judge said, and what undoing all leaves.
 fn agrees(
     rt: &impl Abort,
     alloc: Global,
-    opened: (MemSession, Recovered),
+    found: Recovered,
+    pair: (MemImage, MemText),
     text: &[u8],
     verdict: &Verdict,
 ) -> Result<bool, Fail> {
-    let (session, found) = opened;
     let Verdict::Opened {
         how,
         changes,
@@ -58,20 +72,26 @@ fn agrees(
     else {
         return Ok(false);
     };
-    assert_eq!(rt; (found.how, found.changes), (*how, *changes));
-    let (device, store) = session.close();
-    assert!(rt; device.as_slice() == image.as_slice());
-    assert!(rt; store.as_slice().len() == *kept && text.starts_with(store.as_slice()));
-    let Some(first) = first else {
-        return Ok(true);
-    };
-    let Ok((mut session, _)) = Session::open(alloc, device, store) else {
-        return Ok(false);
-    };
-    let _ = ask_for(alloc, &mut session, Ask::Undo(*changes))?;
-    let (device, store) = session.close();
-    assert!(rt; device.as_slice() == first.as_slice());
-    Ok(store.as_slice().is_empty())
+    assert!(rt; found.how == *how && found.changes == *changes);
+    assert!(rt; pair.0.as_slice() == image.as_slice());
+    let left = pair.1.as_slice();
+    assert!(rt; left.len() == *kept && text.starts_with(left));
+    match first {
+        Some(first) => unwinds(rt, alloc, pair, *changes, first.as_slice()),
+        None => Ok(true),
+    }
+}
+
+/// Whether opening is to be refused so.
+fn is_refused(verdict: &Verdict, fault: Fault) -> bool {
+    match verdict {
+        Verdict::Damaged { line } => fault == Fault::Damaged { line: *line },
+        Verdict::LengthDiffers { expected } => {
+            let expected = *expected;
+            fault == Fault::LengthDiffers { expected }
+        }
+        Verdict::Opened { .. } => false,
+    }
 }
 
 /// Opening answers what the judge answers; where it refuses, nothing changes.
@@ -83,20 +103,13 @@ fn assert_judged(
     what: usize,
 ) -> Result<(), Fail> {
     let verdict = judge(alloc, image, text)?;
-    let device = MemImage::from_vec(image.to_vec(alloc)?);
-    let store = MemText::from_vec(text.to_vec(alloc)?);
-    let right = match Session::open(alloc, device, store) {
-        Ok(opened) => agrees(rt, alloc, opened, text, &verdict)?,
+    let (device, store) = Memory.pair(alloc, image, text)?;
+    let right = match open(alloc, device, store) {
+        Ok((session, found)) => agrees(rt, alloc, found, session.close(), text, &verdict)?,
         Err((device, store, fault)) => {
             assert!(rt; device.as_slice() == image);
             assert!(rt; store.as_slice() == text);
-            match verdict {
-                Verdict::Damaged { line } => fault == SessionFault::Damaged { line },
-                Verdict::LengthDiffers { expected } => {
-                    fault == SessionFault::LengthDiffers { expected }
-                }
-                Verdict::Opened { .. } => false,
-            }
+            is_refused(&verdict, fault)
         }
     };
     assert!(rt; right, "at {what}");

@@ -2,7 +2,9 @@
 ghost use Rattle.std.specs.Prelude.{◌^◌, ◌<◌, ◌≤◌};
 ghost use Rattle.bx_dump.specs.Styles.{IsCountable};
 
-use crate::mem_session::{fresh, look, revert, undo};
+use crate::places::Memory;
+use crate::script::{Script, play};
+use crate::session::Ask;
 use bx_cli::{Fault, Reply};
 use bx_dump::{XxdOptions, XxdStyle, xxd};
 use std::alloc::{AllocError, Global};
@@ -30,17 +32,10 @@ fn expect_reverted<R: Abort + AllocGlobal>(
     after: &[u8],
 ) -> Result<(), Fail> {
     let dump = str::from_utf8(text).unwrap_or("no text");
-    let mut session = fresh(rt.alloc(), image)?;
-    let changed = revert(rt.alloc(), &mut session, dump)?;
-    assert_eq!(rt; changed, Reply::Changed { number: 1 });
-    let (mut session, now, journal) = look(rt.alloc(), session)?;
-    assert!(rt; now.as_slice() == after);
-    let undone = undo(rt.alloc(), &mut session, 1)?;
-    assert_eq!(rt; undone, Reply::Undone { left: 0 });
-    let (mut session, now, journal) = look(rt.alloc(), session)?;
-    assert!(rt; now.as_slice() == image);
-    assert!(rt; journal.is_empty());
-    Ok(())
+    let mut script = Script::new(rt.alloc(), image);
+    script.then(Ask::Revert(dump), Reply::Changed { number: 1 }, after)?;
+    script.then_text(Ask::Undo(1), Reply::Undone { left: 0 }, image, "")?;
+    play(rt, rt.alloc(), &Memory, &script)
 }
 
 fn text_of(alloc: Global, bytes: &[u8], o: &XxdOptions) -> Result<Vec<u8>, Fault>
