@@ -131,17 +131,40 @@ impl From<AllocError> for Fault {
     }
 }
 
+fn from_io(fault: IoFault) -> Fault
+where
+    ensures { result ≡ of_io fault }
+{
+    match fault {
+        IoFault::NoMemory => Fault::NoMemory,
+        IoFault::ReadFailed => Fault::ReadFailed,
+        IoFault::WriteFailed { written } => Fault::WriteFailed { written },
+        IoFault::InputTooLong => Fault::InputTooLong,
+        IoFault::SkipPastEnd => Fault::SkipPastEnd,
+    }
+}
+
 impl From<IoFault> for Fault {
     ghost from_gives = { λ e f. f ≡ of_io e };
 
     fn from(fault: IoFault) -> Self {
-        match fault {
-            IoFault::NoMemory => Fault::NoMemory,
-            IoFault::ReadFailed => Fault::ReadFailed,
-            IoFault::WriteFailed { written } => Fault::WriteFailed { written },
-            IoFault::InputTooLong => Fault::InputTooLong,
-            IoFault::SkipPastEnd => Fault::SkipPastEnd,
-        }
+        from_io(fault)
+    }
+}
+
+fn from_read(fault: ReadFault) -> Fault
+where
+    ensures { result ≡ of_read fault }
+{
+    match fault {
+        ReadFault::NoMemory => Fault::NoMemory,
+        ReadFault::BadAddress { line } => Fault::BadAddress { line },
+        ReadFault::MissingColon { line } => Fault::MissingColon { line },
+        ReadFault::BadPair { line } => Fault::BadPair { line },
+        ReadFault::NoData { line } => Fault::NoData { line },
+        ReadFault::TooWide { line } => Fault::TooWide { line },
+        ReadFault::AddressTooLarge { line } => Fault::AddressTooLarge { line },
+        ReadFault::OddDigits { line } => Fault::OddDigits { line },
     }
 }
 
@@ -149,16 +172,24 @@ impl From<ReadFault> for Fault {
     ghost from_gives = { λ e f. f ≡ of_read e };
 
     fn from(fault: ReadFault) -> Self {
-        match fault {
-            ReadFault::NoMemory => Fault::NoMemory,
-            ReadFault::BadAddress { line } => Fault::BadAddress { line },
-            ReadFault::MissingColon { line } => Fault::MissingColon { line },
-            ReadFault::BadPair { line } => Fault::BadPair { line },
-            ReadFault::NoData { line } => Fault::NoData { line },
-            ReadFault::TooWide { line } => Fault::TooWide { line },
-            ReadFault::AddressTooLarge { line } => Fault::AddressTooLarge { line },
-            ReadFault::OddDigits { line } => Fault::OddDigits { line },
-        }
+        from_read(fault)
+    }
+}
+
+fn from_session(fault: SessionFault) -> Fault
+where
+    ensures { result ≡ of_session fault }
+{
+    match fault {
+        SessionFault::NoMemory => Fault::NoMemory,
+        SessionFault::TooLarge => Fault::TooLarge,
+        SessionFault::DeviceFailed => Fault::DeviceFailed,
+        SessionFault::Damaged { line } => Fault::Damaged { line },
+        SessionFault::TooFew { have } => Fault::TooFew { have },
+        SessionFault::JournalFull => Fault::JournalFull,
+        SessionFault::Interrupted => Fault::Interrupted,
+        SessionFault::Broken => Fault::Broken,
+        SessionFault::LengthDiffers { expected } => Fault::LengthDiffers { expected },
     }
 }
 
@@ -166,17 +197,26 @@ impl From<SessionFault> for Fault {
     ghost from_gives = { λ e f. f ≡ of_session e };
 
     fn from(fault: SessionFault) -> Self {
-        match fault {
-            SessionFault::NoMemory => Fault::NoMemory,
-            SessionFault::TooLarge => Fault::TooLarge,
-            SessionFault::DeviceFailed => Fault::DeviceFailed,
-            SessionFault::Damaged { line } => Fault::Damaged { line },
-            SessionFault::TooFew { have } => Fault::TooFew { have },
-            SessionFault::JournalFull => Fault::JournalFull,
-            SessionFault::Interrupted => Fault::Interrupted,
-            SessionFault::Broken => Fault::Broken,
-            SessionFault::LengthDiffers { expected } => Fault::LengthDiffers { expected },
-        }
+        from_session(fault)
+    }
+}
+
+fn from_dd(fault: DdFault) -> Fault
+where
+    ensures { result ≡ of_dd fault }
+{
+    match fault {
+        DdFault::NoMemory => Fault::NoMemory,
+        DdFault::ReadFailed => Fault::ReadFailed,
+        DdFault::InputTooLong => Fault::InputTooLong,
+        DdFault::UnknownOperand(place) => Fault::UnknownOperand { place },
+        DdFault::BadNumber(place) => Fault::BadNumber { place },
+        DdFault::NumberTooLarge(place) => Fault::NumberTooLarge { place },
+        DdFault::ZeroSize(place) => Fault::ZeroSize { place },
+        DdFault::Conflict => Fault::Conflict,
+        DdFault::MissingCbs => Fault::MissingCbs,
+        DdFault::Repeated(place) => Fault::Repeated { place },
+        DdFault::SeekWithoutOutput => Fault::SeekWithoutOutput,
     }
 }
 
@@ -184,18 +224,6 @@ impl From<DdFault> for Fault {
     ghost from_gives = { λ e f. f ≡ of_dd e };
 
     fn from(fault: DdFault) -> Self {
-        match fault {
-            DdFault::NoMemory => Fault::NoMemory,
-            DdFault::ReadFailed => Fault::ReadFailed,
-            DdFault::InputTooLong => Fault::InputTooLong,
-            DdFault::UnknownOperand(place) => Fault::UnknownOperand { place },
-            DdFault::BadNumber(place) => Fault::BadNumber { place },
-            DdFault::NumberTooLarge(place) => Fault::NumberTooLarge { place },
-            DdFault::ZeroSize(place) => Fault::ZeroSize { place },
-            DdFault::Conflict => Fault::Conflict,
-            DdFault::MissingCbs => Fault::MissingCbs,
-            DdFault::Repeated(place) => Fault::Repeated { place },
-            DdFault::SeekWithoutOutput => Fault::SeekWithoutOutput,
-        }
+        from_dd(fault)
     }
 }

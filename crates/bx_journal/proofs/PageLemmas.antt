@@ -21,6 +21,14 @@ paged_more b c old mid new p q first next = record {
   bytes_are = append_assoc first.added next.added q ∙ ap (λ t. first.added ++ t) next.bytes_are ∙ sym (append_assoc first.added p c) ∙ ap (λ t. t ++ c) first.bytes_are;
 }
 
+-- where more waits in the page
+pub paged_grown : (b c old new p q : List ℕ) → IsPaged b old new p → q ≡ p ++ c → IsPaged (b ++ c) old new q
+paged_grown b c old new p q first is = record {
+  added = first.added;
+  text_is = first.text_is;
+  bytes_are = ap (λ t. first.added ++ t) is ∙ sym (append_assoc first.added p c) ∙ ap (λ t. t ++ c) first.bytes_are;
+}
+
 -- a front of some bytes is one of more
 pub part_front : (a b old new : List ℕ) → IsPartlyAppended a old new → IsPartlyAppended (a ++ b) old new
 part_front a b old new part =

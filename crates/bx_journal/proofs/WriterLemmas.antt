@@ -18,7 +18,9 @@ use Rattle.bx_journal.specs.Hex.{hex_digits}
 use Rattle.bx_journal.specs.DumpLine.{dump_line}
 use Rattle.bx_journal.specs.Entry.{row, rows, rows_text, head_lines, head_text}
 use Rattle.bx_journal.specs.Text.{ended, joined}
+use Rattle.bx_journal.specs.Page.{IsPaged}
 use Rattle.bx_journal.proofs.HexLemmas.{length-hex_digits}
+use Rattle.bx_journal.proofs.PageLemmas.{paged_is, paged_grown}
 
 range_more : (a n : ℕ) → range_with_len a (n + 1) ≡ range_with_len a n ++ (a + n) ∷ []
 range_more a zero = ap (λ x. x ∷ []) (omega arith)
@@ -33,14 +35,48 @@ lines_of rows = map (λ (p : Run). dump_line p.at p.bytes) rows
 pub lines_more : (rows more : List Run) → joined (lines_of (rows ++ more)) ≡ joined (lines_of rows) ++ joined (lines_of more)
 lines_more rows more = ap joined (map-append (λ (p : Run). dump_line p.at p.bytes) rows more) ∙ flat_map-append ended (lines_of rows) (lines_of more)
 
+range_split : (a m n : ℕ) → range_with_len a (m + n) ≡ range_with_len a m ++ range_with_len (a + m) n
+range_split a zero n =
+    let none : 0 + n ≡ n = omega arith in
+    let same : a ≡ a + 0 = omega arith in
+    ap (range_with_len a) none ∙ ap (λ b. range_with_len b n) same
+range_split a (suc m) n =
+    let count : suc m + n ≡ suc (m + n) = omega arith in
+    let same : a + 1 + m ≡ a + suc m = omega arith in
+    ap (range_with_len a) count ∙ ap (λ xs. a ∷ xs) (range_split (a + 1) m n ∙ ap (λ b. range_with_len (a + 1) m ++ range_with_len b n) same)
+
+-- rows of a run from a place on, and one more
+pub row_more_at : (run : Run) (a k : ℕ) → rows_text (map (row run) (range_with_len a (k + 1))) ≡ rows_text (map (row run) (range_with_len a k)) ++ ended (dump_line (row run (a + k)).at (row run (a + k)).bytes)
+row_more_at run a k =
+    ap (λ ks. joined (lines_of (map (row run) ks))) (range_more a k)
+    ∙ ap (λ ps. joined (lines_of ps)) (map-append (row run) (range_with_len a k) ((a + k) ∷ []))
+    ∙ lines_more (map (row run) (range_with_len a k)) (map (row run) ((a + k) ∷ []))
+    ∙ ap (λ t. joined (lines_of (map (row run) (range_with_len a k))) ++ t) (append-nil (ended (dump_line (row run (a + k)).at (row run (a + k)).bytes)))
+
 -- the rows of a run before a place, and one more
 pub row_more : (run : Run) (k : ℕ) → joined (lines_of (map (row run) (range_with_len 0 (k + 1)))) ≡ joined (lines_of (map (row run) (range_with_len 0 k))) ++ ended (dump_line (row run k).at (row run k).bytes)
 row_more run k =
-    ap (λ ks. joined (lines_of (map (row run) ks))) (range_more 0 k)
-    ∙ ap (λ ps. joined (lines_of ps)) (map-append (row run) (range_with_len 0 k) ((0 + k) ∷ []))
-    ∙ lines_more (map (row run) (range_with_len 0 k)) (map (row run) ((0 + k) ∷ []))
-    ∙ ap (λ t. joined (lines_of (map (row run) (range_with_len 0 k))) ++ t) (append-nil (ended (dump_line (row run (0 + k)).at (row run (0 + k)).bytes)))
+    row_more_at run 0 k
     ∙ ap (λ j. joined (lines_of (map (row run) (range_with_len 0 k))) ++ ended (dump_line (row run j).at (row run j).bytes)) (let none : 0 + k ≡ k = omega arith in none)
+
+-- the rows before a place, and those from there on
+pub rows_split : (run : Run) (k n : ℕ) → rows_text (map (row run) (range_with_len 0 (k + n))) ≡ rows_text (map (row run) (range_with_len 0 k)) ++ rows_text (map (row run) (range_with_len k n))
+rows_split run k n =
+    let none : 0 + k ≡ k = omega arith in
+    ap (λ ks. rows_text (map (row run) ks)) (range_split 0 k n ∙ ap (λ j. range_with_len 0 k ++ range_with_len j n) none)
+    ∙ ap rows_text (map-append (row run) (range_with_len 0 k) (range_with_len k n))
+    ∙ lines_more (map (row run) (range_with_len 0 k)) (map (row run) (range_with_len k n))
+
+-- where rows stand behind what waited in a page
+pub rows_grown : (text bytes : List ℕ) (run : Run) (k n : ℕ) (old new p q : List ℕ) → bytes ≡ run.bytes
+    → q ≡ p ++ rows_text (map (row (record { at = run.at; bytes = bytes })) (range_with_len k n))
+    → IsPaged (text ++ rows_text (map (row run) (range_with_len 0 k))) old new p
+    → IsPaged (text ++ rows_text (map (row run) (range_with_len 0 (k + n)))) old new q
+rows_grown text bytes run k n old new p q same is paged =
+    let done : List ℕ = rows_text (map (row run) (range_with_len 0 k)) in
+    let more : List ℕ = rows_text (map (row run) (range_with_len k n)) in
+    let all : q ≡ p ++ more = is ∙ ap (λ b. p ++ rows_text (map (row (record { at = run.at; bytes = b })) (range_with_len k n))) same in
+    paged_is _ _ _ _ _ (append_assoc text done more ∙ ap (λ t. text ++ t) (sym (rows_split run k n))) (paged_grown (text ++ done) more old new p q paged all)
 
 row_slice : (bytes : List ℕ) (k to : ℕ) → to ≡ min (16 * k + 16) (length bytes) → take (to - 16 * k) (drop (16 * k) bytes) ≡ take 16 (drop (16 * k) bytes)
 row_slice bytes k to is =

@@ -73,15 +73,32 @@ impl From<TooLarge> for SessionFault {
     }
 }
 
+fn of_image(fault: ImageFault) -> SessionFault
+where
+    ensures { result ≡ fault_of fault }
+{
+    match fault {
+        ImageFault::NoMemory => SessionFault::NoMemory,
+        ImageFault::TooLarge => SessionFault::TooLarge,
+        ImageFault::DeviceFailed => SessionFault::DeviceFailed,
+    }
+}
+
+fn of_text(fault: TextFault) -> SessionFault
+where
+    ensures { result ≡ reading_fault fault }
+{
+    match fault {
+        TextFault::NoMemory => SessionFault::NoMemory,
+        TextFault::DeviceFailed => SessionFault::DeviceFailed,
+    }
+}
+
 impl From<ImageFault> for SessionFault {
     ghost from_gives = { λ f e. e ≡ fault_of f };
 
     fn from(fault: ImageFault) -> Self {
-        match fault {
-            ImageFault::NoMemory => SessionFault::NoMemory,
-            ImageFault::TooLarge => SessionFault::TooLarge,
-            ImageFault::DeviceFailed => SessionFault::DeviceFailed,
-        }
+        of_image(fault)
     }
 }
 
@@ -89,9 +106,6 @@ impl From<TextFault> for SessionFault {
     ghost from_gives = { λ f e. e ≡ reading_fault f };
 
     fn from(fault: TextFault) -> Self {
-        match fault {
-            TextFault::NoMemory => SessionFault::NoMemory,
-            TextFault::DeviceFailed => SessionFault::DeviceFailed,
-        }
+        of_text(fault)
     }
 }

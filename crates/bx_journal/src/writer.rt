@@ -1,5 +1,6 @@
 //! The text of an entry.
-ghost use Rattle.std.specs.Prelude.{◌≡◌, ◌+◌, ◌<◌, ◌≤◌, ◌^◌, ◌++◌, [], ◌∷◌, flat_map, length, map, vec_capacity, OnOk, OnErr, is_err};
+ghost use Rattle.std.specs.Prelude.{◌≡◌, ◌+◌, ◌*◌, ◌<◌, ◌≤◌, ◌^◌, ◌++◌, [], ◌∷◌, flat_map, length, map, vec_capacity, OnOk, OnErr, is_err};
+ghost use Rattle.std.specs.List.{range_with_len};
 ghost use Rattle.bx_image.specs.Change.{AllWithin};
 ghost use Rattle.bx_image.specs.Device.{GoesOn};
 ghost use Rattle.bx_image.specs.Image.{end_of};
@@ -8,7 +9,7 @@ ghost use Rattle.bx_journal.specs.Kept.{run_of, kept_of};
 ghost use Rattle.bx_journal.specs.declared.version.Version.TheVariants.{Second};
 ghost use Rattle.bx_journal.specs.DumpLine.{dump_line};
 ghost use Rattle.bx_journal.specs.Line.{start_line, end_line};
-ghost use Rattle.bx_journal.specs.Entry.{rows, rows_text, head_text, end_text};
+ghost use Rattle.bx_journal.specs.Entry.{row, rows, rows_text, head_text, end_text};
 ghost use Rattle.bx_journal.specs.Page.{IsPaged};
 ghost use Rattle.bx_journal.specs.Text.{ended};
 
@@ -19,6 +20,9 @@ use bx_image::{DeviceFailed, Saved};
 use bx_store::TextStore;
 use bx_text::{LineText, Piece, put_full_line, xxd_line};
 use std::alloc::Allocator;
+
+/// So many rows are written at once, at most.
+const ROWS: usize = 128;
 
 /// Appends the text of an entry up to and with its save line, page by page. The page is empty before it.
 pub fn put_head<T: TextStore, A: Allocator>(
@@ -123,12 +127,85 @@ fn put_run<T: TextStore, A: Allocator>(
 {
     let bytes = run.bytes.as_slice();
     let count = (bytes.len() + 15) / 16;
-    for k in 0..count {
-        let from = 16 * k;
+    let mut k = 0;
+    while k < count {
+        let more = push_rows(page, run.at, bytes, k);
+        let from = 16 * (k + more);
         let to = (from + 16).min(bytes.len());
         put_row(store, page, run.at + from as u64, &bytes[from..to])?;
+        k = k + more + 1;
     }
     Ok(())
+}
+
+/// Writes rows from this one on into the page: as many as it has room for, at most `ROWS`, and not the last of the run. The
+/// answer is how many.
+fn push_rows<A: Allocator>(page: &mut Vec<u8, A>, at: u64, bytes: &[u8], first: usize) -> usize
+    requires inside { 16 * first < length bytes.now }
+    ensures inside { 16 * (first + result) < length bytes.now }
+    ensures rows { page.new.items ≡ page.old.items ++ rows_text (map (row (record { at = at; bytes = bytes.now })) (range_with_len first result)) }
+    ensures room { vec_capacity page.old ≤ vec_capacity page.new }
+{
+    if at > u32::MAX as u64 {
+        return 0;
+    }
+    if bytes.len() as u64 > u32::MAX as u64 - at {
+        return 0;
+    }
+    let whole = (bytes.len() - 16 * first - 1) / 16;
+    let free = (page.capacity() - page.len()) / 68;
+    let count = whole.min(free).min(ROWS);
+    push_full_rows(page, at as u32, bytes, first, count);
+    count
+}
+
+/// Writes rows of 16 bytes into the page, behind what waits there.
+fn push_full_rows<A: Allocator>(
+    page: &mut Vec<u8, A>,
+    at: u32,
+    bytes: &[u8],
+    first: usize,
+    count: usize,
+)
+    requires inside { 16 * (first + count) ≤ length bytes.now }
+    requires address { at + length bytes.now < 2 ^ 32 }
+    requires free { length page.old.items + 68 * count ≤ vec_capacity page.old }
+    ensures rows { page.new.items ≡ page.old.items ++ rows_text (map (row (record { at = at; bytes = bytes.now })) (range_with_len first count)) }
+    ensures room { vec_capacity page.old ≤ vec_capacity page.new }
+{
+    let from = page.len();
+    let _ = page.resize(from + 68 * count, b' ');
+    let (_, lines) = page.as_mut_slice().split_at_mut(from);
+    full_rows(lines, at, bytes, first, count);
+}
+
+/// The lines of rows of 16 bytes at their places.
+fn full_rows(lines: &mut [u8], at: u32, bytes: &[u8], first: usize, count: usize)
+    requires inside { 16 * (first + count) ≤ length bytes.now }
+    requires address { at + length bytes.now < 2 ^ 32 }
+    requires long { length lines.old ≡ 68 * count }
+    ensures { lines.new ≡ rows_text (map (row (record { at = at; bytes = bytes.now })) (range_with_len first count)) }
+{
+    for k in 0..count {
+        let from = 16 * (first + k);
+        whole_row(
+            &mut lines[68 * k..68 * k + 68],
+            at + from as u32,
+            &bytes[from..from + 16],
+        );
+    }
+}
+
+/// The line of 16 bytes at its place.
+#[inline(always)]
+fn whole_row(line: &mut [u8], at: u32, bytes: &[u8])
+    requires line { length line.old ≡ 68 }
+    requires bytes { length bytes.now ≡ 16 }
+    ensures { line.new ≡ ended (dump_line at bytes.now) }
+{
+    let mut all = [0; 16];
+    all.copy_from_slice(bytes);
+    full_row(line, at, &all);
 }
 
 /// Puts a saved line of at most 16 bytes.

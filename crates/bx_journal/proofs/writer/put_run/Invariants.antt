@@ -1,4 +1,4 @@
-use Rattle.std.proofs.Common.{◌≤◌, ◌++◌, map, false}
+use Rattle.std.proofs.Common.{◌-◌, ◌≤◌, ◌++◌, map, false}
 use Rattle.std.specs.Prelude.{vec_capacity}
 use Rattle.std.specs.List.{range_with_len}
 use Rattle.bx_image.specs.Device.{GoesOn}
@@ -12,7 +12,11 @@ abbrev pub invariant-loop-k : goal.invariant-loop-k
 invariant-loop-k g l =
     let store = g.T.TextStore in
     record {
+      most : l.k ≤ l.count;
       puts : store.honest l.fn.store → IsPaged (l.fn.page.items ++ rows_text (map (row (run_of l.run)) (range_with_len 0 l.k))) (store.text l.fn.store) (store.text l.store) l.page.items;
       room : vec_capacity l.fn.page ≤ vec_capacity l.page;
       goes_on : GoesOn store.honest store.room store.failures false l.fn.store l.store;
     }
+
+abbrev pub decreases-loop-k : goal.decreases-loop-k
+decreases-loop-k g l = l.count - l.k
