@@ -42,3 +42,4 @@ pub mod PageLemmas
 pub mod NearRows
 pub mod DigitLanes
 pub mod PartLemmas
+pub mod FollowLemmas

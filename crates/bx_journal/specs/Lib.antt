@@ -24,3 +24,4 @@ pub mod Rows
 pub mod Undoing
 pub mod Page
 pub mod Tally
+pub mod Followed

@@ -5,7 +5,7 @@ ghost use Rattle.bx_journal.specs.Plain.{HasNoNewline};
 use memchr::memchr;
 
 /// How long a saved line of 16 bytes at an address of 8 digits is.
-const FULL: usize = 67;
+pub const FULL: usize = 67;
 
 /// Whether a newline is among the bytes.
 #[inline(always)]

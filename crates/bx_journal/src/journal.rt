@@ -4,6 +4,7 @@ ghost use Rattle.bx_journal.specs.Text.{Reads, split};
 ghost use Rattle.bx_journal.specs.Parsed.{reading_of};
 
 use crate::ends::line_end;
+use crate::follow::{ENDED, go_on};
 use crate::rest::rest_fits;
 use crate::step::{take_line, told_length};
 use crate::{EntryRead, SessionFault, StageRead};
@@ -42,11 +43,16 @@ pub fn read_journal<A: Allocator + Clone>(
         let Some(next) = taken else {
             return Err(SessionFault::Damaged { line });
         };
-        stage = next;
-        at = after;
-        line += 1;
         let (_, behind) = rest.split_at(i + 1);
-        rest = behind;
+        let Ok(gone) = go_on(next, behind) else {
+            return Err(SessionFault::NoMemory);
+        };
+        let size = ENDED * gone.count;
+        at = after + size as u64;
+        line = line + 1 + gone.count as u64;
+        stage = gone.stage;
+        let (_, left) = behind.split_at(size);
+        rest = left;
     }
     let number = entries.len() as u32 + 1;
     let told = told_length(&entries);

@@ -6,6 +6,7 @@ mod calls;
 mod closing;
 mod ends;
 mod fault;
+mod follow;
 mod images;
 mod journal;
 mod lanes;

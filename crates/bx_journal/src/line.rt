@@ -88,7 +88,7 @@ pub struct SavedLine {
 /// What a line in xxd's default form gives that has 16 bytes at an address of 8 digits, as most have.
 #[tactic(auto, unfolding(crate::specs::DumpLine::piece_of))]
 #[inline(always)]
-fn full_in(line: &[u8]) -> Option<FullLine>
+pub fn full_in(line: &[u8]) -> Option<FullLine>
     ensures { IfSome result (λ l. piece_of line.now ≡ Some (record { at = l.at; bytes = l.bytes })) }
 {
     if line.len() == 67 {
@@ -100,7 +100,7 @@ fn full_in(line: &[u8]) -> Option<FullLine>
 
 /// The line, where it lies within this length.
 #[inline(always)]
-fn within(len: u64, line: SavedLine) -> Option<SavedLine>
+pub fn within(len: u64, line: SavedLine) -> Option<SavedLine>
     ensures { MatchOption result (len < line.at + line.count) (λ l. (l ≡ line) × (line.at + line.count ≤ len)) }
 {
     let count = line.count as u64;
@@ -188,7 +188,7 @@ fn longer<A: Allocator>(run: Piece<A>, more: &[u8]) -> Result<Piece<A>, NoMemory
     })
 }
 
-fn push<A: Allocator>(runs: &mut Vec<Piece<A>, A>, run: Piece<A>) -> Result<(), NoMemory>
+pub fn push<A: Allocator>(runs: &mut Vec<Piece<A>, A>, run: Piece<A>) -> Result<(), NoMemory>
     ensures { OnOk result (map run_of runs.new.items ≡ map run_of runs.old.items ++ run_of run ∷ []) }
 {
     if runs.push(run).is_err() {

@@ -1,11 +1,11 @@
 -- A line's digits and text, lane by lane.
-use Rattle.std.proofs.Common.{◌≡◌, ℕ, ◌+◌, ◌-◌, ◌/◌, ◌%◌, ◌^◌, ◌<◌, true, false, cond, leb, eqb, List, [], ◌∷◌, ◌++◌, map, length, get_or, replicate, bit_and, Fits, w8, refl, sym, ap, ◌∙◌, subst, arith}
+use Rattle.std.proofs.Common.{◌≡◌, ℕ, ◌+◌, ◌-◌, ◌*◌, ◌/◌, ◌%◌, ◌^◌, ◌<◌, true, false, cond, leb, eqb, List, [], ◌∷◌, ◌++◌, map, length, get_or, replicate, bit_and, Fits, w8, refl, sym, ap, ◌∙◌, subst, arith}
 use Rattle.std.specs.Fmt.{digit_glyph}
 use Rattle.std.specs.List.{flat_map}
 use Rattle.std.proofs.lemmas.Bool.{agree_below_at, eqb-true}
 use Rattle.std.proofs.lemmas.Nat.{and_mask}
-use Rattle.std.proofs.lemmas.List.{get_or-map}
-use Rattle.std.proofs.lemmas.Simd.{zip2_splat, Each1-get_or, Each1-from_get_or, pick_l_whole}
+use Rattle.std.proofs.lemmas.List.{length-map, get_or-map, ext_get_or}
+use Rattle.std.proofs.lemmas.Simd.{zip2_splat, Each1-get_or, Each1-from_get_or, SwzOk, SwzOk-from_below, swz_l, length-swz_l, get_or-swz_l_below, pick_l_whole}
 use lib.Lanes.{zip2, Each1, pick_l, sel_l, top}
 use Rattle.bx_text.specs.Dump.{pair_of, shown_byte, hex_columns}
 
@@ -19,22 +19,27 @@ abbrev under : ℕ → ℕ → ℕ
 under a b = cond (leb a b) 255 0
 
 -- what the operations on lanes make of n values
-abbrev glyph_lanes : List ℕ → ℕ → List ℕ
-glyph_lanes v n = sel_l (map (top 7) (zip2 under v (replicate n 9))) (zip2 plus v (replicate n 48)) (zip2 plus v (replicate n 87))
-
 abbrev pub shown_lanes : List ℕ → ℕ → List ℕ
 shown_lanes v n = sel_l (map (top 7) (zip2 under (zip2 less v (replicate n 32)) (replicate n 94))) v (replicate n 46)
 
-one_glyph : (x : ℕ) → x < 16 → get_or (glyph_lanes (x ∷ []) 1) 0 0 ≡ digit_glyph false x
-one_glyph x small = eqb-true _ _ (agree_below_at (λ y. eqb (get_or (glyph_lanes (y ∷ []) 1) 0 0) (digit_glyph false y)) (λ _. true) 16 x refl small)
+-- the digits, one for each value below 16
+abbrev pub digits_below : List ℕ
+digits_below = 48 ∷ 49 ∷ 50 ∷ 51 ∷ 52 ∷ 53 ∷ 54 ∷ 55 ∷ 56 ∷ 57 ∷ 97 ∷ 98 ∷ 99 ∷ 100 ∷ 101 ∷ 102 ∷ []
 
-all_glyphs : (v : List ℕ) → Each1 (λ x. x < 16) v → glyph_lanes v (length v) ≡ map (digit_glyph false) v
-all_glyphs [] small = refl
-all_glyphs (x ∷ v) small = λ i. one_glyph x small.0 i ∷ all_glyphs v small.1 i
+digit_at : (k : ℕ) → k < 16 → get_or digits_below k 0 ≡ digit_glyph false k
+digit_at k small = eqb-true _ _ (agree_below_at (λ j. eqb (get_or digits_below j 0) (digit_glyph false j)) (λ _. true) 16 k refl small)
 
-pub glyphs_are : (v : List ℕ) → length v ≡ 16 → ((k : ℕ) → k < 16 → get_or v k 0 < 16) → glyph_lanes v 16 ≡ map (digit_glyph false) v
+-- a look-up of each value
+pub looks_inside : (v : List ℕ) → length v ≡ 16 → ((k : ℕ) → k < 16 → get_or v k 0 < 16) → SwzOk w8 16 16 0 v
+looks_inside v long small = SwzOk-from_below w8 16 1 16 0 v refl (omega (arith, long)) (Each1-from_get_or (λ j. j < 16) v 0 (λ k inside. small k (omega (arith, inside, long))))
+
+pub glyphs_are : (v : List ℕ) → length v ≡ 16 → ((k : ℕ) → k < 16 → get_or v k 0 < 16) → swz_l w8 16 digits_below 0 v ≡ map (digit_glyph false) v
 glyphs_are v long small =
-    (λ i. glyph_lanes v (sym long i)) ∙ all_glyphs v (Each1-from_get_or (λ x. x < 16) v 0 (λ k inside. small k (omega (arith, inside, long))))
+    ext_get_or 0 (swz_l w8 16 digits_below 0 v) (map (digit_glyph false) v) (length-swz_l w8 16 digits_below 0 v ∙ sym (length-map v (digit_glyph false))) (λ k lt.
+    let inside : k < 16 = omega (arith, lt, length-swz_l w8 16 digits_below 0 v, long) in
+    let place : 16 * ((0 + k) / 16) + get_or v k 0 ≡ get_or v k 0 = omega (arith, inside) in
+    get_or-swz_l_below w8 16 digits_below 0 v k (omega (arith, inside, long)) (small k inside) ∙ ap (λ m. get_or digits_below m 0) place ∙ digit_at (get_or v k 0) (small k inside)
+    ∙ sym (get_or-map (digit_glyph false) v k 0 0 (omega (arith, inside, long))))
 
 one_shown : (x : ℕ) → x < 256 → get_or (shown_lanes (x ∷ []) 1) 0 0 ≡ shown_byte x
 one_shown x small = eqb-true _ _ (agree_below_at (λ y. eqb (get_or (shown_lanes (y ∷ []) 1) 0 0) (shown_byte y)) (λ _. true) 256 x refl small)

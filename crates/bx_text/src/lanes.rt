@@ -12,9 +12,7 @@ fn glyphs_of(values: u8x16) -> u8x16
     requires { (k : ℕ) → k < 16 → slice_index values k < 16 }
     ensures { result ≡ map (digit_glyph false) values }
 {
-    let digits = values + u8x16::splat(b'0');
-    let letters = values + u8x16::splat(b'a' - 10);
-    values.simd_le(u8x16::splat(9)).select(digits, letters)
+    u8x16::from_array(*b"0123456789abcdef").swizzle_dyn(values)
 }
 
 /// The two digits of each byte.

@@ -1,4 +1,4 @@
-use Rattle.std.proofs.Common.{◌≡◌, ℕ, suc, ◌+◌, List, length, take, drop, Some, refl, ap, sym, ◌∙◌, subst, arith, true, false}
+use Rattle.std.proofs.Common.{◌≡◌, ℕ, suc, ◌+◌, ◌*◌, List, length, take, drop, Some, refl, ap, sym, ◌∙◌, subst, arith, true, false}
 use Rattle.bx_journal.specs.Parsed.{entries_of, reading_of, told_by, Leads, KeepsMarks, IsReadTo}
 use Rattle.bx_journal.proofs.ReadLemmas.{length-entries_of}
 use Rattle.bx_journal.proofs.ReadLoop.{drop_twice, start_read, IsFound, read_on, read_stops, read_ends, rest_at_end, read_fails}
@@ -23,11 +23,14 @@ loop-i-preserved g c =
     let same : c.loop-i.at + (c.in-Some.i + 1) ≡ c.loop-i.at + c.in-Some.i + 1 = omega arith in
     let keeps : KeepsMarks c.args.text.now c.take_line.new.entries.items (c.loop-i.at + c.in-Some.i + 1) (Some c.in-Some-taken.next) =
     subst (KeepsMarks c.args.text.now c.take_line.new.entries.items (c.loop-i.at + c.in-Some.i + 1)) c.in-Some-taken.is (c.in-Ok.ensures.marked c.args.text.now read.marked read.mark (omega arith)) in
+    let new = c.take_line.new.entries.items in
+    let one = read_on c.args.text.now c.loop-i.rest.now c.loop-i.entries.items new c.loop-i.stage c.in-Some-taken.next c.loop-i.at c.loop-i.line c.in-Some.i read c.loop-i.invariant.left found
+    (subst (Leads (reading_of c.loop-i.entries.items c.loop-i.stage) (take c.in-Some.i c.loop-i.rest.now) (entries_of c.take_line.new.entries.items)) c.in-Some-taken.is c.in-Ok.ensures.leads) keeps in
+    let behind : c.split_at.result.1.now ≡ drop (c.loop-i.at + c.in-Some.i + 1) c.args.text.now =
+    c.split_at.ensures.back ∙ ap (drop (c.in-Some.i + 1)) c.loop-i.invariant.left ∙ drop_twice c.loop-i.at (c.in-Some.i + 1) c.args.text.now ∙ ap (λ n. drop n c.args.text.now) same in
     record {
-      read = read_on c.args.text.now c.loop-i.rest.now c.loop-i.entries.items c.take_line.new.entries.items c.loop-i.stage c.in-Some-taken.next c.loop-i.at c.loop-i.line c.in-Some.i read c.loop-i.invariant.left found
-          (subst (Leads (reading_of c.loop-i.entries.items c.loop-i.stage) (take c.in-Some.i c.loop-i.rest.now) (entries_of c.take_line.new.entries.items)) c.in-Some-taken.is c.in-Ok.ensures.leads)
-          keeps;
-      left = c.split_at.ensures.back ∙ ap (drop (c.in-Some.i + 1)) c.loop-i.invariant.left ∙ drop_twice c.loop-i.at (c.in-Some.i + 1) c.args.text.now ∙ ap (λ n. drop n c.args.text.now) same;
+      read = c.in-Ok-go_on.ensures.read c.args.text.now new (c.loop-i.at + c.in-Some.i + 1) (c.loop-i.line + 1) one behind;
+      left = c.split_at-in-Some.ensures.back ∙ ap (drop (68 * c.in-Ok-go_on.gone.count)) behind ∙ drop_twice (c.loop-i.at + c.in-Some.i + 1) (68 * c.in-Ok-go_on.gone.count) c.args.text.now;
       few = omega arith;
     }
 
