@@ -3,6 +3,8 @@ use Rattle.std.proofs.Common.{◌≡◌, ℕ, zero, suc, ◌+◌, ◌-◌, ◌*�
 use Rattle.std.specs.Prelude.{IfSome}
 use Rattle.std.specs.Option.{option_map}
 use Rattle.std.specs.Char.{digit_value}
+use Rattle.std.specs.Int.{w32, from_be_bytes}
+use Rattle.std.specs.Str.Parse.{digits_value, digits_value_after}
 use Rattle.std.specs.List.{range_with_len}
 use Rattle.std.proofs.lemmas.Bool.{agree_below_at, eqb-true, ltb-true, ltb-false, cases_lt}
 use Rattle.std.proofs.lemmas.List.{length-append, length-map, map-append, get_or-map, get_or_append_left, get_or-append-add, take_all}
@@ -194,3 +196,49 @@ module _ (hex : List ℕ) (spaces : (k : ℕ) → k < 7 → get_or hex (5 * k + 
 pub some_weaker : (o : Option (List ℕ)) (P Q : List ℕ → Type 0) → ((v : List ℕ) → P v → Q v) → IfSome o P → IfSome o Q
 some_weaker None P Q f h = h
 some_weaker (Some v) P Q f h = f v h
+
+-- the number that bytes give after a number
+abbrev bytes_after : ℕ → List ℕ → ℕ
+bytes_after a [] = a
+bytes_after a (b ∷ bs) = bytes_after (256 * a + b) bs
+
+pairs_number : (n : ℕ) (text : List ℕ) (a : ℕ) → length text ≡ 2 * n → ((k : ℕ) → k < length text → is_hex (get_or text k 0) ≡ true) → digits_value_after 16 a text ≡ bytes_after a (joined_all (map value text))
+pairs_number zero [] a long all = refl
+pairs_number zero (c ∷ text) a long all = absurd (omega (arith, long))
+pairs_number (suc n) [] a long all = absurd (omega (arith, long))
+pairs_number (suc n) (c ∷ []) a long all = absurd (omega (arith, long))
+pairs_number (suc n) (high ∷ low ∷ text) a long all =
+    let pair : joined (value high) (value low) ≡ pair_value high low = one_pair high low (all 0 (omega arith)) (all 1 (omega arith)) in
+    let sum : (a * 16 + digit_value high) * 16 + digit_value low ≡ 256 * a + joined (value high) (value low) = two a (digit_value high) (digit_value low) (joined (value high) (value low)) pair in
+    ap (λ k. digits_value_after 16 k text) sum
+    ∙ pairs_number n text (256 * a + joined (value high) (value low)) (omega (arith, long)) (λ k lt. all (suc (suc k)) (omega (arith, lt)))
+  where
+    two : (a h l b : ℕ) → b ≡ 16 * h + l → (a * 16 + h) * 16 + l ≡ 256 * a + b
+    two a h l b e = omega (arith, e)
+
+abbrev pub four_joined : List ℕ → List ℕ
+four_joined v = map (λ k. joined (get_or v (2 * k) 0) (get_or v (2 * k + 1) 0)) (range_with_len 0 4)
+
+four_join : (v : List ℕ) → length v ≡ 16 → four_joined (v ++ v) ≡ joined_all (take 8 v)
+four_join v long = subst (λ l. four_joined (l ++ l) ≡ joined_all (take 8 l)) (pick_l_whole 0 v 16 long) refl
+
+be_is : (f : ℕ → ℕ) → from_be_bytes w32 (map f (range_with_len 0 4)) ≡ bytes_after 0 (map f (range_with_len 0 4))
+be_is f = omega arith
+
+first_eight : (text : List ℕ) → length text ≡ 8 → take 8 (map value (text ++ text)) ≡ map value text
+first_eight text long = subst (λ l. take 8 (map value (l ++ l)) ≡ map value l) (pick_l_whole 0 text 8 long) refl
+
+-- eight digits, from their values twice over
+pub eight_are : (text values : List ℕ) → length text ≡ 8 → values ≡ map value (text ++ text) → ((k : ℕ) → k < 16 → get_or values k 0 ≤ 15) → (k : ℕ) → k < length text → is_hex (get_or text k 0) ≡ true
+eight_are text values long is small k inside =
+    let place : k < length (text ++ text) = omega (arith, inside, length-append text text) in
+    is_digit (get_or text k 0)
+    (subst (λ n. n ≤ 15) (ap (λ l. get_or l k 0) is ∙ get_or-map value (text ++ text) k 0 0 place ∙ ap value (get_or_append_left text text 0 k inside)) (small k (omega (arith, inside, long))))
+
+pub eight_is : (text values : List ℕ) (n : ℕ) → length text ≡ 8 → values ≡ map value (text ++ text) → ((k : ℕ) → k < 16 → get_or values k 0 ≤ 15) → n ≡ from_be_bytes w32 (four_joined (values ++ values)) → n ≡ digits_value 16 text
+eight_is text values n long is small sum =
+    let size : length values ≡ 16 = ap length is ∙ length-map (text ++ text) value ∙ omega (arith, long, length-append text text) in
+    sum ∙ be_is (λ k. joined (get_or (values ++ values) (2 * k) 0) (get_or (values ++ values) (2 * k + 1) 0))
+    ∙ ap (bytes_after 0) (four_join values size)
+    ∙ ap (λ l. bytes_after 0 (joined_all l)) (ap (take 8) is ∙ first_eight text long)
+    ∙ sym (pairs_number 4 text 0 long (eight_are text values long is small))

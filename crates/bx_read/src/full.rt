@@ -1,12 +1,9 @@
 //! Lines of xxd's default form that hold 16 bytes.
-ghost use Rattle.std.specs.Prelude.{◌≡◌, ◌^◌, ◌<◌, ◌≤◌, ◌≢◌, length, All, IsTrue, IsFalse, Some, IfSome};
-ghost use Rattle.std.specs.Str.Parse.{digits_value};
-ghost use Rattle.bx_read.specs.Digits.{is_hex};
+ghost use Rattle.std.specs.Prelude.{◌≡◌, ◌≤◌, ◌≢◌, length, All, IsFalse, Some, IfSome};
 ghost use Rattle.bx_read.specs.Full.{IsFull};
 ghost use Rattle.bx_read.specs.Line.{line_piece};
 
-use crate::digits::value_of;
-use crate::lanes::columns_of;
+use crate::lanes::{columns_of, eight_of};
 
 /// A line with its newline, by what it gives.
 #[derive(Clone, Copy)]
@@ -37,7 +34,7 @@ pub fn full_line(text: &[u8]) -> Option<FullLine>
     {
         return None;
     }
-    let at = address_of(address)?;
+    let at = eight_of(address)?;
     let bytes = columns_of(columns)?;
     if has_newline(shown) {
         return None;
@@ -58,26 +55,9 @@ pub fn full_text(line: &[u8]) -> Option<FullLine>
     if colon[0] != b':' || colon[1] != b' ' || gap[0] != b' ' || gap[1] != b' ' {
         return None;
     }
-    let at = address_of(address)?;
+    let at = eight_of(address)?;
     let bytes = columns_of(columns)?;
     Some(FullLine { at, bytes })
-}
-
-/// The number that 8 digits write.
-#[inline]
-fn address_of(digits: &[u8]) -> Option<u64>
-    requires { length digits.now ≡ 8 }
-    ensures { IfSome result (λ n. (n ≡ digits_value 16 digits.now) × (n < 2 ^ 32) × All (λ c. IsTrue (is_hex c)) digits.now) }
-{
-    let mut value = 0u64;
-    for digit in digits {
-        let more = value_of(*digit);
-        if more > 15 {
-            return None;
-        }
-        value = value * 16 + u64::from(more);
-    }
-    Some(value)
 }
 
 /// Whether a newline is among the bytes.

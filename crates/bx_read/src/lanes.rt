@@ -1,6 +1,7 @@
 //! The digits of a full line, 16 at once.
-ghost use Rattle.std.specs.Prelude.{◌≡◌, ◌+◌, ◌*◌, ◌<◌, ◌≤◌, ◌++◌, if◌then◌else◌, ℕ, map, length, slice_index, IsTrue, Some, IfSome};
+ghost use Rattle.std.specs.Prelude.{◌≡◌, ◌+◌, ◌*◌, ◌^◌, ◌<◌, ◌≤◌, ◌++◌, if◌then◌else◌, ℕ, map, length, slice_index, All, IsTrue, Some, IfSome};
 ghost use Rattle.std.specs.Char.{digit_value};
+ghost use Rattle.std.specs.Str.Parse.{digits_value};
 ghost use Rattle.bx_read.specs.Digits.{is_hex, pairs_of};
 ghost use Rattle.bx_read.specs.Plain.{hex_bytes};
 ghost use Rattle.bx_read.specs.Lanes.{group_places};
@@ -72,6 +73,32 @@ fn pairs_in(first: u8x16, second: u8x16) -> Option<[u8; 16]>
         [1, 3, 5, 7, 9, 11, 13, 15, 17, 19, 21, 23, 25, 27, 29, 31],
     );
     Some(((high << u8x16::splat(4)) + low).to_array())
+}
+
+/// The number that 8 digits write, or none where one of them isn't a digit.
+#[inline(always)]
+pub fn eight_of(digits: &[u8]) -> Option<u64>
+    requires { length digits.now ≡ 8 }
+    ensures { IfSome result (λ n. (n ≡ digits_value 16 digits.now) × (n < 2 ^ 32) × All (λ c. IsTrue (is_hex c)) digits.now) }
+{
+    let values = values_of(twice_of(digits));
+    if !are_digits(values) {
+        return None;
+    }
+    let high: u8x4 = values.shuffle(values, [0, 2, 4, 6]);
+    let low: u8x4 = values.shuffle(values, [1, 3, 5, 7]);
+    let bytes = (high << u8x4::splat(4)) + low;
+    Some(u64::from(u32::from_be_bytes(bytes.to_array())))
+}
+
+/// Eight bytes, and the same once more.
+#[inline(always)]
+fn twice_of(text: &[u8]) -> u8x16
+    requires { length text.now ≡ 8 }
+    ensures { result ≡ text.now ++ text.now }
+{
+    let once = u8x8::from_slice(text);
+    once.shuffle(once, [0, 1, 2, 3, 4, 5, 6, 7, 8, 9, 10, 11, 12, 13, 14, 15])
 }
 
 /// The value of each digit, and 255 for other bytes.
