@@ -2,12 +2,20 @@
 use Rattle.std.specs.Prelude.{◌≡◌, ℕ, ◌^◌, ◌≤◌, ◌⊎◌, false, List, length, Option}
 use Rattle.std.specs.Io.KnownBytes.{Consumes}
 use Rattle.bx_text.specs.declared.fault.IoFault.{IoFault}
-use Rattle.bx_text.specs.declared.fault.IoFault.TheVariants.{SkipPastEnd}
+use Rattle.bx_text.specs.declared.fault.IoFault.TheVariants.{NoMemory, ReadFailed, WriteFailed, InputTooLong, SkipPastEnd}
 use Rattle.bx_dump.specs.Pages.{WritesFrontOf, Skips, StopsAt}
 
 -- at least so many bytes were read
 abbrev pub Reaches : ℕ → Option (List ℕ) → Option (List ℕ) → Type 0
 Reaches count r0 r1 = (input : List ℕ) × Consumes r0 r1 input × (count ≤ length input)
+
+-- a write fails only where so many bytes were read
+abbrev pub FailsBehind : ℕ → Option (List ℕ) → Option (List ℕ) → IoFault → Type 0
+FailsBehind count r0 r1 (WriteFailed written) = Reaches count r0 r1
+FailsBehind count r0 r1 NoMemory = Unit {0}
+FailsBehind count r0 r1 ReadFailed = Unit {0}
+FailsBehind count r0 r1 InputTooLong = Unit {0}
+FailsBehind count r0 r1 SkipPastEnd = Unit {0}
 
 -- the input ended among the bytes to skip, or a read stopped
 abbrev pub StopsShort : ℕ → Option (List ℕ) → Option (List ℕ) → IoFault → Type 0

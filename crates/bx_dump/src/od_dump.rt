@@ -2,7 +2,7 @@
 ghost use Rattle.std.specs.Prelude.{◌≡◌, ℕ, ◌+◌, ◌^◌, ◌<◌, ◌≤◌, true, length, IfOk, IfErr, OnOk};
 ghost use Rattle.bx_text.specs.Fold.{folded};
 ghost use Rattle.bx_dump.specs.Od.{od_line, od_text};
-ghost use Rattle.bx_dump.specs.OdDump.{Reaches, StopsShort, StopsOd};
+ghost use Rattle.bx_dump.specs.OdDump.{FailsBehind, Reaches, StopsShort, StopsOd};
 ghost use Rattle.bx_dump.specs.Pages.{WritesPart, WritesRest, WritesFrontOf, Skips, capped, part_of};
 
 use crate::folded::FoldedPages;
@@ -22,6 +22,7 @@ fn reach<R: Read>(meter: &mut Meter, r: &mut R, count: u64, block: &mut [u8]) ->
     ensures ok { OnOk result (Skips true count (R.remaining r.old) (R.remaining r.new)) }
     ensures open { OnOk result ((meter.new.state ≡ State.Open) × (meter.new.taken ≡ count)) }
     ensures err { IfErr result (StopsShort count (R.remaining r.old) (R.remaining r.new)) }
+    ensures behind { IfErr result (FailsBehind count (R.remaining r.old) (R.remaining r.new)) }
 {
     match skip(meter, r, count, block) {
         Ok(true) => Ok(()),
@@ -60,11 +61,13 @@ fn dump_lines<R: Read, W: Write>(
 /// Addresses count from the input's start, and the last line is the address behind the last byte, also where no byte is
 /// dumped. An input that ends before `skip` bytes is `SkipPastEnd`, and then nothing is written. The input may have 2^40
 /// bytes, those included that are skipped, and no more of it is read than is needed. Nothing is flushed. After another fault
-/// a front of the text of the bytes that were read was written; `WriteFailed` counts it.
+/// a front of the text of the bytes that were read was written; `WriteFailed` counts it, and comes only behind the bytes
+/// that are skipped.
 pub fn od<R: Read, W: Write>(r: &mut R, w: &mut W, o: &OdOptions) -> Result<u64, IoFault>
     requires skip { o.now.skip ≤ 2 ^ 62 }
     ensures ok { IfOk result (λ n. (written : ℕ) × WritesPart (λ input. od_text o.now.address o.now.kind o.now.all o.now.skip (part_of o.now.skip o.now.limit input)) o.now.skip o.now.limit (R.remaining r.old) (R.remaining r.new) (W.contents w.old) (W.contents w.new) n written) }
     ensures reached { OnOk result (Reaches o.now.skip (R.remaining r.old) (R.remaining r.new)) }
+    ensures behind { IfErr result (FailsBehind o.now.skip (R.remaining r.old) (R.remaining r.new)) }
     ensures err { IfErr result (StopsOd (λ input. od_text o.now.address o.now.kind o.now.all o.now.skip (part_of o.now.skip o.now.limit input)) o.now.skip (R.remaining r.old) (R.remaining r.new) (W.contents w.old) (W.contents w.new)) }
 {
     let mut meter = Meter::new(LIMIT);

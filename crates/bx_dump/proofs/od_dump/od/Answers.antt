@@ -1,11 +1,31 @@
-use Rattle.std.proofs.Common.{◌≡◌, ℕ, ◌+◌, List, ◌++◌, length, arith, refl, ap, inr}
+use Rattle.std.proofs.Common.{◌≡◌, ℕ, ◌+◌, true, Option, List, ◌++◌, length, arith, refl, ap, inr}
 use Rattle.std.proofs.lemmas.List.{length-append}
 use Rattle.bx_text.proofs.KnownLemmas.{Consumes-trans}
 use Rattle.bx_text.specs.Fold.{folded}
 use Rattle.bx_dump.specs.Od.{od_line, od_end, od_text}
-use Rattle.bx_dump.specs.Pages.{part_of}
+use Rattle.std.specs.Io.KnownBytes.{Consumes}
+use Rattle.bx_text.specs.declared.fault.IoFault.{IoFault}
+use Rattle.bx_text.specs.declared.fault.IoFault.TheVariants.{NoMemory, ReadFailed, WriteFailed, InputTooLong, SkipPastEnd}
+use Rattle.bx_dump.specs.OdDump.{FailsBehind, Reaches}
+use Rattle.bx_dump.specs.Pages.{Skips, part_of}
 use Rattle.bx_dump.proofs.PagesLemmas.{part_whole, part_then, stop_then, front_then, front_behind}
 use Rattle.bx_dump.proofs.od_dump.od.Goals as goal
+
+-- whatever fails behind so many bytes
+behind : (count : ℕ) (r0 r1 : Option (List ℕ)) (fault : IoFault) → Reaches count r0 r1 → FailsBehind count r0 r1 fault
+behind count r0 r1 (WriteFailed written) reaches = reaches
+behind count r0 r1 NoMemory reaches = tt
+behind count r0 r1 ReadFailed reaches = tt
+behind count r0 r1 InputTooLong reaches = tt
+behind count r0 r1 SkipPastEnd reaches = tt
+
+-- the bytes to skip, and then more
+reaches_behind : (count : ℕ) (r0 r1 r2 : Option (List ℕ)) (input : List ℕ) → Skips true count r0 r1 → Consumes r1 r2 input → Reaches count r0 r2
+reaches_behind count r0 r1 r2 input front rest = (
+  front.input ++ input,
+  Consumes-trans r0 r1 r2 front.input input front.consumed rest,
+  omega (arith, length-append front.input input, front.whole refl),
+)
 
 pub returns-in-Err-dump_lines-clause-err : goal.returns-in-Err-dump_lines-clause-err
 returns-in-Err-dump_lines-clause-err g c =
@@ -46,9 +66,15 @@ returns-clause-ok g c =
 
 pub returns-clause-reached : goal.returns-clause-reached
 returns-clause-reached g c =
-    let front = c.in_default.ensures.ok in
-    let rest = c.in-Ok.ensures.ok in (
-      front.input ++ rest.input,
-      Consumes-trans _ _ _ front.input rest.input front.consumed rest.consumed,
-      omega (arith, length-append front.input rest.input, front.whole refl),
-    )
+    let rest = c.in-Ok.ensures.ok in
+    reaches_behind _ _ _ _ rest.input c.in_default.ensures.ok rest.consumed
+
+pub returns-in-Err-dump_lines-clause-behind : goal.returns-in-Err-dump_lines-clause-behind
+returns-in-Err-dump_lines-clause-behind g c =
+    let rest = c.in-Err-dump_lines.ensures.err in
+    behind _ _ _ c.in-Err-dump_lines.fault (reaches_behind _ _ _ _ rest.input c.in_default.ensures.ok rest.consumed)
+
+pub returns-in-Err-emit_after-clause-behind : goal.returns-in-Err-emit_after-clause-behind
+returns-in-Err-emit_after-clause-behind g c =
+    let rest = c.in-Ok.ensures.ok in
+    behind _ _ _ c.in-Err-emit_after.fault (reaches_behind _ _ _ _ rest.input c.in_default.ensures.ok rest.consumed)
