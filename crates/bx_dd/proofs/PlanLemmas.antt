@@ -179,6 +179,13 @@ cbs_test true true is e = refl
 cbs_test true false is e = absurd (let wrong : true ≡ false = e in cc)
 cbs_test false b is e = absurd (let wrong : false ≡ true = is in cc)
 
+-- a number that is given, or else 0
+number_or_few : (name : List ℕ) (words : List (List ℕ)) → number_or 0 name words ≤ 1099511627775
+number_or_few name words = few_of (number_given name words) (number_few name words) where
+  few_of : (o : Option ℕ) → ((n : ℕ) → o ≡ Some n → n ≤ 1099511627775) → unwrap_or o 0 ≤ 1099511627775
+  few_of None few = omega arith
+  few_of (Some n) few = few n refl
+
 -- the bounds of a plan
 pub record KeepsBounds (words : List (List ℕ)) : Type 0 where
   pub some_ibs : 0 < ibs_of words
@@ -187,6 +194,8 @@ pub record KeepsBounds (words : List (List ℕ)) : Type 0 where
   pub few_obs : obs_of words ≤ 1099511627775
   pub some_cbs : shape_of words ≢ Flat → 0 < number_or 0 (codes "cbs") words
   pub few_cbs : number_or 0 (codes "cbs") words ≤ 16777216
+  pub few_skip : number_or 0 (codes "skip") words ≤ 1099511627775
+  pub few_seek : number_or 0 (codes "seek") words ≤ 1099511627775
   pub few_count : (n : ℕ) → number_given (codes "count") words ≡ Some n → n ≤ 1099511627775
   pub skip_fits : number_or 0 (codes "skip") words * ibs_of words ≤ 2 ^ 48
   pub seek_fits : number_or 0 (codes "seek") words * obs_of words ≤ 2 ^ 48
@@ -206,6 +215,8 @@ bounds words accepted =
       few_obs = size_or_few (codes "bs") 16777216 words none refl _ _ (size_or_few (codes "obs") 1099511627775 words none refl 512 _ (omega arith) (omega arith)) (omega arith);
       some_cbs = λ other. size_some (codes "cbs") 16777216 words none refl (cbs_test _ (is_given (codes "cbs") words) (shape_test (converts (codes "block") words) (converts (codes "unblock") words) other) missing.0);
       few_cbs = size_or_few (codes "cbs") 16777216 words none refl 0 _ (omega arith) (omega arith);
+      few_skip = number_or_few (codes "skip") words;
+      few_seek = number_or_few (codes "seek") words;
       few_count = λ n is. number_few (codes "count") words n is;
       skip_fits = ltb-false (2 ^ 48) _ skip.0;
       seek_fits = ltb-false (2 ^ 48) _ seek.0;

@@ -34,6 +34,8 @@ pub struct Plan<A: Allocator = Global> {
     ghost few_obs: { obs ≤ 1099511627775 },
     ghost some_cbs: { shape ≢ Flat → 0 < cbs },
     ghost few_cbs: { cbs ≤ 16777216 },
+    ghost few_skip: { skip ≤ 1099511627775 },
+    ghost few_seek: { seek ≤ 1099511627775 },
     ghost few_count: { ForSome count (λ n. n ≤ 1099511627775) },
     ghost skip_fits: { skip * ibs ≤ 2 ^ 48 },
     ghost seek_fits: { seek * obs ≤ 2 ^ 48 },
