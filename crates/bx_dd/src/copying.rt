@@ -36,7 +36,9 @@ pub fn transfer<R: Read, A: Allocator + Clone, P: Allocator>(
 
 /// The fault of reading, as dd's.
 fn fault(error: IoFault) -> DdFault
-    ensures { (room n : ℕ) → IsReadCause error room n → IsStopCause result room n }
+    ensures cause { (room n : ℕ) → IsReadCause error room n → IsStopCause result room n }
+    ensures long { error ≡ IoFault.InputTooLong → result ≡ DdFault.InputTooLong }
+    ensures memory { error ≡ IoFault.NoMemory → result ≡ DdFault.NoMemory }
 {
     match error {
         IoFault::InputTooLong => DdFault::InputTooLong,
