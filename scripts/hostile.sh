@@ -116,18 +116,20 @@ bad_journals() {
     [ "$(cat img)" = xyz ] && say 1 "the image under a full journal stays" || say 0 "the image under a full journal stays"
 }
 
-# Each front of a patch's journal over the image before, in the middle of and behind it: the image comes back.
+# Each front of a patch's journal over the image before, in the middle of and behind it: the image comes back, and what was
+# recovered is told.
 fronts() {
-    local n image want well=1 shown
+    local n image want told well=1 shown
     patched > whole
     for image in ABCDEFGH ABxDEFGH ABxyEFGH; do
         for n in $(seq 0 133); do
             head -c "$n" whole > text
             fresh "$image" text
             shown=$("$bx" undo -k 0 img 2> err) || well=0
-            want=$image
-            [ "$n" -ge 102 ] && want=ABCDEFGH
-            [ "$shown" = 0 ] && [ "$(cat img)" = "$want" ] && [ ! -s img.bxj ] || well=0
+            want=$image told='bx: recovered: an unfinished entry was dropped'
+            [ "$n" = 0 ] && told=
+            [ "$n" -ge 102 ] && want=ABCDEFGH told='bx: recovered: change 1 was taken back'
+            [ "$shown" = 0 ] && [ "$(cat img)" = "$want" ] && [ ! -s img.bxj ] && [ "$(cat err)" = "$told" ] || well=0
         done
     done
     say "$well" "each front of a journal over three images" "402 runs"
