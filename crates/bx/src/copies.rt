@@ -28,7 +28,7 @@ where
 }
 
 fn same_words(alloc: Global, words: &Words) -> Result<Words, Fault> {
-    let mut same = Words::new(alloc)?;
+    let mut same = Words::new(alloc);
     for i in 0..words.len() {
         if let Some(word) = words.get(i) {
             same.push(word)?;

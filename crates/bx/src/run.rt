@@ -38,7 +38,7 @@ fn unread(error: io::Error) -> Fault {
 /// The words behind the program's name.
 fn words<R: Env + AllocGlobal>(rt: &R) -> Result<Words, Fault> {
     let args = env::args(rt).map_err(unread)?;
-    let mut words = Words::new(rt.alloc())?;
+    let mut words = Words::new(rt.alloc());
     for arg in args.skip(1) {
         words.push(arg.as_str())?;
     }

@@ -5,7 +5,7 @@ use std::fs;
 use std::test::Fail;
 
 fn outcome(rt: &HostRuntime, line: &str) -> Result<(), Fault> {
-    let mut words = Words::new(rt.alloc())?;
+    let mut words = Words::new(rt.alloc());
     for word in line.split(' ') {
         words.push(word)?;
     }

@@ -260,7 +260,7 @@ fn strings(alloc: Global, m: &ArgMatches<'_>) -> Result<Job, Fault> {
 
 // The operands' faults come before that of the journal's name.
 fn dd(alloc: Global, m: &ArgMatches<'_>) -> Result<Job, Fault> {
-    let mut operands = Words::new(alloc)?;
+    let mut operands = Words::new(alloc);
     if let Some(words) = m.get_strs("operand") {
         for word in words {
             operands.push(word)?;

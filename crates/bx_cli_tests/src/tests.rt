@@ -14,7 +14,7 @@ fn add(words: &mut Words, word: &str) -> Result<(), NoMemory> {
 }
 
 fn words_of(alloc: Global, line: &str) -> Result<Words, NoMemory> {
-    let mut words = Words::new(alloc)?;
+    let mut words = Words::new(alloc);
     for word in line.split(' ') {
         add(&mut words, word)?;
     }

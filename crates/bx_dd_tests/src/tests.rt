@@ -13,7 +13,7 @@ use std::process::Abort;
 use std::test::Fail;
 
 pub fn words(alloc: Global, operands: &[&str]) -> Result<Words, NoMemory> {
-    let mut words = Words::new(alloc)?;
+    let mut words = Words::new(alloc);
     for operand in operands {
         words.push(operand)?;
     }

@@ -30,7 +30,7 @@ enum Call {
 const DUMP: &[u8] = b"0: 4142\n5: 43 44\n*\n\n9: 45\n";
 
 fn push_words(bump: &Bump) -> Result<bool, Fault> {
-    let mut words = Words::new(bump)?;
+    let mut words = Words::new(bump);
     for word in ["ibs=3", "conv=block,ucase", "cbs=4"] {
         words.push(word)?;
     }

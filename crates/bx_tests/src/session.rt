@@ -33,7 +33,7 @@ pub enum Ask<'a> {
 
 /// The words of a line, with a space between two of them.
 pub fn words<A: Allocator + Clone>(alloc: A, line: &str) -> Result<Words<A>, Fault> {
-    let mut words = Words::new(alloc)?;
+    let mut words = Words::new(alloc);
     for word in line.split(' ') {
         words.push(word)?;
     }

@@ -139,7 +139,7 @@ impl Write for Output {
 
 /// The job of a line of words.
 fn job(alloc: Global, line: &str) -> Result<Job, Fault> {
-    let mut words = Words::new(alloc)?;
+    let mut words = Words::new(alloc);
     for word in line.split(' ') {
         words.push(word)?;
     }

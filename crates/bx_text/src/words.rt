@@ -1,5 +1,5 @@
 //! Texts that are owned.
-ghost use Rattle.std.specs.Prelude.{◌≡◌, ◌∷◌, ◌++◌, [], List, ℕ, length, IfOk, OnOk, OnErr, slice_get, string_bytes};
+ghost use Rattle.std.specs.Prelude.{◌≡◌, ◌∷◌, ◌++◌, [], List, ℕ, length, OnOk, OnErr, slice_get, string_bytes};
 ghost use Rattle.std.specs.Option.{option_copied};
 
 use crate::NoMemory;
@@ -37,7 +37,6 @@ impl<A: Allocator> Name<A> {
 /// A list of texts.
 #[derive(Drop)]
 pub struct Words<A: Allocator = Global> {
-    alloc: A,
     items: Vec<Name<A>, A>,
 }
 
@@ -50,12 +49,13 @@ impl<A: Allocator> Model for Words<A> {
 }
 
 impl<A: Allocator + Clone> Words<A> {
-    /// No words yet.
-    pub fn new(alloc: A) -> Result<Self, NoMemory>
-        ensures { IfOk result (λ w. w ≡ []) }
+    /// No words yet. It takes no memory.
+    pub fn new(alloc: A) -> Self
+        ensures { result ≡ [] }
     {
-        let items = Vec::new(alloc.clone().map_err(|_| NoMemory)?);
-        Ok(Words { alloc, items })
+        Words {
+            items: Vec::new(alloc),
+        }
     }
 
     /// Puts a word last.
@@ -63,7 +63,7 @@ impl<A: Allocator + Clone> Words<A> {
         ensures ok { OnOk result (self.new ≡ self.old ++ word.now ∷ []) }
         ensures err { OnErr result (self.new ≡ self.old) }
     {
-        let alloc = self.alloc.clone().map_err(|_| NoMemory)?;
+        let alloc = self.items.allocator().clone().map_err(|_| NoMemory)?;
         let text = String::from_str(alloc, word).map_err(|_| NoMemory)?;
         self.items.push(Name { text }).map_err(|_| NoMemory)?;
         Ok(())

@@ -231,7 +231,7 @@ fn assert_len<A: Allocator>(rt: &impl Abort, words: &Words<A>, len: usize) {
 }
 
 fn assert_words<A: Allocator + Clone>(rt: &impl Abort, alloc: A) -> Result<(), Fail> {
-    let mut words = Words::new(alloc)?;
+    let mut words = Words::new(alloc);
     assert_push(rt, &mut words, "one", Ok(()));
     let long =
         "a word that is longer than all of the room that the heap has, with those that stand in it before, and so is refused";
@@ -382,7 +382,7 @@ fn push_texts<A: Allocator + Clone>(
     mut ballast: Option<Vec<u8, A>>,
     refused: &mut [u32; 5],
 ) -> Result<(), Fail> {
-    let mut words = Words::new(alloc)?;
+    let mut words = Words::new(alloc);
     for (count, text) in TEXTS.iter().enumerate() {
         if is_refused(rt, &mut words, &mut ballast, count, text) {
             refused[count] = refused[count].saturating_add(1);
