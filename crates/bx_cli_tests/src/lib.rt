@@ -2,4 +2,12 @@
 #![tactic(auto)]
 
 #[cfg(test)]
+mod fault_tests;
+#[cfg(test)]
+mod jobs;
+#[cfg(test)]
 mod tests;
+#[cfg(test)]
+mod values_tests;
+#[cfg(test)]
+mod words_tests;

@@ -1,37 +1,12 @@
-use bx_cli::{Done, Fault, Job, XxdLook, plan_words, run_dump};
+use crate::jobs::{is_named, plan, run_on};
+use bx_cli::{Done, Fault, Job, XxdLook};
 use bx_dd::Counts;
 use bx_dump::Kind;
-use bx_text::{Name, NoMemory, Words};
 use std::alloc::Global;
-use std::io::{Read, Write};
 use std::process::Abort;
 use std::test::Fail;
 
 const HELP: u8 = 255;
-
-fn add(words: &mut Words, word: &str) -> Result<(), NoMemory> {
-    words.push(word)
-}
-
-fn words_of(alloc: Global, line: &str) -> Result<Words, NoMemory> {
-    let mut words = Words::new(alloc);
-    for word in line.split(' ') {
-        add(&mut words, word)?;
-    }
-    Ok(words)
-}
-
-fn plan(alloc: Global, line: &str) -> Result<Job, Fault> {
-    let words = words_of(alloc, line)?;
-    plan_words(alloc, &words)
-}
-
-fn is_named(name: &Option<Name>, text: &str) -> bool {
-    match name {
-        Some(found) => found.as_str() == text,
-        None => false,
-    }
-}
 
 fn is_bits(job: &Job) -> bool {
     match job {
@@ -140,6 +115,10 @@ fn usage_faults(rt: HostRuntime) {
         "xxd -c 4 -c 4",
         "xxd a b",
         "xxd -z",
+        "xxd -g 1k",
+        "xxd -l 1k",
+        "xxd -o 1k",
+        "xxd -s 1k",
         "xxd -s -5",
         "xxd -s 4611686018427387905",
         "hexdump",
@@ -235,41 +214,6 @@ fn planned_values(rt: HostRuntime) {
     assert_planned(&rt, alloc, "undo i", Wanted::Undo);
 }
 
-fn shows(alloc: Global, fault: Fault, text: &str) -> bool {
-    match format!(in alloc; "{fault}") {
-        Ok(shown) => shown.as_str() == text,
-        Err(_) => false,
-    }
-}
-
-fn assert_shown(rt: &impl Abort, alloc: Global, fault: Fault, text: &str) {
-    assert!(rt; shows(alloc, fault, text), "no {text}");
-}
-
-#[test]
-fn fault_texts(rt: HostRuntime) {
-    for (fault, text) in [
-        (
-            Fault::WriteFailed { written: 20 },
-            "write failed after 20 bytes",
-        ),
-        (Fault::BadPair { line: 2 }, "line 2: bad pair"),
-        (
-            Fault::NumberTooLarge { place: 1 },
-            "operand 1: number too large",
-        ),
-        (Fault::TooFew { have: 3 }, "only 3 changes to undo"),
-        (
-            Fault::LengthDiffers { expected: 8 },
-            "image should have 8 bytes",
-        ),
-        (Fault::Usage, "bad arguments"),
-        (Fault::OpenFailed, "cannot open file"),
-    ] {
-        assert_shown(&rt, rt.alloc(), fault, text);
-    }
-}
-
 fn assert_fault(rt: &impl Abort, alloc: Global, line: &str, fault: Fault) {
     assert!(rt; gives(alloc, line, Wanted::Help) == Err(fault), "at {line}");
 }
@@ -299,15 +243,6 @@ fn dd_jobs(rt: HostRuntime) {
     let line = "dd -J j ibs=2x3k conv=ucase if=a";
     assert_planned(&rt, rt.alloc(), line, Wanted::Stream);
     assert_planned(&rt, rt.alloc(), "dd of=b", Wanted::Onto);
-}
-
-fn run_on<R: Read, W: Write>(
-    alloc: Global,
-    job: &Job,
-    input: &mut R,
-    out: &mut W,
-) -> Result<Done, Fault> {
-    run_dump(alloc, job, input, out)
 }
 
 // The job over three bytes answers this and writes these bytes.
@@ -346,4 +281,10 @@ fn copies_nothing_out(rt: HostRuntime) -> Result<(), Fail> {
     assert_copy(&rt, alloc, "dd of=b", Err(Fault::Usage), b"")?;
     let unsought = Err(Fault::SeekWithoutOutput);
     assert_copy(&rt, alloc, "dd seek=1", unsought, b"")
+}
+
+#[test]
+fn skip_past_the_end(rt: HostRuntime) -> Result<(), Fail> {
+    let outcome = Err(Fault::SkipPastEnd);
+    assert_copy(&rt, rt.alloc(), "od -j 4", outcome, b"")
 }
