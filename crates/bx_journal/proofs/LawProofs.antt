@@ -13,6 +13,7 @@ use Rattle.bx_journal.proofs.Runs.{SafeRun, GoesAllBy, safe_all, after_lines-app
 use Rattle.bx_journal.proofs.Gathered.{as_read_byte}
 use Rattle.bx_journal.proofs.RowLemmas.{all_rows_are}
 use Rattle.bx_journal.proofs.EntryRun.{head_run, end_run, between}
+use Rattle.bx_journal.proofs.Judged.{undamaged}
 
 joined-append : (a b : List (List ℕ)) → joined (a ++ b) ≡ joined a ++ joined b
 joined-append [] b = refl
@@ -44,11 +45,13 @@ stands_for_one text x s t a b =
     a.stack_is ∙ ap (λ (r : Reading). stack_of r.entries x) same ∙ sym b.stack_is
 
 pub damaged_at_one : DamagedAtOne
-damaged_at_one text m n a b =
-    elim (cases_lt m n) [
-      | inl less ↦ absurd (a.damaged (b.least m less))
-      | inr most ↦ elim (cases_lt n m) [ inl less ↦ absurd (b.damaged (a.least n less)) | inr least ↦ omega arith ]
-    ]
+damaged_at_one text m a = (
+  (λ read. undamaged text m read a),
+  λ n b. elim (cases_lt m n) [
+    | inl less ↦ absurd (a.damaged (b.least m less))
+    | inr most ↦ elim (cases_lt n m) [ inl less ↦ absurd (b.damaged (a.least n less)) | inr least ↦ omega arith ]
+  ],
+)
 
 pub empty_is_sound : EmptyIsSound
 unfolding split after_lines stack_of

@@ -4,7 +4,7 @@ use Rattle.bx_image.specs.declared.change.TheConstants.{MAX_LEN}
 use Rattle.bx_journal.specs.Kept.{Kept}
 use Rattle.bx_image.specs.Change.{byte_in, AllWithin, HaveBytes}
 use Rattle.bx_journal.specs.Entry.{entry_text}
-use Rattle.bx_journal.specs.Text.{Entry, Between, Reads, split, may_begin, IsDamagedAt}
+use Rattle.bx_journal.specs.Text.{Entry, Between, Reads, split, may_begin, IsAccepted, IsDamagedAt}
 use Rattle.bx_journal.specs.Stack.{StandsFor}
 use Rattle.bx_journal.specs.Phase.{IsAtRest}
 
@@ -28,7 +28,7 @@ StandsForOne = (text x : List ℕ) (s t : List (List ℕ)) → StandsFor text x 
 
 -- no text is damaged at two lines, and none is accepted and damaged
 abbrev pub DamagedAtOne : Type 0
-DamagedAtOne = (text : List ℕ) (m n : ℕ) → IsDamagedAt text m → IsDamagedAt text n → m ≡ n
+DamagedAtOne = (text : List ℕ) (m : ℕ) → IsDamagedAt text m → (IsAccepted text → ⊥) × ((n : ℕ) → IsDamagedAt text n → m ≡ n)
 
 -- an empty text and an image stand for the image alone, and are sound
 abbrev pub EmptyIsSound : Type 0

@@ -4,9 +4,10 @@ ghost use Rattle.bx_journal.specs.Journal.{HasRead};
 ghost use Rattle.bx_journal.specs.Opening.{FaultCounts};
 ghost use Rattle.bx_journal.specs.Undoing.{AgainFault, HasCount, IsReadAgain};
 
+use crate::fault::of_text;
 use crate::journal::{JournalRead, read_journal};
 use crate::{EntryRead, SessionFault, StageRead};
-use bx_store::{TextFault, TextStore};
+use bx_store::TextStore;
 use std::alloc::{Allocator, Global};
 
 /// A text of finished entries alone, and those entries.
@@ -64,8 +65,7 @@ pub fn read_again<T: TextStore, A: Allocator + Clone>(
 {
     let bytes = match store.read_all(alloc.clone()?) {
         Ok(bytes) => bytes,
-        Err(TextFault::NoMemory) => return Err(SessionFault::NoMemory),
-        Err(TextFault::DeviceFailed) => return Err(SessionFault::DeviceFailed),
+        Err(fault) => return Err(of_text(fault)),
     };
     let journal = match read_journal(alloc, &bytes) {
         Ok(journal) => journal,

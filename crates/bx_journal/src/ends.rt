@@ -22,7 +22,8 @@ fn has_newline(bytes: &[u8]) -> bool
 /// The place, where the first newline is at it. A place that is known takes no loop.
 #[inline(always)]
 pub fn end_at(place: usize, text: &[u8]) -> Option<usize>
-    ensures { IfSome result (λ i. (i < length text.now) × HasNoNewline (take i text.now) × (text.now ≡ take i text.now ++ 10 ∷ drop (i + 1) text.now)) }
+    ensures place { IfSome result (λ i. i ≡ place) }
+    ensures found { IfSome result (λ i. (i < length text.now) × HasNoNewline (take i text.now) × (text.now ≡ take i text.now ++ 10 ∷ drop (i + 1) text.now)) }
 {
     if text.len() <= place {
         return None;

@@ -84,7 +84,8 @@ where
     }
 }
 
-fn of_text(fault: TextFault) -> SessionFault
+/// What a fault of reading the text is in a session.
+pub fn of_text(fault: TextFault) -> SessionFault
 where
     ensures { result ≡ reading_fault fault }
 {
@@ -99,13 +100,5 @@ impl From<ImageFault> for SessionFault {
 
     fn from(fault: ImageFault) -> Self {
         of_image(fault)
-    }
-}
-
-impl From<TextFault> for SessionFault {
-    ghost from_gives = { λ f e. e ≡ reading_fault f };
-
-    fn from(fault: TextFault) -> Self {
-        of_text(fault)
     }
 }

@@ -26,9 +26,7 @@ pub struct GoneOn<A: Allocator = Global> {
 fn next_full(len: u64, at: u64, size: usize, text: &[u8]) -> Option<[u8; 16]>
     ensures { IfSome result (λ bytes. IsFullSaved len (at + size) text.now bytes) }
 {
-    if end_at(FULL, text)? != FULL {
-        return None;
-    }
+    let _ = end_at(FULL, text)?;
     let full = full_in(&text[..FULL])?;
     if full.at < at {
         return None;

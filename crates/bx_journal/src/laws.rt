@@ -11,7 +11,7 @@ pub fn one_stack()
     ensures { StandsForOne }
 {}
 
-/// A text is damaged at one line.
+/// A text is damaged at one line, and only where it is not accepted.
 pub fn one_damaged_line()
     ensures { DamagedAtOne }
 {}

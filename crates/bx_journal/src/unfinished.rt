@@ -9,13 +9,14 @@ ghost use Rattle.bx_journal.specs.Stack.{HaveLengths, Recovers, image_at};
 ghost use Rattle.bx_journal.specs.Tally.{IsCounted};
 ghost use Rattle.bx_journal.specs.Text.{IsAccepted, IsDamagedAt, Reading, Reads};
 
+use crate::fault::of_text;
 use crate::journal::{JournalRead, read_journal};
 use crate::recovery::{drop_tail, take_back};
 use crate::step::told_length;
 use crate::tally::{Counted, count_entries};
 use crate::{How, Recovered, SessionFault, StageRead};
 use bx_image::{Device, DeviceFailed};
-use bx_store::{TextFault, TextStore};
+use bx_store::TextStore;
 use std::alloc::Allocator;
 
 /// Whether the image has the length that the last entry tells, if it tells one.
@@ -229,8 +230,7 @@ pub fn recover<D: Device, T: TextStore, A: Allocator + Clone>(
 {
     let bytes = match store.read_all(alloc.clone()?) {
         Ok(bytes) => bytes,
-        Err(TextFault::NoMemory) => return Err(SessionFault::NoMemory),
-        Err(TextFault::DeviceFailed) => return Err(SessionFault::DeviceFailed),
+        Err(fault) => return Err(of_text(fault)),
     };
     if let Some(found) = count_entries(&bytes) {
         return open_counted(device, found);

@@ -7,8 +7,8 @@ pub returns : goal.returns
 returns c =
     let text = c.args.text.now in
     let full = c.in_ok-full.full in
-    let found = c.in_ok-end_at.ensures in
-    let is : c.in_ok-end_at.field-0 ≡ 67 = omega arith in
+    let found = c.in_ok-end_at.ensures.found in
+    let is : c.in_ok-end_at.field-0 ≡ 67 = c.in_ok-end_at.ensures.place in
     let f = subst (λ i. (i < length text) × HasNoNewline (take i text) × (text ≡ take i text ++ 10 ∷ drop (i + 1) text)) is found in
     let long : length full.bytes ≡ 16 = omega arith in
     let place : full.at ≡ c.args.at + c.args.size = omega arith in

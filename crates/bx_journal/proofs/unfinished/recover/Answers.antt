@@ -1,21 +1,46 @@
 use Rattle.std.proofs.Common.{◌≡◌, ℕ, List, Option, sym, ◌∙◌, subst}
 use Rattle.std.specs.Prelude.{IfOk}
-use Rattle.bx_journal.specs.Opening.{IsOpened}
+use Rattle.bx_store.specs.declared.fault.TextFault.{TextFault}
+use Rattle.bx_store.specs.declared.fault.TextFault.TheVariants.{NoMemory as TextMemory, DeviceFailed as TextFailed}
+use Rattle.bx_journal.specs.declared.fault.SessionFault.{SessionFault}
+use Rattle.bx_journal.specs.Calls.{OpenFault}
+use Rattle.bx_journal.specs.Fault.{reading_fault}
+use Rattle.bx_journal.specs.Opening.{IsOpened, RefusesLength}
+use Rattle.bx_journal.specs.Parsed.{reading_of}
 use Rattle.bx_journal.specs.Phase.{IsAtRest}
 use Rattle.bx_journal.specs.Stack.{Recovers}
 use Rattle.bx_journal.specs.Tally.{IsCounted}
-use Rattle.bx_journal.specs.Text.{Between}
+use Rattle.bx_journal.specs.Text.{Between, Reading, Reads}
 use Rattle.bx_journal.proofs.Judged.{read_fault_opens, read_fault_refuses}
 use Rattle.bx_journal.proofs.TallyLemmas.{err_always, err_apart, err_same, ok_always, ok_then}
 use Rattle.bx_journal.proofs.unfinished.recover.Goals as goal
 
+text_fault_opens : (r : Reading) (x : List ℕ) (f : TextFault) (e : SessionFault) → e ≡ reading_fault f → OpenFault r x e
+text_fault_opens r x TextMemory e is = subst (OpenFault r x) (sym is) tt
+text_fault_opens r x TextFailed e is = subst (OpenFault r x) (sym is) tt
+
+text_fault_refuses : (n : ℕ) (f : TextFault) (e : SessionFault) → e ≡ reading_fault f → RefusesLength n e
+text_fault_refuses n TextMemory e is = subst (RefusesLength n) (sym is) tt
+text_fault_refuses n TextFailed e is = subst (RefusesLength n) (sym is) tt
+
 pub returns-in-Err-clause-faults : goal.returns-in-Err-clause-faults
-returns-in-Err-clause-faults g c dh th r reads =
-    read_fault_opens (g.T.TextStore.text c.args.store.now) c.deref-2.result.now (g.D.Device.image c.args.device.now) r _ (sym (c.deref-2.ensures.value ∙ c.in-Ok.ensures.bytes th)) reads c.in-Err.ensures.fault
+returns-in-Err-clause-faults g c dh th r reads = text_fault_opens r _ _ _ c.of_text.ensures
 
 pub returns-in-Err-clause-differs : goal.returns-in-Err-clause-differs
-returns-in-Err-clause-differs g c dh th r n reads differs =
-    read_fault_refuses (g.T.TextStore.text c.args.store.now) c.deref-2.result.now r n _ (sym (c.deref-2.ensures.value ∙ c.in-Ok.ensures.bytes th)) reads c.in-Err.ensures.fault
+returns-in-Err-clause-differs g c dh th r n reads differs = text_fault_refuses n _ _ c.of_text.ensures
+
+pub returns-in-Err-read_journal-clause-faults : goal.returns-in-Err-read_journal-clause-faults
+returns-in-Err-read_journal-clause-faults g c dh th r reads =
+    read_fault_opens (g.T.TextStore.text c.args.store.now) c.deref-2.result.now (g.D.Device.image c.args.device.now) r _ (sym (c.deref-2.ensures.value ∙ c.in-Ok.ensures.bytes th)) reads c.in-Err-read_journal.ensures.fault
+
+pub returns-in-Err-read_journal-clause-differs : goal.returns-in-Err-read_journal-clause-differs
+returns-in-Err-read_journal-clause-differs g c dh th r n reads differs =
+    read_fault_refuses (g.T.TextStore.text c.args.store.now) c.deref-2.result.now r n _ (sym (c.deref-2.ensures.value ∙ c.in-Ok.ensures.bytes th)) reads c.in-Err-read_journal.ensures.fault
+
+pub returns-clause-unaccepted : goal.returns-clause-unaccepted
+returns-clause-unaccepted g c th apart =
+    let j = c.in-Ok-read_journal.journal in
+    absurd (apart (reading_of j.entries.items j.stage, subst (λ t. Reads t (reading_of j.entries.items j.stage)) (c.deref-2.ensures.value ∙ c.in-Ok.ensures.bytes th) c.in-Ok-read_journal.ensures.reads))
 
 counted_in : (text bytes : List ℕ) (count : ℕ) (told : Option ℕ) → bytes ≡ text → IsCounted bytes count told → IsCounted text count told
 counted_in text bytes count told same c = subst (λ t. IsCounted t count told) same c
