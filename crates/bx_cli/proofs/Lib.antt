@@ -3,6 +3,7 @@ pub mod Steps
 pub mod Runs
 pub mod Unfailed
 pub mod Stands
+pub mod Refusals
 pub mod Copying
 pub mod XxdRows
 pub mod XxdReverts

@@ -126,7 +126,7 @@ HasStackRun remaining stands honest first whole replies s rest =
 pub has_stack_run_none : {S R A : Type 0} (remaining : R → Option (List ℕ)) (stands : S → List (List ℕ) → Type 0) (honest : S → Type 0) (s : S) (whole : List (Command R A)) → HasStackRun remaining stands honest s whole [] s whole
 has_stack_run_none remaining stands honest s whole device start h unfailed = (device, (start, (h, record { joins = λ qs after r. r })))
 
-all_front : {X : Type 0} (P : X → Type 0) (xs : List X) (y : X) → All P (xs ++ y ∷ []) → All P xs × P y
+pub all_front : {X : Type 0} (P : X → Type 0) (xs : List X) (y : X) → All P (xs ++ y ∷ []) → All P xs × P y
 all_front {X = X} P xs y all = (
   (λ k d within. subst P (get_or-append xs (y ∷ []) d k within) (all k d (omega (arith, length-append xs (y ∷ []))))),
   subst P (get_or-append_seam xs y [] y) (all (length xs) y (omega (arith, length-append xs (y ∷ [])))),

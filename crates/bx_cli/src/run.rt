@@ -1,9 +1,10 @@
 //! Lists of commands, run in order on a session.
 ghost use Rattle.std.specs.Prelude.{◌≡◌, ◌↔◌, ◌⊎◌, ◌+◌, ◌^◌, ◌≤◌, ◌<◌, List, ℕ, length, None, Some, IfOk, OnErr, All};
-ghost use Rattle.bx_journal.specs.Session.{IsReady};
+ghost use Rattle.bx_journal.specs.Session.{IsReady, IsSame};
 ghost use Rattle.bx_journal.specs.Standing.{IsStanding};
 ghost use Rattle.bx_cli.specs.Standing.{Standing, HoldsAt, CountsOn};
 ghost use Rattle.bx_cli.specs.Command.{IsNear};
+ghost use Rattle.bx_cli.specs.Refusal.{IsOwnRefusal, IsWholeRefusal};
 ghost use Rattle.bx_cli.specs.Run.{made_reply, ChangeStep, UndoesStep, ReadStep, DdStep, CommandStep, CommandRun, StackRun, StandsThen, StackStep, Unfailed, IsCounted};
 
 use crate::changes::{DdChange, change_of_dd, change_of_dump, change_of_plain};
@@ -32,6 +33,8 @@ fn run_change<D: Device, T: TextStore, A: Allocator + Clone>(
     ensures store_honesty { T.honest session.new.store ↔ T.honest session.old.store }
     ensures counts { CountsOn D.failures T.failures session.old session.new }
     ensures failed { IsCounted D.failures T.failures session.old session.new result }
+    ensures own { IsOwnRefusal result → session.new ≡ session.old }
+    ensures same { D.honest session.old.device → T.honest session.old.store → IsWholeRefusal result → IsSame D.image T.text session.old session.new }
 {
     match session.perform(change) {
         Ok(number) => made_reply(counts, number),
@@ -64,6 +67,8 @@ fn run_undo<D: Device, T: TextStore, A: Allocator + Clone>(
     ensures store_honesty { T.honest session.new.store ↔ T.honest session.old.store }
     ensures counts { CountsOn D.failures T.failures session.old session.new }
     ensures failed { IsCounted D.failures T.failures session.old session.new result }
+    ensures own { IsOwnRefusal result → session.new ≡ session.old }
+    ensures same { D.honest session.old.device → T.honest session.old.store → IsWholeRefusal result → IsSame D.image T.text session.old session.new }
 {
     match session.undo(k) {
         Ok(left) => Reply::Undone { left },
@@ -86,6 +91,8 @@ fn run_read<D: Device, T: TextStore, A: Allocator + Clone>(
     ensures store_honesty { T.honest session.new.store ↔ T.honest session.old.store }
     ensures counts { CountsOn D.failures T.failures session.old session.new }
     ensures failed { IsCounted D.failures T.failures session.old session.new result }
+    ensures own { IsOwnRefusal result → session.new ≡ session.old }
+    ensures same { D.honest session.old.device → T.honest session.old.store → IsWholeRefusal result → IsSame D.image T.text session.old session.new }
 {
     match read {
         Ok(change) => run_change(session, &change, None),
@@ -108,6 +115,8 @@ fn run_dd<D: Device, T: TextStore, A: Allocator + Clone>(
     ensures store_honesty { T.honest session.new.store ↔ T.honest session.old.store }
     ensures counts { CountsOn D.failures T.failures session.old session.new }
     ensures failed { IsCounted D.failures T.failures session.old session.new result }
+    ensures own { IsOwnRefusal result → session.new ≡ session.old }
+    ensures same { D.honest session.old.device → T.honest session.old.store → IsWholeRefusal result → IsSame D.image T.text session.old session.new }
 {
     match made {
         Ok(made) => run_change(session, &made.change, Some(made.counts)),
@@ -132,6 +141,8 @@ fn run_one<D: Device, T: TextStore, R: Read, A: Allocator + Clone>(
     ensures store_honesty { T.honest session.new.store ↔ T.honest session.old.store }
     ensures counts { CountsOn D.failures T.failures session.old session.new }
     ensures failed { IsCounted D.failures T.failures session.old session.new result }
+    ensures own { IsOwnRefusal result → session.new ≡ session.old }
+    ensures same { D.honest session.old.device → T.honest session.old.store → IsWholeRefusal result → IsSame D.image T.text session.old session.new }
 {
     match command {
         Command::Revert { text, offset } => {
@@ -180,6 +191,18 @@ pub fn run_all<D: Device, T: TextStore, R: Read, A: Allocator + Clone>(
     // A device's failure raises its count.
     ensures unfailed { D.failures session.new.device ≡ D.failures session.old.device → T.failures session.new.store ≡ T.failures session.old.store
         → IfOk result (λ replies. All Unfailed replies.items) }
+
+    // No count of failures falls, and both together rise by no more than one for each command.
+    ensures counts { (D.failures session.old.device ≤ D.failures session.new.device) × (T.failures session.old.store ≤ T.failures session.new.store)
+        × (D.failures session.new.device + T.failures session.new.store ≤ D.failures session.old.device + T.failures session.old.store + length list.old) }
+
+    // Commands that are refused for faults of their own leave the session. Those that are refused, but by no interruption,
+    // leave image and text, byte for byte.
+    ensures own { IfOk result (λ replies. All IsOwnRefusal replies.items → session.new ≡ session.old) }
+    ensures same { D.honest session.old.device → T.honest session.old.store
+        → IfOk result (λ replies. All IsWholeRefusal replies.items → IsSame D.image T.text session.old session.new) }
+
+    // Where memory for the replies is refused, no command ran.
     ensures refused { OnErr result (session.new ≡ session.old) }
     ensures unread { OnErr result (list.new ≡ list.old) }
 {

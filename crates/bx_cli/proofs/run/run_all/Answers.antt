@@ -6,6 +6,7 @@ use Rattle.bx_cli.proofs.Runs.{has_run_none, has_run_more, has_run_all, counted_
 use Rattle.bx_journal.specs.Standing.{IsStanding}
 use Rattle.bx_cli.proofs.Stands.{AreHonest, has_stack_run_none, has_stack_run_more, has_stack_run_all}
 use Rattle.bx_cli.proofs.Unfailed.{stands_at_top}
+use Rattle.bx_cli.proofs.Refusals.{stayed_none, stayed_more}
 use Rattle.bx_cli.proofs.run.run_all.Goals as goal
 
 pub loop-command-init : goal.loop-command-init
@@ -15,6 +16,7 @@ loop-command-init g c =
       stacks = rw none (has_stack_run_none g.R.Read.remaining (IsStanding g.D.Device.image g.T.TextStore.text) (AreHonest g.D.Device.honest g.T.TextStore.honest) c.args.session.now c.args.list.now);
       run = rw none (has_run_none g.R.Read.remaining (HoldsAt g.D.Device.honest g.T.TextStore.honest g.D.Device.image g.T.TextStore.text) c.args.session.now c.args.list.now);
       counted = rw none (counted_none g.D.Device.failures g.T.TextStore.failures c.args.session.now);
+      stayed = rw none (stayed_none g.D.Device.honest g.T.TextStore.honest g.D.Device.image g.T.TextStore.text c.args.session.now);
       ahead = λ k d above within. c.requires.near k d within;
       replied = search rules;
       room = search rules;
@@ -30,6 +32,8 @@ loop-command-preserved g c =
           (λ both. (c.run_one-reply.ensures.device_honesty.1 both.0, c.run_one-reply.ensures.store_honesty.1 both.1)) (λ both. c.run_one-reply.ensures.stands both.0 both.1) kept.stacks);
       run = rw pushed (has_run_more g.R.Read.remaining (HoldsAt g.D.Device.honest g.T.TextStore.honest g.D.Device.image g.T.TextStore.text) _ c.loop-command.session _ _ c.loop-command.list _ c.loop-command.command-index c.command-item.result _ _ within c.run_one-reply.ensures.step kept.run);
       counted = rw pushed (counted_more g.D.Device.failures g.T.TextStore.failures _ c.loop-command.session _ c.loop-command.command-index _ _ kept.counted c.run_one-reply.ensures.counts c.run_one-reply.ensures.failed);
+      stayed = rw pushed (stayed_more g.D.Device.honest g.T.TextStore.honest g.D.Device.image g.T.TextStore.text _ c.loop-command.session _ _ _ kept.stayed
+          (λ both. (c.run_one-reply.ensures.device_honesty.1 both.0, c.run_one-reply.ensures.store_honesty.1 both.1)) c.run_one-reply.ensures.own c.run_one-reply.ensures.same);
       ahead = ahead_more IsNear c.loop-command.list c.loop-command.command-index _ kept.ahead;
       replied = search rules;
       room = search rules;
@@ -52,3 +56,25 @@ returns-clause-headline g c = λ device store stack standing same_device same_st
     let all : length c.loop-command.list ≤ c.loop-command.command-index = search rules in
     has_stack_run_all g.R.Read.remaining (IsStanding g.D.Device.image g.T.TextStore.text) (AreHonest g.D.Device.honest g.T.TextStore.honest) _ _ _ _ _ (drop_all c.loop-command.command-index c.loop-command.list all) c.loop-command.invariant.stacks
     (device, store) stack standing (c.loop-command.invariant.counted.unfailed (let d = same_device in let s = same_store in omega arith))
+
+pub returns-clause-counts : goal.returns-clause-counts
+returns-clause-counts g c =
+    let counted = c.loop-command.invariant.counted in
+    let within : c.loop-command.command-index ≤ length c.args.list.now = search rules in
+    let most = counted.most in
+    (counted.device_least, counted.store_least, omega arith)
+
+pub returns-clause-own : goal.returns-clause-own
+returns-clause-own g c = c.loop-command.invariant.stayed.own
+
+pub returns-clause-same : goal.returns-clause-same
+returns-clause-same g c = λ device store. c.loop-command.invariant.stayed.same (device, store)
+
+pub returns-clause-unfailed : goal.returns-clause-unfailed
+returns-clause-unfailed g c = λ same_device same_store.
+    c.loop-command.invariant.counted.unfailed (let d = same_device in let s = same_store in omega arith)
+
+pub run_one-reply-requires-clause-near : goal.run_one-reply-requires-clause-near
+run_one-reply-requires-clause-near g c =
+    let within : c.loop-command.command-index < length c.loop-command.list = search rules in
+    c.loop-command.invariant.ahead c.loop-command.command-index c.command-item.result (omega arith) within

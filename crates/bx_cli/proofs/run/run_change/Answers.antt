@@ -7,6 +7,9 @@ use Rattle.std.specs.Prelude.{◌∷◌}
 use Rattle.bx_image.specs.Change.{effect}
 use Rattle.bx_journal.specs.Machine.{top}
 use Rattle.bx_cli.proofs.Stands.{perform_refused}
+use Rattle.bx_journal.specs.Session.{IsSame}
+use Rattle.bx_cli.specs.Refusal.{IsOwnFault, IsOwnRefusal, IsWholeRefusal}
+use Rattle.bx_cli.proofs.Refusals.{session_not_own, after_whole, made_not_own, made_not_whole}
 use Rattle.bx_cli.proofs.run.run_change.Goals as goal
 
 pub returns-in-Ok-clause-step : goal.returns-in-Ok-clause-step
@@ -50,3 +53,18 @@ returns-in-Err-clause-stands g c = λ device store stack standing unfailed.
 
 pub returns-in-Ok-clause-failed : goal.returns-in-Ok-clause-failed
 returns-in-Ok-clause-failed g c = λ failed. absurd (made_unfailed c.args.counts c.in-Ok.number (subst HasFailed c.made_reply.ensures failed))
+
+pub returns-in-Ok-clause-own : goal.returns-in-Ok-clause-own
+returns-in-Ok-clause-own g c = λ own. absurd (made_not_own c.args.counts c.in-Ok.number (subst IsOwnRefusal c.made_reply.ensures own))
+
+pub returns-in-Ok-clause-same : goal.returns-in-Ok-clause-same
+returns-in-Ok-clause-same g c = λ device store whole. absurd (made_not_whole c.args.counts c.in-Ok.number (subst IsWholeRefusal c.made_reply.ensures whole))
+
+pub returns-in-Err-clause-own : goal.returns-in-Err-clause-own
+returns-in-Err-clause-own g c = λ own. absurd (session_not_own c.in-Err.fault (subst IsOwnFault c.from.ensures own))
+
+pub returns-in-Err-clause-same : goal.returns-in-Err-clause-same
+returns-in-Err-clause-same g c = λ device store whole.
+    let Whole : Fault → Type 0 = λ f. IsWholeRefusal (Refused f) in
+    let Same : Type 0 = IsSame g.D.Device.image g.T.TextStore.text c.args.session.now c.perform.new.self in
+    after_whole Same c.in-Err.fault (c.in-Err.ensures.refused device store) (subst Whole c.from.ensures whole)

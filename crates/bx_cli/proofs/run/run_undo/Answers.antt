@@ -5,6 +5,9 @@ use Rattle.bx_cli.specs.Run.{HasFailed}
 use Rattle.bx_cli.proofs.Steps.{undo_ok, undo_err, counts_least, counts_most, counts_failed}
 use Rattle.std.specs.Prelude.{drop}
 use Rattle.bx_cli.proofs.Stands.{undo_refused}
+use Rattle.bx_journal.specs.Session.{IsSame}
+use Rattle.bx_cli.specs.Refusal.{IsOwnFault, IsWholeRefusal}
+use Rattle.bx_cli.proofs.Refusals.{session_not_own, after_whole}
 use Rattle.bx_cli.proofs.run.run_undo.Goals as goal
 
 pub returns-in-Ok-clause-step : goal.returns-in-Ok-clause-step
@@ -45,3 +48,12 @@ returns-in-Err-clause-stands g c = λ device store stack standing unfailed.
     let made = undo_refused (g.D.Device.honest c.args.session.now.device) (g.T.TextStore.honest c.args.session.now.store) g.D.Device.image g.T.TextStore.text c.args.session.now c.undo.new.self c.args.k c.in-Err.fault
     e.broken e.few e.kind e.undamaged e.refused device store stack standing (subst Fails c.from.ensures unfailed) in
     (made.0, made.1, (Err c.in-Err.fault, ap Refused c.from.ensures, made.2))
+
+pub returns-in-Err-clause-own : goal.returns-in-Err-clause-own
+returns-in-Err-clause-own g c = λ own. absurd (session_not_own c.in-Err.fault (subst IsOwnFault c.from.ensures own))
+
+pub returns-in-Err-clause-same : goal.returns-in-Err-clause-same
+returns-in-Err-clause-same g c = λ device store whole.
+    let Whole : Fault → Type 0 = λ f. IsWholeRefusal (Refused f) in
+    let Same : Type 0 = IsSame g.D.Device.image g.T.TextStore.text c.args.session.now c.undo.new.self in
+    after_whole Same c.in-Err.fault (c.in-Err.ensures.refused device store) (subst Whole c.from.ensures whole)
