@@ -21,9 +21,6 @@ use bx_text::{IoFault, Name, emit};
 use std::alloc::Allocator;
 use std::io::{Read, Write};
 
-/// The most bytes that are skipped.
-const MOST_SKIP: u64 = 1 << 62;
-
 /// The longest name that a C array is given.
 const MOST_NAME: usize = 1 << 62;
 

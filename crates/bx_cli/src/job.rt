@@ -9,20 +9,30 @@ use bx_text::{Name, Words};
 /// The style of an `xxd` dump.
 #[derive(Clone, Copy, Debug, PartialEq, Eq)]
 pub enum XxdLook {
+    /// Hexadecimal digits in groups, and the characters beside them.
     Normal,
+    /// Hexadecimal digits alone.
     Plain,
+    /// Binary digits, and the characters beside them.
     Bits,
+    /// An array of C.
     Include,
 }
 
 /// `od`: how and what it dumps.
 #[derive(Drop)]
 pub struct OdJob {
+    /// How addresses are written.
     pub address: Address,
+    /// What the bytes are shown as.
     pub kind: Kind,
+    /// The bytes to skip, at most 2^62.
     pub skip: u64,
+    /// The most bytes that are dumped; none is all.
     pub limit: Option<u64>,
+    /// Whether lines equal to the one before are written too.
     pub all: bool,
+    /// The input's name; none is standard input.
     pub file: Option<Name>,
     ghost skips_little: { skip ≤ 2 ^ 62 },
 }
@@ -30,13 +40,21 @@ pub struct OdJob {
 /// `xxd`: how and what it dumps.
 #[derive(Drop)]
 pub struct XxdJob {
+    /// The style of the dump.
     pub look: XxdLook,
+    /// The bytes of a line, 1 to 256.
     pub cols: u16,
+    /// The bytes of a group, at most 256; 0 makes no groups.
     pub group: u16,
+    /// The most bytes that are dumped; none is all.
     pub limit: Option<u64>,
+    /// The bytes to skip, at most 2^62.
     pub seek: u64,
+    /// What is added to each address that is written, at most 2^62.
     pub shift: u64,
+    /// Whether hexadecimal digits are capital letters.
     pub upper: bool,
+    /// The input's name; none is standard input.
     pub file: Option<Name>,
     ghost has_a_column: { 1 ≤ cols },
     ghost few_columns: { cols ≤ 256 },
@@ -48,9 +66,13 @@ pub struct XxdJob {
 /// `hexdump -C`: what it dumps.
 #[derive(Drop)]
 pub struct HexdumpJob {
+    /// The bytes to skip, at most 2^62.
     pub skip: u64,
+    /// The most bytes that are dumped; none is all.
     pub limit: Option<u64>,
+    /// Whether lines equal to the one before are written too.
     pub all: bool,
+    /// The input's name; none is standard input.
     pub file: Option<Name>,
     ghost skips_little: { skip ≤ 2 ^ 62 },
 }
@@ -58,8 +80,11 @@ pub struct HexdumpJob {
 /// `strings`: which runs it shows, and how.
 #[derive(Drop)]
 pub struct StringsJob {
+    /// The fewest bytes of a run that is shown, 1 to 4096.
     pub least: u16,
+    /// How the place of a run is written before it.
     pub offsets: Address,
+    /// The input's name; none is standard input.
     pub file: Option<Name>,
     ghost some: { 1 ≤ least },
     ghost short: { least ≤ 4096 },
@@ -68,8 +93,11 @@ pub struct StringsJob {
 /// `dd`: what its operands ask for, and the operands themselves. Where `of=` names an image there is its journal; else `journal` is none, and the output is a stream.
 #[derive(Drop)]
 pub struct DdJob {
+    /// What the operands ask for.
     pub plan: Plan,
+    /// The operands as they were given.
     pub operands: Words,
+    /// The journal of the image that `of=` names; none where it names none.
     pub journal: Option<Name>,
     ghost planned: { IsPlanOf operands plan },
     ghost paired: { is_some journal ≡ is_some plan.output },
@@ -78,10 +106,15 @@ pub struct DdJob {
 /// `revert`: the dump, and the image and journal that it is written onto. `at` is added to the addresses, or with `plain` the place of the first byte.
 #[derive(Drop)]
 pub struct RevertJob {
+    /// The dump's name; none is standard input.
     pub dump: Option<Name>,
+    /// Whether the dump is plain hexadecimal, without addresses.
     pub plain: bool,
+    /// What is added to each address in bytes, or the first byte's place; at most 2^62.
     pub at: u64,
+    /// The name of the image that is changed.
     pub image: Name,
+    /// The name of the image's journal.
     pub journal: Name,
     ghost near: { at ≤ 2 ^ 62 },
 }
@@ -89,22 +122,37 @@ pub struct RevertJob {
 /// One variant for each subcommand.
 #[derive(Drop)]
 pub enum Job {
+    /// Dumps as `od` does.
     Od(OdJob),
+    /// Dumps as `xxd` does.
     Xxd(XxdJob),
+    /// Dumps as `hexdump -C` does.
     Hexdump(HexdumpJob),
+    /// Shows the printable runs.
     Strings(StringsJob),
+    /// Copies, to a stream or onto an image.
     Dd(DdJob),
+    /// Writes a dump onto an image.
     Revert(RevertJob),
+    /// Takes the last changes back.
     Undo {
+        /// How many changes are taken back.
         count: u32,
+        /// The name of the image.
         image: Name,
+        /// The name of its journal.
         journal: Name,
     },
+    /// Lists the changes that stand.
     Log {
+        /// The name of the image.
         image: Name,
+        /// The name of its journal.
         journal: Name,
     },
+    /// Writes a text of help.
     Help {
+        /// The text that is written.
         text: Name,
     },
 }
