@@ -1,3 +1,4 @@
+//! Sources and writers that fail, sizes, fields, words, and refused growths.
 use bx_text::{
     IoFault, NoMemory, SizeFault, SizeStyle, Source, Words, dec_field, emit, hex_field, oct_field,
     read_hex, read_size, xxd_line,
@@ -24,6 +25,16 @@ impl Read for Interrupted<'_> {
         }
         self.left = self.each;
         self.bytes.read(buf)
+    }
+}
+
+/// A reader that has no byte and fails at each read.
+#[derive(Drop)]
+struct Broken;
+
+impl Read for Broken {
+    fn read(&mut self, _: &mut [u8]) -> io::Result<usize> {
+        Err(io::Error::from(ErrorKind::Other))
     }
 }
 
@@ -93,6 +104,25 @@ fn source_limit(rt: HostRuntime) {
     assert_rest(&rt, rt.alloc(), &mut whole, b"");
     let mut long = Source::new(b"abc".as_slice(), 2);
     assert_fault(&rt, rt.alloc(), &mut long, IoFault::InputTooLong);
+}
+
+fn assert_fill<R: Read + Drop>(
+    rt: &impl Abort,
+    source: &mut Source<R>,
+    buf: &mut [u8],
+    answer: Result<usize, IoFault>,
+) {
+    assert!(rt; source.fill(buf) == answer);
+}
+
+#[test]
+fn empty_buffer_makes_no_read(rt: HostRuntime) {
+    let mut none = [0u8; 0];
+    let mut one = [0u8; 1];
+    let mut source = Source::new(Broken, 9);
+    assert_fill(&rt, &mut source, &mut none, Ok(0));
+    assert_fill(&rt, &mut source, &mut one, Err(IoFault::ReadFailed));
+    assert_fill(&rt, &mut source, &mut none, Err(IoFault::ReadFailed));
 }
 
 fn interrupted_before(each: u32) -> Source<Interrupted<'static>> {
