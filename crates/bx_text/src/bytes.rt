@@ -22,12 +22,14 @@ impl<A: Allocator> Model for Bytes<A> {
 }
 
 impl<A: Allocator> Bytes<A> {
+    /// The bytes of the vector, in their order.
     pub fn from_vec(items: Vec<u8, A>) -> Self
         ensures { result ≡ items.items }
     {
         Bytes { items }
     }
 
+    /// Gives the vector of the bytes back.
     pub fn into_vec(self) -> Vec<u8, A>
         ensures { result.items ≡ self }
     {
@@ -35,6 +37,7 @@ impl<A: Allocator> Bytes<A> {
         items
     }
 
+    /// All the bytes.
     pub fn as_slice(&self) -> &[u8]
         ensures { result.now ≡ self.now }
     {

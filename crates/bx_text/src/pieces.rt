@@ -12,7 +12,9 @@ use std::marker::Model;
 /// Bytes, and the address of the first of them.
 #[derive(Drop)]
 pub struct Piece<A: Allocator = Global> {
+    /// The address of the first byte.
     pub at: u64,
+    /// The bytes at `at` and the addresses behind it. There may be none.
     pub bytes: Bytes<A>,
 }
 
@@ -32,12 +34,14 @@ impl<A: Allocator> Model for Pieces<A> {
 }
 
 impl<A: Allocator> Pieces<A> {
+    /// The pieces of the vector in their order, which need not rise and may overlap.
     pub fn from_vec(items: Vec<Piece<A>, A>) -> Self
         ensures { result ≡ items.items }
     {
         Pieces { items }
     }
 
+    /// All the pieces, in the order in which they were given.
     pub fn as_slice(&self) -> &[Piece<A>]
         ensures { result.now ≡ self.now }
     {

@@ -21,12 +21,14 @@ impl<A: Allocator> Model for Name<A> {
 }
 
 impl<A: Allocator> Name<A> {
+    /// The text of the string.
     pub fn from_string(text: String<A>) -> Self
         ensures { result ≡ string_bytes text }
     {
         Name { text }
     }
 
+    /// The whole text.
     pub fn as_str(&self) -> &str
         ensures { result.now ≡ self.now }
     {
@@ -71,12 +73,14 @@ impl<A: Allocator + Clone> Words<A> {
 }
 
 impl<A: Allocator> Words<A> {
+    /// How many words there are.
     pub fn len(&self) -> usize
         ensures { result ≡ length self.now }
     {
         self.items.len()
     }
 
+    /// The word at a place, counted from 0; none past the last.
     pub fn get(&self, i: usize) -> Option<&str>
         ensures { option_copied result ≡ slice_get self.now i }
     {
