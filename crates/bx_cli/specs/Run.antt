@@ -56,10 +56,14 @@ abbrev pub DdStep : {A : Type 0} → Standing → Result (DdChange A) DdFault �
 DdStep before (Ok made) reply after = ChangeStep before made.change (Some made.counts) reply after
 DdStep before (Err e) reply after = (reply ≡ Refused (of_dd e)) × (after ≡ before)
 
+-- A dump that is put onto the image, by what its text reads as. Want of memory may take the place of reading it.
+abbrev pub DumpStep : (A : Type 0) → Standing → List ℕ → ℕ → Reply → Standing → Type 0
+DumpStep A before text offset reply after =
+    RefusesStep before ReadNoMemory reply after ⊎ ReadStep before (dump_change {A = A} offset) (dump_pieces text) reply after
+
 -- One command, where `remaining` is what a reader gives. Want of memory may take the place of reading its text.
 abbrev pub CommandStep : {R A : Type 0} → (R → Option (List ℕ)) → Standing → Command R A → Reply → Standing → Type 0
-CommandStep {A = A} remaining before (Revert text offset) reply after =
-    RefusesStep before ReadNoMemory reply after ⊎ ReadStep before (dump_change {A = A} offset) (dump_pieces text) reply after
+CommandStep {A = A} remaining before (Revert text offset) reply after = DumpStep A before text offset reply after
 CommandStep {A = A} remaining before (RevertPlain text at) reply after =
     RefusesStep before ReadNoMemory reply after ⊎ ReadStep before (plain_change {A = A} at) (plain_answer text) reply after
 CommandStep {A = A} remaining before (Dd operands input) reply after =

@@ -5,7 +5,7 @@ ghost use Rattle.bx_journal.specs.Standing.{IsStanding};
 ghost use Rattle.bx_cli.specs.Standing.{Standing, HoldsAt, CountsOn};
 ghost use Rattle.bx_cli.specs.Command.{IsNear};
 ghost use Rattle.bx_cli.specs.Refusal.{IsOwnRefusal, IsWholeRefusal};
-ghost use Rattle.bx_cli.specs.Run.{made_reply, ChangeStep, UndoesStep, ReadStep, DdStep, CommandStep, CommandRun, StackRun, StandsThen, StackStep, Unfailed, IsCounted};
+ghost use Rattle.bx_cli.specs.Run.{made_reply, ChangeStep, UndoesStep, ReadStep, DdStep, DumpStep, CommandStep, CommandRun, StackRun, StandsThen, StackStep, Unfailed, IsCounted};
 
 use crate::changes::{DdChange, change_of_dd, change_of_dump, change_of_plain};
 use crate::{Command, Fault, Reply};
@@ -124,6 +124,31 @@ fn run_dd<D: Device, T: TextStore, A: Allocator + Clone>(
     }
 }
 
+/// Puts a dump onto the image. The whole text is read first.
+fn run_dump<D: Device, T: TextStore, A: Allocator + Clone>(
+    alloc: &A,
+    session: &mut Session<D, T, A>,
+    text: &[u8],
+    offset: u64,
+) -> Reply
+    requires device_countable { D.failures session.old.device < u64.MAX }
+    requires store_countable { T.failures session.old.store < u64.MAX }
+    requires near { offset ≤ 2 ^ 62 }
+    ensures step { (before : Standing) → HoldsAt D.honest T.honest D.image T.text session.old before
+        → (after : Standing) × HoldsAt D.honest T.honest D.image T.text session.new after × DumpStep A before text.now offset result after }
+    ensures stands { D.honest session.old.device → T.honest session.old.store → (stack : List (List ℕ)) → IsStanding D.image T.text session.old stack → Unfailed result
+        → StandsThen D.image T.text session.new (λ top. DumpStep A (Standing.Up stack) text.now offset result (Standing.Up top)) }
+    ensures device_honesty { D.honest session.new.device ↔ D.honest session.old.device }
+    ensures store_honesty { T.honest session.new.store ↔ T.honest session.old.store }
+    ensures counts { CountsOn D.failures T.failures session.old session.new }
+    ensures failed { IsCounted D.failures T.failures session.old session.new result }
+    ensures own { IsOwnRefusal result → session.new ≡ session.old }
+    ensures same { D.honest session.old.device → T.honest session.old.store → IsWholeRefusal result → IsSame D.image T.text session.old session.new }
+{
+    let change = change_of_dump(alloc, text, offset);
+    run_read(session, change)
+}
+
 /// Runs one command: a fault of its own comes before the session's.
 fn run_one<D: Device, T: TextStore, R: Read, A: Allocator + Clone>(
     alloc: &A,
@@ -145,10 +170,7 @@ fn run_one<D: Device, T: TextStore, R: Read, A: Allocator + Clone>(
     ensures same { D.honest session.old.device → T.honest session.old.store → IsWholeRefusal result → IsSame D.image T.text session.old session.new }
 {
     match command {
-        Command::Revert { text, offset } => {
-            let change = change_of_dump(alloc, text.as_slice(), *offset);
-            run_read(session, change)
-        }
+        Command::Revert { text, offset } => run_dump(alloc, session, text.as_slice(), *offset),
         Command::RevertPlain { text, at } => {
             let change = change_of_plain(alloc, text.as_slice(), *at);
             run_read(session, change)
