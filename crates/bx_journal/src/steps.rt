@@ -1,4 +1,4 @@
-//! The steps of a change, each of which writes to one device.
+//! The entry of a change: its head, its end, and both with the change of the image between them.
 ghost use Rattle.std.specs.Prelude.{◌≡◌, ◌↔◌, ◌+◌, ◌<◌, ◌≤◌, [], ◌∷◌, ◌++◌, List, ℕ, length, vec_capacity, OnOk, OnErr, is_err};
 ghost use Rattle.bx_journal.specs.Kept.{Kept as Record};
 ghost use Rattle.bx_image.specs.Change.{effect, saved, AllWithin, IsAsGood};

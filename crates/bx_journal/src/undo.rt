@@ -1,4 +1,4 @@
-//! The steps of an undo, each of which writes to one device.
+//! Taking entries back: the newest, or some of them one after another.
 ghost use Rattle.std.specs.Prelude.{◌≡◌, ◌↔◌, ◌+◌, ◌<◌, ◌≤◌, ◌∷◌, List, ℕ, length, take, map, OnOk, OnErr};
 ghost use Rattle.bx_image.specs.Change.{AllWithin, restore};
 ghost use Rattle.bx_journal.specs.Kept.{run_of, kept_of};

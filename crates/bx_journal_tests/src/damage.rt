@@ -71,7 +71,7 @@ fn length_differs(rt: HostRuntime) -> Result<(), Fail> {
     let mut more = PATCHED.to_vec(rt.alloc())?;
     more.extend_from_slice(b"change2 00000002 0000000000000007\n")?;
     let fifth = SessionFault::Damaged { line: 5 };
-    assert_refused(&rt, name, b"ABxyEFGH", more.as_slice(), fifth)?;
+    assert_refused(&rt, name, b"ABxyEFG", more.as_slice(), fifth)?;
     let mixed = b"change2 00000001 0000000000000002\nsave 00000001\ndone 00000001\n";
     assert_refused(&rt, name, b"AB", mixed, SessionFault::Damaged { line: 3 })
 }

@@ -1,7 +1,10 @@
 //! Changes, undoing and opening, over memory and over files.
 use crate::script::{Step, assert_pair, assert_run, clean, on_both, pair_of, writes};
-use crate::tools::{PATCHED, PATCHED_FIRST, nothing, over};
+use crate::tools::{PATCHED, PATCHED_FIRST, nothing, open, over, text};
+use bumpalo::Bump;
+use bx_image::MemImage;
 use bx_journal::{LogRow, SessionFault};
+use bx_ration::ration;
 use std::process::Abort;
 use std::test::Fail;
 
@@ -99,6 +102,31 @@ fn old_form_grows_image_on_undo(rt: HostRuntime) -> Result<(), Fail> {
         &[undoes(1, 0)],
         grown,
     )
+}
+
+// Opens a pair that is to be refused for want of memory, with the image in an arena of a few bytes.
+fn assert_no_memory<'a>(
+    rt: &(impl Abort + AllocGlobal),
+    bump: &'a Bump,
+    bytes: &[u8],
+    journal: &[u8],
+) -> Result<(), Fail> {
+    let device = MemImage::from_vec(bytes.to_vec(bump)?);
+    let store = text(rt.alloc(), journal)?;
+    let Err((device, store, fault)) = open(rt.alloc(), device, store) else {
+        return Err(SessionFault::Broken.into());
+    };
+    assert!(rt; fault == SessionFault::NoMemory);
+    assert!(rt; device.as_slice() == bytes);
+    assert!(rt; store.as_slice() == journal);
+    Ok(())
+}
+
+#[test]
+fn old_form_beyond_memory(rt: HostRuntime) -> Result<(), Fail> {
+    let bump = ration(rt.alloc(), 64)?;
+    let journal = b"change 00000001 ffffffff\nsave 00000001\n";
+    assert_no_memory(&rt, &bump, b"AB", journal)
 }
 
 #[test]
