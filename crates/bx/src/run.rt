@@ -18,6 +18,7 @@ use std::rt::{Env, Files};
 /// The most bytes of a dump that is reverted.
 const MOST_INPUT: u64 = 1 << 40;
 
+/// Does what the words of the command line ask for. The fault is the first that stopped it.
 pub fn run<R>(rt: &R) -> Result<(), Fault>
 where
     R: Files<File = File> + Env + Input + Print + Eprint + AllocGlobal,

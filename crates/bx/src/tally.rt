@@ -10,6 +10,7 @@ pub struct Tally<W> {
 }
 
 impl<W: Write> Tally<W> {
+    /// A tally of `out`, which took no byte yet.
     pub fn new(out: W) -> Tally<W> {
         Tally { out, written: 0 }
     }

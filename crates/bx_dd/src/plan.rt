@@ -16,17 +16,27 @@ pub struct Plan<A: Allocator = Global> {
     pub input: Option<Name<A>>,
     /// The file of `of=`.
     pub output: Option<Name<A>>,
+    /// The bytes of an input block, from 1 to 16,777,216.
     pub ibs: u64,
+    /// The bytes of an output block, at least 1.
     pub obs: u64,
-    /// 0 where none was given.
+    /// The bytes of a record, at most 16,777,216; 0 where none was given.
     pub cbs: u64,
+    /// The input blocks that are read and dropped first.
     pub skip: u64,
+    /// The output blocks in front of the output's place.
     pub seek: u64,
+    /// The most input blocks that are copied; all where none was given.
     pub count: Option<u64>,
+    /// Whether the bytes of each pair change places.
     pub swab: bool,
+    /// Whether short input blocks are filled up to `ibs`.
     pub sync: bool,
+    /// Whether what lies behind the output stays.
     pub notrunc: bool,
+    /// The case that ASCII letters get.
     pub letters: Letters,
+    /// Whether lines become records of `cbs` bytes, or records lines.
     pub shape: Shape,
     ghost some_ibs: { 0 < ibs },
     ghost few_ibs: { ibs ≤ 16777216 },

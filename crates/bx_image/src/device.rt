@@ -21,10 +21,13 @@ pub struct TooLarge;
 /// What stopped a call on an image.
 #[derive(Clone, Copy, Debug, PartialEq, Eq, Error)]
 pub enum ImageFault {
+    /// A growth was refused.
     #[error("out of memory")]
     NoMemory,
+    /// The image would be longer than `MAX_LEN`.
     #[error("image too large")]
     TooLarge,
+    /// A call of the device failed.
     #[error("device failed")]
     DeviceFailed,
 }

@@ -8,6 +8,7 @@ use thiserror::Error;
 /// What stopped the reading of a text. Lines are counted from 1.
 #[derive(Clone, Copy, Debug, PartialEq, Eq, Error)]
 pub enum ReadFault {
+    /// A growth was refused.
     #[error("out of memory")]
     NoMemory,
     /// The line begins with no hexadecimal digit, or with more than 16.

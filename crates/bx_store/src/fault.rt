@@ -9,8 +9,10 @@ use thiserror::Error;
 /// What stopped the reading of a text.
 #[derive(Clone, Copy, Debug, PartialEq, Eq, Error)]
 pub enum TextFault {
+    /// A growth was refused.
     #[error("out of memory")]
     NoMemory,
+    /// A call of the device failed.
     #[error("device failed")]
     DeviceFailed,
 }
