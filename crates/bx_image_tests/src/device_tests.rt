@@ -1,3 +1,4 @@
+//! Fuses: what a failed call leaves, and which calls a change and its saving make.
 ghost use Rattle.std.specs.Prelude.{◌≡◌, IfOk};
 
 use crate::change_tests::change;

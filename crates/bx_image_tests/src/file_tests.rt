@@ -1,3 +1,4 @@
+//! Images in files: short and interrupted calls, files open for reading alone, and addresses past 4 GiB.
 ghost use Rattle.std.specs.Prelude.{[]};
 
 use crate::guarded::{

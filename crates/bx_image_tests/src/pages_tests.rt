@@ -1,3 +1,4 @@
+//! Images in pages: changes over a page's bound, old bytes, and pages refused.
 use crate::change_tests::{assert_same_pieces, change, pieces};
 use crate::guarded::{
     assert_applied, assert_content, assert_faults, assert_length, assert_number, content, cut,

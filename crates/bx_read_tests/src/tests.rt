@@ -1,3 +1,4 @@
+//! Dumps and plain text: worked lines, each fault and limit, and refused growths.
 use bumpalo::Bump;
 use bx_ration::{ration, used};
 use bx_read::{DumpLines, Line, ReadFault, read_dump, read_plain};

@@ -1,3 +1,4 @@
+//! Texts in memory, in files and behind fuses, and refused growths.
 ghost use Rattle.std.specs.Prelude.{◌≡◌, ◌↔◌};
 
 use bx_image::Part;
