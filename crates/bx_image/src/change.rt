@@ -19,7 +19,9 @@ pub const MAX_LEN: u64 = 281_474_976_710_655;
 /// wherever it stands.
 #[derive(Drop)]
 pub struct Change<A: Allocator = Global> {
+    /// The length in bytes to which the image is brought before the writes; the old one stays where there is none.
     pub base: Option<u64>,
+    /// Bytes and where they go, in the order in which they are placed. They may overlap.
     pub writes: Pieces<A>,
 }
 
