@@ -1,10 +1,10 @@
 // dd as a command on an image.
-use crate::places::{Memory, Place};
-use crate::script::{Script, play, reopened};
-use crate::session::{Ask, assert_reply, opened, words};
+use crate::places::{Memory, Pages, Place};
+use crate::script::{Script, play, play_all, reopened};
+use crate::session::{Ask, opened, words};
 use bx_cli::{Command, Fault, Reply, run_all};
 use bx_dd::Counts;
-use bx_image::{MemImage, PagedImage};
+use bx_image::MemImage;
 use bx_journal::Session;
 use bx_store::MemText;
 use std::alloc::{AllocError, Global};
@@ -25,50 +25,6 @@ pub fn copied(number: u32, blocks: [u64; 4], cut: u64) -> Reply {
             cut,
         },
     }
-}
-
-const UNDONE: Reply = Reply::Undone { left: 0 };
-
-#[test]
-fn dd_cuts_tail(rt: HostRuntime) -> Result<(), Fail> {
-    let journal =
-        "change2 00000001 000000000000000a\n00000004: 3435 3637 3839                           456789\nsave 00000001\ndone2 00000001 0000000000000006\n";
-    let mut script = Script::new(rt.alloc(), b"0123456789");
-    let cut = Ask::Dd("obs=4 seek=1", b"xy");
-    script.then_text(cut, copied(1, [0, 1, 0, 1], 0), b"0123xy", journal)?;
-    script.then_text(Ask::Undo(1), UNDONE, b"0123456789", "")?;
-    play(&rt, rt.alloc(), &Memory, &script)
-}
-
-#[test]
-fn dd_empty_input(rt: HostRuntime) -> Result<(), Fail> {
-    let journal =
-        "change2 00000001 0000000000000003\nsave 00000001\ndone2 00000001 0000000000000003\n";
-    let nothing = copied(1, [0, 0, 0, 0], 0);
-    let mut script = Script::new(rt.alloc(), b"abc");
-    script.then(Ask::Dd("obs=4 seek=2", b""), nothing, b"abc\0\0\0\0\0")?;
-    script.then(Ask::Undo(1), UNDONE, b"abc")?;
-    let kept = Ask::Dd("obs=4 seek=2 conv=notrunc", b"");
-    script.then_text(kept, nothing, b"abc", journal)?;
-    play(&rt, rt.alloc(), &Memory, &script)
-}
-
-#[test]
-fn notrunc_and_sync_block(rt: HostRuntime) -> Result<(), Fail> {
-    let part = copied(1, [0, 1, 0, 1], 0);
-    let mut script = Script::new(rt.alloc(), b"0123456789");
-    script.then(
-        Ask::Dd("obs=4 seek=1 conv=notrunc", b"xy"),
-        part,
-        b"0123xy6789",
-    )?;
-    script.then(Ask::Undo(1), UNDONE, b"0123456789")?;
-    script.then(
-        Ask::Dd("ibs=4 cbs=2 conv=sync,block", b"a\nb"),
-        part,
-        b"a b ",
-    )?;
-    play(&rt, rt.alloc(), &Memory, &script)
 }
 
 /// What dd with these operands makes of an empty image: the input, the image then, blocks, and records that were cut.
@@ -269,18 +225,34 @@ fn slow_and_broken_inputs(rt: HostRuntime) -> Result<(), Fail> {
     Ok(())
 }
 
-// Over a page's bound, and back by undo.
+/// The journal of two bytes at 4095 of the empty image.
+const OVER: &str =
+    "change2 00000001 0000000000000000\nsave 00000001\ndone2 00000001 0000000000001001\n";
+
+/// The same, and then the image cut to 4096 bytes.
+const CUT: &str =
+    "change2 00000001 0000000000000000\nsave 00000001\ndone2 00000001 0000000000001001\nchange2 00000002 0000000000001001\n00001000: 42                                       B\nsave 00000002\ndone2 00000002 0000000000001000\n";
+
+/// Bytes over a page's bound of the empty image, a cut at the bound, and both taken back.
+fn over_a_page<'a>(alloc: Global, over: &'a [u8]) -> Result<Script<'a>, AllocError> {
+    let (front, _) = over.split_at(over.len().min(4096));
+    let nothing = copied(2, [0, 0, 0, 0], 0);
+    let mut script = Script::new(alloc, b"");
+    let changed = Reply::Changed { number: 1 };
+    script.then_text(Ask::Revert("00000fff: 4142"), changed, over, OVER)?;
+    script.then_text(Ask::Dd("obs=4096 seek=1", b""), nothing, front, CUT)?;
+    script.then_text(Ask::Undo(1), Reply::Undone { left: 1 }, over, OVER)?;
+    script.then_text(Ask::Undo(1), Reply::Undone { left: 0 }, b"", "")?;
+    Ok(script)
+}
+
+// Over a page's bound, cut at it, and back by undo: image, length and text each time.
 #[test]
 fn page_boundary(rt: HostRuntime) -> Result<(), Fail> {
     let alloc = rt.alloc();
-    let (mut session, _) = opened(alloc, PagedImage::new(alloc), MemText::new(alloc))?;
-    let over = Ask::Dd("bs=4095 seek=1 count=1", b"AB");
-    assert_reply(&rt, alloc, &mut session, over, copied(1, [0, 1, 0, 1], 0))?;
-    let cut = Ask::Dd("obs=4096 seek=1", b"");
-    assert_reply(&rt, alloc, &mut session, cut, copied(2, [0, 0, 0, 0], 0))?;
-    let (_, text) = session.close();
-    let saved = "\n00001000: 42                                       B\nsave 00000002\n";
-    let shown = str::from_utf8(text.as_slice()).unwrap_or("");
-    assert!(rt; shown.contains(saved));
-    Ok(())
+    let mut over = vec![in alloc; 0u8; 4095]?;
+    over.extend_from_slice(b"AB")?;
+    assert!(rt; over.len() == 4097);
+    let script = over_a_page(alloc, over.as_slice())?;
+    play_all(&rt, alloc, &Pages, &script)
 }

@@ -127,12 +127,12 @@ pub fn play<D: Device + Drop, T: TextStore + Drop, P: Place<D, T>>(
         session = same;
         assert_reply(rt, alloc, &mut session, row.ask, row.reply)?;
         session = match (row.reply, row.text) {
-            (Reply::Refused(_), _) => {
-                let text = before.as_slice();
-                reopened(rt, alloc, place, session, row.image, Some(text))?
-            }
             (_, Some(text)) => {
                 let text = text.as_bytes();
+                reopened(rt, alloc, place, session, row.image, Some(text))?
+            }
+            (Reply::Refused(_), None) => {
+                let text = before.as_slice();
                 reopened(rt, alloc, place, session, row.image, Some(text))?
             }
             (_, None) => reopened(rt, alloc, place, session, row.image, None)?,

@@ -21,6 +21,10 @@ pub const GAPPED: &str =
 pub const FIRST_PATCH: &str =
     "change2 00000001 0000000000000001\n00000000: 41                                       A\nsave 00000001\ndone2 00000001 0000000000000001\n";
 
+/// The journal of three patches of one byte at 0 of `A`.
+pub const THREE: &str =
+    "change2 00000001 0000000000000001\n00000000: 41                                       A\nsave 00000001\ndone2 00000001 0000000000000001\nchange2 00000002 0000000000000001\n00000000: 61                                       a\nsave 00000002\ndone2 00000002 0000000000000001\nchange2 00000003 0000000000000001\n00000000: 62                                       b\nsave 00000003\ndone2 00000003 0000000000000001\n";
+
 /// The journal of two bytes at 4 of ten digits, that are cut there.
 pub const TAIL: &str =
     "change2 00000001 000000000000000a\n00000004: 3435 3637 3839                           456789\nsave 00000001\ndone2 00000001 0000000000000006\n";
@@ -28,6 +32,18 @@ pub const TAIL: &str =
 /// The journal of a change of nothing on the empty image.
 pub const EMPTY: &str =
     "change2 00000001 0000000000000000\nsave 00000001\ndone2 00000001 0000000000000000\n";
+
+/// The journal of a change of nothing on `abc`.
+const SAME: &str =
+    "change2 00000001 0000000000000003\nsave 00000001\ndone2 00000001 0000000000000003\n";
+
+/// The journal of pieces at 8, 2, 3 and 4 of ten letters.
+const RUNS: &str =
+    "change2 00000001 000000000000000a\n00000002: 4344 45                                  CDE\n00000008: 49                                       I\nsave 00000001\ndone2 00000001 000000000000000a\n";
+
+/// The journal of twenty bytes at 0 of twenty letters.
+const TWENTY: &str =
+    "change2 00000001 0000000000000014\n00000000: 4142 4344 4546 4748 494a 4b4c 4d4e 4f50  ABCDEFGHIJKLMNOP\n00000010: 5152 5354                                QRST\nsave 00000001\ndone2 00000001 0000000000000014\n";
 
 type Made = Result<Script<'static>, AllocError>;
 
@@ -85,7 +101,7 @@ pub fn too_many_undos(alloc: Global) -> Made {
     script.then(Ask::Revert("0: 62"), changed(2), b"b")?;
     script.then(Ask::Revert("0: 63"), changed(3), b"c")?;
     script.then(Ask::Undo(4), too_few(3), b"c")?;
-    script.then(Ask::Undo(0), undone(3), b"c")?;
+    script.then_text(Ask::Undo(0), undone(3), b"c", THREE)?;
     script.then_text(Ask::Undo(3), undone(0), b"A", "")?;
     Ok(script)
 }
@@ -96,13 +112,26 @@ pub fn empty_dump(alloc: Global) -> Made {
     Ok(script)
 }
 
+pub fn bad_second_line(alloc: Global) -> Made {
+    let mut script = Script::new(alloc, b"xyz");
+    let dump = Ask::Revert("00000000: 41\n00000001: 6g\n");
+    let bad_pair = Reply::Refused(Fault::BadPair { line: 2 });
+    script.then_text(dump, bad_pair, b"xyz", "")?;
+    Ok(script)
+}
+
+/// A byte behind the greatest image.
+pub fn image_limit(alloc: Global) -> Made {
+    let mut script = Script::new(alloc, b"AB");
+    let dump = Ask::Revert("ffffffffffff: 41");
+    let too_large = Reply::Refused(Fault::TooLarge);
+    script.then_text(dump, too_large, b"AB", "")?;
+    script.then(Ask::Revert("1: 41"), changed(1), b"AA")?;
+    Ok(script)
+}
+
 pub fn refusals(alloc: Global) -> Made {
     let mut script = Script::new(alloc, b"xyz");
-    let bad_second_line = Ask::Revert("00000000: 41\n00000001: 6g\n");
-    let bad_pair = Reply::Refused(Fault::BadPair { line: 2 });
-    script.then(bad_second_line, bad_pair, b"xyz")?;
-    let image_limit = Ask::Revert("ffffffffffff: 41\n");
-    script.then(image_limit, Reply::Refused(Fault::TooLarge), b"xyz")?;
     let odd = Reply::Refused(Fault::OddDigits { line: 1 });
     script.then(Ask::Plain("414", 0), odd, b"xyz")?;
     let bad_digit = Reply::Refused(Fault::BadPair { line: 1 });
@@ -127,8 +156,51 @@ pub fn dd_cuts_tail(alloc: Global) -> Made {
     Ok(script)
 }
 
-/// All of them.
-pub fn all(alloc: Global) -> Result<Vec<Script<'static>>, AllocError> {
+pub fn dd_empty_input(alloc: Global) -> Made {
+    let nothing = copied(1, [0, 0, 0, 0], 0);
+    let mut script = Script::new(alloc, b"abc");
+    let grown = Ask::Dd("obs=4 seek=2", b"");
+    script.then(grown, nothing, b"abc\0\0\0\0\0")?;
+    script.then_text(Ask::Undo(1), undone(0), b"abc", "")?;
+    let kept = Ask::Dd("obs=4 seek=2 conv=notrunc", b"");
+    script.then_text(kept, nothing, b"abc", SAME)?;
+    Ok(script)
+}
+
+pub fn notrunc_and_sync_block(alloc: Global) -> Made {
+    let part = copied(1, [0, 1, 0, 1], 0);
+    let mut script = Script::new(alloc, b"0123456789");
+    let kept = Ask::Dd("obs=4 seek=1 conv=notrunc", b"xy");
+    script.then(kept, part, b"0123xy6789")?;
+    script.then_text(Ask::Undo(1), undone(0), b"0123456789", "")?;
+    let padded = Ask::Dd("ibs=4 cbs=2 conv=sync,block", b"a\nb");
+    script.then(padded, part, b"a b ")?;
+    Ok(script)
+}
+
+/// Pieces out of order, of which two overlap and two touch.
+pub fn runs_out_of_order(alloc: Global) -> Made {
+    let mut script = Script::new(alloc, b"ABCDEFGHIJ");
+    let dump = Ask::Revert("8: 58\n2: 5859\n3: 5a\n4: 5b\n");
+    script.then_text(dump, changed(1), b"ABXZ[FGHXJ", RUNS)?;
+    script.then_text(Ask::Undo(1), undone(0), b"ABCDEFGHIJ", "")?;
+    Ok(script)
+}
+
+/// A run that takes two lines.
+pub fn run_of_twenty(alloc: Global) -> Made {
+    let letters = b"ABCDEFGHIJKLMNOPQRST";
+    let mut script = Script::new(alloc, letters);
+    let digits = Ask::Plain("7878787878787878787878787878787878787878", 0);
+    script.then_text(digits, changed(1), b"xxxxxxxxxxxxxxxxxxxx", TWENTY)?;
+    script.then_text(Ask::Undo(1), undone(0), letters, "")?;
+    Ok(script)
+}
+
+type Scripts = Vec<Script<'static>>;
+
+/// Dumps that are put onto images.
+fn dumps(alloc: Global) -> Result<Scripts, AllocError> {
     let mut scripts = Vec::new(alloc);
     scripts.push(patch_and_undo(alloc)?)?;
     scripts.push(overlapping_lines(alloc)?)?;
@@ -136,16 +208,43 @@ pub fn all(alloc: Global) -> Result<Vec<Script<'static>>, AllocError> {
     scripts.push(three_patches_reopened(alloc)?)?;
     scripts.push(too_many_undos(alloc)?)?;
     scripts.push(empty_dump(alloc)?)?;
+    scripts.push(runs_out_of_order(alloc)?)?;
+    Ok(scripts)
+}
+
+/// Dumps that are refused, plain digits, and transfers.
+fn with_others(alloc: Global, scripts: Scripts) -> Result<Scripts, AllocError> {
+    let mut scripts = scripts;
+    scripts.push(bad_second_line(alloc)?)?;
+    scripts.push(image_limit(alloc)?)?;
     scripts.push(refusals(alloc)?)?;
     scripts.push(plain_hex(alloc)?)?;
+    scripts.push(run_of_twenty(alloc)?)?;
     scripts.push(dd_cuts_tail(alloc)?)?;
+    scripts.push(dd_empty_input(alloc)?)?;
+    scripts.push(notrunc_and_sync_block(alloc)?)?;
     Ok(scripts)
+}
+
+/// All that commands alone make.
+pub fn all(alloc: Global) -> Result<Scripts, AllocError> {
+    with_others(alloc, dumps(alloc)?)
 }
 
 pub fn base_then_gap(alloc: Global) -> Made {
     let mut script = Script::new(alloc, b"ABCDE");
-    script.then(Ask::Cut(2, 4, b'Z'), changed(1), b"AB\0\0Z")?;
+    let cut = Ask::Change(Some(2), &[(4, "Z")]);
+    script.then(cut, changed(1), b"AB\0\0Z")?;
     script.then(Ask::Undo(1), undone(0), b"ABCDE")?;
+    Ok(script)
+}
+
+/// The last write has no bytes, and a place behind the image.
+pub fn empty_write_past_the_end(alloc: Global) -> Made {
+    let mut script = Script::new(alloc, b"ABCDE");
+    let writes = Ask::Change(None, &[(1, "xy"), (2, "zz"), (100, "")]);
+    script.then(writes, changed(1), b"AxzzE")?;
+    script.then_text(Ask::Undo(1), undone(0), b"ABCDE", "")?;
     Ok(script)
 }
 
@@ -156,21 +255,33 @@ pub fn cut_and_grown(alloc: Global) -> Made {
     let dump = Ask::Revert("0: 5858\n5: 5959 5959\n1e: 5a5a 5a5a 5a5a 5a5a\n");
     let grown = b"XX234YYYY9abcdefghijklmnopqrstZZZZZZZZ";
     script.then(dump, changed(1), grown)?;
-    script.then(Ask::Cut(3, 6, b'Q'), changed(2), b"XX2\0\0\0Q")?;
+    let cut = Ask::Change(Some(3), &[(6, "Q")]);
+    script.then(cut, changed(2), b"XX2\0\0\0Q")?;
     script.then(Ask::Undo(2), undone(0), first)?;
     Ok(script)
 }
 
-/// Those that run on devices that fail.
-pub fn failing(alloc: Global) -> Result<Vec<Script<'static>>, AllocError> {
+fn failing_dumps(alloc: Global) -> Result<Scripts, AllocError> {
     let mut scripts = Vec::new(alloc);
     scripts.push(patch_and_undo(alloc)?)?;
     scripts.push(overlapping_lines(alloc)?)?;
     scripts.push(gap_and_undo(alloc)?)?;
     scripts.push(three_patches_reopened(alloc)?)?;
     scripts.push(empty_dump(alloc)?)?;
+    Ok(scripts)
+}
+
+fn with_failing_cuts(alloc: Global, scripts: Scripts) -> Result<Scripts, AllocError> {
+    let mut scripts = scripts;
     scripts.push(base_then_gap(alloc)?)?;
+    scripts.push(empty_write_past_the_end(alloc)?)?;
     scripts.push(cut_and_grown(alloc)?)?;
+    scripts.push(dd_empty_input(alloc)?)?;
     scripts.push(dd_cuts_tail(alloc)?)?;
     Ok(scripts)
+}
+
+/// Those that run on devices that fail.
+pub fn failing(alloc: Global) -> Result<Scripts, AllocError> {
+    with_failing_cuts(alloc, failing_dumps(alloc)?)
 }

@@ -27,8 +27,8 @@ pub enum Ask<'a> {
     Dd(&'a str, &'a [u8]),
     /// Takes so many changes back.
     Undo(u32),
-    /// Cuts the image to so many bytes, and then writes one at a place. It is a change, and no command.
-    Cut(u32, u32, u8),
+    /// Cuts the image to so many bytes, or leaves it, and then writes each text at its place. It is a change, and no command.
+    Change(Option<u32>, &'a [(u32, &'a str)]),
 }
 
 /// The words of a line, with a space between two of them.
@@ -70,7 +70,7 @@ pub fn command<'a, A: Allocator + Clone>(
             Ok(Command::Dd { operands, input })
         }
         Ask::Undo(k) => Ok(Command::Undo { k }),
-        Ask::Cut(..) => Err(Fault::Usage),
+        Ask::Change(..) => Err(Fault::Usage),
     }
 }
 
@@ -136,29 +136,37 @@ pub fn run_command<D: Device, T: TextStore>(
     }
 }
 
-/// Cuts the image, and writes a byte.
-fn cut<D: Device, T: TextStore>(
+/// A text at a place.
+fn piece(alloc: Global, at: u32, text: &str) -> Result<Piece, Fault> {
+    let bytes = Bytes::from_vec(text.as_bytes().to_vec(alloc)?);
+    let at = at as u64;
+    Ok(Piece { at, bytes })
+}
+
+/// The texts at their places.
+fn pieces(alloc: Global, writes: &[(u32, &str)]) -> Result<Pieces, Fault> {
+    let mut list = Vec::new(alloc);
+    for write in writes {
+        if list.push(piece(alloc, write.0, write.1)?).is_err() {
+            return Err(Fault::NoMemory);
+        }
+    }
+    Ok(Pieces::from_vec(list))
+}
+
+/// Makes a change that no command makes.
+fn perform<D: Device, T: TextStore>(
     alloc: Global,
     session: &mut Session<D, T>,
-    base: u32,
-    at: u32,
-    byte: u8,
+    base: Option<u32>,
+    writes: &[(u32, &str)],
 ) -> Result<Reply, Fault> {
-    let bytes = Bytes::from_vec([byte].to_vec(alloc)?);
-    let mut pieces = Vec::new(alloc);
-    if pieces
-        .push(Piece {
-            at: at as u64,
-            bytes,
-        })
-        .is_err()
-    {
-        return Err(Fault::NoMemory);
-    }
-    let change = Change {
-        base: Some(base as u64),
-        writes: Pieces::from_vec(pieces),
+    let base = match base {
+        Some(len) => Some(len as u64),
+        None => None,
     };
+    let writes = pieces(alloc, writes)?;
+    let change = Change { base, writes };
     if session.faults() > MANY {
         return Err(Fault::DeviceFailed);
     }
@@ -174,8 +182,8 @@ pub fn ask_for<D: Device, T: TextStore>(
     session: &mut Session<D, T>,
     asked: Ask<'_>,
 ) -> Result<Reply, Fault> {
-    if let Ask::Cut(base, at, byte) = asked {
-        return cut(alloc, session, base, at, byte);
+    if let Ask::Change(base, writes) = asked {
+        return perform(alloc, session, base, writes);
     }
     run_command(alloc, session, command(alloc, asked)?)
 }

@@ -132,8 +132,9 @@ impl Write for Output {
         self.taken.write(&buf[..count])
     }
 
+    // No dump flushes.
     fn flush(&mut self) -> io::Result<()> {
-        Ok(())
+        Err(io::Error::from(ErrorKind::Other))
     }
 }
 
@@ -153,6 +154,7 @@ fn lines(alloc: Global) -> Result<Vec<&'static str>, AllocError> {
     lines.push("xxd -p")?;
     lines.push("xxd -b")?;
     lines.push("xxd -i")?;
+    lines.push("xxd -i 1a.bin")?;
     lines.push("xxd -s 5 -l 99")?;
     lines.push("hexdump -C")?;
     lines.push("hexdump -C -v -s 70")?;

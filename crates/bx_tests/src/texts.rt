@@ -1,7 +1,7 @@
 //! Texts that are cut off or changed: opening answers what the slow judge answers.
 use crate::judge::{Verdict, judge};
 use crate::places::{Memory, Place};
-use crate::scripts::{EMPTY, OVERLAPPED, PATCHED};
+use crate::scripts::{EMPTY, OVERLAPPED, PATCHED, THREE};
 use crate::session::{Ask, ask_for, open, opened};
 use bx_cli::Fault;
 use bx_image::MemImage;
@@ -10,10 +10,6 @@ use bx_store::MemText;
 use std::alloc::{AllocError, Global};
 use std::process::Abort;
 use std::test::Fail;
-
-/// The journal of three patches of one byte at 0 of `A`.
-const THREE: &str =
-    "change2 00000001 0000000000000001\n00000000: 41                                       A\nsave 00000001\ndone2 00000001 0000000000000001\nchange2 00000002 0000000000000001\n00000000: 61                                       a\nsave 00000002\ndone2 00000002 0000000000000001\nchange2 00000003 0000000000000001\n00000000: 62                                       b\nsave 00000003\ndone2 00000003 0000000000000001\n";
 
 /// A line of a journal in the first form: lengths of 8 digits, and none behind.
 fn first_line(alloc: Global, line: &str) -> Result<String, AllocError> {
