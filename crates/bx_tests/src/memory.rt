@@ -1,4 +1,4 @@
-//! Each growth of each call that takes memory, refused in turn.
+//! Each growth of a list of commands, and of opening, refused in turn.
 use crate::dd::copied;
 use crate::scripts::{OVERLAPPED, PATCHED};
 use crate::session::{Ask, command};
