@@ -104,33 +104,6 @@ cut_end_ok text x below es e v n newest mark =
       stack_is = sym newest.stack_is;
     }
 
--- undo, last step: the image is restored, and the rest of the entry is cut off
-pub cut_entry_fault : (text new y : List ℕ) (below : List (List ℕ)) (v : Version) (s : Kept) (n : ℕ) (open_ : IsOpen v s text y below) → restore s y ≡ y
-    → IsMark text n (record { entries = open_.entries; stage = Between }) → IsPartlyCut n text new → Recovers new y below
-cut_entry_fault text new y below v s n o same mark part =
-    let es : List Entry = o.entries in
-    let read : IsRead text (record { entries = es; stage = Ending v s }) = record { lines = o.reads.lines; whole = o.whole; short = o.sound.short } in
-    let early : (stage : Stage) → IsEarly stage → Fine y below (record { entries = es; stage = stage }) = early_fine o.entries (subst (AllCover es) same o.sound.finished) (subst (HaveLengths es) same o.lengths) (ap (stack_of es) (sym same) ∙ sym o.stack_is) in
-    let l = cut_leaves (Fine y below) text new n (record { entries = es; stage = Between }) (record { entries = es; stage = Ending v s }) mark read
-    (way_in_head (Fine y below) es v s early (record { covers = o.sound.unfinished; finished = o.sound.finished; lengths = o.lengths; stack_is = sym o.stack_is })) part in
-    record { reading = l.reading; reads = record { lines = l.reads.lines; rest = l.reads.rest }; sound = record { short = l.reads.short; unfinished = l.has.covers; finished = l.has.finished }; lengths = l.has.lengths; stack_is = l.has.stack_is }
-  where
-    early_fine : (es : List Entry) → AllCover es y → HaveLengths es y → stack_of es y ≡ below → (stage : Stage) → IsEarly stage → Fine y below (record { entries = es; stage = stage })
-    early_fine es finished lengths is Between h = record { covers = tt; finished = finished; lengths = lengths; stack_is = is }
-    early_fine es finished lengths is (Saving w t) h = record { covers = tt; finished = finished; lengths = lengths; stack_is = is }
-    early_fine es finished lengths is (Ending w t) h = absurd h
-
-pub cut_entry_ok : (text y : List ℕ) (below : List (List ℕ)) (v : Version) (s : Kept) (n : ℕ) (open_ : IsOpen v s text y below) → restore s y ≡ y
-    → IsMark text n (record { entries = open_.entries; stage = Between }) → IsAtRest (take n text) y below
-cut_entry_ok text y below v s n o same mark =
-    let es : List Entry = o.entries in
-    let read : IsRead text (record { entries = es; stage = Ending v s }) = record { lines = o.reads.lines; whole = o.whole; short = o.sound.short } in
-    let h = halves text n (record { entries = es; stage = Between }) (record { entries = es; stage = Ending v s }) mark read in
-    record {
-      stands = record { entries = es; reads = record { lines = mark.lines; rest = subst (IsRest es Between) (sym mark.whole) (inl refl) }; whole = mark.whole; lengths = subst (HaveLengths es) same o.lengths; stack_is = o.stack_is ∙ ap (stack_of es) same };
-      sound = record { short = h.0.short; unfinished = tt; finished = subst (AllCover es) same o.sound.finished };
-    }
-
 -- the newest entry of a pair at rest, where the marks name it
 pub newest_of : (text x : List ℕ) (below : List (List ℕ)) (es : List Entry) (e : Entry) (rest : IsAtRest text x (x ∷ below)) → rest.stands.entries ≡ e ∷ es → Newest text x below es e
 unfolding stack_of

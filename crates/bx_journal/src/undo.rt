@@ -1,6 +1,7 @@
 //! Taking entries back: the newest, or some of them one after another.
-ghost use Rattle.std.specs.Prelude.{◌≡◌, ◌↔◌, ◌+◌, ◌<◌, ◌≤◌, ◌∷◌, List, ℕ, length, take, map, OnOk, OnErr};
+ghost use Rattle.std.specs.Prelude.{◌≡◌, ◌↔◌, ◌+◌, ◌<◌, ◌≤◌, ◌∷◌, List, ℕ, length, take, map, OnOk, OnErr, is_err};
 ghost use Rattle.bx_image.specs.Change.{AllWithin, restore};
+ghost use Rattle.bx_image.specs.Device.{GoesOn};
 ghost use Rattle.bx_journal.specs.Kept.{run_of, kept_of};
 ghost use Rattle.bx_journal.specs.declared.version.Version.{Version as Form};
 ghost use Rattle.bx_journal.specs.Text.{Entry};
@@ -8,18 +9,35 @@ ghost use Rattle.std.specs.Prelude.{◌-◌};
 ghost use Rattle.bx_journal.specs.Stack.{Recovers, StandsFor};
 ghost use Rattle.bx_journal.specs.Undoing.{HasLeft};
 ghost use Rattle.bx_journal.specs.Phase.{IsAtRest, IsOpen, RecoversEither};
-ghost use Rattle.bx_journal.specs.Step.{TakesBack};
+ghost use Rattle.bx_journal.specs.Step.{HasTail, TakesBack};
 ghost use Rattle.std.specs.Prelude.{drop, []};
 ghost use Rattle.bx_journal.specs.Parsed.{AllKept, AreMarked, entries_of};
 ghost use Rattle.bx_journal.specs.Mark.{IsMark};
-ghost use Rattle.bx_journal.specs.Text.{Between};
+ghost use Rattle.bx_journal.specs.Text.{Between, Ending};
 ghost use Rattle.bx_journal.specs.Opening.{OneMore};
 
 use crate::EntryRead;
-use crate::images::restore_image;
+use crate::recovery::take_back;
 use bx_image::{Device, DeviceFailed, Saved};
 use bx_store::TextStore;
 use std::alloc::Allocator;
+
+/// Cuts off the line that ends the newest entry. The pair is then open on that entry.
+pub fn cut_end<T: TextStore>(store: &mut T, saved: u64) -> Result<(), DeviceFailed>
+    requires countable { T.failures store.old < u64.MAX }
+    requires within_text { T.honest store.old → saved ≤ length (T.text store.old) }
+    ensures ok { T.honest store.old → (x : List ℕ) (below : List (List ℕ)) (v : Form) (e : Entry) (begins : ℕ)
+        → TakesBack (T.text store.old) x below v e begins saved → OnOk result (IsOpen v e.saved (T.text store.new) x below) }
+    ensures tail { T.honest store.old → (x : List ℕ) (below : List (List ℕ)) (v : Form) (e : Entry) (begins : ℕ)
+        → (t : TakesBack (T.text store.old) x below v e begins saved)
+        → OnOk result (HasTail (T.text store.new) x below t.entries (Ending v e.saved) begins) }
+    ensures fault { T.honest store.old → (x : List ℕ) (below : List (List ℕ)) (v : Form) (e : Entry) (begins : ℕ)
+        → TakesBack (T.text store.old) x below v e begins saved → OnErr result (RecoversEither (T.text store.new) x (x ∷ below) below) }
+    ensures text { T.honest store.old → OnOk result (T.text store.new ≡ take saved (T.text store.old)) }
+    ensures goes_on { GoesOn T.honest T.room T.failures (is_err result) store.old store.new }
+{
+    store.cut(saved)
+}
 
 /// Takes the newest entry back: cuts the line that ends it, restores the image, and cuts the rest of it.
 pub fn undo_entry<D: Device, T: TextStore, A: Allocator>(
@@ -49,9 +67,8 @@ pub fn undo_entry<D: Device, T: TextStore, A: Allocator>(
     ensures no_failure { OnOk result ((D.failures device.new ≡ D.failures device.old) × (T.failures store.new ≡ T.failures store.old)) }
     ensures failure { OnErr result (OneMore (D.failures device.old) (T.failures store.old) (D.failures device.new) (T.failures store.new)) }
 {
-    store.cut(saved)?;
-    restore_image(device, kept)?;
-    store.cut(begins)
+    cut_end(store, saved)?;
+    take_back(device, store, kept, begins)
 }
 
 /// Takes the last k of the entries that were read back, the newest first.

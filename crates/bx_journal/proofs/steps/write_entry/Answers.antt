@@ -5,9 +5,7 @@ use Rattle.bx_image.specs.Change.{effect, saved}
 use Rattle.bx_journal.specs.Kept.{kept_of}
 use Rattle.bx_journal.specs.Entry.{head_text}
 use Rattle.bx_journal.specs.Phase.{as_read, IsAtRest, RecoversEither}
-use Rattle.bx_journal.specs.declared.version.Version.TheVariants.{Second}
-use Rattle.bx_journal.proofs.ChangeSteps.{change_moves, ends_of}
-use Rattle.bx_journal.proofs.Phases.{open_recovers}
+use Rattle.bx_journal.proofs.ChangeSteps.{ends_of}
 use Rattle.bx_journal.proofs.steps.write_entry.Goals as goal
 
 always_err : {T E P : Type 0} (r : Result T E) → P → OnErr r P
@@ -19,8 +17,7 @@ pub returns-in_err-change_image-clause-fault : goal.returns-in_err-change_image-
 returns-in_err-change_image-clause-fault g c device_honest store_honest stack writes =
     let x : List ℕ = g.D.Device.image c.args.device.now in
     let opened = c.in_ok-append_head.ensures.ok store_honest x stack (kept_of (saved c.args.change.now x)) writes.starts in
-    let moved = change_moves (kept_of (saved c.args.change.now x)) (g.T.TextStore.text c.append_head.new.store) x (g.D.Device.image c.change_image.new.device) stack opened (c.change_image.ensures.taken_back device_honest) in
-    always_err c.from_residual-in_err-change_image.result (inl (open_recovers Second (as_read (kept_of (saved c.args.change.now x))) _ _ stack moved))
+    always_err c.from_residual-in_err-change_image.result (inl (c.in_err-change_image.ensures.fault device_honest (g.T.TextStore.text c.append_head.new.store) stack opened))
 
 pub returns-clause-ok : goal.returns-clause-ok
 returns-clause-ok g c device_honest store_honest stack writes =
@@ -28,7 +25,7 @@ returns-clause-ok g c device_honest store_honest stack writes =
     let y : List ℕ = g.D.Device.image c.change_image.new.device in
     let is : y ≡ effect c.args.change.now x = c.in_ok-change_image.ensures.ok device_honest in
     let opened = c.in_ok-append_head.ensures.ok store_honest x stack (kept_of (saved c.args.change.now x)) writes.starts in
-    let moved = change_moves (kept_of (saved c.args.change.now x)) (g.T.TextStore.text c.append_head.new.store) x y stack opened (c.change_image.ensures.taken_back device_honest) in
+    let moved = c.change_image.ensures.phase device_honest (g.T.TextStore.text c.append_head.new.store) stack opened in
     let ends = ends_of c.args.change.now (g.T.TextStore.text c.args.store.now) (g.T.TextStore.text c.append_head.new.store) x y stack (head_text c.args.number (kept_of c.args.kept.now)) c.args.end.now writes moved is in
     on_ok_weaker c.append_end.result (subst (λ z. IsAtRest (g.T.TextStore.text c.append_end.new.store) y (z ∷ stack)) is)
     (c.append_end.ensures.ok (c.append_head.ensures.goes_on.honesty.1 store_honest) y stack (as_read (kept_of (saved c.args.change.now x))) ends)
@@ -39,7 +36,7 @@ returns-clause-fault g c device_honest store_honest stack writes =
     let y : List ℕ = g.D.Device.image c.change_image.new.device in
     let is : y ≡ effect c.args.change.now x = c.in_ok-change_image.ensures.ok device_honest in
     let opened = c.in_ok-append_head.ensures.ok store_honest x stack (kept_of (saved c.args.change.now x)) writes.starts in
-    let moved = change_moves (kept_of (saved c.args.change.now x)) (g.T.TextStore.text c.append_head.new.store) x y stack opened (c.change_image.ensures.taken_back device_honest) in
+    let moved = c.change_image.ensures.phase device_honest (g.T.TextStore.text c.append_head.new.store) stack opened in
     let ends = ends_of c.args.change.now (g.T.TextStore.text c.args.store.now) (g.T.TextStore.text c.append_head.new.store) x y stack (head_text c.args.number (kept_of c.args.kept.now)) c.args.end.now writes moved is in
     on_err_weaker c.append_end.result (subst (λ z. RecoversEither (g.T.TextStore.text c.append_end.new.store) y stack (z ∷ stack)) is)
     (c.append_end.ensures.fault (c.append_head.ensures.goes_on.honesty.1 store_honest) y stack (as_read (kept_of (saved c.args.change.now x))) ends)
