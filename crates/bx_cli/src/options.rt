@@ -234,6 +234,15 @@ static LOG: [Row; 1] = [JOURNAL];
 
 static DD: [Row; 1] = [JOURNAL];
 
+/// The option or the flag of a row.
+fn arg_of<'a>(alloc: Global, row: &Row) -> Arg<'a> {
+    let arg = Arg::new(alloc, row.id).short(row.short).help(row.help);
+    match row.value {
+        None => arg.action(ArgAction::SetTrue),
+        Some(value) => arg.action(ArgAction::Set).value_name(value),
+    }
+}
+
 /// The command with an option or a flag for each row.
 fn with_rows<'a>(
     alloc: Global,
@@ -242,12 +251,7 @@ fn with_rows<'a>(
 ) -> Result<Command<'a>, AllocError> {
     let mut command = command;
     for row in rows {
-        let arg = Arg::new(alloc, row.id).short(row.short).help(row.help);
-        let arg = match row.value {
-            None => arg.action(ArgAction::SetTrue),
-            Some(value) => arg.action(ArgAction::Set).value_name(value),
-        };
-        command = command.arg(arg)?;
+        command = command.arg(arg_of(alloc, row))?;
     }
     Ok(command)
 }
@@ -282,10 +286,11 @@ fn reader<'a>(
     command: Command<'a>,
     rows: &[Row],
 ) -> Result<Command<'a>, AllocError> {
+    let command = with_rows(alloc, command, rows)?;
     let file = Arg::new(alloc, "file")
         .value_name("FILE")
         .help("File to read [default: standard input]");
-    with_rows(alloc, command, rows)?.arg(file)
+    command.arg(file)
 }
 
 /// A command on IMAGE.
@@ -294,11 +299,12 @@ fn changer<'a>(
     command: Command<'a>,
     rows: &[Row],
 ) -> Result<Command<'a>, AllocError> {
+    let command = with_rows(alloc, command, rows)?;
     let image = Arg::new(alloc, "image")
         .value_name("IMAGE")
         .required(true)
         .help("Image, a file");
-    with_rows(alloc, command, rows)?.arg(image)
+    command.arg(image)
 }
 
 fn od<'a>(alloc: Global) -> Result<Command<'a>, AllocError> {
@@ -317,9 +323,14 @@ fn xxd<'a>(alloc: Global) -> Result<Command<'a>, AllocError> {
         .after_help(
             "Numbers: decimal, 0x and hexadecimal, or 0 and octal.\n\nEXAMPLES:\n  bx xxd -l 512 disk.img                   the first 512 bytes\n  bx xxd -s 0x1000 -c 8 -g 1 disk.img      from byte 4096 on, 8 bytes on a line\n  bx xxd -p key.bin | bx revert -p image   the bytes of one file onto another",
         );
+    let grouped = xxd_groups(alloc, command)?;
+    reader(alloc, grouped, &XXD)
+}
+
+/// One style and one case at a time; the C array has no upper case.
+fn xxd_groups<'a>(alloc: Global, command: Command<'a>) -> Result<Command<'a>, AllocError> {
     let styled = with_group(alloc, command, "style", &XXD_STYLES)?;
-    let cased = with_group(alloc, styled, "case", &XXD_CASES)?;
-    reader(alloc, cased, &XXD)
+    with_group(alloc, styled, "case", &XXD_CASES)
 }
 
 fn hexdump<'a>(alloc: Global) -> Result<Command<'a>, AllocError> {
@@ -346,12 +357,13 @@ fn dd<'a>(alloc: Global) -> Result<Command<'a>, AllocError> {
         .after_help(
             "Operands:\n  if=FILE       File to read [default: standard input]\n  of=IMAGE      Image that is changed [default: none, standard output is written]\n  ibs=BYTES     Bytes of an input block, 1 to 16777216 [default: 512]\n  obs=BYTES     Bytes of an output block [default: 512]\n  bs=BYTES      Both, 1 to 16777216\n  cbs=BYTES     Bytes of a record of block and unblock, 1 to 16777216\n  skip=BLOCKS   Input blocks to skip first [default: 0]\n  seek=BLOCKS   Output blocks in front of the place in IMAGE [default: 0]\n  count=BLOCKS  Most input blocks to copy [default: all]\n  conv=WORDS    Of block, unblock, lcase, ucase, swab, sync, notrunc, with commas\n\nNumbers: decimal, then b (512), k or K (1024), M (1048576) or G (1073741824); 2x80 is 160.\n\nEXAMPLES:\n  bx dd if=boot.bin of=disk.img seek=1 conv=notrunc    a file onto byte 512 of an image\n  bx dd if=log.txt conv=ucase count=1                  the first 512 bytes in upper case\n  bx dd if=cards conv=unblock cbs=80                   a line for each 80 bytes",
         );
+    let command = with_rows(alloc, command, &DD)?;
     let operands = Arg::new(alloc, "operand")
         .value_name("OPERAND")
         .num_args(1..)
         .action(ArgAction::Append)
         .help("NAME=VALUE, as below");
-    with_rows(alloc, command, &DD)?.arg(operands)
+    command.arg(operands)
 }
 
 fn revert<'a>(alloc: Global) -> Result<Command<'a>, AllocError> {

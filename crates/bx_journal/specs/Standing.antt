@@ -22,3 +22,15 @@ PerformFault DeviceFailed = Unit {0}
 PerformFault JournalFull = Unit {0}
 PerformFault Interrupted = Unit {0}
 PerformFault Broken = Unit {0}
+
+-- which fault a change may meet before its first write
+abbrev pub PrepareFault : SessionFault → Type 0
+PrepareFault NoMemory = Unit {0}
+PrepareFault TooLarge = Unit {0}
+PrepareFault DeviceFailed = Unit {0}
+PrepareFault (Damaged line) = ⊥
+PrepareFault (TooFew have) = ⊥
+PrepareFault (LengthDiffers expected) = ⊥
+PrepareFault JournalFull = ⊥
+PrepareFault Interrupted = ⊥
+PrepareFault Broken = ⊥

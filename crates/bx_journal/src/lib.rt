@@ -15,6 +15,7 @@ mod lengths;
 mod line;
 mod opening;
 mod page;
+mod preparing;
 mod reader;
 mod recovery;
 mod rest;

@@ -7,13 +7,10 @@ ghost use Rattle.bx_journal.specs.Machine.{PerformStep, top};
 ghost use Rattle.bx_journal.specs.Phase.{RecoversEither};
 
 use crate::SessionFault;
-use crate::images::save_image;
-use crate::lengths::head_len;
-use crate::page::new_page;
+use crate::preparing::prepare_change;
 use crate::step::MOST_CHANGES;
 use crate::steps::write_entry;
-use crate::writer::entry_end;
-use bx_image::{Change, Device, MAX_LEN, check};
+use bx_image::{Change, Device, MAX_LEN};
 use bx_store::TextStore;
 use std::alloc::{Allocator, Global};
 use std::marker::Model;
@@ -88,27 +85,22 @@ impl<D: Device, T: TextStore, A: Allocator + Clone> Session<D, T, A> {
         if self.count >= MOST_CHANGES {
             return Err(SessionFault::JournalFull);
         }
-        let len = self.device.len()?;
-        let after = check(change, len)?;
-        let kept = save_image(self.alloc.clone()?, &mut self.device, change)?;
         let number = self.count + 1;
-        let head = head_len(&kept);
-        let end = entry_end(number, after);
-        let line = end.as_bytes();
-        let mut page = new_page(self.alloc.clone()?, head)?;
-        self.device.reserve(after)?;
-        let text_len = self.store.len()?;
-        let most = text_len
-            .saturating_add(head)
-            .saturating_add(line.len() as u64);
-        self.store.reserve(most)?;
+        let mut ready = prepare_change(
+            &self.alloc,
+            &mut self.device,
+            &mut self.store,
+            change,
+            number,
+        )?;
+        let line = ready.end.as_bytes();
         match write_entry(
             &mut self.device,
             &mut self.store,
-            &mut page,
+            &mut ready.page,
             change,
             number,
-            &kept,
+            &ready.kept,
             line,
         ) {
             Ok(()) => {
