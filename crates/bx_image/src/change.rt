@@ -1,6 +1,6 @@
 //! Changes to images.
-ghost use Rattle.std.specs.Prelude.{◌≡◌, ◌↔◌, ◌+◌, ◌<◌, ◌≤◌, [], List, ℕ, length, IfOk, IsOk, OnOk, OnErr, is_err};
-ghost use Rattle.bx_image.specs.Change.{effect, saved, restore, Restores, AllWithin, Covers, IsAsGood, Fits, KeepsUntouched};
+ghost use Rattle.std.specs.Prelude.{◌≡◌, ◌↔◌, ◌+◌, ◌<◌, ◌≤◌, [], List, ℕ, length, IfOk, IsOk, OnOk, OnErr, is_err, IfSome};
+ghost use Rattle.bx_image.specs.Change.{effect, saved, restore, Restores, AllWithin, Covers, IsAsGood, Fits, KeepsUntouched, cut_to, IsPartlyCutTo};
 ghost use Rattle.bx_image.specs.Device.{GoesOn};
 ghost use Rattle.bx_image.specs.Image.{end_of};
 ghost use Rattle.bx_image.specs.declared.record.Saved.{Saved};
@@ -60,6 +60,21 @@ fn end_of_write<A: Allocator>(write: &Piece<A>) -> Result<u64, TooLarge>
     Ok(write.at + count)
 }
 
+// Brings the image to the base, where there is one.
+#[tactic(auto, using(crate::proofs::Devices::GoesOn_then))]
+fn set_base<D: Device>(device: &mut D, base: Option<u64>) -> Result<(), DeviceFailed>
+    requires countable { D.failures device.old < u64.MAX }
+    requires room { IfSome base (λ n. n ≤ D.room device.old) }
+    ensures ok { D.honest device.old → OnOk result (D.image device.new ≡ cut_to base (D.image device.old)) }
+    ensures failed { D.honest device.old → OnErr result (IsPartlyCutTo base (D.image device.old) (D.image device.new)) }
+    ensures goes_on { GoesOn D.honest D.room D.failures (is_err result) device.old device.new }
+{
+    if let Some(n) = base {
+        device.set_len(n)?;
+    }
+    Ok(())
+}
+
 /// Changes the image on a device, by one `set_len` where there is a base, then one `write_at` for
 /// each write that isn't empty. It takes no memory.
 ///
@@ -83,9 +98,7 @@ pub fn apply<D: Device, A: Allocator>(
     ensures again { D.honest device.old → (s : Saved A) → Restores change.now s → Covers s (D.image device.old) → IsAsGood s (D.image device.old) (D.image device.new) }
     ensures goes_on { GoesOn D.honest D.room D.failures (is_err result) device.old device.new }
 {
-    if let Some(n) = change.base {
-        device.set_len(n)?;
-    }
+    set_base(device, change.base)?;
     for write in change.writes.as_slice() {
         let bytes = write.bytes.as_slice();
         if !bytes.is_empty() {
