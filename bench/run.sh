@@ -105,5 +105,9 @@ library_calls() {
   "$calls" change changed less > report
   line 0.5 'perform against plain writes' "$(field call)" "$(field plain)"
   line 0.5 'undo against perform' "$(field undo)" "$(field call)"
+  # The same in huge pages, where the system gives them to who asks: most of an undo is memory touched for the first time.
+  GLIBC_TUNABLES=glibc.malloc.hugetlb=1 "$calls" change changed less > report
+  line 0.5 'perform, in huge pages' "$(field call)" "$(field plain)"
+  line 0.5 'undo, in huge pages' "$(field undo)" "$(field call)"
 }
 library_calls

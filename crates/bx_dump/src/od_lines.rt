@@ -23,7 +23,7 @@ fn address_of(address: Address, at: u64) -> ShortText<22>
 
 /// Puts an address of at most 7 octal digits.
 #[inline(always)]
-fn put_short(page: &mut [u8], at: u64) -> usize
+fn put_start_of_seven(page: &mut [u8], at: u64) -> usize
     requires room { 22 ≤ length page.old }
     requires fits { at < 8 ^ 7 }
     ensures most { result ≤ 22 }
@@ -36,7 +36,7 @@ fn put_short(page: &mut [u8], at: u64) -> usize
 
 /// Puts an address of 8 octal digits.
 #[inline(always)]
-fn put_long(page: &mut [u8], at: u64) -> usize
+fn put_start_of_eight(page: &mut [u8], at: u64) -> usize
     requires room { 22 ≤ length page.old }
     requires fits { at < 8 ^ 8 }
     requires all { 8 ^ 7 ≤ at }
@@ -50,7 +50,7 @@ fn put_long(page: &mut [u8], at: u64) -> usize
 
 /// Puts an address of 9 octal digits.
 #[inline(always)]
-fn put_longer(page: &mut [u8], at: u64) -> usize
+fn put_start_of_nine(page: &mut [u8], at: u64) -> usize
     requires room { 22 ≤ length page.old }
     requires fits { at < 8 ^ 9 }
     requires all { 8 ^ 8 ≤ at }
@@ -70,9 +70,9 @@ fn put_start(page: &mut [u8], address: Address, at: u64) -> usize
     ensures text { take result page.new ≡ address_text address at }
 {
     match address {
-        Address::Octal if at < 1 << 21 => put_short(page, at),
-        Address::Octal if at < 1 << 24 => put_long(page, at),
-        Address::Octal if at < 1 << 27 => put_longer(page, at),
+        Address::Octal if at < 1 << 21 => put_start_of_seven(page, at),
+        Address::Octal if at < 1 << 24 => put_start_of_eight(page, at),
+        Address::Octal if at < 1 << 27 => put_start_of_nine(page, at),
         _ => put_any_start(page, address, at),
     }
 }

@@ -6,7 +6,7 @@ ghost use Rattle.bx_read.specs.Next.{IsNextPiece};
 ghost use Rattle.bx_read.specs.declared.fault.ReadFault.{ReadFault};
 
 use crate::fault::ReadFault;
-use crate::full::FULL;
+use crate::full::ENDED;
 use crate::lines::DumpLines;
 use bx_text::{Bytes, Piece};
 use memchr::memchr;
@@ -44,7 +44,7 @@ fn gather<A: Allocator + Clone>(alloc: A, text: &[u8]) -> Result<Vec<Piece<A>, A
 /// How many lines there are if all are like the first, and none is shorter than xxd's default.
 fn expected_lines(text: &[u8]) -> usize {
     let first = memchr(b'\n', text).unwrap_or(0);
-    text.len() / first.max(FULL - 1) + 1
+    text.len() / first.max(ENDED - 1) + 1
 }
 
 /// The next line's piece, and none at the end.

@@ -13,7 +13,7 @@ pub struct FullLine {
 }
 
 /// How long such a line is with its newline.
-pub const FULL: usize = 68;
+pub const ENDED: usize = 68;
 
 /// The line that the text begins with, if it is one of 8 digits of address and 16 bytes.
 #[inline]

@@ -3,7 +3,7 @@ ghost use Rattle.std.specs.Prelude.{◌≡◌, ◌+◌, ◌^◌, ◌<◌, ◌≤
 ghost use Rattle.bx_read.specs.Text.{lines_of, is_skipped, answers};
 
 use crate::fault::ReadFault;
-use crate::full::{FULL, FullLine, full_line};
+use crate::full::{ENDED, FullLine, full_line};
 use crate::line::Line;
 use memchr::memchr;
 
@@ -56,11 +56,11 @@ impl<'a> DumpLines<'a> {
         ensures some { IfSome result (λ l. (hex : List ℕ) × (pairs_of hex ≡ Some l.bytes) × (coming self.old ≡ Ok (l.at, hex, self.old.passed + 1) ∷ coming self.new)) }
         ensures none { IfNone result (self.new ≡ self.old) }
     {
-        if self.text.len() < FULL {
+        if self.text.len() < ENDED {
             return None;
         }
         let line = full_line(self.text)?;
-        self.text = &self.text[FULL..];
+        self.text = &self.text[ENDED..];
         self.passed += 1;
         Some(line)
     }

@@ -51,15 +51,22 @@ impl Operands {
         self.obs as usize + 1
     }
 
-    fn line(&self, alloc: Global) -> Result<String, AllocError> {
+    fn sizes(&self, alloc: Global) -> Result<String, AllocError> {
         let ibs = self.block_in();
         let obs = self.block_out();
+        format!(in alloc; "ibs={ibs} obs={obs}")
+    }
+
+    fn counts(&self, alloc: Global) -> Result<String, AllocError> {
         let skip = self.skip;
         let seek = self.seek;
         let count = self.count;
-        let mut line = format!(in alloc;
-            "ibs={ibs} obs={obs} skip={skip} seek={seek} count={count}"
-        )?;
+        format!(in alloc; " skip={skip} seek={seek} count={count}")
+    }
+
+    fn line(&self, alloc: Global) -> Result<String, AllocError> {
+        let mut line = self.sizes(alloc)?;
+        line.push_str(self.counts(alloc)?.as_str())?;
         line.push_str(match (self.sync, self.notrunc) {
             (true, true) => " conv=sync,notrunc",
             (true, false) => " conv=sync",
@@ -80,16 +87,18 @@ impl Operands {
     /// What is written of the input.
     fn output(&self, alloc: Global, input: &[u8]) -> Result<Vec<u8>, AllocError> {
         let mut bytes = self.selected(input).to_vec(alloc)?;
-        let part = bytes.len() % self.block_in();
-        if self.sync && part > 0 {
-            let padded = bytes
-                .len()
-                .saturating_add(self.block_in())
-                .saturating_sub(part);
-            bytes.resize(padded, 0)?;
+        if self.sync {
+            bytes.resize(padded(bytes.len(), self.block_in()), 0)?;
         }
         Ok(bytes)
     }
+}
+
+/// So many bytes, and those that are missing to whole blocks.
+fn padded(len: usize, size: usize) -> usize
+    requires { 0 < size }
+{
+    len.div_ceil(size).saturating_mul(size)
 }
 
 /// Whole blocks of so many bytes, and parts of one.
@@ -98,6 +107,46 @@ fn blocks(len: usize, size: usize) -> (u64, u64)
 {
     let part = if len % size == 0 { 0 } else { 1 };
     ((len / size) as u64, part)
+}
+
+/// The counts that dd tells of such an input and output.
+fn counted(operands: &Operands, input: &[u8], output: &[u8]) -> [u64; 4] {
+    let read = blocks(operands.selected(input).len(), operands.block_in());
+    let written = blocks(output.len(), operands.block_out());
+    [read.0, read.1, written.0, written.1]
+}
+
+/// The images with one more, on which the output was put.
+fn put_on(
+    alloc: Global,
+    images: &mut Images,
+    operands: &Operands,
+    output: &[u8],
+) -> Result<(), AllocError> {
+    let at = (operands.seek as usize).saturating_mul(operands.block_out());
+    let mut image = images.copy(alloc)?;
+    if !operands.notrunc {
+        image.resize(at, 0)?;
+    }
+    put(&mut image, at, output)?;
+    images.push(image)
+}
+
+/// A transfer of these bytes onto the image.
+fn copy_from<D: Device, T: TextStore>(
+    rt: &impl Abort,
+    alloc: Global,
+    operands: &Operands,
+    input: &[u8],
+    images: &mut Images,
+    session: &mut Session<D, T>,
+) -> Result<(), Fail> {
+    let output = operands.output(alloc, input)?;
+    put_on(alloc, images, operands, output.as_slice())?;
+    let counts = counted(operands, input, output.as_slice());
+    let line = operands.line(alloc)?;
+    let ask = Ask::Dd(line.as_str(), input);
+    assert_reply(rt, alloc, session, ask, copied(images.changes(), counts, 0))
 }
 
 /// A transfer onto the image.
@@ -110,21 +159,5 @@ pub fn copy<D: Device, T: TextStore>(
 ) -> Result<(), Fail> {
     let input = dice.bytes(alloc, 40)?;
     let operands = Operands::roll(dice);
-    let output = operands.output(alloc, input.as_slice())?;
-    let at = (operands.seek as usize).saturating_mul(operands.block_out());
-    let mut image = images.copy(alloc)?;
-    if !operands.notrunc {
-        image.resize(at, 0)?;
-    }
-    put(&mut image, at, output.as_slice())?;
-    images.push(image)?;
-    let read = blocks(
-        operands.selected(input.as_slice()).len(),
-        operands.block_in(),
-    );
-    let written = blocks(output.len(), operands.block_out());
-    let counts = [read.0, read.1, written.0, written.1];
-    let line = operands.line(alloc)?;
-    let ask = Ask::Dd(line.as_str(), input.as_slice());
-    assert_reply(rt, alloc, session, ask, copied(images.changes(), counts, 0))
+    copy_from(rt, alloc, &operands, input.as_slice(), images, session)
 }

@@ -7,6 +7,7 @@ use bx_dd::Counts;
 use bx_image::MemImage;
 use bx_journal::Session;
 use bx_store::MemText;
+use bx_text::Words;
 use std::alloc::{AllocError, Global};
 use std::io;
 use std::io::{ErrorKind, Read};
@@ -189,7 +190,18 @@ fn trickling(rest: &[u8], interruptions: u32, fails_after: u32) -> Trickle<'_> {
     }
 }
 
-/// The reply to dd with these operands, and a session that has seen no failure.
+/// The reply to dd with these operands.
+fn run_trickled(
+    alloc: Global,
+    session: &mut Session<MemImage, MemText>,
+    operands: Words,
+    input: Trickle<'_>,
+) -> Result<Option<Reply>, Fault> {
+    let replies = run_all(alloc, session, &mut [Command::Dd { operands, input }])?;
+    Ok(replies.first().copied())
+}
+
+/// Runs dd with these operands, and asserts its reply.
 fn assert_trickled(
     rt: &impl Abort,
     alloc: Global,
@@ -199,8 +211,8 @@ fn assert_trickled(
     expected: Reply,
 ) -> Result<(), Fail> {
     let operands = words(alloc, line)?;
-    let replies = run_all(alloc, session, &mut [Command::Dd { operands, input }])?;
-    assert!(rt; replies.first() == Some(&expected), "at {line}");
+    let reply = run_trickled(alloc, session, operands, input)?;
+    assert!(rt; reply == Some(expected), "at {line}");
     Ok(())
 }
 

@@ -260,6 +260,32 @@ fn again(
     Ok(session)
 }
 
+/// Takes the newest change back, where there is one.
+fn assert_undone(
+    rt: &impl Abort,
+    alloc: Global,
+    session: &mut MemSession,
+    images: &mut Images,
+) -> Result<(), Fail> {
+    if !images.undo(1) {
+        return Ok(());
+    }
+    let left = images.changes();
+    assert_reply(rt, alloc, session, Ask::Undo(1), Reply::Undone { left })
+}
+
+/// Opens a session's pair again, and takes the newest change back.
+fn step_back(
+    rt: &impl Abort,
+    alloc: Global,
+    session: MemSession,
+    images: &mut Images,
+) -> Result<MemSession, Fail> {
+    let mut session = again(rt, alloc, session, images)?;
+    assert_undone(rt, alloc, &mut session, images)?;
+    Ok(session)
+}
+
 /// Takes the changes back one by one: each image is that of the list.
 fn assert_stack(
     rt: &impl Abort,
@@ -269,17 +295,7 @@ fn assert_stack(
 ) -> Result<(), Fail> {
     let mut session = session;
     for _ in 0..images.changes().saturating_add(1) {
-        session = again(rt, alloc, session, images)?;
-        if images.undo(1) {
-            let left = images.changes();
-            assert_reply(
-                rt,
-                alloc,
-                &mut session,
-                Ask::Undo(1),
-                Reply::Undone { left },
-            )?;
-        }
+        session = step_back(rt, alloc, session, images)?;
     }
     let (_, store) = session.close();
     assert!(rt; store.as_slice().is_empty());

@@ -176,16 +176,26 @@ fn perform<D: Device, T: TextStore>(
     }
 }
 
+/// Runs the command that asks for it.
+fn run_asked<D: Device, T: TextStore>(
+    alloc: Global,
+    session: &mut Session<D, T>,
+    asked: Ask<'_>,
+) -> Result<Reply, Fault> {
+    let command = command(alloc, asked)?;
+    run_command(alloc, session, command)
+}
+
 /// Asks for one thing.
 pub fn ask_for<D: Device, T: TextStore>(
     alloc: Global,
     session: &mut Session<D, T>,
     asked: Ask<'_>,
 ) -> Result<Reply, Fault> {
-    if let Ask::Change(base, writes) = asked {
-        return perform(alloc, session, base, writes);
+    match asked {
+        Ask::Change(base, writes) => perform(alloc, session, base, writes),
+        _ => run_asked(alloc, session, asked),
     }
-    run_command(alloc, session, command(alloc, asked)?)
 }
 
 /// Asks for one thing, which has to be answered so.

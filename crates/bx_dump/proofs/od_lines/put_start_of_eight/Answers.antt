@@ -1,7 +1,7 @@
 use Rattle.std.proofs.Common.{◌∙◌, arith}
 use Rattle.std.proofs.lemmas.List.{take_at}
 use Rattle.bx_dump.proofs.DigitParts.{address_filled}
-use Rattle.bx_dump.proofs.od_lines.put_long.Goals as goal
+use Rattle.bx_dump.proofs.od_lines.put_start_of_eight.Goals as goal
 
 pub returns-clause-text : goal.returns-clause-text
 returns-clause-text c =
