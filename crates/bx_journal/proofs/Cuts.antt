@@ -1,20 +1,19 @@
 -- A text that is cut behind a mark, or nearly so.
-use Rattle.std.proofs.Common.{◌≡◌, ℕ, ◌+◌, ◌-◌, ◌≤◌, true, List, [], ◌∷◌, ◌++◌, length, take, drop, refl, ap, sym, ◌∙◌, subst, inl, inr, ◌⊎◌, arith, Some}
+use Rattle.std.proofs.Common.{◌≡◌, ℕ, ◌+◌, ◌-◌, ◌≤◌, true, List, [], ◌∷◌, ◌++◌, length, take, drop, ap, sym, ◌∙◌, subst, inl, inr, ◌⊎◌, arith, Some}
 use Rattle.std.specs.List.{list_all}
 use Rattle.std.proofs.lemmas.List.{take-append-drop}
 use Rattle.std.proofs.lemmas.List.Folds.{list_all-append}
 use Rattle.std.proofs.Math.Seq.{take-add}
-use Rattle.bx_journal.specs.Kept.{Kept}
 use Rattle.bx_image.specs.Change.{restore, Covers}
 use Rattle.bx_journal.specs.declared.version.Version.{Version}
-use Rattle.bx_journal.specs.Text.{IsPrefix, Reading, Entry, Stage, Between, Saving, Ending, IsRest, Split, split, start, joined, after_lines, is_short}
+use Rattle.bx_journal.specs.Text.{IsPrefix, Reading, Entry, Between, Ending, IsRest, Split, split, start, joined, after_lines, is_short}
 use Rattle.bx_journal.specs.Stack.{stack_of, HaveLengths, AllCover, Recovers}
 use Rattle.bx_journal.specs.Phase.{IsAtRest, IsOpen, RecoversEither}
 use Rattle.bx_journal.specs.Mark.{IsMark}
 use Rattle.bx_store.specs.Store.{IsPartlyCut}
 use Rattle.bx_journal.proofs.Splits.{split-append}
 use Rattle.bx_journal.proofs.Runs.{SafeRun, Goes, safe_prefix, after_lines-append, empty_rest}
-use Rattle.bx_journal.proofs.Foreign.{lines_plain, joined_lines, and_true, OnTheWay, foreign_run, way_in_head, way_in_end, IsEarly}
+use Rattle.bx_journal.proofs.Foreign.{lines_plain, joined_lines, and_true, OnTheWay, foreign_run, way_in_end}
 use Rattle.bx_journal.proofs.Phases.{Fine, IsWhole, ReadsShort, extends}
 
 -- a whole text of short lines

@@ -1,6 +1,6 @@
 -- A written entry may be cut anywhere.
-use Rattle.std.proofs.Common.{◌≡◌, ℕ, suc, ◌+◌, ◌<◌, ◌≤◌, Bool, true, false, List, [], ◌∷◌, ◌++◌, length, length-append, refl, sym, subst, inl, inr, arith, append_assoc, append-nil, Some, None, map}
-use Rattle.std.specs.Prelude.{◌&&◌, flat_map, nat_le, nat_lt, if◌then◌else◌}
+use Rattle.std.proofs.Common.{◌≡◌, ℕ, suc, ◌<◌, ◌≤◌, Bool, true, false, List, [], ◌∷◌, ◌++◌, length, length-append, refl, sym, subst, inl, inr, arith, append_assoc, append-nil, Some, map}
+use Rattle.std.specs.Prelude.{◌&&◌, flat_map, nat_le, nat_lt}
 use Rattle.std.specs.List.{list_all}
 use Rattle.std.specs.Str.{bytes_eq}
 use Rattle.std.proofs.lemmas.Grind.{common_steps}
@@ -11,7 +11,7 @@ use Rattle.bx_journal.specs.Kept.{Kept}
 use Rattle.bx_journal.specs.declared.version.Version.{Version}
 use Rattle.bx_journal.specs.declared.version.Version.TheVariants.{Second}
 use Rattle.bx_journal.specs.Hex.{hex_digits}
-use Rattle.bx_journal.specs.DumpLine.{dump_line, piece_of}
+use Rattle.bx_journal.specs.DumpLine.{dump_line}
 use Rattle.bx_journal.specs.Line.{start_line, save_line, end_line, saved_in}
 use Rattle.bx_journal.specs.Entry.{rows, head_lines}
 use Rattle.bx_text.specs.Ascii.{is_printable}

@@ -1,6 +1,6 @@
 -- What a saved line gives, from what it gives as a line of a dump.
 use Rattle.std.proofs.Common.{◌≡◌, ℕ, ◌+◌, ◌<◌, ◌≤◌, min, Bool, true, false, List, length, length-take, take, refl, ap, sym, ◌∙◌, arith, Option, Some, None}
-use Rattle.std.specs.Prelude.{◌&&◌, nat_le, nat_lt, if◌then◌else◌, MatchOption, option_map}
+use Rattle.std.specs.Prelude.{◌&&◌, nat_le, if◌then◌else◌, MatchOption, option_map}
 use Rattle.std.proofs.lemmas.Grind.{common_steps}
 use Rattle.bx_read.specs.Line.{line_piece}
 use Rattle.bx_read.specs.Digits.{pairs_of}

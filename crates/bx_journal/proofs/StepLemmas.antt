@@ -1,5 +1,5 @@
 -- What a line does, from what the tests on it say.
-use Rattle.std.proofs.Common.{◌≡◌, ℕ, suc, Bool, true, false, List, [], ◌∷◌, ◌++◌, length, refl, Some, None}
+use Rattle.std.proofs.Common.{◌≡◌, ℕ, suc, Bool, true, false, List, length, refl, Some, None}
 use Rattle.std.specs.Str.{bytes_eq}
 use Rattle.bx_journal.specs.Kept.{Run, Kept, with_run}
 use Rattle.bx_journal.specs.declared.version.Version.{Version}

@@ -1,25 +1,22 @@
 -- Counting entries: what a line does, the loop over lines, and what opening finds.
-use Rattle.std.proofs.Common.{◌≡◌, ℕ, suc, ◌+◌, ◌≤◌, Bool, true, false, List, [], ◌∷◌, ◌++◌, length, take, drop, refl, ap, sym, ◌∙◌, subst, inl, inr, ◌⊎◌, arith, Option, Some, None, Result, Ok, Err}
+use Rattle.std.proofs.Common.{◌≡◌, ℕ, suc, ◌+◌, List, [], ◌∷◌, length, refl, ap, sym, ◌∙◌, subst, inl, inr, ◌⊎◌, arith, Option, Some, None, Result, Ok, Err}
 use Rattle.std.specs.Prelude.{IfSome, IfOk, IfErr, OnOk, OnErr}
-use Rattle.std.specs.Str.{bytes_eq}
 use Rattle.bx_journal.specs.declared.version.Version.{Version}
-use Rattle.bx_journal.specs.declared.version.Version.TheVariants.{First, Second}
 use Rattle.bx_journal.specs.declared.tally.Place.{Place}
 use Rattle.bx_journal.specs.declared.tally.Place.TheVariants.{Between as BetweenPlace, Saving as SavingPlace, Ending as EndingPlace}
 use Rattle.bx_journal.specs.declared.tally.Tally.{Tally}
 use Rattle.bx_journal.specs.declared.calls.How.TheVariants.{Clean}
 use Rattle.bx_journal.specs.declared.fault.SessionFault.{SessionFault}
-use Rattle.bx_journal.specs.Kept.{Kept, Run, with_run}
+use Rattle.bx_journal.specs.Kept.{Kept}
 use Rattle.bx_journal.specs.Line.{after_in}
-use Rattle.bx_journal.specs.Text.{Entry, Stage, Between, Saving, Ending, Reading, Reads, Split, split, start, next, next_at, after_lines, IsRest}
+use Rattle.bx_journal.specs.Text.{Entry, Stage, Between, Saving, Ending, Reading, Reads, split, start, next, next_at, after_lines, IsRest}
 use Rattle.bx_journal.specs.Parsed.{told_by}
 use Rattle.bx_journal.specs.Plain.{HasNoNewline}
-use Rattle.bx_journal.specs.Stack.{HaveLengths, IsSound, Recovers, StandsFor, image_at, recovered, stack_of}
+use Rattle.bx_journal.specs.Stack.{HaveLengths, IsSound, Recovers, image_at, recovered, stack_of}
 use Rattle.bx_journal.specs.Phase.{IsAtRest}
 use Rattle.bx_journal.specs.declared.fault.SessionFault.TheVariants.{DeviceFailed, Damaged, LengthDiffers}
 use Rattle.bx_journal.specs.Calls.{how_of, Differs, OpenFault, AfterFault}
 use Rattle.bx_journal.specs.Opening.{IsOpened, RefusesLength, FaultCounts}
-use Rattle.bx_journal.specs.Undoing.{IsFinished}
 use Rattle.bx_journal.specs.Tally.{place_of, tally_of, IsCounted}
 use Rattle.bx_journal.proofs.LineLoop.{IsLine, line_on, rest_on, lines_end, rest_end}
 use Rattle.bx_journal.proofs.OpenLemmas.{after_same, begins_told, counts_beside, differs_of, one_told, same_lengths, some_same}

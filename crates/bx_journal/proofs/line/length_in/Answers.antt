@@ -1,4 +1,4 @@
-use Rattle.std.proofs.Common.{◌≡◌, sym, ◌∙◌}
+use Rattle.std.proofs.Common.{sym, ◌∙◌}
 use Rattle.bx_journal.proofs.LineLemmas.{other_size}
 use Rattle.bx_journal.proofs.line.length_in.Goals as goal
 

@@ -1,4 +1,4 @@
-use Rattle.std.proofs.Common.{◌≡◌, ℕ, ◌+◌, List, [], ◌∷◌, length, take, drop, refl, ap, sym, ◌∙◌, subst, arith, length-drop}
+use Rattle.std.proofs.Common.{◌≡◌, ℕ, ◌+◌, List, [], ◌∷◌, length, take, drop, refl, ap, sym, subst, arith, length-drop}
 use Rattle.bx_journal.proofs.LineLoop.{IsLine}
 use Rattle.bx_journal.proofs.TallyLemmas.{IsTallied, tallied_start, tallied_on, tallied_end}
 use Rattle.bx_journal.proofs.tally.count_entries.Goals as goal

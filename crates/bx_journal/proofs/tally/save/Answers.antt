@@ -1,4 +1,4 @@
-use Rattle.std.proofs.Common.{◌≡◌, take, refl, ap, sym, ◌∙◌}
+use Rattle.std.proofs.Common.{take, refl, ap, sym, ◌∙◌}
 use Rattle.bx_journal.specs.declared.tally.Place.TheVariants.{Saving as SavingPlace}
 use Rattle.bx_journal.specs.Kept.{Run, with_run}
 use Rattle.bx_journal.specs.Line.{saved_in}

@@ -1,4 +1,4 @@
-use Rattle.std.proofs.Common.{◌≡◌, [], refl, arith}
+use Rattle.std.proofs.Common.{[], refl, arith}
 use Rattle.bx_journal.specs.declared.version.Version.TheVariants.{First, Second}
 use Rattle.bx_journal.specs.Text.{Saving}
 use Rattle.bx_journal.proofs.StepLemmas.{start_first, start_second}

@@ -1,7 +1,6 @@
-use Rattle.std.proofs.Common.{◌≡◌, ℕ, List, sym, subst, inr, Result, Ok, Err}
+use Rattle.std.proofs.Common.{ℕ, List, sym, subst, inr, Result, Ok, Err}
 use Rattle.std.specs.Prelude.{OnErr}
 use Rattle.std.proofs.lemmas.Result.{on_err_weaker}
-use Rattle.bx_journal.specs.Kept.{Kept, kept_of}
 use Rattle.bx_journal.specs.Step.{HasTail}
 use Rattle.bx_journal.specs.Text.{Ending}
 use Rattle.bx_journal.proofs.undo.undo_entry.Goals as goal

@@ -1,4 +1,3 @@
-use Rattle.std.proofs.Common.{◌≡◌}
 use Rattle.bx_journal.proofs.TallyLemmas.{counted_opened, counted_rest, counted_same, counted_stack, length_opens, length_refuses}
 use Rattle.bx_journal.proofs.unfinished.open_counted.Goals as goal
 

@@ -1,7 +1,7 @@
 use Rattle.std.proofs.Common.{◌≡◌, ℕ, suc, ◌+◌, List, ◌∷◌, ◌++◌, length, refl, ap, sym, ◌∙◌, subst, arith, append_assoc}
 use Rattle.bx_image.specs.declared.change.TheConstants.{MAX_LEN}
 use Rattle.bx_journal.specs.Kept.{kept_of}
-use Rattle.bx_image.specs.Change.{effect, saved, IsOf, IsAsGood, Fits}
+use Rattle.bx_image.specs.Change.{effect, saved, IsAsGood, Fits}
 use Rattle.bx_journal.specs.Entry.{head_text, end_text}
 use Rattle.bx_journal.specs.Machine.{top}
 use Rattle.bx_journal.specs.Phase.{IsAtRest, RecoversEither}
