@@ -18,6 +18,8 @@ mod memory;
 #[cfg(test)]
 mod model;
 #[cfg(test)]
+mod outputs;
+#[cfg(test)]
 mod places;
 #[cfg(test)]
 mod random;
