@@ -3,7 +3,7 @@ use crate::model::Images;
 use crate::places::{Memory, Place};
 use crate::script::{Row, Script};
 use crate::scripts::failing;
-use crate::session::{Ask, ask_for, assert_reply, open, opened};
+use crate::session::{Ask, ask_for, assert_bytes, assert_reply, open, opened};
 use bx_cli::{Fault, Reply};
 use bx_image::{Device, FuseImage, MemImage, Part};
 use bx_journal::Session;
@@ -254,7 +254,7 @@ fn again(
     images: &Images,
 ) -> Result<MemSession, Fail> {
     let (device, store) = session.close();
-    assert!(rt; device.as_slice() == images.top());
+    assert_bytes(rt, device.as_slice(), images.top());
     let (session, found) = opened(alloc, device, store)?;
     assert!(rt; found.changes == images.changes());
     Ok(session)
@@ -423,7 +423,17 @@ fn open_fused(
     fused: Fused,
 ) -> Result<Found<MemImage, MemText>, Fail> {
     let (image, text) = Memory.pair(alloc, pair.0, pair.1)?;
-    Ok(match fused {
+    Ok(open_with(rt, alloc, image, text, fused))
+}
+
+fn open_with(
+    rt: &impl Abort,
+    alloc: Global,
+    image: MemImage,
+    text: MemText,
+    fused: Fused,
+) -> Found<MemImage, MemText> {
+    match fused {
         Fused::Image(pass, part, once) => {
             open_fused_image(rt, alloc, FuseImage::new(image, pass, part, once), text)
         }
@@ -436,7 +446,7 @@ fn open_fused(
         Fused::TextReads(pass) => {
             open_fused_text(rt, alloc, image, FuseText::on_reads(text, pass))
         }
-    })
+    }
 }
 
 /// Stops the opening of a pair at one call: the stack that opening finds stays. Answers what is left, if it was stopped.

@@ -1,7 +1,8 @@
 //! Calls below the session, with each growth refused in turn; and a heap that takes memory back.
+use crate::memory::{BumpSession, open_pair, pair};
 use crate::model::Images;
 use crate::scripts::PATCHED;
-use crate::session::{Ask, command, open};
+use crate::session::{Ask, assert_bytes, command, open, words};
 use bumpalo::Bump;
 use bx_cli::{Fault, Reply, run_all};
 use bx_image::MemImage;
@@ -9,7 +10,7 @@ use bx_journal::{Session, SessionFault};
 use bx_ration::{ALIGN, arena, squeeze, used};
 use bx_read::{read_dump, read_plain};
 use bx_store::MemText;
-use bx_text::{Source, Words};
+use bx_text::Source;
 use linked_list_allocator::LocalHeap;
 use std::alloc::{AllocError, Global};
 use std::process::Abort;
@@ -30,11 +31,18 @@ enum Call {
 const DUMP: &[u8] = b"0: 4142\n5: 43 44\n*\n\n9: 45\n";
 
 fn push_words(bump: &Bump) -> Result<bool, Fault> {
-    let mut words = Words::new(bump);
-    for word in ["ibs=3", "conv=block,ucase", "cbs=4"] {
-        words.push(word)?;
-    }
+    let words = words(bump, "ibs=3 conv=block,ucase cbs=4")?;
     Ok(words.len() == 3 && words.get(1) == Some("conv=block,ucase"))
+}
+
+fn reads_plain(bump: &Bump) -> Result<bool, Fault> {
+    let bytes = read_plain(bump, b"41 42\n4 3")?;
+    Ok(bytes.as_slice() == b"ABC".as_slice())
+}
+
+fn reads_rest(bump: &Bump) -> Result<bool, Fault> {
+    let bytes = Source::new(DUMP, 1 << 40).rest(bump)?;
+    Ok(bytes.as_slice() == DUMP)
 }
 
 /// Squeezes the arena, makes the call, and tells whether its answer is right.
@@ -42,14 +50,8 @@ fn attempt(bump: &Bump, call: Call, bytes: usize) -> Result<bool, Fault> {
     squeeze(bump, bytes)?;
     match call {
         Call::ReadDump => Ok(read_dump(bump, DUMP)?.len() == 3),
-        Call::ReadPlain => {
-            let bytes = read_plain(bump, b"41 42\n4 3")?;
-            Ok(bytes.as_slice() == b"ABC".as_slice())
-        }
-        Call::Rest => {
-            let bytes = Source::new(DUMP, 1 << 40).rest(bump)?;
-            Ok(bytes.as_slice() == DUMP)
-        }
+        Call::ReadPlain => reads_plain(bump),
+        Call::Rest => reads_rest(bump),
         Call::PushWords => push_words(bump),
     }
 }
@@ -90,15 +92,18 @@ fn growths_of_readers(rt: HostRuntime) -> Result<(), Fail> {
     Ok(())
 }
 
-/// A session whose image, text and rows stand in an arena.
-type ArenaSession<'a> = Session<MemImage<&'a Bump>, MemText<&'a Bump>, &'a Bump>;
+fn open_in(bump: &Bump) -> Result<BumpSession<'_>, Fault> {
+    open_pair(bump, pair(bump, b"ABxyEFGH", PATCHED.as_bytes())?)
+}
 
-fn open_in(bump: &Bump) -> Result<ArenaSession<'_>, Fail> {
-    let image = MemImage::from_vec(b"ABxyEFGH".to_vec(bump)?);
-    let text = MemText::from_vec(PATCHED.as_bytes().to_vec(bump)?);
-    match open(bump, image, text) {
-        Ok((session, _)) => Ok(session),
-        Err(_) => Err(Fault::NoMemory.into()),
+/// Lists the changes: whether there is one row. It may be refused where memory is short.
+fn has_one_row(rt: &impl Abort, session: &mut BumpSession<'_>, is_short: bool) -> bool {
+    match session.log() {
+        Ok(rows) => rows.len() == 1,
+        Err(fault) => {
+            assert!(rt; is_short && fault == SessionFault::NoMemory);
+            false
+        }
     }
 }
 
@@ -106,31 +111,25 @@ fn open_in(bump: &Bump) -> Result<ArenaSession<'_>, Fail> {
 fn list_in<'a>(
     rt: &impl Abort,
     bump: &'a Bump,
-    session: &mut ArenaSession<'a>,
+    session: &mut BumpSession<'a>,
     bytes: usize,
 ) -> Result<(bool, usize), Fail> {
     squeeze(bump, bytes)?;
-    let listed = session.log();
+    let right = has_one_row(rt, session, true);
     let taken = used(bump, bytes);
     bump.set_allocation_limit(None);
-    match listed {
-        Ok(rows) => Ok((rows.len() == 1, taken)),
-        Err(fault) => {
-            assert!(rt; fault == SessionFault::NoMemory);
-            Ok((false, taken))
-        }
-    }
+    Ok((right, taken))
 }
 
-/// Lists the changes with so many bytes: the rows, or nothing.
+/// Lists the changes with so many bytes: the rows, or nothing. Then all memory is there.
 fn list<'a>(rt: &impl Abort, bump: &'a Bump, bytes: usize) -> Result<(bool, usize), Fail> {
     let mut session = open_in(bump)?;
-    let (right, taken) = list_in(rt, bump, &mut session, bytes)?;
-    assert!(rt; session.log()?.len() == 1);
+    let listed = list_in(rt, bump, &mut session, bytes)?;
+    assert!(rt; has_one_row(rt, &mut session, false));
     let (image, text) = session.close();
-    assert!(rt; image.as_slice() == b"ABxyEFGH".as_slice());
-    assert!(rt; text.as_slice() == PATCHED.as_bytes());
-    Ok((right, taken))
+    assert_bytes(rt, image.as_slice(), b"ABxyEFGH");
+    assert_bytes(rt, text.as_slice(), PATCHED.as_bytes());
+    Ok(listed)
 }
 
 #[test]

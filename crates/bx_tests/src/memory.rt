@@ -15,9 +15,10 @@ use std::test::Fail;
 /// No call takes so many bytes.
 const MOST_BYTES: usize = 20_000;
 
-type Left<'a> = (MemImage<&'a Bump>, MemText<&'a Bump>);
+pub type Left<'a> = (MemImage<&'a Bump>, MemText<&'a Bump>);
 
-type BumpSession<'a> = Session<MemImage<&'a Bump>, MemText<&'a Bump>, &'a Bump>;
+/// A session whose image, text and rows stand in an arena.
+pub type BumpSession<'a> = Session<MemImage<&'a Bump>, MemText<&'a Bump>, &'a Bump>;
 
 /// A pair, and one command on it.
 #[derive(Clone, Copy)]
@@ -74,12 +75,12 @@ impl Count {
     }
 }
 
-fn pair<'a>(bump: &'a Bump, image: &[u8], text: &[u8]) -> Result<Left<'a>, AllocError> {
+pub fn pair<'a>(bump: &'a Bump, image: &[u8], text: &[u8]) -> Result<Left<'a>, AllocError> {
     let image = MemImage::from_vec(image.to_vec(bump)?);
     Ok((image, MemText::from_vec(text.to_vec(bump)?)))
 }
 
-fn open<'a>(bump: &'a Bump, left: Left<'a>) -> Result<BumpSession<'a>, Fault> {
+pub fn open_pair<'a>(bump: &'a Bump, left: Left<'a>) -> Result<BumpSession<'a>, Fault> {
     let (device, store) = left;
     match Session::open(bump, device, store) {
         Ok((session, _)) => Ok(session),
@@ -111,7 +112,7 @@ fn refuse<'a>(
     case: &Case<'_>,
     bytes: usize,
 ) -> Result<(Refusal, usize), Fail> {
-    let mut session = open(bump, pair(bump, case.image, case.text.as_bytes())?)?;
+    let mut session = open_pair(bump, pair(bump, case.image, case.text.as_bytes())?)?;
     let changes = session.changes();
     let reply = run_case(bump, &mut session, case, Some(bytes))?;
     let taken = used(bump, bytes);
@@ -141,7 +142,7 @@ fn run_again<'a>(
     left: Left<'a>,
     case: &Case<'_>,
 ) -> Result<(), Fail> {
-    let mut session = open(bump, left)?;
+    let mut session = open_pair(bump, left)?;
     let reply = run_case(bump, &mut session, case, None)?;
     assert_eq!(rt; reply, Some(case.reply));
     let (device, _) = session.close();

@@ -4,11 +4,12 @@ ghost use Rattle.bx_cli.specs.Command.{IsNear};
 
 use crate::places::Place;
 use crate::session::{
-    Ask, SliceCommand, assert_reply, command, image_bytes, opened, run, text_bytes,
+    Ask, SliceCommand, assert_bytes, assert_reply, assert_same, command, image_bytes, opened, run,
+    text_bytes,
 };
 use bx_cli::{Fault, Reply};
 use bx_image::Device;
-use bx_journal::{How, Session};
+use bx_journal::{How, Recovered, Session};
 use bx_store::TextStore;
 use std::alloc::{AllocError, Global};
 use std::process::Abort;
@@ -80,6 +81,55 @@ pub fn commands<'a>(alloc: Global, rows: &[Row<'a>]) -> Result<Vec<SliceCommand<
     Ok(list)
 }
 
+/// An image has these bytes.
+fn assert_image<D: Device>(
+    rt: &impl Abort,
+    alloc: Global,
+    device: &mut D,
+    image: &[u8],
+) -> Result<(), Fail> {
+    assert_bytes(rt, image_bytes(alloc, device)?.as_slice(), image);
+    Ok(())
+}
+
+/// A journal has this text, where it is told.
+fn assert_text<T: TextStore>(
+    rt: &impl Abort,
+    alloc: Global,
+    store: &mut T,
+    text: Option<&[u8]>,
+) -> Result<(), Fail> {
+    if let Some(text) = text {
+        assert_bytes(rt, text_bytes(alloc, store)?.as_slice(), text);
+    }
+    Ok(())
+}
+
+/// Opens a pair that was closed.
+fn open_again<D: Device + Drop, T: TextStore + Drop, P: Place<D, T>>(
+    alloc: Global,
+    place: &P,
+    device: D,
+    store: T,
+) -> Result<(Session<D, T>, Recovered), Fail> {
+    let (device, store) = place.again(device, store)?;
+    Ok(opened(alloc, device, store)?)
+}
+
+/// Opens a pair that was closed: it is found as it was.
+fn open_clean<D: Device + Drop, T: TextStore + Drop, P: Place<D, T>>(
+    rt: &impl Abort,
+    alloc: Global,
+    place: &P,
+    device: D,
+    store: T,
+    changes: u32,
+) -> Result<Session<D, T>, Fail> {
+    let (session, found) = open_again(alloc, place, device, store)?;
+    assert!(rt; found.how == How::Clean && found.changes == changes);
+    Ok(session)
+}
+
 /// Closes a session, compares what it leaves, and opens the pair again: it is found as it was.
 pub fn reopened<D: Device + Drop, T: TextStore + Drop, P: Place<D, T>>(
     rt: &impl Abort,
@@ -91,14 +141,9 @@ pub fn reopened<D: Device + Drop, T: TextStore + Drop, P: Place<D, T>>(
 ) -> Result<Session<D, T>, Fail> {
     let changes = session.changes();
     let (mut device, mut store) = session.close();
-    assert!(rt; image_bytes(alloc, &mut device)?.as_slice() == image);
-    if let Some(text) = text {
-        assert!(rt; text_bytes(alloc, &mut store)?.as_slice() == text);
-    }
-    let (device, store) = place.again(device, store)?;
-    let (session, found) = opened(alloc, device, store)?;
-    assert!(rt; found.how == How::Clean && found.changes == changes);
-    Ok(session)
+    assert_image(rt, alloc, &mut device, image)?;
+    assert_text(rt, alloc, &mut store, text)?;
+    open_clean(rt, alloc, place, device, store, changes)
 }
 
 /// The text that a session has.
@@ -109,8 +154,53 @@ fn text_of<D: Device + Drop, T: TextStore + Drop, P: Place<D, T>>(
 ) -> Result<(Session<D, T>, Vec<u8>), Fail> {
     let (device, mut store) = session.close();
     let text = text_bytes(alloc, &mut store)?;
-    let (device, store) = place.again(device, store)?;
-    Ok((opened(alloc, device, store)?.0, text))
+    Ok((open_again(alloc, place, device, store)?.0, text))
+}
+
+/// A session on an image, with no journal.
+pub fn started<D: Device + Drop, T: TextStore + Drop, P: Place<D, T>>(
+    alloc: Global,
+    place: &P,
+    image: &[u8],
+) -> Result<Session<D, T>, Fail> {
+    let (device, store) = place.pair(alloc, image, b"")?;
+    Ok(opened(alloc, device, store)?.0)
+}
+
+/// The text that a row leaves, where it is known. A refusal leaves the text.
+fn text_behind<'a>(row: &Row<'a>, before: &'a [u8]) -> Option<&'a [u8]> {
+    match (row.reply, row.text) {
+        (_, Some(text)) => Some(text.as_bytes()),
+        (Reply::Refused(_), None) => Some(before),
+        (_, None) => None,
+    }
+}
+
+/// Runs the command of a row, and opens the pair anew.
+fn play_row<D: Device + Drop, T: TextStore + Drop, P: Place<D, T>>(
+    rt: &impl Abort,
+    alloc: Global,
+    place: &P,
+    session: Session<D, T>,
+    row: &Row<'_>,
+    before: &[u8],
+) -> Result<Session<D, T>, Fail> {
+    let mut session = session;
+    assert_reply(rt, alloc, &mut session, row.ask, row.reply)?;
+    let text = text_behind(row, before);
+    reopened(rt, alloc, place, session, row.image, text)
+}
+
+/// The same, with the text that was there before.
+fn play_on<D: Device + Drop, T: TextStore + Drop, P: Place<D, T>>(
+    rt: &impl Abort,
+    alloc: Global,
+    place: &P,
+    session: Session<D, T>,
+    row: &Row<'_>,
+) -> Result<Session<D, T>, Fail> {
+    let (session, before) = text_of(alloc, place, session)?;
+    play_row(rt, alloc, place, session, row, before.as_slice())
 }
 
 /// Runs a script, and opens the pair anew behind each command. A refusal leaves the text.
@@ -120,23 +210,9 @@ pub fn play<D: Device + Drop, T: TextStore + Drop, P: Place<D, T>>(
     place: &P,
     script: &Script<'_>,
 ) -> Result<(), Fail> {
-    let (device, store) = place.pair(alloc, script.first, b"")?;
-    let (mut session, _) = opened(alloc, device, store)?;
+    let mut session = started(alloc, place, script.first)?;
     for row in script.rows.as_slice() {
-        let (same, before) = text_of(alloc, place, session)?;
-        session = same;
-        assert_reply(rt, alloc, &mut session, row.ask, row.reply)?;
-        session = match (row.reply, row.text) {
-            (_, Some(text)) => {
-                let text = text.as_bytes();
-                reopened(rt, alloc, place, session, row.image, Some(text))?
-            }
-            (Reply::Refused(_), None) => {
-                let text = before.as_slice();
-                reopened(rt, alloc, place, session, row.image, Some(text))?
-            }
-            (_, None) => reopened(rt, alloc, place, session, row.image, None)?,
-        };
+        session = play_on(rt, alloc, place, session, row)?;
     }
     Ok(())
 }
@@ -144,7 +220,28 @@ pub fn play<D: Device + Drop, T: TextStore + Drop, P: Place<D, T>>(
 fn assert_replies(rt: &impl Abort, replies: &[Reply], rows: &[Row<'_>]) {
     assert_eq!(rt; replies.len(), rows.len());
     for (reply, row) in replies.iter().zip(rows) {
-        assert_eq!(rt; *reply, row.reply);
+        assert_same(rt, *reply, row.reply);
+    }
+}
+
+/// Runs the commands of some rows as one list.
+fn run_part<D: Device, T: TextStore>(
+    rt: &impl Abort,
+    alloc: Global,
+    session: &mut Session<D, T>,
+    part: &[Row<'_>],
+) -> Result<(), Fail> {
+    let mut list = commands(alloc, part)?;
+    let replies = run(alloc, session, list.as_mut_slice())?;
+    assert_replies(rt, replies.as_slice(), part);
+    Ok(())
+}
+
+/// The image behind some rows.
+fn image_behind<'a>(part: &[Row<'a>], image: &'a [u8]) -> &'a [u8] {
+    match part.last() {
+        Some(row) => row.image,
+        None => image,
     }
 }
 
@@ -156,18 +253,13 @@ fn play_parts<D: Device + Drop, T: TextStore + Drop, P: Place<D, T>>(
     script: &Script<'_>,
     count: usize,
 ) -> Result<(), Fail> {
-    let (device, store) = place.pair(alloc, script.first, b"")?;
-    let (mut session, _) = opened(alloc, device, store)?;
+    let mut session = started(alloc, place, script.first)?;
     let rows = script.rows.as_slice();
     let (front, back) = rows.split_at(count.min(rows.len()));
     let mut image = script.first;
     for part in [front, back] {
-        let mut list = commands(alloc, part)?;
-        let replies = run(alloc, &mut session, list.as_mut_slice())?;
-        assert_replies(rt, replies.as_slice(), part);
-        if let Some(row) = part.last() {
-            image = row.image;
-        }
+        run_part(rt, alloc, &mut session, part)?;
+        image = image_behind(part, image);
         session = reopened(rt, alloc, place, session, image, None)?;
     }
     Ok(())

@@ -206,8 +206,19 @@ pub fn assert_reply<D: Device, T: TextStore>(
     asked: Ask<'_>,
     expected: Reply,
 ) -> Result<(), Fail> {
-    assert_eq!(rt; ask_for(alloc, session, asked)?, expected);
+    let reply = ask_for(alloc, session, asked)?;
+    assert_same(rt, reply, expected);
     Ok(())
+}
+
+/// These are the bytes.
+pub fn assert_bytes(rt: &impl Abort, found: &[u8], expected: &[u8]) {
+    assert!(rt; found == expected);
+}
+
+/// This is the reply.
+pub fn assert_same(rt: &impl Abort, reply: Reply, expected: Reply) {
+    assert_eq!(rt; reply, expected);
 }
 
 /// The bytes of an image.

@@ -1,6 +1,6 @@
 //! Readers and writers that fail at each of their calls, under each dump.
+use crate::session::{assert_bytes, words};
 use bx_cli::{Done, Fault, Job, plan_words, run_dump};
-use bx_text::Words;
 use std::alloc::{AllocError, Global};
 use std::io::{self, ErrorKind, Read, Write};
 use std::process::Abort;
@@ -140,35 +140,30 @@ impl Write for Output {
 
 /// The job of a line of words.
 fn job(alloc: Global, line: &str) -> Result<Job, Fault> {
-    let mut words = Words::new(alloc);
-    for word in line.split(' ') {
-        words.push(word)?;
-    }
+    let words = words(alloc, line)?;
     plan_words(alloc, &words)
 }
 
-fn lines(alloc: Global) -> Result<Vec<&'static str>, AllocError> {
-    let mut lines = Vec::new(alloc);
-    lines.push("xxd")?;
-    lines.push("xxd -c 7 -g 3 -u")?;
-    lines.push("xxd -p")?;
-    lines.push("xxd -b")?;
-    lines.push("xxd -i")?;
-    lines.push("xxd -i 1a.bin")?;
-    lines.push("xxd -s 5 -l 99")?;
-    lines.push("hexdump -C")?;
-    lines.push("hexdump -C -v -s 70")?;
-    lines.push("od")?;
-    lines.push("od -c -j 60")?;
-    lines.push("od -A d -t d4 -N 301")?;
-    lines.push("od -A n -t x1 -v")?;
-    lines.push("strings")?;
-    lines.push("strings -n 2 -t x")?;
-    lines.push("dd bs=7 skip=3 count=40")?;
-    lines.push("dd ibs=5 obs=3 conv=swab,sync")?;
-    lines.push("dd cbs=9 conv=block,ucase")?;
-    Ok(lines)
-}
+const LINES: [&str; 18] = [
+    "xxd",
+    "xxd -c 7 -g 3 -u",
+    "xxd -p",
+    "xxd -b",
+    "xxd -i",
+    "xxd -i 1a.bin",
+    "xxd -s 5 -l 99",
+    "hexdump -C",
+    "hexdump -C -v -s 70",
+    "od",
+    "od -c -j 60",
+    "od -A d -t d4 -N 301",
+    "od -A n -t x1 -v",
+    "strings",
+    "strings -n 2 -t x",
+    "dd bs=7 skip=3 count=40",
+    "dd ibs=5 obs=3 conv=swab,sync",
+    "dd cbs=9 conv=block,ucase",
+];
 
 /// Bytes with equal rows, text and other bytes in them.
 fn sample(alloc: Global, count: u32) -> Result<Vec<u8>, AllocError> {
@@ -195,6 +190,16 @@ fn plain(alloc: Global, job: &Job, bytes: &[u8]) -> (Result<Done, Fault>, Vec<u8
     (done, taken)
 }
 
+/// This is what a dump came to.
+fn assert_done(rt: &impl Abort, done: Result<Done, Fault>, expected: Result<Done, Fault>) {
+    assert_eq!(rt; done, expected);
+}
+
+/// What was written is a front of the text.
+fn assert_front(rt: &impl Abort, written: &[u8], text: &[u8]) {
+    assert!(rt; text.starts_with(written));
+}
+
 /// A reader that does something at one call. Tells whether the call came.
 fn assert_reader(
     rt: &impl Abort,
@@ -215,11 +220,11 @@ fn assert_reader(
     };
     let (whole, text) = plain(alloc, job, &bytes[..given]);
     if turn.act == Act::Fail {
-        assert_eq!(rt; done, Err(Fault::ReadFailed));
-        assert!(rt; text.as_slice().starts_with(to.taken.as_slice()));
+        assert_done(rt, done, Err(Fault::ReadFailed));
+        assert_front(rt, to.taken.as_slice(), text.as_slice());
     } else {
-        assert_eq!(rt; done, whole);
-        assert!(rt; text.as_slice() == to.taken.as_slice());
+        assert_done(rt, done, whole);
+        assert_bytes(rt, to.taken.as_slice(), text.as_slice());
     }
     Ok(true)
 }
@@ -242,12 +247,12 @@ fn assert_writer(
     match turn.act {
         Act::Fail | Act::Nothing => {
             let written = to.taken.len() as u64;
-            assert_eq!(rt; done, Err(Fault::WriteFailed { written }));
-            assert!(rt; text.as_slice().starts_with(to.taken.as_slice()));
+            assert_done(rt, done, Err(Fault::WriteFailed { written }));
+            assert_front(rt, to.taken.as_slice(), text.as_slice());
         }
         Act::Interrupt | Act::Half => {
-            assert_eq!(rt; done, whole);
-            assert!(rt; text.as_slice() == to.taken.as_slice());
+            assert_done(rt, done, whole);
+            assert_bytes(rt, to.taken.as_slice(), text.as_slice());
         }
     }
     Ok(true)
@@ -283,12 +288,26 @@ impl Side {
 fn turns_of(rt: &impl Abort, alloc: Global, side: Side) -> Result<u32, Fail> {
     let bytes = sample(alloc, 600)?;
     let mut turns = 0u32;
-    for line in lines(alloc)?.as_slice() {
+    for line in LINES.as_slice() {
         let job = job(alloc, line)?;
-        for act in ACTS {
-            let came = calls_of(rt, alloc, side, &job, bytes.as_slice(), act)?;
-            turns = turns.saturating_add(came);
-        }
+        let more = turns_under(rt, alloc, side, &job, bytes.as_slice())?;
+        turns = turns.saturating_add(more);
+    }
+    Ok(turns)
+}
+
+/// The same under one dump.
+fn turns_under(
+    rt: &impl Abort,
+    alloc: Global,
+    side: Side,
+    job: &Job,
+    bytes: &[u8],
+) -> Result<u32, Fail> {
+    let mut turns = 0u32;
+    for act in ACTS {
+        let came = calls_of(rt, alloc, side, job, bytes, act)?;
+        turns = turns.saturating_add(came);
     }
     Ok(turns)
 }
@@ -326,19 +345,37 @@ fn writers_at_each_call(rt: HostRuntime) -> Result<(), Fail> {
     Ok(())
 }
 
+/// Each front of the bytes is dumped to its end.
+fn assert_fronts(rt: &impl Abort, alloc: Global, job: &Job, bytes: &[u8]) {
+    for n in 0..bytes.len() + 1 {
+        let (front, _) = bytes.split_at(n);
+        assert_dumped(rt, alloc, job, front);
+    }
+}
+
+fn assert_dumped(rt: &impl Abort, alloc: Global, job: &Job, bytes: &[u8]) {
+    let (done, _) = plain(alloc, job, bytes);
+    assert_done(rt, done, Ok(Done::Dumped(bytes.len() as u64)));
+}
+
 #[test]
 fn every_length(rt: HostRuntime) -> Result<(), Fail> {
     let alloc = rt.alloc();
     let bytes = sample(alloc, 600)?;
     for line in ["xxd", "od", "hexdump -C", "strings"] {
         let job = job(alloc, line)?;
-        for n in 0..bytes.len() + 1 {
-            let (front, _) = bytes.as_slice().split_at(n);
-            let (done, _) = plain(alloc, &job, front);
-            assert_eq!(rt; done, Ok(Done::Dumped(n as u64)));
-        }
+        assert_fronts(&rt, alloc, &job, bytes.as_slice());
     }
     Ok(())
+}
+
+/// How many bytes a dump takes of a reader that gives five at a time.
+fn given_by_fives(alloc: Global, job: &Job, bytes: &[u8], turn: Turn) -> usize {
+    let mut from = Input::new(bytes, turn);
+    from.each = 5;
+    let mut to = Output::new(alloc, Turn::never());
+    let _ = run_dump(alloc, job, &mut from, &mut to);
+    from.given
 }
 
 #[test]
@@ -348,11 +385,8 @@ fn dd_reads_no_more(rt: HostRuntime) -> Result<(), Fail> {
     let job = job(alloc, "dd bs=7 skip=3 count=4")?;
     for act in ACTS {
         for left in 0..20 {
-            let mut from = Input::new(bytes.as_slice(), Turn::new(act, left));
-            from.each = 5;
-            let mut to = Output::new(alloc, Turn::never());
-            let _ = run_dump(alloc, &job, &mut from, &mut to);
-            assert!(rt; from.given <= 49);
+            let turn = Turn::new(act, left);
+            assert!(rt; given_by_fives(alloc, &job, bytes.as_slice(), turn) <= 49);
         }
     }
     Ok(())
