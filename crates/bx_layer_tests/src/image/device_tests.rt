@@ -1,0 +1,161 @@
+//! Fuses: what a failed call leaves, and which calls a change and its saving make.
+ghost use Rattle.std.specs.Prelude.{◌≡◌, IfOk};
+
+use crate::image::change_tests::change;
+use crate::image::guarded::{
+    applied, assert_countable, assert_failed, assert_faults, assert_length, cut, length, reserve,
+    saved, write,
+};
+use crate::shared::assert_bytes;
+use bx_image::{Change, Device, FuseImage, MemImage, Part};
+use std::alloc::{AllocError, Global};
+use std::process::Abort;
+use std::test::Fail;
+
+fn memory(alloc: Global, bytes: &[u8]) -> Result<MemImage, AllocError>
+    ensures { IfOk result (λ image. ⟦<MemImage as Device>⟧.failures image ≡ 0) }
+{
+    Ok(MemImage::from_vec(bytes.to_vec(alloc)?))
+}
+
+// Six bytes, of whose writes so many pass.
+fn fused(
+    alloc: Global,
+    pass: u64,
+    part: Part,
+    once: bool,
+) -> Result<FuseImage<MemImage>, AllocError> {
+    Ok(FuseImage::new(memory(alloc, b"ABCDEF")?, pass, part, once))
+}
+
+// Bytes of which so many reads pass.
+fn fused_reads(alloc: Global, bytes: &[u8], pass: u64) -> Result<FuseImage<MemImage>, AllocError> {
+    Ok(FuseImage::on_reads(memory(alloc, bytes)?, pass))
+}
+
+// The second write fails.
+fn write_thrice<D: Device>(rt: &impl Abort, device: &mut D) -> Result<(), Fail> {
+    reserve(device, 6)?;
+    write(rt, device, 0, b"x")?;
+    assert_failed(rt, write(rt, device, 2, b"yzw"));
+    assert_length(rt, device, 6)?;
+    write(rt, device, 5, b"!")?;
+    assert_faults(rt, device, 1);
+    Ok(())
+}
+
+fn assert_part_of_write(
+    rt: &impl Abort,
+    alloc: Global,
+    part: Part,
+    left: &[u8],
+) -> Result<(), Fail> {
+    let mut image = fused(alloc, 1, part, true)?;
+    write_thrice(rt, &mut image)?;
+    assert_bytes(rt, image.into_inner().as_slice(), left);
+    Ok(())
+}
+
+#[test]
+fn part_of_a_failed_write(rt: HostRuntime) -> Result<(), Fail> {
+    assert_part_of_write(&rt, rt.alloc(), Part::Nothing, b"xBCDE!")?;
+    assert_part_of_write(&rt, rt.alloc(), Part::Half, b"xByDE!")?;
+    assert_part_of_write(&rt, rt.alloc(), Part::All, b"xByzw!")
+}
+
+// The change of the length fails, and so does the write.
+fn cut_and_write<D: Device>(rt: &impl Abort, device: &mut D, n: u64, len: u64) -> Result<(), Fail> {
+    reserve(device, 9)?;
+    assert_failed(rt, cut(rt, device, n));
+    assert_length(rt, device, len)?;
+    assert_failed(rt, write(rt, device, 0, b"?"));
+    assert_faults(rt, device, 2);
+    Ok(())
+}
+
+fn assert_part_of_cut(
+    rt: &impl Abort,
+    alloc: Global,
+    part: Part,
+    n: u64,
+    len: u64,
+) -> Result<(), Fail> {
+    let mut image = fused(alloc, 0, part, false)?;
+    cut_and_write(rt, &mut image, n, len)
+}
+
+#[test]
+fn part_of_a_failed_cut(rt: HostRuntime) -> Result<(), Fail> {
+    let cases = [(Part::Nothing, 6, 6), (Part::Half, 4, 7), (Part::All, 1, 9)];
+    for (part, shorter, longer) in cases {
+        assert_part_of_cut(&rt, rt.alloc(), part, 1, shorter)?;
+        assert_part_of_cut(&rt, rt.alloc(), part, 9, longer)?;
+    }
+    Ok(())
+}
+
+// Asks for the length, and reads twice: the second read fails.
+fn read_twice(rt: &impl Abort, image: &mut FuseImage<MemImage>) -> Result<(), Fail> {
+    assert_countable(rt, image);
+    let len = image.len()?;
+    assert!(rt; len == 4);
+    let mut bytes = [0; 2];
+    image.read_at(1, &mut bytes)?;
+    assert_bytes(rt, &bytes, b"BC");
+    assert_failed(rt, image.read_at(0, &mut bytes));
+    Ok(())
+}
+
+// Writes pass where reads fail.
+fn write_and_cut<D: Device>(rt: &impl Abort, device: &mut D) -> Result<(), Fail> {
+    reserve(device, 4)?;
+    write(rt, device, 0, b"x")?;
+    cut(rt, device, 3)?;
+    assert!(rt; length(rt, device).is_err());
+    assert_faults(rt, device, 2);
+    Ok(())
+}
+
+#[test]
+fn reads_fail_after_two(rt: HostRuntime) -> Result<(), Fail> {
+    let mut image = fused_reads(rt.alloc(), b"ABCD", 2)?;
+    read_twice(&rt, &mut image)?;
+    write_and_cut(&rt, &mut image)?;
+    assert_bytes(&rt, image.into_inner().as_slice(), b"xBC");
+    Ok(())
+}
+
+// Does the change go through where so many calls that write pass?
+fn applies(rt: &impl Abort, alloc: Global, change: &Change, pass: u64) -> Result<bool, Fail> {
+    let mut image = fused(alloc, pass, Part::Nothing, false)?;
+    applied(rt, &mut image, change, 6)
+}
+
+// `apply` makes one `set_len` where there is a base, and one `write_at` for each write that isn't empty.
+#[test]
+fn calls_of_apply(rt: HostRuntime) -> Result<(), Fail> {
+    for (base, calls) in [(None, 2), (Some(4), 3)] {
+        let change = change(rt.alloc(), base, &[(1, b"x"), (100, b""), (3, b"yz")])?;
+        for pass in 0..5u64 {
+            assert!(rt; applies(&rt, rt.alloc(), &change, pass)? == (pass >= calls));
+        }
+    }
+    Ok(())
+}
+
+// Is all saved where so many calls that read pass?
+fn saves(rt: &impl Abort, alloc: Global, change: &Change, pass: u64) -> Result<bool, Fail> {
+    let mut image = fused_reads(alloc, b"ABCDEFGHIJ", pass)?;
+    Ok(saved(rt, alloc, &mut image, change).is_ok())
+}
+
+// `save` asks for the length once, and reads each of three runs once.
+#[test]
+fn calls_of_save(rt: HostRuntime) -> Result<(), Fail> {
+    let writes: [(u64, &[u8]); 4] = [(8, b"X"), (2, b"XY"), (3, b"Z"), (6, b"[")];
+    let change = change(rt.alloc(), Some(9), &writes)?;
+    for pass in 0..6u64 {
+        assert!(rt; saves(&rt, rt.alloc(), &change, pass)? == (pass >= 4));
+    }
+    Ok(())
+}

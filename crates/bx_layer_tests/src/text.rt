@@ -1,0 +1,443 @@
+//! Sources and writers that fail, sizes, fields, words, and refused growths.
+use crate::shared::assert_bytes;
+use bx_text::{
+    IoFault, NoMemory, SizeFault, SizeStyle, Source, Words, dec_field, emit, hex_field, oct_field,
+    read_hex, read_size, xxd_line,
+};
+use linked_list_allocator::LocalHeap;
+use std::alloc::{Allocator, Global};
+use std::io::{self, ErrorKind, Read, Write};
+use std::process::Abort;
+use std::test::Fail;
+
+/// A reader that is interrupted so many times in a row before each read.
+#[derive(Drop)]
+struct Interrupted<'a> {
+    bytes: &'a [u8],
+    each: u32,
+    left: u32,
+}
+
+impl Read for Interrupted<'_> {
+    fn read(&mut self, buf: &mut [u8]) -> io::Result<usize> {
+        if self.left > 0 {
+            self.left -= 1;
+            return Err(io::Error::from(ErrorKind::Interrupted));
+        }
+        self.left = self.each;
+        self.bytes.read(buf)
+    }
+}
+
+/// A reader that has no byte and fails at each read.
+#[derive(Drop)]
+struct Broken;
+
+impl Read for Broken {
+    fn read(&mut self, _: &mut [u8]) -> io::Result<usize> {
+        Err(io::Error::from(ErrorKind::Other))
+    }
+}
+
+/// A writer that takes so many bytes, and then fails.
+#[derive(Drop)]
+struct Short {
+    room: usize,
+}
+
+impl Write for Short {
+    fn write(&mut self, buf: &[u8]) -> io::Result<usize> {
+        if self.room == 0 {
+            return Err(io::Error::from(ErrorKind::Other));
+        }
+        let count = buf.len().min(self.room);
+        self.room -= count;
+        Ok(count)
+    }
+
+    fn flush(&mut self) -> io::Result<()> {
+        Ok(())
+    }
+}
+
+// Whether what is left is these bytes.
+fn has_rest<R: Read + Drop, A: Allocator>(
+    alloc: A,
+    source: &mut Source<R>,
+    bytes: &[u8],
+) -> Result<bool, IoFault> {
+    match source.rest(alloc) {
+        Ok(rest) => Ok(rest.as_slice() == bytes),
+        Err(fault) => Err(fault),
+    }
+}
+
+fn assert_rest<R: Read + Drop>(
+    rt: &impl Abort,
+    alloc: Global,
+    source: &mut Source<R>,
+    bytes: &[u8],
+) {
+    assert!(rt; has_rest(alloc, source, bytes) == Ok(true));
+}
+
+fn assert_fault<R: Read + Drop, A: Allocator>(
+    rt: &impl Abort,
+    alloc: A,
+    source: &mut Source<R>,
+    fault: IoFault,
+) {
+    assert!(rt; has_rest(alloc, source, b"") == Err(fault));
+}
+
+fn assert_full(rt: &impl Abort, source: &mut Source<&[u8]>, buf: &mut [u8]) {
+    assert!(rt; source.fill(buf) == Err(IoFault::InputTooLong));
+}
+
+#[test]
+fn source_limit(rt: HostRuntime) {
+    let mut buf = [0u8; 4];
+    let mut filled = Source::new(b"abc".as_slice(), 2);
+    assert_full(&rt, &mut filled, &mut buf);
+    assert_full(&rt, &mut filled, &mut buf);
+    let mut whole = Source::new(b"abc".as_slice(), 3);
+    assert_rest(&rt, rt.alloc(), &mut whole, b"abc");
+    assert_rest(&rt, rt.alloc(), &mut whole, b"");
+    let mut long = Source::new(b"abc".as_slice(), 2);
+    assert_fault(&rt, rt.alloc(), &mut long, IoFault::InputTooLong);
+}
+
+fn assert_fill<R: Read + Drop>(
+    rt: &impl Abort,
+    source: &mut Source<R>,
+    buf: &mut [u8],
+    answer: Result<usize, IoFault>,
+) {
+    assert!(rt; source.fill(buf) == answer);
+}
+
+#[test]
+fn empty_buffer_makes_no_read(rt: HostRuntime) {
+    let mut none = [0u8; 0];
+    let mut one = [0u8; 1];
+    let mut source = Source::new(Broken, 9);
+    assert_fill(&rt, &mut source, &mut none, Ok(0));
+    assert_fill(&rt, &mut source, &mut one, Err(IoFault::ReadFailed));
+    assert_fill(&rt, &mut source, &mut none, Err(IoFault::ReadFailed));
+}
+
+fn interrupted_before(each: u32) -> Source<Interrupted<'static>> {
+    let reader = Interrupted {
+        bytes: b"abc",
+        each,
+        left: each,
+    };
+    Source::new(reader, 9)
+}
+
+#[test]
+fn interruptions(rt: HostRuntime) {
+    assert_rest(&rt, rt.alloc(), &mut interrupted_before(999), b"abc");
+    assert_fault(
+        &rt,
+        rt.alloc(),
+        &mut interrupted_before(1000),
+        IoFault::ReadFailed,
+    );
+}
+
+fn assert_emit(rt: &impl Abort, writer: &mut Short, bytes: &[u8], answer: Result<(), IoFault>) {
+    assert!(rt; emit(writer, bytes) == answer);
+}
+
+#[test]
+fn writer_takes_twenty(rt: HostRuntime) {
+    let mut writer = Short { room: 20 };
+    assert_emit(&rt, &mut writer, b"0123456789", Ok(()));
+    let fault = IoFault::WriteFailed { written: 10 };
+    assert_emit(&rt, &mut writer, b"0123456789a", Err(fault));
+}
+
+fn assert_size(rt: &impl Abort, style: SizeStyle, text: &str, size: Result<u64, SizeFault>) {
+    assert!(rt; read_size(text.as_bytes(), style) == size, "at {text}");
+}
+
+fn assert_counts(rt: &impl Abort) {
+    let style = SizeStyle::Count;
+    assert_size(rt, style, "0x10b", Ok(267));
+    assert_size(rt, style, "2k", Ok(2048));
+    assert_size(rt, style, "08", Err(SizeFault::Bad));
+    assert_size(rt, style, "", Err(SizeFault::Bad));
+    assert_size(rt, style, "0", Ok(0));
+    assert_size(rt, style, "0b", Ok(0));
+}
+
+fn assert_bare(rt: &impl Abort) {
+    let style = SizeStyle::Bare;
+    assert_size(rt, style, "2k", Err(SizeFault::Bad));
+    assert_size(rt, style, "010", Ok(8));
+    assert_size(rt, style, "4611686018427387904", Ok(1 << 62));
+    assert_size(rt, style, "4611686018427387905", Err(SizeFault::TooLarge));
+    assert_size(rt, style, "0Xff", Ok(255));
+}
+
+fn assert_products(rt: &impl Abort) {
+    let style = SizeStyle::Product;
+    assert_size(rt, style, "010", Ok(10));
+    assert_size(rt, style, "2x3k", Ok(6144));
+    assert_size(rt, style, "4M", Ok(4_194_304));
+    assert_size(rt, style, "1099511627776", Err(SizeFault::TooLarge));
+    assert_size(rt, style, "1099511627775", Ok(1_099_511_627_775));
+    assert_size(rt, style, "", Err(SizeFault::Bad));
+    assert_size(rt, style, "2x", Err(SizeFault::Bad));
+    assert_size(rt, style, "0x99999999999999999999", Ok(0));
+    assert_size(rt, style, "99999999999999999999999g", Err(SizeFault::Bad));
+    assert_size(rt, style, "1kB", Err(SizeFault::Bad));
+}
+
+fn assert_hex(rt: &impl Abort, text: &[u8], number: Option<u64>) {
+    assert!(rt; read_hex(text) == number);
+}
+
+#[test]
+fn sizes(rt: HostRuntime) {
+    assert_counts(&rt);
+    assert_bare(&rt);
+    assert_products(&rt);
+    assert_hex(&rt, b"FfFfFfFfFfFfFfFf", Some(u64::MAX));
+    assert_hex(&rt, b"00000000000000001", None);
+    assert_hex(&rt, b"12g", None);
+}
+
+fn assert_hex_and_octal(rt: &impl Abort) {
+    assert_bytes(rt, hex_field(0xabc, 5, true).as_bytes(), b"00ABC");
+    assert_bytes(rt, oct_field(511, 7).as_bytes(), b"0000777");
+    let most = oct_field(u64::MAX, 22);
+    assert_bytes(rt, most.as_bytes(), b"1777777777777777777777");
+}
+
+fn assert_decimal(rt: &impl Abort) {
+    assert_bytes(rt, dec_field(-128, 5, b' ').as_bytes(), b" -128");
+    assert_bytes(rt, dec_field(0, 1, b'0').as_bytes(), b"0");
+    let least = dec_field(-(1 << 63), 1, b' ');
+    assert_bytes(rt, least.as_bytes(), b"-9223372036854775808");
+    let most = dec_field(18446744073709551615, 22, b'0');
+    assert_bytes(rt, most.as_bytes(), b"0018446744073709551615");
+}
+
+fn assert_line(rt: &impl Abort) {
+    assert_bytes(
+        rt,
+        xxd_line(2, b"CD").as_bytes(),
+        b"00000002: 4344                                     CD\n",
+    );
+}
+
+#[test]
+fn fields(rt: HostRuntime) {
+    assert_hex_and_octal(&rt);
+    assert_decimal(&rt);
+    assert_line(&rt);
+}
+
+fn assert_push<A: Allocator + Clone>(
+    rt: &impl Abort,
+    words: &mut Words<A>,
+    word: &str,
+    answer: Result<(), NoMemory>,
+) {
+    assert!(rt; words.push(word) == answer);
+}
+
+fn assert_word<A: Allocator>(rt: &impl Abort, words: &Words<A>, place: usize, word: Option<&str>) {
+    assert!(rt; words.get(place) == word);
+}
+
+fn assert_len<A: Allocator>(rt: &impl Abort, words: &Words<A>, len: usize) {
+    assert!(rt; words.len() == len);
+}
+
+fn assert_words<A: Allocator + Clone>(rt: &impl Abort, alloc: A) -> Result<(), Fail> {
+    let mut words = Words::new(alloc);
+    assert_push(rt, &mut words, "one", Ok(()));
+    let long =
+        "a word that is longer than all of the room that the heap has, with those that stand in it before, and so is refused";
+    assert_push(rt, &mut words, long, Err(NoMemory));
+    assert_len(rt, &words, 1);
+    assert_push(rt, &mut words, "two", Ok(()));
+    assert_word(rt, &words, 1, Some("two"));
+    assert_word(rt, &words, 2, None);
+    Ok(())
+}
+
+#[test]
+fn words(rt: HostRuntime) -> Result<(), Fail> {
+    let heap = LocalHeap::new(rt.alloc(), 160)?;
+    assert_words(&rt, &heap)
+}
+
+fn assert_no_room(rt: &impl Abort, alloc: Global, source: &mut Source<&[u8]>) -> Result<(), Fail> {
+    let full = LocalHeap::new(alloc, 32)?;
+    let _taken = Vec::<u8, _>::with_capacity(&full, 32)?;
+    assert_fault(rt, &full, source, IoFault::NoMemory);
+    Ok(())
+}
+
+#[test]
+fn refused_rest(rt: HostRuntime) -> Result<(), Fail> {
+    let mut source = Source::new(b"some bytes".as_slice(), 100);
+    assert_no_room(&rt, rt.alloc(), &mut source)?;
+    assert_fault(&rt, rt.alloc(), &mut source, IoFault::ReadFailed);
+    Ok(())
+}
+
+// How much was read where memory was refused, and nothing where all was read.
+fn refused_at<A: Allocator>(
+    rt: &impl Abort,
+    alloc: A,
+    source: &mut Source<&[u8]>,
+    bytes: &[u8],
+) -> Option<u64> {
+    match has_rest(alloc, source, bytes) {
+        Ok(is_whole) => {
+            assert!(rt; is_whole);
+            None
+        }
+        Err(fault) => {
+            assert!(rt; fault == IoFault::NoMemory);
+            Some(source.meter.taken)
+        }
+    }
+}
+
+fn refused_in(
+    rt: &impl Abort,
+    alloc: Global,
+    source: &mut Source<&[u8]>,
+    bytes: &[u8],
+    room: usize,
+) -> Result<Option<u64>, Fail> {
+    let heap = LocalHeap::new(alloc, room)?;
+    let taken = refused_at(rt, &heap, source, bytes);
+    assert!(rt; heap.used() == 0);
+    Ok(taken)
+}
+
+/// Which of the growths of `rest` were refused, and whether one heap had room for all.
+#[derive(Drop)]
+struct Growths {
+    page: bool,
+    two_pages: bool,
+    end: bool,
+    is_whole: bool,
+}
+
+impl Growths {
+    fn note(&mut self, taken: Option<u64>) {
+        match taken {
+            Some(65_536) => self.page = true,
+            Some(131_072) => self.two_pages = true,
+            Some(150_000) => self.end = true,
+            Some(_) => {}
+            None => self.is_whole = true,
+        }
+    }
+}
+
+fn grow(rt: &impl Abort, alloc: Global, bytes: &[u8], room: usize) -> Result<Option<u64>, Fail> {
+    let mut source = Source::new(bytes, 1 << 20);
+    let taken = refused_in(rt, alloc, &mut source, bytes, room)?;
+    if taken.is_some() {
+        assert_fault(rt, alloc, &mut source, IoFault::ReadFailed);
+    }
+    Ok(taken)
+}
+
+// Each growth of `rest` is the first to be refused in some heap: for one page, for two, and for the end.
+#[test]
+fn growths_of_rest(rt: HostRuntime) -> Result<(), Fail> {
+    let bytes = vec![in rt.alloc(); 7u8; 150_000]?;
+    let mut growths = Growths {
+        page: false,
+        two_pages: false,
+        end: false,
+        is_whole: false,
+    };
+    for parts in 1..32usize {
+        growths.note(grow(&rt, rt.alloc(), bytes.as_slice(), parts * 16_384)?);
+    }
+    assert!(rt; growths.page && growths.two_pages && growths.end && growths.is_whole);
+    let mut source = Source::new(bytes.as_slice(), 1 << 20);
+    assert_rest(&rt, rt.alloc(), &mut source, bytes.as_slice());
+    Ok(())
+}
+
+const TEXTS: [&str; 5] = [
+    "one",
+    "a second word",
+    "three",
+    "a fourth word of more",
+    "five",
+];
+
+fn pushes<A: Allocator + Clone>(words: &mut Words<A>, text: &str) -> bool {
+    words.push(text).is_ok()
+}
+
+// Whether the word was refused. Then the words stay, and with more memory the same call succeeds.
+fn is_refused<A: Allocator + Clone>(
+    rt: &impl Abort,
+    words: &mut Words<A>,
+    ballast: &mut Option<Vec<u8, A>>,
+    count: usize,
+    text: &str,
+) -> bool {
+    if pushes(words, text) {
+        return false;
+    }
+    assert!(rt; ballast.is_some());
+    assert_len(rt, words, count);
+    assert_word(rt, words, count, None);
+    *ballast = None;
+    assert_push(rt, words, text, Ok(()));
+    true
+}
+
+fn push_texts<A: Allocator + Clone>(
+    rt: &impl Abort,
+    alloc: A,
+    mut ballast: Option<Vec<u8, A>>,
+    refused: &mut [u32; 5],
+) -> Result<(), Fail> {
+    let mut words = Words::new(alloc);
+    for (count, text) in TEXTS.iter().enumerate() {
+        if is_refused(rt, &mut words, &mut ballast, count, text) {
+            refused[count] = refused[count].saturating_add(1);
+        }
+        assert_word(rt, &words, count, Some(text));
+    }
+    assert_word(rt, &words, 0, Some("one"));
+    Ok(())
+}
+
+fn push_in(
+    rt: &impl Abort,
+    alloc: Global,
+    room: usize,
+    refused: &mut [u32; 5],
+) -> Result<(), Fail> {
+    let heap = LocalHeap::new(alloc, 1024)?;
+    let ballast = Vec::<u8, _>::with_capacity(&heap, 1024usize.saturating_sub(room))?;
+    push_texts(rt, &heap, Some(ballast), refused)
+}
+
+// Each growth of `push` is refused at some budget. The words stay, and with more memory the same call succeeds.
+#[test]
+fn growths_of_push(rt: HostRuntime) -> Result<(), Fail> {
+    let mut refused = [0u32; 5];
+    for parts in 0..48usize {
+        push_in(&rt, rt.alloc(), 16 * parts, &mut refused)?;
+    }
+    assert!(rt; refused.iter().all(|times| *times > 0));
+    Ok(())
+}

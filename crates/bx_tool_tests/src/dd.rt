@@ -1,0 +1,3 @@
+//! dd: worked cases, readers that fail, refused growths.
+mod hostile_tests;
+mod tests;
