@@ -1,8 +1,10 @@
-//! Tests of the layers that the journal stands on: texts, readers of dumps, images, stores.
+//! Tests of the layers up to the journal: texts, readers of dumps, images, stores, the journal.
 #![tactic(auto)]
 
 #[cfg(test)]
 mod image;
+#[cfg(test)]
+mod journal;
 #[cfg(test)]
 mod read;
 #[cfg(test)]

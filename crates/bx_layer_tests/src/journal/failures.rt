@@ -1,6 +1,6 @@
 //! Devices that fail on purpose.
-use crate::script::{Pair, Step, assert_pair, clean, on_memory, pair_of, sit, writes};
-use crate::tools::{PATCHED, image, text};
+use crate::journal::script::{Pair, Step, assert_pair, clean, on_memory, pair_of, sit, writes};
+use crate::journal::tools::{PATCHED, image, text};
 use bx_image::{FuseImage, MemImage, Part};
 use bx_journal::{How, Recovered, SessionFault};
 use bx_store::{FuseText, MemText};

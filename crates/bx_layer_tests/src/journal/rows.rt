@@ -1,6 +1,6 @@
 //! Changes, undoing and opening, over memory and over files.
-use crate::script::{Step, assert_pair, assert_run, clean, on_both, pair_of, writes};
-use crate::tools::{PATCHED, PATCHED_FIRST, nothing, open, over, text};
+use crate::journal::script::{Step, assert_pair, assert_run, clean, on_both, pair_of, writes};
+use crate::journal::tools::{PATCHED, PATCHED_FIRST, nothing, open, over, text};
 use bumpalo::Bump;
 use bx_image::MemImage;
 use bx_journal::{LogRow, SessionFault};

@@ -1,5 +1,5 @@
 //! Each growth of a session's calls refused in turn.
-use crate::tools::{PATCHED, image, open, text};
+use crate::journal::tools::{PATCHED, image, open, text};
 use bumpalo::Bump;
 use bx_image::{Change, MemImage};
 use bx_journal::{Session, SessionFault};

@@ -1,5 +1,5 @@
 //! Sessions that run over memory and over files alike.
-use crate::tools::{image, open, text, write};
+use crate::journal::tools::{image, open, text, write};
 use bx_image::{Device, FileImage};
 use bx_journal::{How, Recovered, Session, SessionFault};
 use bx_store::{FileText, TextStore};

@@ -1,6 +1,6 @@
 //! Texts that are damaged, cut off, or told of another image.
-use crate::script::assert_run;
-use crate::tools::PATCHED;
+use crate::journal::script::assert_run;
+use crate::journal::tools::PATCHED;
 use bx_journal::{How, Recovered, SessionFault};
 use std::fs::File;
 use std::process::Abort;
