@@ -1,4 +1,4 @@
-use Rattle.std.proofs.Common.{ℕ, ◌+◌, ◌≤◌, ◌++◌, take, arith, ◌∙◌}
+use Rattle.std.proofs.Common.{rules, ℕ, ◌+◌, ◌≤◌, ◌++◌, take, arith, ◌∙◌}
 use Rattle.std.proofs.lemmas.List.{length-take-le, length-append}
 use Rattle.bx_text.proofs.KnownLemmas.{Consumes-trans}
 use Rattle.bx_text.specs.Stream.{IsReadCause, IsRestCause}
@@ -31,3 +31,6 @@ returns-then-is_err-clause-stopped g c was_open =
       Consumes-trans _ _ _ _ _ before.bytes read.bytes,
       omega (arith, length-append c.loop-count.bytes.items part, length-take-le c.in-Ok.count c.fill.new.buf read.bound.0, before.taken, before.limit, read.taken, read.limit, c.fill.new.self.meter.within),
     )
+
+pub returns-then-is_err-clause-err : goal.returns-then-is_err-clause-err
+returns-then-is_err-clause-err g c = search rules
