@@ -1,3 +1,4 @@
+use Rattle.std.proofs.lemmas.Grind.{common_steps}
 use Rattle.std.proofs.Common.{◌≡◌, ◌+◌, take, drop, arith, ap, ◌∙◌}
 use Rattle.bx_text.proofs.KnownLemmas.{put_mid-room}
 use Rattle.bx_image.proofs.Files.{read_on}
@@ -16,3 +17,6 @@ loop-done-preserved g c =
       content = λ honest. step.content (before.honesty.1 honest) ∙ before.content honest;
       honesty = (λ h. before.honesty.0 (step.honesty.0 h), λ h. step.honesty.1 (before.honesty.1 h));
     }
+
+pub returns-clause-bytes : goal.returns-clause-bytes
+returns-clause-bytes g c = grind (arith, common_steps)
