@@ -1,4 +1,4 @@
-use Rattle.std.proofs.Common.{◌-◌, ◌^◌, ◌<◌, length, drop, arith, ap, ◌∙◌, w64}
+use Rattle.std.proofs.Common.{rules, ◌-◌, ◌^◌, ◌<◌, length, drop, arith, ap, ◌∙◌, w64}
 use Rattle.std.specs.Int.{from_le_bytes}
 use Rattle.std.proofs.lemmas.List.{take_all}
 use Rattle.bx_dump.specs.Od.{value_of}
@@ -28,3 +28,6 @@ returns-in-Some-clause-value c =
     let first = c.in-Some.ensures.cases in
     let bytes = c.args.bytes.now in
     c.from_le_bytes.ensures ∙ ap (from_le_bytes w64) (first.same ∙ take_all 8 bytes c.requires) ∙ value_eight bytes (omega (arith, first.enough, c.requires))
+
+pub loop-at-preserved : goal.loop-at-preserved
+loop-at-preserved c = search rules
