@@ -256,19 +256,6 @@ fn with_rows<'a>(
     Ok(command)
 }
 
-/// At most one of these may be given.
-fn one_of<'a>(
-    alloc: Global,
-    id: &'static str,
-    members: &[&'static str],
-) -> Result<ArgGroup<'a>, AllocError> {
-    let mut group = ArgGroup::new(alloc, id);
-    for member in members {
-        group = group.arg(member)?;
-    }
-    Ok(group)
-}
-
 /// The command with at most one of these options at a time.
 fn with_group<'a>(
     alloc: Global,
@@ -276,7 +263,7 @@ fn with_group<'a>(
     id: &'static str,
     members: &[&'static str],
 ) -> Result<Command<'a>, AllocError> {
-    let group = one_of(alloc, id, members)?;
+    let group = ArgGroup::new(alloc, id).args(members)?;
     command.group(group)
 }
 

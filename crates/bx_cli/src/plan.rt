@@ -258,14 +258,19 @@ fn strings(alloc: Global, m: &ArgMatches<'_>) -> Result<Job, Fault> {
     }))
 }
 
-// The operands' faults come before that of the journal's name.
-fn dd(alloc: Global, m: &ArgMatches<'_>) -> Result<Job, Fault> {
+fn operands_of(alloc: Global, m: &ArgMatches<'_>) -> Result<Words, Fault> {
     let mut operands = Words::new(alloc);
     if let Some(words) = m.get_strs("operand") {
         for word in words {
             operands.push(word)?;
         }
     }
+    Ok(operands)
+}
+
+// The operands' faults come before that of the journal's name.
+fn dd(alloc: Global, m: &ArgMatches<'_>) -> Result<Job, Fault> {
+    let operands = operands_of(alloc, m)?;
     let plan = parse(alloc, &operands)?;
     let journal = match &plan.output {
         Some(image) => Some(journal_of(alloc, m, image.as_str())?),
