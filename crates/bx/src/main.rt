@@ -1,13 +1,5 @@
-//! The program: files, standard streams and the exit status.
+//! The program's start, and its exit status.
 #![tactic(auto)]
-
-mod copies;
-mod files;
-mod images;
-mod run;
-mod tally;
-#[cfg(test)]
-mod tests;
 
 use bx_cli::Fault;
 use std::process::ExitCode;
@@ -18,7 +10,7 @@ fn status(fault: Fault) -> u8 {
 }
 
 fn main(rt: HostRuntime) -> ExitCode {
-    match run::run(&rt) {
+    match bx_program::run(&rt) {
         Ok(()) => ExitCode::SUCCESS,
         Err(fault) => {
             let _ = eprintln!(rt; "bx: {fault}");

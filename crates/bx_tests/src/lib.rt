@@ -22,6 +22,8 @@ mod outputs;
 #[cfg(test)]
 mod places;
 #[cfg(test)]
+mod program;
+#[cfg(test)]
 mod random;
 #[cfg(test)]
 mod rows;

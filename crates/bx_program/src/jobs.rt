@@ -1,4 +1,4 @@
-//! One run of the program.
+//! The jobs, and one run of the program.
 use crate::copies::{copy_onto, tell};
 use crate::files::input;
 use crate::images::{command, log};

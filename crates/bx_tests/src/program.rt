@@ -1,5 +1,6 @@
-use crate::run::perform;
+//! Jobs as the program does them, on real files.
 use bx_cli::{Fault, plan_words};
+use bx_program::perform;
 use bx_text::Words;
 use std::fs::{self, File};
 use std::process::Abort;

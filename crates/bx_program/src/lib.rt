@@ -1,0 +1,10 @@
+//! What the program does with files and the standard streams. The crate `bx` is its start and its exit status.
+#![tactic(auto)]
+
+mod copies;
+mod files;
+mod images;
+mod jobs;
+mod tally;
+
+pub use jobs::{perform, run};
