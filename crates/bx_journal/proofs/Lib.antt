@@ -43,3 +43,4 @@ pub mod NearRows
 pub mod DigitLanes
 pub mod PartLemmas
 pub mod FollowLemmas
+pub mod OverLemmas

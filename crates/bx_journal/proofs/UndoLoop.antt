@@ -18,6 +18,14 @@ pub record IsUndone {A : Type 0} (bytes : List ℕ) (es : List (EntryRead A)) (t
   pub marked : AreMarked bytes [] 0 es to
   pub mark : IsMark bytes to (record { entries = entries_of es; stage = Between })
 
+-- where undoing is in a text that was read again: the store's, where that is honest
+pub record IsUndoing {A : Type 0} (honest : Type 0) (first now : List ℕ) (es : List (EntryRead A)) : Type 0 where
+  pub text : List ℕ
+  pub to : ℕ
+  pub undone : IsUndone text es to
+  pub is : honest → first ≡ text
+  pub left : honest → now ≡ take to text
+
 one_reading : {p q : Reading} → Some p ≡ Some q → p ≡ q
 one_reading e = cc
 

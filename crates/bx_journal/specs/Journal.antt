@@ -1,5 +1,5 @@
 -- A text that was read, with its places.
-use Rattle.std.specs.Prelude.{◌≡◌, ℕ, List, drop}
+use Rattle.std.specs.Prelude.{◌≡◌, ℕ, List, drop, length}
 use Rattle.bx_journal.specs.declared.journal.JournalRead.{JournalRead}
 use Rattle.bx_journal.specs.Mark.{IsMark}
 use Rattle.bx_journal.specs.Text.{split, Reads}
@@ -14,3 +14,10 @@ pub record HasPlaces {A : Type 0} (text : List ℕ) (j : JournalRead A) : Type 0
 pub record HasRead {A : Type 0} (text : List ℕ) (j : JournalRead A) : Type 0 where
   pub reads : Reads text (reading_of j.entries.items j.stage)
   pub places : HasPlaces text j
+
+-- the journal of a text of this length was read: the store's, where that is honest
+pub record IsReadIn {A : Type 0} (honest : Type 0) (stored : List ℕ) (len : ℕ) (j : JournalRead A) : Type 0 where
+  pub text : List ℕ
+  pub is : honest → stored ≡ text
+  pub long : len ≡ length text
+  pub read : HasRead text j

@@ -1,5 +1,5 @@
 -- What undoing starts from and leaves.
-use Rattle.std.specs.Prelude.{◌≡◌, ◌⊎◌, ◌≤◌, ℕ, List, [], length}
+use Rattle.std.specs.Prelude.{◌≡◌, ◌⊎◌, ◌≤◌, ◌<◌, ◌^◌, ℕ, List, [], length}
 use Rattle.bx_journal.specs.declared.fault.SessionFault.{SessionFault}
 use Rattle.bx_journal.specs.declared.fault.SessionFault.TheVariants.{NoMemory, TooLarge, DeviceFailed, Damaged, TooFew, JournalFull, Interrupted, Broken, LengthDiffers}
 use Rattle.bx_journal.specs.declared.reader.EntryRead.{EntryRead}
@@ -28,6 +28,21 @@ pub record IsReadAgain {A : Type 0} (text : List ℕ) (es : List (EntryRead A)) 
   pub marked : AreMarked text [] 0 es (length text)
   pub counted : length es ≡ count
   pub few : length es ≤ 65535
+
+-- so many finished entries alone, as a text of this length was read again: the store's, where that is honest
+pub record IsReadFrom {A : Type 0} (honest : Type 0) (stored : List ℕ) (len : ℕ) (es : List (EntryRead A)) (count : ℕ) : Type 0 where
+  pub text : List ℕ
+  pub is : honest → stored ≡ text
+  pub long : len ≡ length text
+  pub countable : length text < 2 ^ 64
+  pub read : IsReadAgain text es count
+
+-- the text of a store, where that is honest, is these entries alone, with their places
+pub record AreReadFrom {A : Type 0} (honest : Type 0) (stored : List ℕ) (es : List (EntryRead A)) : Type 0 where
+  pub text : List ℕ
+  pub is : honest → stored ≡ text
+  pub mark : IsMark text (length text) (record { entries = entries_of es; stage = Between })
+  pub marked : AreMarked text [] 0 es (length text)
 
 -- where a text that isn't `count` finished entries alone is called damaged: at its damaged line, or at line 1 where it is accepted
 abbrev pub IsOutOfStep : List ℕ → ℕ → ℕ → Type 0

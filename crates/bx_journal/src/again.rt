@@ -2,7 +2,7 @@
 ghost use Rattle.std.specs.Prelude.{◌≡◌, ◌↔◌, ◌+◌, ◌<◌, ◌≤◌, List, ℕ, length, IfOk, IfErr, IfSome, IfNone, OnOk};
 ghost use Rattle.bx_journal.specs.Journal.{HasRead};
 ghost use Rattle.bx_journal.specs.Opening.{FaultCounts};
-ghost use Rattle.bx_journal.specs.Undoing.{AgainFault, HasCount, IsReadAgain};
+ghost use Rattle.bx_journal.specs.Undoing.{AgainFault, HasCount, IsReadAgain, IsReadFrom};
 
 use crate::fault::of_text;
 use crate::journal::{JournalRead, read_journal};
@@ -10,23 +10,18 @@ use crate::{EntryRead, SessionFault, StageRead};
 use bx_store::TextStore;
 use std::alloc::{Allocator, Global};
 
-/// A text of finished entries alone, and those entries.
+/// How many bytes a text of finished entries alone has, and those entries.
 #[derive(Drop)]
 pub struct FinishedRead<A: Allocator = Global> {
-    pub bytes: Vec<u8, A>,
+    pub len: u64,
     pub entries: Vec<EntryRead<A>, A>,
 }
 
-/// What was read, where it is so many finished entries alone.
-fn finished<A: Allocator>(
-    bytes: Vec<u8, A>,
-    journal: JournalRead<A>,
-    count: u32,
-) -> Option<FinishedRead<A>>
-    requires { HasRead bytes.items journal }
-    ensures some { IfSome result (λ o. IsReadAgain o.bytes.items o.entries.items count) }
-    ensures bytes { IfSome result (λ o. o.bytes.items ≡ bytes.items) }
-    ensures none { IfNone result (HasCount bytes.items count → ⊥) }
+/// What was read in a text of so many bytes, where it is so many finished entries alone.
+fn finished<A: Allocator>(len: u64, journal: JournalRead<A>, count: u32) -> Option<FinishedRead<A>>
+    ensures some { (text : List ℕ) → HasRead text journal → len ≡ length text → IfSome result (λ o. IsReadAgain text o.entries.items count) }
+    ensures len { IfSome result (λ o. o.len ≡ len) }
+    ensures none { (text : List ℕ) → HasRead text journal → len ≡ length text → IfNone result (HasCount text count → ⊥) }
 {
     let JournalRead {
         entries,
@@ -35,13 +30,13 @@ fn finished<A: Allocator>(
     } = journal;
     match stage {
         StageRead::Between => {
-            if whole != bytes.len() as u64 {
+            if whole != len {
                 return None;
             }
             if entries.len() != count as usize {
                 return None;
             }
-            Some(FinishedRead { bytes, entries })
+            Some(FinishedRead { len, entries })
         }
         StageRead::Saving { .. } => None,
         StageRead::Ending { .. } => None,
@@ -55,8 +50,7 @@ pub fn read_again<T: TextStore, A: Allocator + Clone>(
     count: u32,
 ) -> Result<FinishedRead<A>, SessionFault>
     requires { T.failures store.old < u64.MAX }
-    ensures read { IfOk result (λ o. IsReadAgain o.bytes.items o.entries.items count) }
-    ensures bytes { T.honest store.old → IfOk result (λ o. o.bytes.items ≡ T.text store.old) }
+    ensures read { IfOk result (λ o. IsReadFrom (T.honest store.old) (T.text store.old) o.len o.entries.items count) }
     ensures fault { IfErr result (AgainFault (T.honest store.old) (T.text store.old) count) }
     ensures text { T.honest store.old → T.text store.new ≡ T.text store.old }
     ensures honesty { T.honest store.new ↔ T.honest store.old }
@@ -67,11 +61,12 @@ pub fn read_again<T: TextStore, A: Allocator + Clone>(
         Ok(bytes) => bytes,
         Err(fault) => return Err(of_text(fault)),
     };
-    let journal = match read_journal(alloc, &bytes) {
+    let len = bytes.len() as u64;
+    let journal = match read_journal(alloc, bytes) {
         Ok(journal) => journal,
         Err(fault) => return Err(fault),
     };
-    match finished(bytes, journal, count) {
+    match finished(len, journal, count) {
         Some(read) => Ok(read),
         None => Err(SessionFault::Damaged { line: 1 }),
     }

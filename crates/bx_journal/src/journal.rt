@@ -4,9 +4,11 @@ ghost use Rattle.bx_journal.specs.Text.{Reads, split};
 ghost use Rattle.bx_journal.specs.Parsed.{reading_of};
 
 use crate::ends::line_end;
-use crate::follow::{ENDED, go_on};
+use crate::follow::ENDED;
+use crate::onward::go_on;
 use crate::rest::rest_fits;
 use crate::step::{take_line, told_length};
+use crate::unread::{Unread, behind, rest_of};
 use crate::{EntryRead, SessionFault, StageRead};
 use std::alloc::{Allocator, Global};
 
@@ -21,42 +23,40 @@ pub struct JournalRead<A: Allocator = Global> {
 ghost use Rattle.bx_journal.specs.Journal.{HasRead};
 ghost use Rattle.bx_journal.specs.Calls.{ReadFault};
 
-/// Reads a journal's text, or says at which line it is damaged.
+/// Reads a journal's text, or says at which line it is damaged. What it reads takes the text's memory where it can.
 pub fn read_journal<A: Allocator + Clone>(
     alloc: &A,
-    text: &[u8],
+    bytes: Vec<u8, A>,
 ) -> Result<JournalRead<A>, SessionFault>
-    ensures reads { IfOk result (λ j. Reads text.now (reading_of j.entries.items j.stage)) }
-    ensures read { IfOk result (λ j. HasRead text.now j) }
-    ensures fault { IfErr result (ReadFault text.now) }
+    ensures reads { IfOk result (λ j. Reads bytes.items (reading_of j.entries.items j.stage)) }
+    ensures read { IfOk result (λ j. HasRead bytes.items j) }
+    ensures fault { IfErr result (ReadFault bytes.items) }
 {
     let mut entries = Vec::new(alloc.clone()?);
     let mut stage = StageRead::Between;
     let mut at: u64 = 0;
     let mut line: u64 = 1;
-    let mut rest = text;
-    while let Some(i) = line_end(rest) {
+    let mut text = Unread { bytes, from: 0 };
+    while let Some(i) = line_end(rest_of(&text)) {
         let after = at + i as u64 + 1;
-        let Ok(taken) = take_line(alloc, &mut entries, stage, at, after, &rest[..i]) else {
+        let (now, _) = rest_of(&text).split_at(i);
+        let Ok(taken) = take_line(alloc, &mut entries, stage, at, after, now) else {
             return Err(SessionFault::NoMemory);
         };
         let Some(next) = taken else {
             return Err(SessionFault::Damaged { line });
         };
-        let (_, behind) = rest.split_at(i + 1);
-        let Ok(gone) = go_on(next, behind) else {
+        let Ok(gone) = go_on(alloc, next, behind(text, i + 1)) else {
             return Err(SessionFault::NoMemory);
         };
-        let size = ENDED * gone.count;
-        at = after + size as u64;
+        at = after + (ENDED * gone.count) as u64;
         line = line + 1 + gone.count as u64;
         stage = gone.stage;
-        let (_, left) = behind.split_at(size);
-        rest = left;
+        text = gone.text;
     }
     let number = entries.len() as u32 + 1;
     let told = told_length(&entries);
-    if !rest_fits(number, told, &stage, rest) {
+    if !rest_fits(number, told, &stage, rest_of(&text)) {
         return Err(SessionFault::Damaged { line });
     }
     Ok(JournalRead {

@@ -7,13 +7,12 @@ ghost use Rattle.bx_journal.specs.declared.version.Version.{Version as Form};
 ghost use Rattle.bx_journal.specs.Text.{Entry};
 ghost use Rattle.std.specs.Prelude.{◌-◌};
 ghost use Rattle.bx_journal.specs.Stack.{Recovers, StandsFor};
-ghost use Rattle.bx_journal.specs.Undoing.{HasLeft};
+ghost use Rattle.bx_journal.specs.Undoing.{AreReadFrom, HasLeft};
 ghost use Rattle.bx_journal.specs.Phase.{IsAtRest, IsOpen, RecoversEither};
 ghost use Rattle.bx_journal.specs.Step.{HasTail, TakesBack};
-ghost use Rattle.std.specs.Prelude.{drop, []};
-ghost use Rattle.bx_journal.specs.Parsed.{AllKept, AreMarked, entries_of};
-ghost use Rattle.bx_journal.specs.Mark.{IsMark};
-ghost use Rattle.bx_journal.specs.Text.{Between, Ending};
+ghost use Rattle.std.specs.Prelude.{drop};
+ghost use Rattle.bx_journal.specs.Parsed.{AllKept, entries_of};
+ghost use Rattle.bx_journal.specs.Text.{Ending};
 ghost use Rattle.bx_journal.specs.Opening.{OneMore};
 
 use crate::EntryRead;
@@ -75,7 +74,6 @@ pub fn undo_entry<D: Device, T: TextStore, A: Allocator>(
 pub fn undo_entries<D: Device, T: TextStore, A: Allocator>(
     device: &mut D,
     store: &mut T,
-    bytes: &[u8],
     entries: &mut Vec<EntryRead<A>, A>,
     k: u32,
 ) -> Result<(), DeviceFailed>
@@ -83,9 +81,7 @@ pub fn undo_entries<D: Device, T: TextStore, A: Allocator>(
     requires store_countable { T.failures store.old < u64.MAX }
     requires few { k ≤ length entries.old.items }
     requires kept { AllKept (D.room device.old) (drop (length entries.old.items - k) entries.old.items) }
-    requires marked { AreMarked bytes.now [] 0 entries.old.items (length bytes.now) }
-    requires mark { IsMark bytes.now (length bytes.now) (record { entries = entries_of entries.old.items; stage = Between }) }
-    requires text { T.honest store.old → T.text store.old ≡ bytes.now }
+    requires read { AreReadFrom (T.honest store.old) (T.text store.old) entries.old.items }
     ensures ok { D.honest device.old → T.honest store.old → (stack : List (List ℕ)) → IsAtRest (T.text store.old) (D.image device.old) stack
         → OnOk result (IsAtRest (T.text store.new) (D.image device.new) (drop k stack)) }
     ensures stands { D.honest device.old → T.honest store.old → (stack : List (List ℕ)) → StandsFor (T.text store.old) (D.image device.old) stack

@@ -42,7 +42,7 @@ fn make_room<D: Device, T: TextStore, A: Allocator>(
     k: u32,
 ) -> Result<(), NoMemory>
     requires few { k ≤ length read.now.entries.items }
-    ensures kept { (count : ℕ) → IsReadAgain read.now.bytes.items read.now.entries.items count
+    ensures kept { (text : List ℕ) (count : ℕ) → IsReadAgain text read.now.entries.items count
         → OnOk result (AllKept (D.room device.new) (drop (length read.now.entries.items - k) read.now.entries.items)) }
     ensures image { D.honest device.old → D.image device.new ≡ D.image device.old }
     ensures text { T.honest store.old → T.text store.new ≡ T.text store.old }
@@ -54,7 +54,7 @@ fn make_room<D: Device, T: TextStore, A: Allocator>(
     let first = read.entries.len() - k as usize;
     let (_, last) = read.entries.as_slice().split_at(first);
     device.reserve(longest_of(last))?;
-    store.reserve(read.bytes.len() as u64)
+    store.reserve(read.len)
 }
 
 impl<D: Device, T: TextStore, A: Allocator + Clone> Session<D, T, A> {
@@ -115,13 +115,7 @@ impl<D: Device, T: TextStore, A: Allocator + Clone> Session<D, T, A> {
         }
         let mut read = read_again(&self.alloc, &mut self.store, self.count)?;
         make_room(&mut self.device, &mut self.store, &read, k)?;
-        match undo_entries(
-            &mut self.device,
-            &mut self.store,
-            &read.bytes,
-            &mut read.entries,
-            k,
-        ) {
+        match undo_entries(&mut self.device, &mut self.store, &mut read.entries, k) {
             Ok(()) => {
                 self.count = count_left(self.count, k);
                 Ok(self.count)

@@ -1,7 +1,7 @@
 //! What opening finds, and how it takes back what is unfinished.
 ghost use Rattle.std.specs.Prelude.{◌≡◌, ◌↔◌, ◌⊎◌, Some, ◌+◌, ◌<◌, ◌≤◌, List, ℕ, length, suc, OnOk, OnErr, IfOk, IfErr, IfSome, MatchResult};
 ghost use Rattle.bx_journal.specs.Calls.{AfterFault, Differs, OpenFault};
-ghost use Rattle.bx_journal.specs.Journal.{HasRead};
+ghost use Rattle.bx_journal.specs.Journal.{HasRead, IsReadIn};
 ghost use Rattle.bx_journal.specs.Opening.{FaultCounts, OneMore, HasRoomFor, IsOpened, LookFault, RefusesLength, RefusesText};
 ghost use Rattle.bx_journal.specs.Parsed.{entries_of, reading_of, stage_of};
 ghost use Rattle.bx_journal.specs.Phase.{IsAtRest};
@@ -69,13 +69,12 @@ fn prepare<D: Device, A: Allocator>(
 fn finish<D: Device, T: TextStore, A: Allocator>(
     device: &mut D,
     store: &mut T,
-    bytes: &[u8],
+    len: u64,
     journal: JournalRead<A>,
 ) -> Result<Recovered, DeviceFailed>
     requires device_countable { D.failures device.old < u64.MAX }
     requires store_countable { T.failures store.old < u64.MAX }
-    requires read { HasRead bytes.now journal }
-    requires text { T.honest store.old → T.text store.old ≡ bytes.now }
+    requires read { IsReadIn (T.honest store.old) (T.text store.old) len journal }
     requires room { HasRoomFor journal.stage (D.room device.old) }
     ensures opened { D.honest device.old → T.honest store.old → HaveLengths (entries_of journal.entries.items) (image_at (stage_of journal.stage) (D.image device.old))
         → IfOk result (λ o. IsOpened (T.text store.old) (D.image device.old) (reading_of journal.entries.items journal.stage) (T.text store.new) (D.image device.new) o.how o.changes) }
@@ -98,7 +97,7 @@ fn finish<D: Device, T: TextStore, A: Allocator>(
     let changes = entries.len() as u32;
     match stage {
         StageRead::Between => {
-            if whole == bytes.len() as u64 {
+            if whole == len {
                 return Ok(Recovered {
                     how: How::Clean,
                     changes,
@@ -133,13 +132,12 @@ fn finish<D: Device, T: TextStore, A: Allocator>(
 pub fn recover_read<D: Device, T: TextStore, A: Allocator>(
     device: &mut D,
     store: &mut T,
-    bytes: &[u8],
+    len: u64,
     journal: JournalRead<A>,
 ) -> Result<Recovered, SessionFault>
     requires device_countable { D.failures device.old < u64.MAX }
     requires store_countable { T.failures store.old < u64.MAX }
-    requires read { HasRead bytes.now journal }
-    requires text { T.honest store.old → T.text store.old ≡ bytes.now }
+    requires read { IsReadIn (T.honest store.old) (T.text store.old) len journal }
     ensures opened { D.honest device.old → T.honest store.old → (r : Reading) → Reads (T.text store.old) r
         → IfOk result (λ o. IsOpened (T.text store.old) (D.image device.old) r (T.text store.new) (D.image device.new) o.how o.changes) }
     ensures clean { D.honest device.old → T.honest store.old → IfOk result (λ o. o.how ≡ How.Clean → (T.text store.new ≡ T.text store.old) × (D.image device.new ≡ D.image device.old)) }
@@ -163,7 +161,7 @@ pub fn recover_read<D: Device, T: TextStore, A: Allocator>(
     if let Err(fault) = prepare(device, &journal) {
         return Err(fault);
     }
-    match finish(device, store, bytes, journal) {
+    match finish(device, store, len, journal) {
         Ok(found) => Ok(found),
         Err(_) => Err(SessionFault::Interrupted),
     }
@@ -235,9 +233,10 @@ pub fn recover<D: Device, T: TextStore, A: Allocator + Clone>(
     if let Some(found) = count_entries(&bytes) {
         return open_counted(device, found);
     }
-    let journal = match read_journal(alloc, &bytes) {
+    let len = bytes.len() as u64;
+    let journal = match read_journal(alloc, bytes) {
         Ok(journal) => journal,
         Err(fault) => return Err(fault),
     };
-    recover_read(device, store, &bytes, journal)
+    recover_read(device, store, len, journal)
 }

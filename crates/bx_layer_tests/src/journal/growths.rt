@@ -1,4 +1,5 @@
 //! Each growth of a session's calls refused in turn.
+use crate::journal::script::{Pair, clean, on_memory, pair_of, writes};
 use crate::journal::tools::{PATCHED, image, open, text};
 use bumpalo::Bump;
 use bx_image::{Change, MemImage};
@@ -137,5 +138,40 @@ fn growths_refused_in_turn(rt: HostRuntime) -> Result<(), Fail> {
     }
     println!(rt; "{opening} of opening, {changing} of changing, {later} of listing and undoing")?;
     assert!(rt; opening > 0 && changing > 0 && later > 0);
+    Ok(())
+}
+
+// Opens a pair of one change and undoes that, with so much memory. Tells whether undoing was refused.
+fn undoing_one(rt: &impl Abort, alloc: Global, bytes: usize, changed: &Pair) -> Result<bool, Fail> {
+    let bump = ration(alloc, bytes)?;
+    let device = image(alloc, changed.image.as_slice())?;
+    let store = text(alloc, changed.journal.as_slice())?;
+    let Ok((mut session, _)) = open(&bump, device, store) else {
+        return Ok(false);
+    };
+    let Err(fault) = session.undo(1) else {
+        return Ok(false);
+    };
+    assert!(rt; is_no_memory(fault));
+    assert_rows(rt, &bump, &mut session, 1)?;
+    assert!(rt; session.undo(1)? == 0);
+    let (device, store) = session.close();
+    assert!(rt; device.as_slice() == [b'A'; 160].as_slice() && store.as_slice().is_empty());
+    Ok(true)
+}
+
+#[test]
+fn growths_of_a_long_run(rt: HostRuntime) -> Result<(), Fail> {
+    let start = pair_of(rt.alloc(), &[b'A'; 160], b"")?;
+    let steps = [writes(0, &[b'y'; 160], 1)];
+    let changed = on_memory(rt.alloc(), &rt, &start, clean(0), &steps)?;
+    let mut refused = 0u32;
+    for words in 0..2 * MOST_WORDS {
+        if undoing_one(&rt, rt.alloc(), words * 8, &changed)? {
+            refused = refused.saturating_add(1);
+        }
+    }
+    println!(rt; "{refused} refused")?;
+    assert!(rt; refused > 0);
     Ok(())
 }

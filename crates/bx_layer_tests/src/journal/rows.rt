@@ -68,6 +68,31 @@ fn three_patches_reopened(rt: HostRuntime) -> Result<(), Fail> {
 }
 
 #[test]
+fn long_runs_and_undo(rt: HostRuntime) -> Result<(), Fail> {
+    let name = "long_runs_and_undo";
+    let start = pair_of(rt.alloc(), &[b'A'; 160], b"")?;
+    let patches = [writes(0, &[b'x'; 100], 1), writes(0, &[b'y'; 160], 2)];
+    let changed = on_both(&rt, name, &start, clean(0), &patches)?;
+    assert_eq!(rt; changed.journal.len(), 1304);
+    let steps = [Step::List { rows: 2 }, undoes(1, 1), undoes(1, 0)];
+    let undone = on_both(&rt, name, &changed, clean(2), &steps)?;
+    assert_pair(&rt, &undone, &[b'A'; 160], b"");
+    Ok(())
+}
+
+// A short line in the middle of a run, as no change writes one, and full lines behind it.
+const SHORT_WITHIN: &[u8] =
+    b"change2 00000001 0000000000000038\n00000000: 4141 4141 4141 4141 4141 4141 4141 4141  AAAAAAAAAAAAAAAA\n00000010: 4141 4141 4141 4141                      AAAAAAAA\n00000018: 4141 4141 4141 4141 4141 4141 4141 4141  AAAAAAAAAAAAAAAA\n00000028: 4141 4141 4141 4141 4141 4141 4141 4141  AAAAAAAAAAAAAAAA\nsave 00000001\ndone2 00000001 0000000000000038\n";
+
+#[test]
+fn short_line_within_a_run(rt: HostRuntime) -> Result<(), Fail> {
+    let name = "short_line_within_a_run";
+    let changed: (&[u8], &[u8]) = (&[b'B'; 56], SHORT_WITHIN);
+    let steps = [Step::List { rows: 1 }, undoes(1, 0)];
+    assert_run(&rt, name, changed, clean(1), &steps, (&[b'A'; 56], b""))
+}
+
+#[test]
 fn too_many_undos(rt: HostRuntime) -> Result<(), Fail> {
     let refused = Step::Undo {
         count: 2,

@@ -1,4 +1,4 @@
-use Rattle.std.proofs.Common.{◌≡◌, ℕ, List, Option, sym, ◌∙◌, subst}
+use Rattle.std.proofs.Common.{◌≡◌, ℕ, List, Option, sym, ◌∙◌, subst, arith}
 use Rattle.std.specs.Prelude.{IfOk}
 use Rattle.bx_store.specs.declared.fault.TextFault.{TextFault}
 use Rattle.bx_store.specs.declared.fault.TextFault.TheVariants.{NoMemory as TextMemory, DeviceFailed as TextFailed}
@@ -31,16 +31,24 @@ returns-in-Err-clause-differs g c dh th r n reads differs = text_fault_refuses n
 
 pub returns-in-Err-read_journal-clause-faults : goal.returns-in-Err-read_journal-clause-faults
 returns-in-Err-read_journal-clause-faults g c dh th r reads =
-    read_fault_opens (g.T.TextStore.text c.args.store.now) c.deref-2.result.now (g.D.Device.image c.args.device.now) r _ (sym (c.deref-2.ensures.value ∙ c.in-Ok.ensures.bytes th)) reads c.in-Err-read_journal.ensures.fault
+    read_fault_opens (g.T.TextStore.text c.args.store.now) c.in-Ok.bytes.items (g.D.Device.image c.args.device.now) r _ (sym (c.in-Ok.ensures.bytes th)) reads c.in-Err-read_journal.ensures.fault
 
 pub returns-in-Err-read_journal-clause-differs : goal.returns-in-Err-read_journal-clause-differs
 returns-in-Err-read_journal-clause-differs g c dh th r n reads differs =
-    read_fault_refuses (g.T.TextStore.text c.args.store.now) c.deref-2.result.now r n _ (sym (c.deref-2.ensures.value ∙ c.in-Ok.ensures.bytes th)) reads c.in-Err-read_journal.ensures.fault
+    read_fault_refuses (g.T.TextStore.text c.args.store.now) c.in-Ok.bytes.items r n _ (sym (c.in-Ok.ensures.bytes th)) reads c.in-Err-read_journal.ensures.fault
 
 pub returns-clause-unaccepted : goal.returns-clause-unaccepted
 returns-clause-unaccepted g c th apart =
     let j = c.in-Ok-read_journal.journal in
-    absurd (apart (reading_of j.entries.items j.stage, subst (λ t. Reads t (reading_of j.entries.items j.stage)) (c.deref-2.ensures.value ∙ c.in-Ok.ensures.bytes th) c.in-Ok-read_journal.ensures.reads))
+    absurd (apart (reading_of j.entries.items j.stage, subst (λ t. Reads t (reading_of j.entries.items j.stage)) (c.in-Ok.ensures.bytes th) c.in-Ok-read_journal.ensures.reads))
+
+pub recover_read-requires-clause-read : goal.recover_read-requires-clause-read
+recover_read-requires-clause-read g c = record {
+  text = c.in-Ok.bytes.items;
+  is = λ th. let before = c.read_all.ensures.goes_on.honesty.0 th in c.read_all.ensures.text before ∙ sym (c.in-Ok.ensures.bytes before);
+  long = omega (arith, c.len-len.ensures, c.in-Ok.bytes.ok.0, c.in-Ok.bytes.ok.1);
+  read = c.in-Ok-read_journal.ensures.read;
+}
 
 counted_in : (text bytes : List ℕ) (count : ℕ) (told : Option ℕ) → bytes ≡ text → IsCounted bytes count told → IsCounted text count told
 counted_in text bytes count told same c = subst (λ t. IsCounted t count told) same c

@@ -9,14 +9,14 @@ use Rattle.bx_journal.proofs.unfinished.recover_read.Goals as goal
 
 pub returns-in-Err-clause-faults : goal.returns-in-Err-clause-faults
 returns-in-Err-clause-faults g c dh th r reads =
-    let same : reading_of c.args.journal.entries.items c.args.journal.stage ≡ r = read_once (g.T.TextStore.text c.args.store.now) c.args.bytes.now c.args.journal r c.requires.read (c.requires.text th) reads in
+    let same : reading_of c.args.journal.entries.items c.args.journal.stage ≡ r = read_once (g.T.TextStore.text c.args.store.now) c.requires.read.text c.args.journal r c.requires.read.read (c.requires.read.is th) reads in
     look_opens (g.D.Device.honest c.args.device.now) (entries_of c.args.journal.entries.items) (g.D.Device.image c.args.device.now) (image_at (stage_of c.args.journal.stage) (g.D.Device.image c.args.device.now)) r c.in-Err.fault dh
     (sym (ap (λ (q : Reading). q.entries) same)) (sym (ap (λ (q : Reading). image_at q.stage (g.D.Device.image c.args.device.now)) same)) c.in-Err.ensures.fault
 
 pub returns-in-Err-clause-differs : goal.returns-in-Err-clause-differs
 returns-in-Err-clause-differs g c dh th r n reads differs =
     let x : List ℕ = g.D.Device.image c.args.device.now in
-    let same : reading_of c.args.journal.entries.items c.args.journal.stage ≡ r = read_once (g.T.TextStore.text c.args.store.now) c.args.bytes.now c.args.journal r c.requires.read (c.requires.text th) reads in
+    let same : reading_of c.args.journal.entries.items c.args.journal.stage ≡ r = read_once (g.T.TextStore.text c.args.store.now) c.requires.read.text c.args.journal r c.requires.read.read (c.requires.read.is th) reads in
     look_refuses (g.D.Device.honest c.args.device.now) (entries_of c.args.journal.entries.items) (image_at (stage_of c.args.journal.stage) x) n c.in-Err.fault dh
     (subst (λ (q : Reading). Differs q.entries (image_at q.stage x) n) (sym same) differs) c.in-Err.ensures.fault
 
@@ -33,8 +33,8 @@ pub returns-in-Ok-clause-opened : goal.returns-in-Ok-clause-opened
 returns-in-Ok-clause-opened g c dh th r reads =
     let x : List ℕ = g.D.Device.image c.args.device.now in
     let image = c.prepare.ensures.image dh in
-    let same : reading_of c.args.journal.entries.items c.args.journal.stage ≡ r = read_once (g.T.TextStore.text c.args.store.now) c.args.bytes.now c.args.journal r c.requires.read (c.requires.text th) reads in
-    let lengths = c.in_default.ensures.lengths dh c.args.bytes.now c.requires.read in
+    let same : reading_of c.args.journal.entries.items c.args.journal.stage ≡ r = read_once (g.T.TextStore.text c.args.store.now) c.requires.read.text c.args.journal r c.requires.read.read (c.requires.read.is th) reads in
+    let lengths = c.in_default.ensures.lengths dh c.requires.read.text c.requires.read.read in
     let found = c.in-Ok.ensures.opened (c.prepare.ensures.honesty.1 dh) th (subst (λ z. HaveLengths (entries_of c.args.journal.entries.items) (image_at (stage_of c.args.journal.stage) z)) (sym image) lengths) in
     subst (λ q. IsOpened (g.T.TextStore.text c.args.store.now) x q (g.T.TextStore.text c.finish.new.store) (g.D.Device.image c.finish.new.device) c.in-Ok.found.how c.in-Ok.found.changes) same
     (subst (λ z. IsOpened (g.T.TextStore.text c.args.store.now) z (reading_of c.args.journal.entries.items c.args.journal.stage) (g.T.TextStore.text c.finish.new.store) (g.D.Device.image c.finish.new.device) c.in-Ok.found.how c.in-Ok.found.changes) image found)
@@ -47,8 +47,8 @@ returns-in-Ok-clause-clean g c dh th clean =
 pub returns-in-Ok-clause-differs : goal.returns-in-Ok-clause-differs
 returns-in-Ok-clause-differs g c dh th r n reads differs =
     let x : List ℕ = g.D.Device.image c.args.device.now in
-    let same : reading_of c.args.journal.entries.items c.args.journal.stage ≡ r = read_once (g.T.TextStore.text c.args.store.now) c.args.bytes.now c.args.journal r c.requires.read (c.requires.text th) reads in
-    same_lengths (entries_of c.args.journal.entries.items) (image_at (stage_of c.args.journal.stage) x) n (c.in_default.ensures.lengths dh c.args.bytes.now c.requires.read)
+    let same : reading_of c.args.journal.entries.items c.args.journal.stage ≡ r = read_once (g.T.TextStore.text c.args.store.now) c.requires.read.text c.args.journal r c.requires.read.read (c.requires.read.is th) reads in
+    same_lengths (entries_of c.args.journal.entries.items) (image_at (stage_of c.args.journal.stage) x) n (c.in_default.ensures.lengths dh c.requires.read.text c.requires.read.read)
     (subst (λ (q : Reading). Differs q.entries (image_at q.stage x) n) (sym same) differs)
 
 pub returns-in-Ok-clause-keeps : goal.returns-in-Ok-clause-keeps
@@ -58,14 +58,14 @@ returns-in-Ok-clause-keeps g c dh th stack rec =
 
 pub returns-in-Ok-clause-counted : goal.returns-in-Ok-clause-counted
 returns-in-Ok-clause-counted g c dh th stack rec =
-    counted_of (g.T.TextStore.text c.args.store.now) c.args.bytes.now (g.D.Device.image c.args.device.now) stack c.args.journal c.requires.read (c.requires.text th) rec
+    counted_of (g.T.TextStore.text c.args.store.now) c.requires.read.text (g.D.Device.image c.args.device.now) stack c.args.journal c.requires.read.read (c.requires.read.is th) rec
     ∙ ap suc (sym c.in-Ok.ensures.changes)
 
 pub returns-in-Err-finish-clause-differs : goal.returns-in-Err-finish-clause-differs
 returns-in-Err-finish-clause-differs g c dh th r n reads differs =
     let x : List ℕ = g.D.Device.image c.args.device.now in
-    let same : reading_of c.args.journal.entries.items c.args.journal.stage ≡ r = read_once (g.T.TextStore.text c.args.store.now) c.args.bytes.now c.args.journal r c.requires.read (c.requires.text th) reads in
-    same_lengths (entries_of c.args.journal.entries.items) (image_at (stage_of c.args.journal.stage) x) n (c.in_default.ensures.lengths dh c.args.bytes.now c.requires.read)
+    let same : reading_of c.args.journal.entries.items c.args.journal.stage ≡ r = read_once (g.T.TextStore.text c.args.store.now) c.requires.read.text c.args.journal r c.requires.read.read (c.requires.read.is th) reads in
+    same_lengths (entries_of c.args.journal.entries.items) (image_at (stage_of c.args.journal.stage) x) n (c.in_default.ensures.lengths dh c.requires.read.text c.requires.read.read)
     (subst (λ (q : Reading). Differs q.entries (image_at q.stage x) n) (sym same) differs)
 
 pub returns-in-Err-finish-clause-keeps_err : goal.returns-in-Err-finish-clause-keeps_err
@@ -75,4 +75,8 @@ returns-in-Err-finish-clause-keeps_err g c dh th stack rec =
 
 pub returns-in-Err-finish-clause-device_honesty : goal.returns-in-Err-finish-clause-device_honesty
 returns-in-Err-finish-clause-device_honesty g c =
+    (λ h. c.prepare.ensures.honesty.0 (c.finish.ensures.device_honesty.0 h), λ h. c.finish.ensures.device_honesty.1 (c.prepare.ensures.honesty.1 h))
+
+pub returns-in-Ok-clause-device_honesty : goal.returns-in-Ok-clause-device_honesty
+returns-in-Ok-clause-device_honesty g c =
     (λ h. c.prepare.ensures.honesty.0 (c.finish.ensures.device_honesty.0 h), λ h. c.finish.ensures.device_honesty.1 (c.prepare.ensures.honesty.1 h))

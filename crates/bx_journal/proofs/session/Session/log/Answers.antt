@@ -1,4 +1,4 @@
-use Rattle.std.proofs.Common.{◌≡◌, ℕ, ◌≤◌, length, ap, ◌∙◌, subst, arith}
+use Rattle.std.proofs.Common.{◌≡◌, ℕ, ◌≤◌, length, ap, sym, ◌∙◌, subst, arith}
 use Rattle.std.proofs.lemmas.Grind.{common_steps}
 use Rattle.bx_journal.specs.declared.fault.SessionFault.TheVariants.{Damaged}
 use Rattle.bx_journal.specs.Parsed.{entries_of}
@@ -23,19 +23,19 @@ returns-in_err-read-clause-fault g c =
 
 pub rows-requires-clause-few : goal.rows-requires-clause-few
 rows-requires-clause-few g c =
-    let few : length c.in_ok-read.read.entries.items ≤ 65535 = c.in_ok-read.ensures.read.few in
+    let few : length c.in_ok-read.read.entries.items ≤ 65535 = c.in_ok-read.ensures.read.read.few in
     omega (arith, few, ap length c.deref.ensures.value)
 
 pub rows-requires-clause-countable : goal.rows-requires-clause-countable
 rows-requires-clause-countable g c =
-    saved_countable c.in_ok-read.read.bytes.items c.in_ok-read.read.entries.items c.deref.result.now c.in_ok-read.ensures.read.finished.reads (omega (arith, c.in_ok-read.read.bytes.ok.0, c.in_ok-read.read.bytes.ok.1, c.in_ok-read.read.bytes.small)) c.deref.ensures.value
+    saved_countable c.in_ok-read.ensures.read.text c.in_ok-read.read.entries.items c.deref.result.now c.in_ok-read.ensures.read.read.finished.reads (omega (arith, c.in_ok-read.ensures.read.countable)) c.deref.ensures.value
 
 pub returns-clause-whole : goal.returns-clause-whole
 returns-clause-whole g c =
     rw (← c.self.view_is) (λ th.
-    let read = c.in_ok-read.ensures.read in (
+    let read = c.in_ok-read.ensures.read.read in (
       entries_of c.in_ok-read.read.entries.items,
-      subst (λ t. IsFinished t (entries_of c.in_ok-read.read.entries.items)) (c.in_ok-read.ensures.bytes th) read.finished,
+      subst (λ t. IsFinished t (entries_of c.in_ok-read.read.entries.items)) (sym (c.in_ok-read.ensures.read.is th)) read.finished,
       length-entries_of c.in_ok-read.read.entries.items ∙ read.counted,
     ))
 

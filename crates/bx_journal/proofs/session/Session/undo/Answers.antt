@@ -25,7 +25,18 @@ returns-in_err-read-clause-damaged g c =
     grind (arith, common_steps, out))
 
 pub undo_entries-requires-clause-kept : goal.undo_entries-requires-clause-kept
-undo_entries-requires-clause-kept g c = c.in_ok-make_room.ensures.kept c.self.inside.count c.in_ok-read.ensures.read
+undo_entries-requires-clause-kept g c = c.in_ok-make_room.ensures.kept c.in_ok-read.ensures.read.text c.self.inside.count c.in_ok-read.ensures.read.read
+
+pub undo_entries-requires-clause-read : goal.undo_entries-requires-clause-read
+undo_entries-requires-clause-read g c =
+    let again = c.in_ok-read.ensures.read in record {
+      text = again.text;
+      is = λ th.
+          let before = c.make_room.ensures.store_honesty.0 th in
+          c.make_room.ensures.text before ∙ c.read_again.ensures.text (c.read_again.ensures.honesty.0 before) ∙ again.is (c.read_again.ensures.honesty.0 before);
+      mark = again.read.mark;
+      marked = again.read.marked;
+    }
 
 pub returns-in-Ok-clause-accepted : goal.returns-in-Ok-clause-accepted
 returns-in-Ok-clause-accepted g c =
@@ -59,9 +70,9 @@ returns-in-Ok-clause-sound g c =
 pub returns-in-Ok-clause-whole : goal.returns-in-Ok-clause-whole
 returns-in-Ok-clause-whole g c =
     rw (← c.self.view_is) (λ th.
-    let read = c.in_ok-read.ensures.read in (
+    let read = c.in_ok-read.ensures.read.read in (
       entries_of c.in_ok-read.read.entries.items,
-      subst (λ t. IsFinished t (entries_of c.in_ok-read.read.entries.items)) (c.in_ok-read.ensures.bytes th) read.finished,
+      subst (λ t. IsFinished t (entries_of c.in_ok-read.read.entries.items)) (sym (c.in_ok-read.ensures.read.is th)) read.finished,
       length-entries_of c.in_ok-read.read.entries.items ∙ read.counted,
     ))
 
@@ -70,7 +81,7 @@ returns-in-Ok-clause-text g c =
     rw (← c.self.view_is) (λ th entries finished.
     let text : g.T.TextStore.text c.make_room.new.store ≡ g.T.TextStore.text c.self.inside.store = c.make_room.ensures.text (c.read_again.ensures.honesty.1 th) ∙ c.read_again.ensures.text th in
     let read : IsFinished (g.T.TextStore.text c.self.inside.store) (entries_of c.in_ok-read.read.entries.items) =
-    subst (λ t. IsFinished t (entries_of c.in_ok-read.read.entries.items)) (c.in_ok-read.ensures.bytes th) c.in_ok-read.ensures.read.finished in
+    subst (λ t. IsFinished t (entries_of c.in_ok-read.read.entries.items)) (sym (c.in_ok-read.ensures.read.is th)) c.in_ok-read.ensures.read.read.finished in
     let same : entries_of c.in_ok-read.read.entries.items ≡ entries = finished_same (g.T.TextStore.text c.self.inside.store) (entries_of c.in_ok-read.read.entries.items) entries read finished in
     subst (λ (es : List Entry). HasLeft (g.T.TextStore.text c.self.inside.store) (g.T.TextStore.text c.undo_entries.new.store) (drop c.args.k es)) same
     (subst (λ t. HasLeft t (g.T.TextStore.text c.undo_entries.new.store) (drop c.args.k (entries_of c.in_ok-read.read.entries.items))) text
