@@ -1,11 +1,11 @@
 // dd as a command on an image.
-use crate::places::{Memory, Pages, Place};
-use crate::script::{Script, play, play_all, reopened};
-use crate::session::{Ask, opened, words};
 use bx_cli::{Command, Fault, Reply, run_all};
-use bx_dd::Counts;
 use bx_image::MemImage;
 use bx_journal::Session;
+use bx_scripts::places::{Memory, Pages, Place};
+use bx_scripts::replies::copied;
+use bx_scripts::script::{Script, play, play_all, reopened};
+use bx_scripts::session::{Ask, opened, words};
 use bx_store::MemText;
 use bx_text::Words;
 use std::alloc::{AllocError, Global};
@@ -13,20 +13,6 @@ use std::io;
 use std::io::{ErrorKind, Read};
 use std::process::Abort;
 use std::test::Fail;
-
-/// A change of this number; whole and part blocks in, and out, and records that were cut.
-pub fn copied(number: u32, blocks: [u64; 4], cut: u64) -> Reply {
-    Reply::Copied {
-        number,
-        counts: Counts {
-            whole_in: blocks[0],
-            part_in: blocks[1],
-            whole_out: blocks[2],
-            part_out: blocks[3],
-            cut,
-        },
-    }
-}
 
 /// What dd with these operands makes of an empty image: the input, the image then, blocks, and records that were cut.
 struct Made {

@@ -1,12 +1,12 @@
 //! Devices that fail at each of their calls: what is left is opened again, and has the stack that recovery promises.
-use crate::model::Images;
-use crate::places::{Memory, Place};
-use crate::script::{Row, Script};
-use crate::scripts::failing;
-use crate::session::{Ask, ask_for, assert_bytes, assert_reply, open, opened};
 use bx_cli::{Fault, Reply};
 use bx_image::{Device, FuseImage, MemImage, Part};
 use bx_journal::Session;
+use bx_scripts::model::Images;
+use bx_scripts::places::{Memory, Place};
+use bx_scripts::script::{Row, Script};
+use bx_scripts::scripts::failing;
+use bx_scripts::session::{Ask, ask_for, assert_bytes, assert_reply, open, opened};
 use bx_store::{FuseText, MemText, TextStore};
 use std::alloc::{AllocError, Global};
 use std::process::Abort;

@@ -1,14 +1,14 @@
 //! Calls below the session, with each growth refused in turn; and a heap that takes memory back.
 use crate::memory::{BumpSession, open_pair, pair};
-use crate::model::Images;
-use crate::scripts::PATCHED;
-use crate::session::{Ask, assert_bytes, command, open, words};
 use bumpalo::Bump;
 use bx_cli::{Fault, Reply, run_all};
 use bx_image::MemImage;
 use bx_journal::{Session, SessionFault};
 use bx_ration::{ALIGN, arena, squeeze, used};
 use bx_read::{read_dump, read_plain};
+use bx_scripts::model::Images;
+use bx_scripts::scripts::PATCHED;
+use bx_scripts::session::{Ask, assert_bytes, command, open, words};
 use bx_store::MemText;
 use bx_text::Source;
 use linked_list_allocator::LocalHeap;

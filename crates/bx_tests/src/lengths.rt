@@ -1,7 +1,7 @@
 //! Changes of every length up to some, with ample memory.
-use crate::session::{Ask, assert_reply, opened};
 use bx_cli::Reply;
 use bx_image::MemImage;
+use bx_scripts::session::{Ask, assert_reply, opened};
 use bx_store::MemText;
 use std::alloc::Global;
 use std::process::Abort;

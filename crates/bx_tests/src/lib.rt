@@ -2,37 +2,23 @@
 #![tactic(auto)]
 
 #[cfg(test)]
-mod copies;
-#[cfg(test)]
 mod dd;
 #[cfg(test)]
 mod devices;
 #[cfg(test)]
 mod growths;
 #[cfg(test)]
-mod judge;
-#[cfg(test)]
 mod lengths;
 #[cfg(test)]
 mod memory;
 #[cfg(test)]
-mod model;
-#[cfg(test)]
 mod outputs;
-#[cfg(test)]
-mod places;
 #[cfg(test)]
 mod program;
 #[cfg(test)]
 mod random;
 #[cfg(test)]
 mod rows;
-#[cfg(test)]
-mod script;
-#[cfg(test)]
-mod scripts;
-#[cfg(test)]
-mod session;
 #[cfg(test)]
 mod streams;
 #[cfg(test)]

@@ -1,12 +1,12 @@
 //! Each growth of a list of commands, and of opening, refused in turn.
-use crate::dd::copied;
-use crate::scripts::{OVERLAPPED, PATCHED};
-use crate::session::{Ask, command};
 use bumpalo::Bump;
 use bx_cli::{Fault, Reply, run_all};
 use bx_image::MemImage;
 use bx_journal::{How, Session, SessionFault};
 use bx_ration::{ALIGN, arena, squeeze, used};
+use bx_scripts::replies::copied;
+use bx_scripts::scripts::{OVERLAPPED, PATCHED};
+use bx_scripts::session::{Ask, command};
 use bx_store::MemText;
 use std::alloc::{AllocError, Global};
 use std::process::Abort;

@@ -1,10 +1,10 @@
 //! Calls whose answer is for people or streams, with each growth refused in turn.
-use crate::session::words;
 use bumpalo::Bump;
 use bx_cli::{Done, Fault, Job, log_text, plan_words, run_dump};
 use bx_dd::Counts;
 use bx_journal::LogRow;
 use bx_ration::{ALIGN, arena, squeeze, used};
+use bx_scripts::session::words;
 use std::alloc::Global;
 use std::process::Abort;
 use std::test::Fail;

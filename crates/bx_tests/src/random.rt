@@ -1,50 +1,19 @@
 //! A long run of random commands, against a plain list of images.
-ghost use Rattle.std.specs.Prelude.{◌<◌};
-
-use crate::copies::copy;
-use crate::model::{Images, put};
-use crate::places::{Files, Memory, Pages, Place};
-use crate::script::reopened;
-use crate::session::{Ask, assert_reply, opened};
 use bx_cli::{Fault, Reply};
 use bx_image::Device;
 use bx_journal::Session;
+use bx_scripts::copies::copy;
+use bx_scripts::dice::Dice;
+use bx_scripts::model::{Images, put};
+use bx_scripts::places::{Files, Memory, Pages, Place};
+use bx_scripts::script::reopened;
+use bx_scripts::session::{Ask, assert_reply, opened};
 use bx_store::TextStore;
 use std::alloc::{AllocError, Global};
 use std::process::Abort;
 use std::test::Fail;
 
 const COMMANDS: u32 = 200;
-
-/// Numbers that look random.
-#[derive(Drop)]
-pub struct Dice {
-    state: u64,
-}
-
-impl Dice {
-    pub fn roll(&mut self, sides: u32) -> u32
-        requires { 0 < sides }
-        ensures { result < sides }
-    {
-        self.state = self
-            .state
-            .wrapping_mul(6_364_136_223_846_793_005)
-            .wrapping_add(1_442_695_040_888_963_407);
-        (self.state >> 33) as u32 % sides
-    }
-
-    /// Some bytes, at most `most` of them and at least one.
-    pub fn bytes(&mut self, alloc: Global, most: u32) -> Result<Vec<u8>, AllocError>
-        requires { 0 < most }
-    {
-        let mut bytes = Vec::new(alloc);
-        for _ in 0..self.roll(most) + 1 {
-            bytes.push(self.roll(256) as u8)?;
-        }
-        Ok(bytes)
-    }
-}
 
 fn push_hex(text: &mut String, alloc: Global, bytes: &[u8]) -> Result<(), AllocError> {
     for byte in bytes {
@@ -191,7 +160,7 @@ fn run_long<D: Device + Drop, T: TextStore + Drop, P: Place<D, T>>(
     place: &P,
     seed: u64,
 ) -> Result<(), Fail> {
-    let mut dice = Dice { state: seed };
+    let mut dice = Dice::new(seed);
     let first = dice.bytes(alloc, 40)?;
     let (device, store) = place.pair(alloc, first.as_slice(), b"")?;
     let (mut session, _) = opened(alloc, device, store)?;

@@ -1,11 +1,11 @@
 //! Texts that are cut off or changed: opening answers what the slow judge answers.
-use crate::judge::{Verdict, judge};
-use crate::places::{Memory, Place};
-use crate::scripts::{EMPTY, OVERLAPPED, PATCHED, THREE};
-use crate::session::{Ask, ask_for, open, opened};
 use bx_cli::Fault;
 use bx_image::MemImage;
 use bx_journal::Recovered;
+use bx_scripts::judge::{Verdict, judge};
+use bx_scripts::places::{Memory, Place};
+use bx_scripts::scripts::{EMPTY, OVERLAPPED, PATCHED, THREE};
+use bx_scripts::session::{Ask, ask_for, open, opened};
 use bx_store::MemText;
 use std::alloc::{AllocError, Global};
 use std::process::Abort;

@@ -1,9 +1,9 @@
 //! Transfers of dd with random operands, against a plain slow program.
 ghost use Rattle.std.specs.Prelude.{◌<◌};
 
-use crate::dd::copied;
+use crate::dice::Dice;
 use crate::model::{Images, put};
-use crate::random::Dice;
+use crate::replies::copied;
 use crate::session::{Ask, assert_reply};
 use bx_image::Device;
 use bx_journal::Session;

@@ -1,5 +1,5 @@
 //! The worked scripts.
-use crate::dd::copied;
+use crate::replies::copied;
 use crate::script::Script;
 use crate::session::Ask;
 use bx_cli::{Fault, Reply};
