@@ -1,7 +1,6 @@
 //! What tests that cross crates share: sessions, scripts of commands, places, plain models. No product code.
 #![tactic(auto)]
 
-pub mod copies;
 pub mod dice;
 pub mod judge;
 pub mod model;

@@ -8,8 +8,6 @@ use bx_journal::{LogRow, Recovered, Session};
 use bx_store::TextStore;
 use bx_text::{Bytes, Piece, Pieces, Words};
 use std::alloc::{Allocator, Global};
-use std::process::Abort;
-use std::test::Fail;
 
 /// No test comes near so many failed calls, or so long a list.
 const MANY: u64 = 100_000;
@@ -196,29 +194,6 @@ pub fn ask_for<D: Device, T: TextStore>(
         Ask::Change(base, writes) => perform(alloc, session, base, writes),
         _ => run_asked(alloc, session, asked),
     }
-}
-
-/// Asks for one thing, which has to be answered so.
-pub fn assert_reply<D: Device, T: TextStore>(
-    rt: &impl Abort,
-    alloc: Global,
-    session: &mut Session<D, T>,
-    asked: Ask<'_>,
-    expected: Reply,
-) -> Result<(), Fail> {
-    let reply = ask_for(alloc, session, asked)?;
-    assert_same(rt, reply, expected);
-    Ok(())
-}
-
-/// These are the bytes.
-pub fn assert_bytes(rt: &impl Abort, found: &[u8], expected: &[u8]) {
-    assert!(rt; found == expected);
-}
-
-/// This is the reply.
-pub fn assert_same(rt: &impl Abort, reply: Reply, expected: Reply) {
-    assert_eq!(rt; reply, expected);
 }
 
 /// The bytes of an image.

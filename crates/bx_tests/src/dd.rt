@@ -1,10 +1,11 @@
 // dd as a command on an image.
+use crate::play::{play, play_all, reopened};
 use bx_cli::{Command, Fault, Reply, run_all};
 use bx_image::MemImage;
 use bx_journal::Session;
 use bx_scripts::places::{Memory, Pages, Place};
 use bx_scripts::replies::copied;
-use bx_scripts::script::{Script, play, play_all, reopened};
+use bx_scripts::script::Script;
 use bx_scripts::session::{Ask, opened, words};
 use bx_store::MemText;
 use bx_text::Words;

@@ -1,4 +1,5 @@
 //! Devices that fail at each of their calls: what is left is opened again, and has the stack that recovery promises.
+use crate::asserts::{assert_bytes, assert_reply};
 use bx_cli::{Fault, Reply};
 use bx_image::{Device, FuseImage, MemImage, Part};
 use bx_journal::Session;
@@ -6,7 +7,7 @@ use bx_scripts::model::Images;
 use bx_scripts::places::{Memory, Place};
 use bx_scripts::script::{Row, Script};
 use bx_scripts::scripts::failing;
-use bx_scripts::session::{Ask, ask_for, assert_bytes, assert_reply, open, opened};
+use bx_scripts::session::{Ask, ask_for, open, opened};
 use bx_store::{FuseText, MemText, TextStore};
 use std::alloc::{AllocError, Global};
 use std::process::Abort;

@@ -1,4 +1,5 @@
 //! Calls below the session, with each growth refused in turn; and a heap that takes memory back.
+use crate::asserts::assert_bytes;
 use crate::memory::{BumpSession, open_pair, pair};
 use bumpalo::Bump;
 use bx_cli::{Fault, Reply, run_all};
@@ -8,7 +9,7 @@ use bx_ration::{ALIGN, arena, squeeze, used};
 use bx_read::{read_dump, read_plain};
 use bx_scripts::model::Images;
 use bx_scripts::scripts::PATCHED;
-use bx_scripts::session::{Ask, assert_bytes, command, open, words};
+use bx_scripts::session::{Ask, command, open, words};
 use bx_store::MemText;
 use bx_text::Source;
 use linked_list_allocator::LocalHeap;

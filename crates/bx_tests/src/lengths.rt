@@ -1,7 +1,8 @@
 //! Changes of every length up to some, with ample memory.
+use crate::asserts::assert_reply;
 use bx_cli::Reply;
 use bx_image::MemImage;
-use bx_scripts::session::{Ask, assert_reply, opened};
+use bx_scripts::session::{Ask, opened};
 use bx_store::MemText;
 use std::alloc::Global;
 use std::process::Abort;

@@ -2,6 +2,10 @@
 #![tactic(auto)]
 
 #[cfg(test)]
+mod asserts;
+#[cfg(test)]
+mod copies;
+#[cfg(test)]
 mod dd;
 #[cfg(test)]
 mod devices;
@@ -13,6 +17,8 @@ mod lengths;
 mod memory;
 #[cfg(test)]
 mod outputs;
+#[cfg(test)]
+mod play;
 #[cfg(test)]
 mod program;
 #[cfg(test)]

@@ -1,13 +1,14 @@
 //! A long run of random commands, against a plain list of images.
+use crate::asserts::assert_reply;
+use crate::copies::copy;
+use crate::play::reopened;
 use bx_cli::{Fault, Reply};
 use bx_image::Device;
 use bx_journal::Session;
-use bx_scripts::copies::copy;
 use bx_scripts::dice::Dice;
 use bx_scripts::model::{Images, put};
 use bx_scripts::places::{Files, Memory, Pages, Place};
-use bx_scripts::script::reopened;
-use bx_scripts::session::{Ask, assert_reply, opened};
+use bx_scripts::session::{Ask, opened};
 use bx_store::TextStore;
 use std::alloc::{AllocError, Global};
 use std::process::Abort;

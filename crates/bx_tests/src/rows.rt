@@ -1,11 +1,13 @@
 //! The worked rows, in memory, in pages and in files.
+use crate::asserts::assert_reply;
+use crate::play::{play, play_all};
 use bx_cli::{Done, Reply, log_text, plan_words, run_dump};
 use bx_image::{Device, MemImage};
 use bx_journal::{How, LogRow};
 use bx_scripts::places::{Files, Memory, Pages, Place};
-use bx_scripts::script::{Script, play, play_all};
+use bx_scripts::script::Script;
 use bx_scripts::scripts::{self, PATCHED, all};
-use bx_scripts::session::{Ask, assert_reply, log, opened, words};
+use bx_scripts::session::{Ask, log, opened, words};
 use bx_store::{MemText, TextStore};
 use std::alloc::Global;
 use std::process::Abort;

@@ -1,6 +1,7 @@
 //! Readers and writers that fail at each of their calls, under each dump.
+use crate::asserts::assert_bytes;
 use bx_cli::{Done, Fault, Job, plan_words, run_dump};
-use bx_scripts::session::{assert_bytes, words};
+use bx_scripts::session::words;
 use std::alloc::{AllocError, Global};
 use std::io::{self, ErrorKind, Read, Write};
 use std::process::Abort;

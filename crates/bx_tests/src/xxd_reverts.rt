@@ -2,10 +2,11 @@
 ghost use Rattle.std.specs.Prelude.{◌^◌, ◌<◌, ◌≤◌};
 ghost use Rattle.bx_dump.specs.Styles.{IsCountable};
 
+use crate::play::play;
 use bx_cli::{Fault, Reply};
 use bx_dump::{XxdOptions, XxdStyle, xxd};
 use bx_scripts::places::Memory;
-use bx_scripts::script::{Script, play};
+use bx_scripts::script::Script;
 use bx_scripts::session::Ask;
 use std::alloc::{AllocError, Global};
 use std::process::Abort;

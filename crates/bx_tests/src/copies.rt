@@ -1,12 +1,13 @@
 //! Transfers of dd with random operands, against a plain slow program.
 ghost use Rattle.std.specs.Prelude.{◌<◌};
 
-use crate::dice::Dice;
-use crate::model::{Images, put};
-use crate::replies::copied;
-use crate::session::{Ask, assert_reply};
+use crate::asserts::assert_reply;
 use bx_image::Device;
 use bx_journal::Session;
+use bx_scripts::dice::Dice;
+use bx_scripts::model::{Images, put};
+use bx_scripts::replies::copied;
+use bx_scripts::session::Ask;
 use bx_store::TextStore;
 use std::alloc::{AllocError, Global};
 use std::process::Abort;
