@@ -310,14 +310,21 @@ fn xxd<'a>(alloc: Global) -> Result<Command<'a>, AllocError> {
         .after_help(
             "Numbers: decimal, 0x and hexadecimal, or 0 and octal.\n\nEXAMPLES:\n  bx xxd -l 512 disk.img                   the first 512 bytes\n  bx xxd -s 0x1000 -c 8 -g 1 disk.img      from byte 4096 on, 8 bytes on a line\n  bx xxd -p key.bin | bx revert -p image   the bytes of one file onto another",
         );
-    let grouped = xxd_groups(alloc, command)?;
+    let styled = one_style(alloc, command)?;
+    let grouped = one_case(alloc, styled)?;
     reader(alloc, grouped, &XXD)
 }
 
-/// One style and one case at a time; the C array has no upper case.
-fn xxd_groups<'a>(alloc: Global, command: Command<'a>) -> Result<Command<'a>, AllocError> {
-    let styled = with_group(alloc, command, "style", &XXD_STYLES)?;
-    with_group(alloc, styled, "case", &XXD_CASES)
+// Each of the two groups has a function of its own: a proof that sees one text in both statics takes twenty times as long.
+
+/// One style at a time.
+fn one_style<'a>(alloc: Global, command: Command<'a>) -> Result<Command<'a>, AllocError> {
+    with_group(alloc, command, "style", &XXD_STYLES)
+}
+
+/// The C array has no upper case.
+fn one_case<'a>(alloc: Global, command: Command<'a>) -> Result<Command<'a>, AllocError> {
+    with_group(alloc, command, "case", &XXD_CASES)
 }
 
 fn hexdump<'a>(alloc: Global) -> Result<Command<'a>, AllocError> {

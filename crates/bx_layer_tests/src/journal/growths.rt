@@ -1,6 +1,7 @@
 //! Each growth of a session's calls refused in turn.
 use crate::journal::script::{Pair, clean, on_memory, pair_of, writes};
-use crate::journal::tools::{PATCHED, image, open, text};
+use crate::journal::tools::{PATCHED, open, pair};
+use crate::shared::assert_bytes;
 use bumpalo::Bump;
 use bx_image::{Change, MemImage};
 use bx_journal::{Session, SessionFault};
@@ -40,14 +41,23 @@ fn is_no_memory(fault: SessionFault) -> bool {
     fault == SessionFault::NoMemory
 }
 
-// Opens with memory for some of it. A refusal gives both devices back.
+// The image behind the change of `PATCHED`.
+const CHANGED: &[u8] = b"ABxyEFGH";
+
+// A refusal gave both devices back as they were.
+fn assert_handed_back(rt: &impl Abort, device: &MemImage, store: &MemText) {
+    assert_bytes(rt, device.as_slice(), CHANGED);
+    assert_bytes(rt, store.as_slice(), PATCHED);
+}
+
+// Opens with memory for some of it.
 fn opening<'a>(rt: &impl Abort, alloc: Global, bump: &'a Bump) -> Result<Option<Arena<'a>>, Fail> {
-    match open(bump, image(alloc, b"ABxyEFGH")?, text(alloc, PATCHED)?) {
+    let (device, store) = pair(alloc, CHANGED, PATCHED)?;
+    match open(bump, device, store) {
         Ok((session, _)) => Ok(Some(session)),
         Err((device, store, fault)) => {
             assert!(rt; is_no_memory(fault));
-            assert!(rt; device.as_slice() == b"ABxyEFGH".as_slice());
-            assert!(rt; store.as_slice() == PATCHED);
+            assert_handed_back(rt, &device, &store);
             Ok(None)
         }
     }
@@ -91,14 +101,19 @@ fn listing<'a>(rt: &impl Abort, bump: &'a Bump, session: &mut Arena<'a>) -> Resu
     Ok(true)
 }
 
-// Undoes both changes; tells whether it was refused.
-fn undoing<'a>(rt: &impl Abort, bump: &'a Bump, session: &mut Arena<'a>) -> Result<bool, Fail> {
-    let Err(fault) = session.undo(2) else {
+// Undoes all changes; tells whether it was refused.
+fn undoing<'a>(
+    rt: &impl Abort,
+    bump: &'a Bump,
+    session: &mut Arena<'a>,
+    all: u32,
+) -> Result<bool, Fail> {
+    let Err(fault) = session.undo(all) else {
         return Ok(false);
     };
     assert!(rt; is_no_memory(fault));
-    assert_rows(rt, bump, session, 2)?;
-    assert!(rt; session.undo(2)? == 0);
+    assert_rows(rt, bump, session, all as usize)?;
+    assert!(rt; session.undo(all)? == 0);
     Ok(true)
 }
 
@@ -116,7 +131,7 @@ fn run<'a>(rt: &impl Abort, alloc: Global, bump: &'a Bump) -> Result<Refused, Fa
     if listing(rt, bump, &mut session)? {
         return Ok(Refused::Listing);
     }
-    if undoing(rt, bump, &mut session)? {
+    if undoing(rt, bump, &mut session, 2)? {
         return Ok(Refused::Undoing);
     }
     Ok(Refused::None)
@@ -141,23 +156,25 @@ fn growths_refused_in_turn(rt: HostRuntime) -> Result<(), Fail> {
     Ok(())
 }
 
+// The image before the one change of the test below, and no journal.
+fn assert_first(rt: &impl Abort, session: Arena<'_>) {
+    let (device, store) = session.close();
+    assert_bytes(rt, device.as_slice(), &[b'A'; 160]);
+    assert_bytes(rt, store.as_slice(), b"");
+}
+
 // Opens a pair of one change and undoes that, with so much memory. Tells whether undoing was refused.
 fn undoing_one(rt: &impl Abort, alloc: Global, bytes: usize, changed: &Pair) -> Result<bool, Fail> {
     let bump = ration(alloc, bytes)?;
-    let device = image(alloc, changed.image.as_slice())?;
-    let store = text(alloc, changed.journal.as_slice())?;
+    let (device, store) = pair(alloc, changed.image.as_slice(), changed.journal.as_slice())?;
     let Ok((mut session, _)) = open(&bump, device, store) else {
         return Ok(false);
     };
-    let Err(fault) = session.undo(1) else {
-        return Ok(false);
-    };
-    assert!(rt; is_no_memory(fault));
-    assert_rows(rt, &bump, &mut session, 1)?;
-    assert!(rt; session.undo(1)? == 0);
-    let (device, store) = session.close();
-    assert!(rt; device.as_slice() == [b'A'; 160].as_slice() && store.as_slice().is_empty());
-    Ok(true)
+    let refused = undoing(rt, &bump, &mut session, 1)?;
+    if refused {
+        assert_first(rt, session);
+    }
+    Ok(refused)
 }
 
 #[test]

@@ -1,6 +1,7 @@
 //! Changes, undoing and opening, over memory and over files.
 use crate::journal::script::{Step, assert_pair, assert_run, clean, on_both, pair_of, writes};
 use crate::journal::tools::{PATCHED, PATCHED_FIRST, nothing, open, over, text};
+use crate::shared::assert_bytes;
 use bumpalo::Bump;
 use bx_image::MemImage;
 use bx_journal::{LogRow, SessionFault};
@@ -142,8 +143,8 @@ fn assert_no_memory<'a>(
         return Err(SessionFault::Broken.into());
     };
     assert!(rt; fault == SessionFault::NoMemory);
-    assert!(rt; device.as_slice() == bytes);
-    assert!(rt; store.as_slice() == journal);
+    assert_bytes(rt, device.as_slice(), bytes);
+    assert_bytes(rt, store.as_slice(), journal);
     Ok(())
 }
 

@@ -44,6 +44,16 @@ pub fn text(alloc: Global, bytes: &[u8]) -> Result<MemText, AllocError> {
     Ok(MemText::from_vec(bytes.to_vec(alloc)?))
 }
 
+/// Image and journal of these bytes.
+pub fn pair(
+    alloc: Global,
+    bytes: &[u8],
+    journal: &[u8],
+) -> Result<(MemImage, MemText), AllocError> {
+    let device = image(alloc, bytes)?;
+    Ok((device, text(alloc, journal)?))
+}
+
 /// Opens a pair, or hands it back.
 pub fn open<D: Device, T: TextStore, A: Allocator + Clone>(
     alloc: A,
@@ -65,7 +75,8 @@ pub fn over(
     bytes: &[u8],
     journal: &[u8],
 ) -> Result<(Session<MemImage, MemText>, Recovered), Fail> {
-    match open(alloc, image(alloc, bytes)?, text(alloc, journal)?) {
+    let (device, store) = pair(alloc, bytes, journal)?;
+    match open(alloc, device, store) {
         Ok(found) => Ok(found),
         Err((_, _, fault)) => Err(fault.into()),
     }
