@@ -61,7 +61,7 @@ impl Size {
 
     /// How many bytes these are.
     #[inline(always)]
-    pub fn len(self) -> usize
+    pub(crate) fn len(self) -> usize
         ensures value { result ≡ size_of self }
         ensures some { 0 < result }
         ensures most { result ≤ 8 }
@@ -93,7 +93,7 @@ impl Kind {
 
     /// The bytes of a value.
     #[inline(always)]
-    pub fn width(self) -> usize
+    pub(crate) fn width(self) -> usize
         ensures value { result ≡ width_of self }
         ensures some { 0 < result }
         ensures most { result ≤ 8 }
@@ -106,7 +106,7 @@ impl Kind {
 
     /// The characters of a value.
     #[inline(always)]
-    pub fn field(self) -> usize
+    pub(crate) fn field(self) -> usize
         ensures value { result ≡ field_width self }
         ensures most { result ≤ 22 }
     {

@@ -1,5 +1,5 @@
 //! The addresses that a change touches, as ranges by rising address.
-ghost use Rattle.std.specs.Prelude.{◌≡◌, ◌<◌, ◌≤◌, ◌+◌, ◌&&◌, ◌||◌, ℕ, List, min, nat_le, nat_lt, length, IfOk, OnOk};
+ghost use Rattle.std.specs.Prelude.{◌≡◌, ◌<◌, ◌≤◌, ◌+◌, ◌&&◌, ◌||◌, ℕ, List, min, nat_le, nat_lt, length, unwrap_or, IfOk, OnOk};
 ghost use Rattle.std.specs.List.Sorted.{IsPermutation, IsNonDecreasingBy};
 ghost use Rattle.bx_image.specs.Change.{touches};
 ghost use Rattle.bx_image.specs.Spans.{are_over, with_span, LieWithin, AreApart};
@@ -40,11 +40,18 @@ fn collected<A: Allocator>(
     ensures within { IfOk result (λ spans. LieWithin len spans.items) }
 {
     let mut spans = Vec::new(alloc);
-    push(&mut spans, change.base.unwrap_or(len), len)?;
+    push(&mut spans, cut_start(change.base, len), len)?;
     for write in change.writes.as_slice() {
         push(&mut spans, write.at, clipped_end(write, len))?;
     }
     Ok(spans)
+}
+
+// Where a cut begins: at the base, or at the length where there is none.
+fn cut_start(base: Option<u64>, len: u64) -> u64
+    ensures { result ≡ unwrap_or base len }
+{
+    base.unwrap_or(len)
 }
 
 fn clipped_end<A: Allocator>(write: &Piece<A>, len: u64) -> u64

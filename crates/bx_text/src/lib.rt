@@ -16,11 +16,11 @@ mod tables;
 mod words;
 
 pub use bytes::Bytes;
-pub use fast::{put_address, put_full_line, put_pairs, put_text};
+pub use fast::{put_address, put_full_line, put_text};
 pub use fault::{IoFault, NoMemory};
-pub use field::{Field, Radix, ShortText, dec_field, hex_digit, hex_field, oct_field};
+pub use field::{Field, ShortText, dec_field, hex_digit, hex_field, oct_field};
 pub use fold::{Fold, Show};
-pub use line::{LineText, blank, push_text, put_hex, text_byte, xxd_line};
+pub use line::{LineText, blank, push_text, xxd_line};
 pub use number::{SizeFault, SizeStyle};
 pub use numbers::{read_hex, read_size};
 pub use pieces::{Piece, Pieces};

@@ -9,7 +9,7 @@ use Rattle.bx_image.proofs.SpanLemmas.{over_base, are_over-with_span, LieWithin-
 use Rattle.bx_image.proofs.spans.collected.Goals as goal
 
 pub loop-write-init : goal.loop-write-init
-loop-write-init g c = rw (c.in_ok-push.ensures, c.new-spans.ensures.items, c.unwrap_or.ensures) (record {
+loop-write-init g c = rw (c.in_ok-push.ensures, c.new-spans.ensures.items, c.cut_start.ensures) (record {
   over = over_base c.args.change.now.base c.args.len;
   within = LieWithin-with_span c.args.len _ c.args.len [] (All-nil (IsWithin c.args.len)) (omega arith);
 })
