@@ -40,7 +40,8 @@ check-docs: all
 compare: all
 	scripts/compare.py --bx ./bx
 
-# Bad texts, full devices, closed pipes, and each memory request, read and write failing in turn.
+# Bad texts, full devices, closed pipes and streams, what is no file, two programs at once, loop devices (as root), and each
+# memory request, read and write failing in turn.
 hostile: all
 	scripts/hostile.sh ./bx
 

@@ -1,7 +1,8 @@
 #!/usr/bin/env bash
-# Runs bx on bad texts, full devices and closed pipes, and with each memory request and each read or write failing in
-# turn. Compares exit statuses, messages, and that image and journal are as they should be. Prints a line for each case,
-# and a count at the end; the status is 1 where a case fails. Outside the gate.
+# Runs bx on bad texts, full devices, closed pipes and closed streams, on what is no regular file, on loop devices, two at
+# once, and with each memory request and each read or write failing in turn. Compares exit statuses, messages, and that
+# image and journal are as they should be. Prints a line for each case, and a count at the end; the status is 1 where a case
+# fails. Outside the gate. Loop devices want root.
 #
 # Usage: scripts/hostile.sh [PATH OF bx]
 # RT_TRY has the numbers of the memory requests that are refused in the toolchain's checked build too, which takes some
@@ -10,7 +11,8 @@ set -u
 root=$(cd "$(dirname "$0")/.." && pwd)
 bx=$(realpath "${1:-$root/bx}")
 work=$(mktemp -d)
-trap 'rm -rf "$work"' EXIT
+loop=
+trap '[ -z "$loop" ] || losetup -d "$loop"; rm -rf "$work"' EXIT
 cd "$work" || exit 1
 export LC_ALL=C
 passed=0
@@ -101,19 +103,87 @@ bad_journals() {
     cp "$bx" text
     fresh ABxyEFGH text && expect "a program as a journal" same 1 "journal line 1 is damaged" undo img
     fresh xyz && expect "the image as the journal, by its name" same 2 "bad arguments" undo -J img img
-    ln -sf img other
-    fresh xyz && expect "the image as the journal, by another name" same 1 "journal line 1 is damaged" undo -J other img
-    rm other
-    fresh xyz && expect "a directory as the journal" same 1 "cannot open file" undo -J / img
-    fresh xyz && expect "a directory as the image" same 1 "cannot open file" undo -J img.bxj /
     fresh xyz && expect "a journal that is missing" same 1 "cannot open file" log img
     awk 'BEGIN { for (n = 1; n <= 65535; n++) printf "change %08x 00000000\nsave %08x\ndone %08x\n", n, n, n }' > text
     fresh "" text && expect "a change on a full journal" same 1 "journal is full" revert -f /dev/null img
     printf 'change 00010000 00000000\n' >> text
     fresh "" text && expect "an entry above the greatest number" same 1 "journal line 196606 is damaged" log img
+}
+
+# The image as its own journal, under each kind of name. It begins as a journal does, so that opening it as one would cut it.
+two_names() {
+    local name
+    ln -s img soft
+    for name in ./img "$work/img" hard soft; do
+        fresh "$(patched | head -n 3)" && ln -f img hard
+        expect "the image as the journal, by the name ${name##*/}" same 1 "cannot open file" log -J "$name" img
+        expect "and undo" same 1 "cannot open file" undo -J img "$name"
+        printf '0: 41\n' > dump
+        expect "and revert" same 1 "cannot open file" revert -f dump -J "$name" img
+        expect "and dd" same 1 "cannot open file" dd if=dump of="$name" -J img
+    done
+    rm soft hard
+}
+
+# What is no regular file, as an image and as a journal: it is refused before anything is written or made.
+other_kinds() {
+    local name names=("/" "/dev/null" "/dev/full" "/dev/zero") before
+    mkdir folder
+    mkfifo pipe
+    names+=(folder pipe)
+    if command -v python3 > /dev/null; then
+        python3 -c 'import socket; socket.socket(socket.AF_UNIX).bind("socket")'
+        names+=(socket)
+    fi
     printf '0: 41\n' > dump
-    fresh xyz && expect "a full device as the journal" any 1 "interrupted: open again to recover" revert -J /dev/full -f dump img
-    [ "$(cat img)" = xyz ] && say 1 "the image under a full journal stays" || say 0 "the image under a full journal stays"
+    patched | head -n 3 > text
+    fresh ABxyEFGH text
+    : > out
+    : > err
+    before=$(ls; stat -c %s img dump)
+    for name in "${names[@]}"; do
+        expect "$name as the image" same 1 "cannot open file" revert -f dump "$name"
+        expect "$name as the image of dd" same 1 "cannot open file" dd if=dump of="$name" -J new.bxj
+        expect "$name as the image of undo" same 1 "cannot open file" undo -J img.bxj "$name"
+        expect "$name as the image of log" same 1 "cannot open file" log -J img.bxj "$name"
+        expect "$name as the journal" same 1 "cannot open file" revert -f dump -J "$name" img
+        expect "$name as the journal of a new image" same 1 "cannot open file" dd if=dump of=new -J "$name"
+        expect "$name as the journal of undo" same 1 "cannot open file" undo -J "$name" img
+        expect "$name as the journal of log" same 1 "cannot open file" log -J "$name" img
+    done
+    expect "a journal in no folder, of a new image" same 1 "cannot open file" revert -f dump -J no/such new
+    expect "an image in no folder" same 1 "cannot open file" revert -f dump -J new.bxj no/such
+    [ "$before" = "$(ls; stat -c %s img dump)" ] && [ ! -e /.bxj ] && [ ! -e /dev/null.bxj ] \
+        && say 1 "nothing was made beside them" || say 0 "nothing was made beside them"
+    rm -rf folder pipe socket
+}
+
+# Another program that holds a lock.
+held() {
+    if ! command -v flock > /dev/null; then
+        echo "left out: files that another program holds (no flock)"
+        return
+    fi
+    local name command
+    printf '0: 41\n' > dump
+    patched | head -n 3 > text
+    for name in img img.bxj; do
+        for command in "revert -f dump img" "dd if=dump of=img" "undo img" "undo -k 0 img" "log img"; do
+            fresh ABxyEFGH text
+            exec 9< "$name"
+            flock -n 9
+            # shellcheck disable=SC2086
+            expect "$command, and $name is held" same 1 "cannot open file" $command
+            exec 9<&-
+        done
+    done
+    fresh ABxyEFGH text
+    exec 9< img.bxj
+    flock -n 9
+    expect "a new image, and the journal is held" same 1 "cannot open file" dd if=dump of=new -J img.bxj
+    exec 9<&-
+    [ ! -e new ] && say 1 "the new image is taken away" || say 0 "the new image is taken away"
+    expect "and then nothing is held" any 0 "recovered: change 1 was taken back" log img
 }
 
 # Each front of a patch's journal over the image before, in the middle of and behind it: the image comes back, and what was
@@ -191,6 +261,85 @@ streams() {
     [ "$status" = 1 ] && [ "$(cat err)" = "bx: read failed" ] && [ ! -s out ] && say 1 "a directory as standard input" || say 0 "a directory as standard input"
 }
 
+# Runs a command with some of the descriptors 0 to 2 closed.
+run_closed() { # run_closed NUMBERS ARG ..
+    local numbers=$1
+    shift
+    (
+        exec < input > out 2> err
+        case $numbers in *0*) exec <&- ;; esac
+        case $numbers in *1*) exec >&- ;; esac
+        case $numbers in *2*) exec 2>&- ;; esac
+        exec "$bx" "$@"
+    )
+}
+
+# One command under one set of closed streams. NEEDS has a 0 where it reads standard input, and a 1 where it writes to standard
+# output; `img2`, `img2.bxj`, `out2` and `err2` are what it makes with all three open.
+closed_case() { # closed_case NUMBERS NEEDS IMAGE ARG ..
+    local numbers=$1 needs=$2 image=$3 status want=0 message='' well=1
+    shift 3
+    fresh "$image" text
+    : > out
+    : > err
+    run_closed "$numbers" "$@"
+    status=$?
+    case $numbers$needs in
+        *0*0*) want=1 message='bx: read failed' ;;
+        *1*1*) want=1 message='bx: write failed after 0 bytes' ;;
+    esac
+    [ "$status" = "$want" ] || well=0
+    case $message in
+        'bx: read failed') [ "$(cat img img.bxj | sha256sum)" = "$sums" ] && [ ! -s out ] || well=0 ;;
+        *) cmp -s img img2 && cmp -s img.bxj img2.bxj || well=0 ;;
+    esac
+    case $numbers in *1*) [ ! -s out ] || well=0 ;; *) [ -n "$message" ] || cmp -s out out2 || well=0 ;; esac
+    case $numbers in
+        *2*) [ ! -s err ] || well=0 ;;
+        *) if [ -n "$message" ]; then [ "$(tail -n 1 err)" = "$message" ] || well=0; else cmp -s err err2 || well=0; fi ;;
+    esac
+    [ "$well" = 1 ] || wrong="$wrong ${numbers:-none}"
+}
+
+# Each set of closed streams: no file of the user's takes their numbers, and using one fails.
+closed_command() { # closed_command NEEDS IMAGE ARG ..
+    local needs=$1 image=$2 numbers wrong=
+    shift 2
+    fresh "$image" text
+    run_closed "" "$@" || wrong=" status"
+    cp img img2
+    cp img.bxj img2.bxj
+    cp out out2
+    cp err err2
+    for numbers in "" 0 1 2 01 02 12 012; do
+        closed_case "$numbers" "$needs" "$image" "$@"
+    done
+    [ -z "$wrong" ] && say 1 "$*, with each set of streams closed" || say 0 "$*, with each set of streams closed" "wrong at$wrong"
+}
+
+closed_streams() {
+    printf '1: 41\n' > dump
+    cp dump input
+    patched | head -n 3 > text # a change that was stopped: it is taken back, and told
+    closed_command none ABxyEFGH revert -f dump img
+    closed_command 1 ABxyEFGH undo -k 0 img
+    closed_command none ABxyEFGH log img
+    closed_command none ABxyEFGH dd if=dump of=img conv=notrunc
+    patched > text
+    closed_command none ABxyEFGH revert -f dump img
+    closed_command 0 ABxyEFGH revert img
+    closed_command 0 ABxyEFGH revert -p -s 1 img
+    closed_command 0 ABxyEFGH dd of=img
+    closed_command 0 ABxyEFGH dd of=img seek=1 obs=2 conv=ucase
+    closed_command none ABxyEFGH dd if=dump of=img
+    closed_command 1 ABxyEFGH undo img
+    closed_command 1 ABxyEFGH log img
+    closed_command 1 ABxyEFGH xxd img
+    closed_command 1 ABxyEFGH dd if=img
+    closed_command 01 ABxyEFGH xxd
+    closed_command 01 ABxyEFGH dd
+}
+
 # A file may not grow past some size: the change stops, and opening takes it back.
 full_disk() {
     local blocks status well
@@ -258,6 +407,167 @@ killed() {
     say_kills "killed in the middle of an undo"
 }
 
+# What image and journal are now.
+pair_sum() {
+    cat img img.bxj 2> /dev/null | sha256sum
+}
+
+# Two commands at once, many times: one is refused, or both are done, and image and journal are as one of them or an order of
+# both makes them. START makes the pair before each try.
+at_once() { # at_once NAME TRIES START FIRST SECOND
+    local name=$1 tries=$2 start=$3 first=$4 second=$5 n wrong=0 refused=0 a b sum
+    local only_first only_second in_order in_turn
+    # shellcheck disable=SC2086
+    {
+        $start && "$bx" $first > out 2> err && only_first=$(pair_sum) && "$bx" $second > out 2> err && in_order=$(pair_sum)
+        $start && "$bx" $second > out 2> err && only_second=$(pair_sum) && "$bx" $first > out 2> err && in_turn=$(pair_sum)
+    } || wrong=1
+    for n in $(seq 1 "$tries"); do
+        $start
+        # shellcheck disable=SC2086
+        "$bx" $first > /dev/null 2> err1 < /dev/null &
+        # shellcheck disable=SC2086
+        "$bx" $second > /dev/null 2> err2 < /dev/null
+        b=$?
+        wait $!
+        a=$?
+        sum=$(pair_sum)
+        case "$a$b" in
+            00) [ "$sum" = "$in_order" ] || [ "$sum" = "$in_turn" ] || wrong=$((wrong + 1)) ;;
+            01) [ "$sum" = "$only_first" ] && [ "$(cat err2)" = "bx: cannot open file" ] || wrong=$((wrong + 1)) ;;
+            10) [ "$sum" = "$only_second" ] && [ "$(cat err1)" = "bx: cannot open file" ] || wrong=$((wrong + 1)) ;;
+            *) wrong=$((wrong + 1)) ;;
+        esac
+        [ "$a$b" = 00 ] || refused=$((refused + 1))
+    done
+    [ "$wrong" = 0 ] && say 1 "$name" "$tries tries, one refused in $refused" || say 0 "$name" "$wrong of $tries wrong"
+}
+
+no_pair() {
+    rm -f img img.bxj
+}
+
+letters_alone() {
+    cp letters img
+    rm -f img.bxj
+}
+
+letters_changed() {
+    cp changed img
+    cp changed.bxj img.bxj
+}
+
+letters_stopped() {
+    cp changed img
+    head -c -20 changed.bxj > img.bxj
+}
+
+two_at_once() {
+    letters 20000 x > letters
+    awk 'BEGIN { for (i = 0; i < 2000; i++) printf "%x: 41\n", (i * 7919) % 19999 }' > dump1
+    awk 'BEGIN { for (i = 0; i < 2000; i++) printf "%x: 4242\n", (i * 6007) % 19999 }' > dump2
+    letters_alone
+    "$bx" revert -f dump2 img
+    cp img changed
+    cp img.bxj changed.bxj
+    at_once "two reverts at once" 400 letters_alone "revert -f dump1 img" "revert -f dump2 img"
+    at_once "a revert and an undo at once" 200 letters_changed "revert -f dump1 img" "undo img"
+    at_once "a revert and a log that recovers, at once" 200 letters_stopped "revert -f dump1 img" "log img"
+    at_once "two dd onto an image that is missing, at once" 200 no_pair "dd if=dump1 of=img" "dd if=dump2 of=img seek=1"
+}
+
+# A command on the device and the same one on a file of its length: statuses, what is written, bytes and journals are the same.
+on_both() { # on_both COMMAND .. with DEV and JOURNAL in the place of the names
+    local status same=1 command="$*"
+    command=${command//DEV/$loop}
+    # shellcheck disable=SC2086
+    "$bx" ${command//JOURNAL/device.bxj} > out 2> err
+    status=$?
+    command="$*"
+    command=${command//DEV/plain.img}
+    # shellcheck disable=SC2086
+    "$bx" ${command//JOURNAL/plain.bxj} > out2 2> err2
+    [ "$status" = $? ] && [ "$status" = 0 ] && cmp -s out out2 && cmp -s err err2 || same=0
+    cmp -s "$loop" plain.img && cmp -s device.bxj plain.bxj || same=0
+    say "$same" "on a device and on a file: $*"
+}
+
+# A change that a device has no room for is interrupted, and the next opening takes it back.
+too_long() { # too_long NAME ARG ..
+    local name=$1 before status told
+    shift
+    before=$(sha256sum < "$loop")
+    "$bx" "$@" > out 2> err
+    status=$?
+    told=$("$bx" log -J device.bxj "$loop" 2>&1 > /dev/null)
+    [ "$status" = 1 ] && [ "$(cat err)" = "bx: interrupted: open again to recover" ] \
+        && [[ $told == "bx: recovered: change "*" was taken back" ]] && [ "$(sha256sum < "$loop")" = "$before" ] \
+        && say 1 "$name" "$told" || say 0 "$name" "status $status, $(cat err), $told"
+}
+
+killed_on_device() {
+    local n kills=0 wrong=0 first changes
+    first=$(sha256sum < "$loop")
+    for n in $(seq 1 30); do
+        "$bx" revert -f "dump$((1 + n % 2))" -J device.bxj "$loop" > out 2> err &
+        sleep "$(awk -v n="$n" 'BEGIN { printf "%.4f", n * 0.0015 }')"
+        kill -KILL $! 2> /dev/null && kills=$((kills + 1))
+        wait $! 2> /dev/null
+        changes=$("$bx" log -J device.bxj "$loop" 2> err | wc -l)
+        if [ $((n % 3)) = 0 ]; then
+            "$bx" undo -k "$changes" -J device.bxj "$loop" > out 2>&1 &
+            sleep "$(awk -v n="$n" 'BEGIN { printf "%.4f", n * 0.001 }')"
+            kill -KILL $! 2> /dev/null
+            wait $! 2> /dev/null
+            changes=$("$bx" log -J device.bxj "$loop" 2> err | wc -l)
+            "$bx" undo -k "$changes" -J device.bxj "$loop" > out 2>&1
+            [ "$(sha256sum < "$loop")" = "$first" ] && [ ! -s device.bxj ] || wrong=$((wrong + 1))
+        fi
+    done
+    [ "$wrong" = 0 ] && say 1 "killed in the middle of changes and undos of a device" "$kills of 30 were still running" || say 0 "killed in the middle of changes and undos of a device" "$wrong wrong"
+}
+
+# Block devices, as loop devices over a file.
+loop_devices() {
+    local first size=1048576
+    head -c "$size" /dev/urandom > disk
+    if [ "$(id -u)" != 0 ] || ! command -v losetup > /dev/null || ! loop=$(losetup -f --show disk 2> err); then
+        loop=
+        echo "left out: loop devices (no root, or there are none)"
+        return
+    fi
+    first=$(sha256sum < "$loop")
+    cp disk plain.img
+    printf '10: 4142\nffffe: 5a5a\n' > dump
+    letters 512 5 > digits
+    ln -sf "$loop" link
+    fresh xyz
+    expect "a device without a journal of its own" same 1 "cannot open file" revert -f dump "$loop"
+    expect "a device without one, by a link" same 1 "cannot open file" dd if=dump of=link conv=notrunc
+    expect "a device as the journal" same 1 "cannot open file" log -J "$loop" img
+    [ ! -e "$loop.bxj" ] && [ ! -e link.bxj ] && [ "$(sha256sum < "$loop")" = "$first" ] && say 1 "and nothing was made or changed" || say 0 "and nothing was made or changed"
+    on_both revert -f dump -J JOURNAL DEV
+    on_both revert -p -s 0xfff00 -f digits -J JOURNAL DEV
+    on_both dd if=dump of=DEV bs=4k seek=3 conv=notrunc,sync -J JOURNAL
+    head -c 5000 "$bx" > tail_bytes
+    on_both dd if=tail_bytes of=DEV obs=1 seek=$((size - 5000)) -J JOURNAL
+    head -c "$size" /dev/urandom > whole_disk
+    on_both dd if=whole_disk of=DEV ibs=64k -J JOURNAL
+    on_both dd if=/dev/null of=DEV obs=$size seek=1 -J JOURNAL
+    on_both log -J JOURNAL DEV
+    too_long "a revert past a device's end" revert -s 1 -f dump -J device.bxj "$loop"
+    too_long "a dd past a device's end" dd if=tail_bytes of="$loop" obs=1 seek=$((size - 4999)) conv=notrunc -J device.bxj
+    too_long "a dd that would make a device shorter" dd if=tail_bytes of="$loop" obs=1 seek=$((size - 5001)) -J device.bxj
+    too_long "a dd that would make a device longer" dd if=/dev/null of="$loop" obs=1 seek=$((size + 1)) -J device.bxj
+    on_both log -J JOURNAL DEV
+    on_both undo -k 2 -J JOURNAL DEV
+    on_both undo -k 4 -J JOURNAL DEV
+    [ "$(sha256sum < "$loop")" = "$first" ] && [ ! -s device.bxj ] && say 1 "the device is as it was" || say 0 "the device is as it was"
+    killed_on_device
+    [ "$(sha256sum < "$loop")" = "$first" ] && say 1 "the device is as it was, after kills" || say 0 "the device is as it was, after kills"
+    losetup -d "$loop" && loop=
+}
+
 # A library that makes the Nth memory request fail, the Nth read, write or other call on a file fail, or the Nth read or
 # write move one byte.
 build_shim() {
@@ -268,6 +578,7 @@ build_shim() {
 #include <stdio.h>
 #include <stdlib.h>
 #include <string.h>
+#include <sys/file.h>
 #include <sys/stat.h>
 #include <sys/types.h>
 #include <unistd.h>
@@ -305,6 +616,7 @@ ssize_t pwrite64(int d, const void *b, size_t n, off64_t o) { REAL(pwrite64); SO
 int ftruncate(int d, off_t n) { REAL(ftruncate); if (strikes('f')) { errno = EIO; return -1; } return real(d, n); }
 int statx(int d, const char *p, int g, unsigned m, struct statx *s) { REAL(statx); if (strikes('f')) { errno = EIO; return -1; } return real(d, p, g, m, s); }
 off_t lseek(int d, off_t o, int w) { REAL(lseek); if (strikes('f')) { errno = EIO; return -1; } return real(d, o, w); }
+int flock(int d, int how) { REAL(flock); if (strikes('f')) { errno = EIO; return -1; } return real(d, how); }
 int ftruncate64(int d, off64_t n) { REAL(ftruncate64); if (strikes('f')) { errno = EIO; return -1; } return real(d, n); }
 END
     cc -shared -fPIC -O1 -o shim.so shim.c -ldl 2> err
@@ -496,11 +808,17 @@ under_try() { # under_try N ..
 
 bad_dumps
 bad_journals
+two_names
+other_kinds
+held
 fronts
 words
 streams
+closed_streams
 full_disk
 killed
+two_at_once
+loop_devices
 failing_calls
 if [ "${RT_TRY:-1 10 40}" != no ] && command -v rt > /dev/null; then
     # shellcheck disable=SC2086

@@ -1,6 +1,6 @@
 //! Changes to images.
-ghost use Rattle.std.specs.Prelude.{◌≡◌, ◌↔◌, ◌+◌, ◌<◌, ◌≤◌, [], List, ℕ, length, IfOk, IsOk, OnOk, OnErr, is_err, IfSome};
-ghost use Rattle.bx_image.specs.Change.{effect, saved, restore, Restores, AllWithin, Covers, IsAsGood, Fits, KeepsUntouched, cut_to, IsPartlyCutTo};
+ghost use Rattle.std.specs.Prelude.{◌≡◌, ◌↔◌, ◌+◌, ◌<◌, ◌≤◌, [], List, ℕ, length, IfOk, IsOk, OnOk, OnErr, is_err, IfSome, true};
+ghost use Rattle.bx_image.specs.Change.{effect, placed, saved, restore, Restores, AllWithin, Covers, IsAsGood, Fits, KeepsUntouched, cut_to, IsPartlyCutTo};
 ghost use Rattle.bx_image.specs.Device.{GoesOn};
 ghost use Rattle.bx_image.specs.Image.{end_of};
 ghost use Rattle.bx_image.specs.declared.record.Saved.{Saved};
@@ -75,8 +75,52 @@ fn set_base<D: Device>(device: &mut D, base: Option<u64>) -> Result<(), DeviceFa
     Ok(())
 }
 
+// Whether the first write stands at the base and goes up to the image's end or past it. A cut to the
+// base would then take away only what is written over.
+#[tactic(auto, using(crate::proofs::Devices::GoesOn_refl, crate::proofs::Changes::replaced))]
+fn replaces_tail<D: Device, A: Allocator>(
+    device: &mut D,
+    change: &Change<A>,
+) -> Result<bool, DeviceFailed>
+    requires countable { D.failures device.old < u64.MAX }
+    ensures same { D.honest device.old → IfOk result (λ b. b ≡ true → placed change.now.writes (D.image device.old) ≡ effect change.now (D.image device.old)) }
+    ensures image { D.honest device.old → D.image device.new ≡ D.image device.old }
+    ensures goes_on { GoesOn D.honest D.room D.failures (is_err result) device.old device.new }
+{
+    let Some(base) = change.base else {
+        return Ok(false);
+    };
+    let Some(write) = change.writes.as_slice().first() else {
+        return Ok(false);
+    };
+    if write.at != base {
+        return Ok(false);
+    }
+    let count = write.bytes.as_slice().len() as u64;
+    let len = device.len()?;
+    Ok(base <= len && len - base <= count)
+}
+
+// Brings the image to where the writes lead to the effect: to the base, unless the first write
+// replaces all that a cut to it would take away.
+#[tactic(auto, using(crate::proofs::Devices::GoesOn_then))]
+fn begin<D: Device, A: Allocator>(device: &mut D, change: &Change<A>) -> Result<(), DeviceFailed>
+    requires countable { D.failures device.old < u64.MAX }
+    requires room { length (effect change.now []) ≤ D.room device.old }
+    ensures leads { D.honest device.old → OnOk result (placed change.now.writes (D.image device.new) ≡ effect change.now (D.image device.old)) }
+    ensures kept { D.honest device.old → KeepsUntouched change.now (D.image device.old) (D.image device.new) }
+    ensures goes_on { GoesOn D.honest D.room D.failures (is_err result) device.old device.new }
+{
+    if replaces_tail(device, change)? {
+        return Ok(());
+    }
+    set_base(device, change.base)
+}
+
 /// Changes the image on a device, by one `set_len` where there is a base, then one `write_at` for
-/// each write that isn't empty. It takes no memory.
+/// each write that isn't empty. Where the first write stands at the base, the length is asked for
+/// before, and there is no `set_len` if that write goes up to the image's end or past it: so a device
+/// of a fixed length can be written up to its end. It takes no memory.
 ///
 /// Whatever it answers, what was saved of the image before gives it back. A change that restores a
 /// record can be applied again after a failure.
@@ -98,7 +142,7 @@ pub fn apply<D: Device, A: Allocator>(
     ensures again { D.honest device.old → (s : Saved A) → Restores change.now s → Covers s (D.image device.old) → IsAsGood s (D.image device.old) (D.image device.new) }
     ensures goes_on { GoesOn D.honest D.room D.failures (is_err result) device.old device.new }
 {
-    set_base(device, change.base)?;
+    begin(device, change)?;
     for write in change.writes.as_slice() {
         let bytes = write.bytes.as_slice();
         if !bytes.is_empty() {

@@ -1,6 +1,6 @@
 //! dd.
 use crate::files::input;
-use crate::images::command;
+use crate::images::{command, open_session};
 use bx_cli::{Command, DdJob, Fault, Reply};
 use bx_dd::{Counts, report};
 use bx_text::{Name, Words};
@@ -9,14 +9,9 @@ use std::fs::File;
 use std::io::Read;
 use std::rt::Files;
 
-/// Puts what the operands make of the input onto the image. The input is opened first, and read whole before the image is
-/// written: they may be one file.
-pub fn copy_onto<R>(
-    rt: &R,
-    dd: &DdJob,
-    image: &Name,
-    journal: &Name,
-) -> Result<Option<Counts>, Fault>
+/// Puts what the operands make of the input onto the image, and tells the counts. The input is opened first, and read whole
+/// before the image is written: they may be one file.
+pub fn copy_onto<R>(rt: &R, dd: &DdJob, image: &Name, journal: &Name) -> Result<(), Fault>
 where
     R: Files<File = File> + Input + Eprint + AllocGlobal,
 {
@@ -43,14 +38,19 @@ fn copy_from<R, I: Read + Drop>(
     image: &Name,
     journal: &Name,
     input: I,
-) -> Result<Option<Counts>, Fault>
+) -> Result<(), Fault>
 where
     R: Files<File = File> + Eprint + AllocGlobal,
 {
-    match command(rt, image, journal, true, Command::Dd { operands, input })? {
-        Reply::Copied { counts, .. } => Ok(Some(counts)),
-        _ => Ok(None),
+    let mut session = open_session(rt, image, journal, true)?;
+    if let Reply::Copied { counts, .. } = command(
+        rt,
+        &mut session,
+        Command::Dd { operands, input },
+    )? {
+        tell(rt, &counts);
     }
+    Ok(())
 }
 
 /// dd's report, on standard error. One that can't be made or written is no fault, since what it tells of is done.

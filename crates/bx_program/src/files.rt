@@ -1,7 +1,9 @@
 //! The files that a job names.
 use bx_cli::Fault;
 use bx_text::Name;
-use std::fs::File;
+use std::fs::{self, File, Metadata, TryLockError};
+use std::io::{self, ErrorKind};
+use std::os::unix::fs::{FileTypeExt, MetadataExt};
 use std::rt::Files;
 
 /// A file that is only read.
@@ -9,24 +11,146 @@ pub fn input<R: Files<File = File>>(rt: &R, name: &Name) -> Result<File, Fault> 
     File::open(rt, name.as_str()).map_err(|_| Fault::OpenFailed)
 }
 
-/// A file that is read and written, and made where it is missing and `make` says so.
-fn device<R: Files<File = File>>(rt: &R, name: &Name, make: bool) -> Result<File, Fault> {
-    File::options()
-        .read(true)
-        .write(true)
-        .create(make)
-        .open(rt, name.as_str())
-        .map_err(|_| Fault::OpenFailed)
+/// What stands in a file that is changed.
+#[derive(Clone, Copy, PartialEq, Eq)]
+enum Holds {
+    /// An image: a regular file or a block device.
+    Image,
+    /// A journal, which grows: a regular file.
+    Text,
 }
 
-/// The image, and then its journal.
+impl Holds {
+    /// Whether a file of this kind can hold it.
+    fn suits(self, file: &Metadata) -> bool {
+        let kind = file.file_type();
+        kind.is_file() || (self == Holds::Image && kind.is_block_device())
+    }
+}
+
+/// A file that is open to be changed, is what it has to be, and is locked.
+#[derive(Drop)]
+struct Opened<'a> {
+    file: File,
+    name: &'a str,
+    made: bool,
+}
+
+/// What stands under a name, links followed. None is a file that is missing and may be made. It is asked before any file is
+/// opened, since to open a pipe or a device may already do something to it.
+fn look<R>(rt: &R, name: &str, make: bool, holds: Holds) -> Result<Option<Metadata>, Fault>
+where
+    R: Files<File = File>,
+{
+    match fs::metadata(rt, name) {
+        Ok(file) if holds.suits(&file) => Ok(Some(file)),
+        Err(e) if make && e.kind() == ErrorKind::NotFound => Ok(None),
+        _ => Err(Fault::OpenFailed),
+    }
+}
+
+/// Opens a file to be read and written, and says whether it was made.
+fn open_or_make<R>(rt: &R, name: &str, make: bool) -> io::Result<(File, bool)>
+where
+    R: Files<File = File>,
+{
+    let mut how = File::options();
+    how.read(true).write(true);
+    match how.open(rt, name) {
+        Err(e) if make && e.kind() == ErrorKind::NotFound => {}
+        outcome => return Ok((outcome?, false)),
+    }
+    match how.create_new(true).open(rt, name) {
+        // Another program made it by now, or a link leads to a file that is missing.
+        Err(e) if e.kind() == ErrorKind::AlreadyExists => {
+            Ok((how.create_new(false).create(true).open(rt, name)?, false))
+        }
+        outcome => Ok((outcome?, true)),
+    }
+}
+
+/// Locks a file, without waiting, up to its closing. A lock belongs to one opening, so a file that this run has open under
+/// another name is refused like one that another program holds. Where the file system has no locks it goes on without.
+fn lock(file: &File) -> Result<(), Fault> {
+    match file.try_lock() {
+        Ok(()) => Ok(()),
+        Err(TryLockError::Error(e)) if e.kind() == ErrorKind::Unsupported => Ok(()),
+        Err(_) => Err(Fault::OpenFailed),
+    }
+}
+
+/// Whether both are the same file.
+fn is_same(a: &Metadata, b: &Metadata) -> bool {
+    a.dev() == b.dev() && a.ino() == b.ino()
+}
+
+/// Whether the open file is what it has to be, and, now that it is locked, still has its name: another run may have taken it
+/// away before.
+fn is_in_place<R>(rt: &R, name: &str, file: &File, holds: Holds) -> io::Result<bool>
+where
+    R: Files<File = File>,
+{
+    let opened = file.metadata()?;
+    let named = fs::metadata(rt, name)?;
+    Ok(holds.suits(&opened) && is_same(&opened, &named))
+}
+
+impl<'a> Opened<'a> {
+    /// Opens a file, locks it, and looks at it again.
+    fn new<R>(rt: &R, name: &'a str, make: bool, holds: Holds) -> Result<Opened<'a>, Fault>
+    where
+        R: Files<File = File>,
+    {
+        let (file, made) = open_or_make(rt, name, make).map_err(|_| Fault::OpenFailed)?;
+        lock(&file)?;
+        match is_in_place(rt, name, &file, holds) {
+            Ok(true) => Ok(Opened { file, name, made }),
+            _ => Err(Fault::OpenFailed),
+        }
+    }
+
+    /// Takes the file away again, if this run made it.
+    fn unmake<R: Files<File = File>>(&self, rt: &R) {
+        if self.made {
+            let _ = fs::remove_file(rt, self.name);
+        }
+    }
+}
+
+/// The journal of a block device has a name of its own, since the folder of devices is no place that lasts.
+fn is_journal_missing(image: &Option<Metadata>, image_name: &str, journal_name: &str) -> bool {
+    match image {
+        Some(file) if file.file_type().is_block_device() => {
+            journal_name.strip_prefix(image_name) == Some(".bxj")
+        }
+        _ => false,
+    }
+}
+
+/// The image, and then its journal: open, locked, and each a file of its own. Both are looked at before one is opened, and an
+/// image that was made is taken away again where its journal is refused.
+///
+/// # Errors
+/// `OpenFailed` where one is missing and isn't to be made, can't be opened, is no regular file (and, for the image, no block
+/// device either), or is locked by another program or under another name, and where a block device has no journal of another
+/// name than `IMAGE.bxj`. No file is then changed or made.
 pub fn pair<R: Files<File = File>>(
     rt: &R,
     image: &Name,
     journal: &Name,
     make: bool,
 ) -> Result<(File, File), Fault> {
-    let image = device(rt, image, make)?;
-    let journal = device(rt, journal, make)?;
-    Ok((image, journal))
+    let found = look(rt, image.as_str(), make, Holds::Image)?;
+    if is_journal_missing(&found, image.as_str(), journal.as_str()) {
+        return Err(Fault::OpenFailed);
+    }
+    look(rt, journal.as_str(), make, Holds::Text)?;
+    let image = Opened::new(rt, image.as_str(), make, Holds::Image)?;
+    match Opened::new(rt, journal.as_str(), make, Holds::Text) {
+        Ok(journal) => Ok((image.file, journal.file)),
+        Err(fault) => {
+            image.unmake(rt);
+            Err(fault)
+        }
+    }
 }

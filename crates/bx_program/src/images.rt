@@ -14,8 +14,13 @@ use std::rt::Files;
 
 type FileSession = Session<FileImage, FileText>;
 
-/// Opens the pair, and says on standard error what was recovered.
-fn open_session<R>(rt: &R, image: &Name, journal: &Name, make: bool) -> Result<FileSession, Fault>
+/// Opens the pair, and says on standard error what was recovered. Both files are locked up to the session's end.
+pub fn open_session<R>(
+    rt: &R,
+    image: &Name,
+    journal: &Name,
+    make: bool,
+) -> Result<FileSession, Fault>
 where
     R: Files<File = File> + Eprint + AllocGlobal,
     ensures device { IfOk result (λ s. ⟦<FileImage as Device>⟧.failures s.device ≡ 0) }
@@ -39,22 +44,21 @@ where
     Ok(session)
 }
 
-/// Runs one command on the pair.
+/// Runs one command on a session that was just opened.
 pub fn command<R, I: Read + Drop>(
     rt: &R,
-    image: &Name,
-    journal: &Name,
-    make: bool,
+    session: &mut FileSession,
     command: Command<I>,
 ) -> Result<Reply, Fault>
 where
-    R: Files<File = File> + Eprint + AllocGlobal,
-    requires { IsNear command }
+    R: AllocGlobal,
+    requires near { IsNear command }
+    requires device { ⟦<FileImage as Device>⟧.failures session.old.device ≡ 0 }
+    requires store { ⟦<FileText as TextStore>⟧.failures session.old.store ≡ 0 }
 {
-    let mut session = open_session(rt, image, journal, make)?;
     let mut list = Vec::new(rt.alloc());
     list.push(command).map_err(|_| Fault::NoMemory)?;
-    let replies = run_all(rt.alloc(), &mut session, list.as_mut_slice())?;
+    let replies = run_all(rt.alloc(), session, list.as_mut_slice())?;
     match replies.first() {
         Some(Reply::Refused(fault)) => Err(*fault),
         Some(reply) => Ok(*reply),
@@ -62,12 +66,12 @@ where
     }
 }
 
-/// The changes of the pair as text, a line each, the oldest first.
-pub fn log<R>(rt: &R, image: &Name, journal: &Name) -> Result<String, Fault>
+/// The changes of a session that was just opened as text, a line each, the oldest first.
+pub fn log<R>(rt: &R, session: &mut FileSession) -> Result<String, Fault>
 where
-    R: Files<File = File> + Eprint + AllocGlobal,
+    R: AllocGlobal,
+    requires { ⟦<FileText as TextStore>⟧.failures session.old.store ≡ 0 }
 {
-    let mut session = open_session(rt, image, journal, false)?;
     let rows = session.log()?;
     log_text(rt.alloc(), rows.as_slice())
 }

@@ -1,7 +1,8 @@
 //! The jobs, and one run of the program.
 use crate::copies::{copy_onto, tell};
 use crate::files::input;
-use crate::images::{command, log};
+use crate::images::{command, log, open_session};
+use crate::streams::Held;
 use crate::tally::Tally;
 use bx_cli::{
     Command, DdJob, Done, Fault, HexdumpJob, Job, OdJob, Reply, RevertJob, StringsJob, XxdJob,
@@ -18,11 +19,13 @@ use std::rt::{Env, Files};
 /// The most bytes of a dump that is reverted.
 const MOST_INPUT: u64 = 1 << 40;
 
-/// Does what the words of the command line ask for. The fault is the first that stopped it.
+/// Does what the words of the command line ask for. The fault is the first that stopped it. A standard stream that is closed
+/// keeps its number to the end, so that no file gets it.
 pub fn run<R>(rt: &R) -> Result<(), Fault>
 where
     R: Files<File = File> + Env + Input + Print + Eprint + AllocGlobal,
 {
+    let _held = Held::new(rt)?;
     let words = words(rt)?;
     let job = plan_words(rt.alloc(), &words)?;
     perform(rt, &job)
@@ -64,7 +67,7 @@ where
     Ok(())
 }
 
-/// Runs a job, and answers what dd counted.
+/// Runs a job, and answers what dd counted, unless that is told.
 fn run_job<R, W: Write>(rt: &R, job: &Job, out: &mut W) -> Result<Option<Counts>, Fault>
 where
     R: Files<File = File> + Input + Eprint + AllocGlobal,
@@ -82,7 +85,7 @@ where
             image,
             journal,
         } => undo(rt, *count, image, journal, out)?,
-        Job::Log { image, journal } => show(out, log(rt, image, journal)?.as_str())?,
+        Job::Log { image, journal } => show_log(rt, image, journal, out)?,
     }
     Ok(None)
 }
@@ -93,7 +96,10 @@ where
     R: Files<File = File> + Input + Eprint + AllocGlobal,
 {
     match (&dd.plan.output, &dd.journal) {
-        (Some(image), Some(journal)) => copy_onto(rt, dd, image, journal),
+        (Some(image), Some(journal)) => {
+            copy_onto(rt, dd, image, journal)?;
+            Ok(None)
+        }
         _ => dump_file(rt, job, &dd.plan.input, out),
     }
 }
@@ -128,7 +134,8 @@ where
             offset: job.at,
         }
     };
-    command(rt, &job.image, &job.journal, true, asked)?;
+    let mut session = open_session(rt, &job.image, &job.journal, true)?;
+    command(rt, &mut session, asked)?;
     Ok(())
 }
 
@@ -149,10 +156,20 @@ where
     R: Files<File = File> + Eprint + AllocGlobal,
 {
     let asked: Command = Command::Undo { k: count };
-    match command(rt, image, journal, false, asked)? {
+    let mut session = open_session(rt, image, journal, false)?;
+    match command(rt, &mut session, asked)? {
         Reply::Undone { left } => show_number(out, left),
         _ => Ok(()),
     }
+}
+
+/// Shows the changes that stand.
+fn show_log<R, W: Write>(rt: &R, image: &Name, journal: &Name, out: &mut W) -> Result<(), Fault>
+where
+    R: Files<File = File> + Eprint + AllocGlobal,
+{
+    let mut session = open_session(rt, image, journal, false)?;
+    show(out, log(rt, &mut session)?.as_str())
 }
 
 /// Dumps or copies FILE, or standard input where there is none.

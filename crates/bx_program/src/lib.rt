@@ -5,6 +5,8 @@ mod copies;
 mod files;
 mod images;
 mod jobs;
+mod streams;
 mod tally;
 
+pub use files::pair;
 pub use jobs::{perform, run};

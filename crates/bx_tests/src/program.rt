@@ -1,8 +1,9 @@
 //! Jobs as the program does them, on real files.
 use bx_cli::{Fault, plan_words};
-use bx_program::perform;
-use bx_text::Words;
+use bx_program::{pair, perform};
+use bx_text::{Name, Words};
 use std::fs::{self, File};
+use std::os::unix::fs::symlink;
 use std::process::Abort;
 use std::rt::Files;
 use std::test::Fail;
@@ -66,7 +67,8 @@ where
     Ok(())
 }
 
-// The input comes first, then the image, then the journal; undo and log make neither file.
+// The input comes first, then the image, then the journal; undo and log make neither file, and an image that was made is
+// taken away where its journal is refused.
 #[test]
 fn opens_in_order(rt: HostRuntime) -> Result<(), Fail> {
     let missing = Err(Fault::OpenFailed);
@@ -81,6 +83,7 @@ fn opens_in_order(rt: HostRuntime) -> Result<(), Fail> {
         "revert -f order.dump -J no/such/dir order.img",
         missing,
     )?;
+    is_missing(&rt, "order.img")?;
     let bad = Err(Fault::BadPair { line: 1 });
     ends(&rt, "revert -f order.dump order.img", bad)?;
     has_len(&rt, "order.img", 0)?;
@@ -119,7 +122,7 @@ fn dd_onto_files(rt: HostRuntime) -> Result<(), Fail> {
     is_missing(&rt, "onto.img")?;
     fs::write(&rt, "onto.in", b"xy")?;
     ends(&rt, "dd if=onto.in of=onto.img -J no/such/dir", missing)?;
-    has_len(&rt, "onto.img", 0)?;
+    is_missing(&rt, "onto.img")?;
     fs::write(&rt, "onto.img", b"0123456789")?;
     let operands = "dd if=onto.in of=onto.img obs=4 seek=1";
     ends(&rt, operands, Ok(()))?;
@@ -147,4 +150,135 @@ fn dd_to_standard_output(rt: HostRuntime) -> Result<(), Fail> {
     ends(&rt, "dd if=stream.in -J stream.in count=1", Ok(()))?;
     has_len(&rt, "stream.in", 3)?;
     remove(&rt, &["stream.in"])
+}
+
+fn name_of<R: AllocGlobal>(rt: &R, name: &str) -> Result<Name, Fail> {
+    Ok(Name::from_string(String::from_str(rt.alloc(), name)?))
+}
+
+// Each of these commands is refused, and image and journal stay.
+fn are_refused<R>(rt: &R, lines: &[&str], image: &[u8], journal: &[u8]) -> Result<(), Fail>
+where
+    R: Abort + Files<File = File> + Input + Print + Eprint + AllocGlobal,
+{
+    for line in lines {
+        ends(rt, line, Err(Fault::OpenFailed))?;
+        has_bytes(rt, "one.img", image)?;
+        has_bytes(rt, "one.img.bxj", journal)?;
+    }
+    Ok(())
+}
+
+// A change of eight bytes that stopped before its last line.
+const STOPPED: &[u8] =
+    b"change2 00000001 0000000000000008\n00000002: 4344                                     CD\nsave 00000001\n";
+
+fn write_pair<R: Files<File = File>>(rt: &R) -> Result<(), Fail> {
+    fs::write(rt, "one.img", b"ABxyEFGH")?;
+    fs::write(rt, "one.img.bxj", STOPPED)?;
+    fs::write(rt, "one.dump", b"00000001: 7a\n")?;
+    Ok(())
+}
+
+fn remove_pair<R: Files<File = File>>(rt: &R) -> Result<(), Fail> {
+    remove(rt, &["one.img", "one.img.bxj", "one.dump"])
+}
+
+// What an earlier session holds. The later one is refused, whatever it would do, and recovers nothing.
+#[test]
+fn two_sessions_at_once(rt: HostRuntime) -> Result<(), Fail> {
+    write_pair(&rt)?;
+    let (image, journal) = (name_of(&rt, "one.img")?, name_of(&rt, "one.img.bxj")?);
+    let first = pair(&rt, &image, &journal, false);
+    assert!(rt; first.is_ok());
+    let lines = [
+        "revert -f one.dump one.img",
+        "dd if=one.dump of=one.img",
+        "undo one.img",
+        "log one.img",
+        "revert -f one.dump -J other.bxj one.img",
+        "revert -f one.dump -J one.img.bxj other.img",
+    ];
+    are_refused(&rt, &lines, b"ABxyEFGH", STOPPED)?;
+    is_missing(&rt, "other.bxj")?;
+    is_missing(&rt, "other.img")?;
+    remove_pair(&rt)
+}
+
+// A session that ended holds nothing.
+#[test]
+fn one_session_after_another(rt: HostRuntime) -> Result<(), Fail> {
+    fs::write(&rt, "turns.img", b"ABCD")?;
+    let (image, journal) = (name_of(&rt, "turns.img")?, name_of(&rt, "turns.img.bxj")?);
+    assert!(rt; pair(&rt, &image, &journal, true).is_ok());
+    assert!(rt; pair(&rt, &image, &journal, true).is_ok());
+    ends(&rt, "log turns.img", Ok(()))?;
+    ends(&rt, "undo -k 0 turns.img", Ok(()))?;
+    remove(&rt, &["turns.img", "turns.img.bxj"])
+}
+
+// Under whatever names: the image as its own journal is no journal. This image is a journal of a change that was stopped.
+#[test]
+fn one_file_by_two_names(rt: HostRuntime) -> Result<(), Fail> {
+    write_pair(&rt)?;
+    fs::write(&rt, "one.img", STOPPED)?;
+    fs::hard_link(&rt, "one.img", "one.hard")?;
+    symlink(&rt, "one.img", "one.soft")?;
+    let lines = [
+        "log -J ./one.img one.img",
+        "log -J one.hard one.img",
+        "log -J one.soft one.img",
+        "undo -J one.img one.soft",
+        "undo -k 0 -J one.soft one.hard",
+        "revert -f one.dump -J one.hard one.img",
+        "dd if=one.dump of=one.img -J one.soft",
+    ];
+    are_refused(&rt, &lines, STOPPED, STOPPED)?;
+    ends(
+        &rt,
+        "revert -f one.dump -J ./new.img new.img",
+        Err(Fault::OpenFailed),
+    )?;
+    is_missing(&rt, "new.img")?;
+    remove(&rt, &["one.hard", "one.soft"])?;
+    remove_pair(&rt)
+}
+
+// A folder and a character device are neither image nor journal, and nothing is made beside them.
+#[test]
+fn only_files_are_changed(rt: HostRuntime) -> Result<(), Fail> {
+    write_pair(&rt)?;
+    fs::create_dir(&rt, "one.dir")?;
+    let lines = [
+        "revert -f one.dump one.dir",
+        "dd if=one.dump of=one.dir -J other.bxj",
+        "undo -J one.img.bxj one.dir",
+        "log -J one.img.bxj /dev/null",
+        "dd if=one.dump of=/dev/null -J other.bxj",
+        "revert -f one.dump -J one.dir one.img",
+        "undo -J /dev/null one.img",
+        "log -J one.dir one.img",
+        "revert -f one.dump -J /dev/null other.img",
+        "dd if=one.dump of=other.img -J one.dir",
+    ];
+    are_refused(&rt, &lines, b"ABxyEFGH", STOPPED)?;
+    for name in ["one.dir.bxj", "other.bxj", "other.img"] {
+        is_missing(&rt, name)?;
+    }
+    fs::remove_dir(&rt, "one.dir")?;
+    remove_pair(&rt)
+}
+
+// A link that leads to a file is that file, and the journal stands beside the link.
+#[test]
+fn image_by_a_link(rt: HostRuntime) -> Result<(), Fail> {
+    write_pair(&rt)?;
+    symlink(&rt, "one.img", "link")?;
+    ends(&rt, "revert -f one.dump link", Ok(()))?;
+    has_bytes(&rt, "one.img", b"AzxyEFGH")?;
+    has_bytes(&rt, "one.img.bxj", STOPPED)?;
+    ends(&rt, "undo link", Ok(()))?;
+    has_bytes(&rt, "one.img", b"ABxyEFGH")?;
+    remove(&rt, &["link", "link.bxj"])?;
+    remove_pair(&rt)
 }

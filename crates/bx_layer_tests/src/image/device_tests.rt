@@ -143,6 +143,26 @@ fn calls_of_apply(rt: HostRuntime) -> Result<(), Fail> {
     Ok(())
 }
 
+// A first write at the base that goes up to the image's end, or past it, makes the `set_len` needless.
+#[test]
+fn tail_replaced_in_place(rt: HostRuntime) -> Result<(), Fail> {
+    let cases: [(u64, &[u8], u64); 6] = [
+        (4, b"yz", 1),
+        (4, b"xyz", 1),
+        (6, b"", 0),
+        (4, b"y", 2),
+        (5, b"", 1),
+        (7, b"x", 2),
+    ];
+    for (base, bytes, calls) in cases {
+        let change = change(rt.alloc(), Some(base), &[(base, bytes)])?;
+        for pass in 0..3u64 {
+            assert!(rt; applies(&rt, rt.alloc(), &change, pass)? == (pass >= calls));
+        }
+    }
+    Ok(())
+}
+
 // Is all saved where so many calls that read pass?
 fn saves(rt: &impl Abort, alloc: Global, change: &Change, pass: u64) -> Result<bool, Fail> {
     let mut image = fused_reads(alloc, b"ABCDEFGHIJ", pass)?;
