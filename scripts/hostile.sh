@@ -328,7 +328,6 @@ closed_streams() {
     patched > text
     closed_command none ABxyEFGH revert -f dump img
     closed_command 0 ABxyEFGH revert img
-    closed_command 0 ABxyEFGH revert -p -s 1 img
     closed_command 0 ABxyEFGH dd of=img
     closed_command 0 ABxyEFGH dd of=img seek=1 obs=2 conv=ucase
     closed_command none ABxyEFGH dd if=dump of=img
@@ -338,6 +337,8 @@ closed_streams() {
     closed_command 1 ABxyEFGH dd if=img
     closed_command 01 ABxyEFGH xxd
     closed_command 01 ABxyEFGH dd
+    printf '41 4\n2' > input
+    closed_command 0 ABxyEFGH revert -p -s 1 img
 }
 
 # A file may not grow past some size: the change stops, and opening takes it back.
@@ -506,25 +507,32 @@ too_long() { # too_long NAME ARG ..
 }
 
 killed_on_device() {
-    local n kills=0 wrong=0 first changes
+    local n kills=0 undone=0 wrong=0 first changes
     first=$(sha256sum < "$loop")
+    awk 'BEGIN { for (i = 0; i < 60000; i++) printf "%x: 41\n", (i * 7919) % 1048575 }' > dump
     for n in $(seq 1 30); do
-        "$bx" revert -f "dump$((1 + n % 2))" -J device.bxj "$loop" > out 2> err &
-        sleep "$(awk -v n="$n" 'BEGIN { printf "%.4f", n * 0.0015 }')"
+        if [ $((n % 2)) = 0 ]; then
+            "$bx" revert -f dump -J device.bxj "$loop" > out 2> err &
+        else
+            "$bx" dd if=whole_disk of="$loop" ibs=64k -J device.bxj > out 2> err &
+        fi
+        sleep "$(awk -v n="$n" 'BEGIN { printf "%.4f", n * 0.002 }')"
         kill -KILL $! 2> /dev/null && kills=$((kills + 1))
         wait $! 2> /dev/null
         changes=$("$bx" log -J device.bxj "$loop" 2> err | wc -l)
         if [ $((n % 3)) = 0 ]; then
+            "$bx" revert -f dump -J device.bxj "$loop" > out 2> err
+            changes=$((changes + 1))
             "$bx" undo -k "$changes" -J device.bxj "$loop" > out 2>&1 &
-            sleep "$(awk -v n="$n" 'BEGIN { printf "%.4f", n * 0.001 }')"
-            kill -KILL $! 2> /dev/null
+            sleep "$(awk -v n="$n" 'BEGIN { printf "%.4f", n * 0.003 }')"
+            kill -KILL $! 2> /dev/null && undone=$((undone + 1))
             wait $! 2> /dev/null
             changes=$("$bx" log -J device.bxj "$loop" 2> err | wc -l)
             "$bx" undo -k "$changes" -J device.bxj "$loop" > out 2>&1
             [ "$(sha256sum < "$loop")" = "$first" ] && [ ! -s device.bxj ] || wrong=$((wrong + 1))
         fi
     done
-    [ "$wrong" = 0 ] && say 1 "killed in the middle of changes and undos of a device" "$kills of 30 were still running" || say 0 "killed in the middle of changes and undos of a device" "$wrong wrong"
+    [ "$wrong" = 0 ] && say 1 "killed in the middle of changes and undos of a device" "$kills of 30 changes and $undone of 10 undos were still running" || say 0 "killed in the middle of changes and undos of a device" "$wrong wrong"
 }
 
 # Block devices, as loop devices over a file.
@@ -568,8 +576,8 @@ loop_devices() {
     losetup -d "$loop" && loop=
 }
 
-# A library that makes the Nth memory request fail, the Nth read, write or other call on a file fail, or the Nth read or
-# write move one byte.
+# A library that makes the Nth memory request fail, the Nth read, write or other call on a file fail, the Nth read or write
+# move one byte, or answers each lock as a file system that has none.
 build_shim() {
     cat > shim.c << 'END'
 #define _GNU_SOURCE
@@ -616,7 +624,7 @@ ssize_t pwrite64(int d, const void *b, size_t n, off64_t o) { REAL(pwrite64); SO
 int ftruncate(int d, off_t n) { REAL(ftruncate); if (strikes('f')) { errno = EIO; return -1; } return real(d, n); }
 int statx(int d, const char *p, int g, unsigned m, struct statx *s) { REAL(statx); if (strikes('f')) { errno = EIO; return -1; } return real(d, p, g, m, s); }
 off_t lseek(int d, off_t o, int w) { REAL(lseek); if (strikes('f')) { errno = EIO; return -1; } return real(d, o, w); }
-int flock(int d, int how) { REAL(flock); if (strikes('f')) { errno = EIO; return -1; } return real(d, how); }
+int flock(int d, int how) { REAL(flock); if (armed && what == 'n') { errno = EOPNOTSUPP; return -1; } if (strikes('f')) { errno = EIO; return -1; } return real(d, how); }
 int ftruncate64(int d, off64_t n) { REAL(ftruncate64); if (strikes('f')) { errno = EIO; return -1; } return real(d, n); }
 END
     cc -shared -fPIC -O1 -o shim.so shim.c -ldl 2> err
@@ -757,6 +765,10 @@ failing_calls() {
     each_request "dd onto an image" ABxyEFGH text dd if=plain of=img obs=3 seek=1 conv=ucase
     each_request "undo" ABxyEFGH text undo img
     each_request "log" ABxyEFGH text log img
+    fresh ABCDEFGH none
+    : > input
+    shimmed n 0 revert -f dump img && "$bx" log img > out && [ "$(cat out)" = "1 8 2" ] \
+        && say 1 "a file system without locks" || say 0 "a file system without locks" "$(cat err)"
     each_call "revert" ABCDEFGH none ABCDEFGH revert -f dump img
     each_call "revert over a journal" ABxyEFGH text ABCDEFGH revert -f dump img
     each_call "dd onto an image" ABxyEFGH text ABCDEFGH dd if=plain of=img obs=3 seek=1 conv=ucase
