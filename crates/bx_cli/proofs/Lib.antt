@@ -4,6 +4,7 @@ pub mod Runs
 pub mod Unfailed
 pub mod Stands
 pub mod Refusals
+pub mod Obeys
 pub mod Copying
 pub mod XxdRows
 pub mod XxdReverts

@@ -5,6 +5,7 @@ pub mod Fault
 pub mod Job
 pub mod Standing
 pub mod Run
+pub mod Obeys
 pub mod Refusal
 pub mod Laws
 pub mod Listing

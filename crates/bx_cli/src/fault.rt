@@ -8,70 +8,71 @@ use bx_journal::SessionFault;
 use bx_read::ReadFault;
 use bx_text::{IoFault, NoMemory};
 use std::alloc::AllocError;
-use thiserror::Error;
+use std::error::Error;
+use std::fmt;
 
 /// What can stop the program; its text is what the program shows.
-#[derive(Clone, Copy, Debug, PartialEq, Eq, Error)]
+#[derive(Clone, Copy, Debug, PartialEq, Eq)]
 pub enum Fault {
-    #[error("out of memory")]
+    /// A growth was refused.
     NoMemory,
-    #[error("read failed")]
+    /// The input could not be read.
     ReadFailed,
-    #[error("write failed after {written} bytes")]
+    /// The output could not be written; so many bytes were.
     WriteFailed { written: u64 },
-    #[error("input too long")]
+    /// The input has more bytes than are taken.
     InputTooLong,
-    #[error("skip is past the end of the input")]
+    /// The input has fewer bytes than are to be skipped.
     SkipPastEnd,
-    #[error("line {line}: bad address")]
+    /// The line begins with no hexadecimal digit, or with more than 16. Lines count from 1.
     BadAddress { line: u64 },
-    #[error("line {line}: missing colon")]
+    /// No colon follows the address.
     MissingColon { line: u64 },
-    #[error("line {line}: bad pair")]
+    /// What should be pairs of digits, with at most one space between two, is not.
     BadPair { line: u64 },
-    #[error("line {line}: no bytes")]
+    /// Nothing follows the colon, or two spaces do.
     NoData { line: u64 },
-    #[error("line {line}: more than 256 bytes")]
+    /// More than 256 pairs.
     TooWide { line: u64 },
-    #[error("line {line}: address too large")]
+    /// The address is 2^62 or more.
     AddressTooLarge { line: u64 },
-    #[error("line {line}: odd number of digits")]
+    /// The last digit of a plain text has no second one.
     OddDigits { line: u64 },
-    #[error("operand {place}: unknown")]
+    /// An operand of dd has no known name. Operands count from 1.
     UnknownOperand { place: u64 },
-    #[error("operand {place}: bad number")]
+    /// The value of an operand is no number.
     BadNumber { place: u64 },
-    #[error("operand {place}: number too large")]
+    /// The value of an operand is too large.
     NumberTooLarge { place: u64 },
-    #[error("operand {place}: zero size")]
+    /// A size that an operand gives is 0.
     ZeroSize { place: u64 },
-    #[error("conflicting conversions")]
+    /// Two conversions of dd exclude each other.
     Conflict,
-    #[error("cbs is missing")]
+    /// A conversion of dd needs `cbs=`.
     MissingCbs,
-    #[error("operand {place}: given twice")]
+    /// An operand was given before.
     Repeated { place: u64 },
-    #[error("seek needs an output file")]
+    /// `seek=` was given without `of=`.
     SeekWithoutOutput,
-    #[error("image too large")]
+    /// The image would have more than 2^48 - 1 bytes.
     TooLarge,
-    #[error("device failed")]
+    /// A device failed before anything was written.
     DeviceFailed,
-    #[error("journal line {line} is damaged")]
+    /// The journal's text isn't accepted; the line counts from 1.
     Damaged { line: u64 },
-    #[error("only {have} changes to undo")]
+    /// There are fewer changes than are to be taken back.
     TooFew { have: u32 },
-    #[error("journal is full")]
+    /// 65,535 changes stand.
     JournalFull,
-    #[error("interrupted: open again to recover")]
+    /// A device failed after something was written: opening again recovers it.
     Interrupted,
-    #[error("session is broken")]
+    /// An earlier call was interrupted.
     Broken,
-    #[error("image should have {expected} bytes")]
+    /// The image hasn't the length that the journal's last finished entry tells.
     LengthDiffers { expected: u64 },
-    #[error("bad arguments")]
+    /// The words of the command line are wrong.
     Usage,
-    #[error("cannot open file")]
+    /// A file could not be opened.
     OpenFailed,
 }
 
@@ -113,7 +114,78 @@ impl Fault {
             Fault::OpenFailed => 51,
         }
     }
+
+    // The text in front of the number that the fault tells, and the text behind it. Where it tells none, the first is all.
+    fn texts(&self) -> (&'static str, &'static str) {
+        match self {
+            Fault::NoMemory => ("out of memory", ""),
+            Fault::ReadFailed => ("read failed", ""),
+            Fault::WriteFailed { .. } => ("write failed after ", " bytes"),
+            Fault::InputTooLong => ("input too long", ""),
+            Fault::SkipPastEnd => ("skip is past the end of the input", ""),
+            Fault::BadAddress { .. } => ("line ", ": bad address"),
+            Fault::MissingColon { .. } => ("line ", ": missing colon"),
+            Fault::BadPair { .. } => ("line ", ": bad pair"),
+            Fault::NoData { .. } => ("line ", ": no bytes"),
+            Fault::TooWide { .. } => ("line ", ": more than 256 bytes"),
+            Fault::AddressTooLarge { .. } => ("line ", ": address too large"),
+            Fault::OddDigits { .. } => ("line ", ": odd number of digits"),
+            Fault::UnknownOperand { .. } => ("operand ", ": unknown"),
+            Fault::BadNumber { .. } => ("operand ", ": bad number"),
+            Fault::NumberTooLarge { .. } => ("operand ", ": number too large"),
+            Fault::ZeroSize { .. } => ("operand ", ": zero size"),
+            Fault::Conflict => ("conflicting conversions", ""),
+            Fault::MissingCbs => ("cbs is missing", ""),
+            Fault::Repeated { .. } => ("operand ", ": given twice"),
+            Fault::SeekWithoutOutput => ("seek needs an output file", ""),
+            Fault::TooLarge => ("image too large", ""),
+            Fault::DeviceFailed => ("device failed", ""),
+            Fault::Damaged { .. } => ("journal line ", " is damaged"),
+            Fault::TooFew { .. } => ("only ", " changes to undo"),
+            Fault::JournalFull => ("journal is full", ""),
+            Fault::Interrupted => ("interrupted: open again to recover", ""),
+            Fault::Broken => ("session is broken", ""),
+            Fault::LengthDiffers { .. } => ("image should have ", " bytes"),
+            Fault::Usage => ("bad arguments", ""),
+            Fault::OpenFailed => ("cannot open file", ""),
+        }
+    }
+
+    // The number that the text tells: a line's, an operand's, or how many.
+    fn told(&self) -> Option<u64> {
+        match *self {
+            Fault::WriteFailed { written } => Some(written),
+            Fault::BadAddress { line }
+            | Fault::MissingColon { line }
+            | Fault::BadPair { line }
+            | Fault::NoData { line }
+            | Fault::TooWide { line }
+            | Fault::AddressTooLarge { line }
+            | Fault::OddDigits { line }
+            | Fault::Damaged { line } => Some(line),
+            Fault::UnknownOperand { place }
+            | Fault::BadNumber { place }
+            | Fault::NumberTooLarge { place }
+            | Fault::ZeroSize { place }
+            | Fault::Repeated { place } => Some(place),
+            Fault::TooFew { have } => Some(have as u64),
+            Fault::LengthDiffers { expected } => Some(expected),
+            _ => None,
+        }
+    }
 }
+
+impl fmt::Display for Fault {
+    fn fmt<W: fmt::Write>(&self, f: &mut fmt::Formatter<W>) -> fmt::Result {
+        let (front, back) = self.texts();
+        match self.told() {
+            Some(number) => write!(f, "{front}{number}{back}"),
+            None => f.write_str(front),
+        }
+    }
+}
+
+impl Error for Fault {}
 
 impl From<NoMemory> for Fault {
     ghost from_gives = { λ _ f. f ≡ OutOfMemory };

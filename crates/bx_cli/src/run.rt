@@ -2,10 +2,11 @@
 ghost use Rattle.std.specs.Prelude.{◌≡◌, ◌↔◌, ◌⊎◌, ◌+◌, ◌^◌, ◌≤◌, ◌<◌, List, ℕ, length, None, Some, IfOk, OnErr, All};
 ghost use Rattle.bx_journal.specs.Session.{IsReady, IsSame};
 ghost use Rattle.bx_journal.specs.Standing.{IsStanding};
-ghost use Rattle.bx_cli.specs.Standing.{Standing, HoldsAt, CountsOn};
+ghost use Rattle.bx_cli.specs.Obeys.{Obeys};
+ghost use Rattle.bx_cli.specs.Standing.{Standing, HoldsAt};
 ghost use Rattle.bx_cli.specs.Command.{IsNear};
 ghost use Rattle.bx_cli.specs.Refusal.{IsOwnRefusal, IsWholeRefusal};
-ghost use Rattle.bx_cli.specs.Run.{made_reply, ChangeStep, UndoesStep, ReadStep, DdStep, DumpStep, CommandStep, CommandRun, StackRun, StandsThen, StackStep, Unfailed, IsCounted};
+ghost use Rattle.bx_cli.specs.Run.{made_reply, ChangeStep, UndoesStep, ReadStep, DdStep, DumpStep, CommandStep, CommandRun, StackRun, StandsThen, Unfailed};
 
 use crate::changes::{DdChange, change_of_dd, change_of_dump, change_of_plain};
 use crate::{Command, Fault, Reply};
@@ -25,16 +26,7 @@ fn run_change<D: Device, T: TextStore, A: Allocator + Clone>(
 ) -> Reply
     requires device_countable { D.failures session.old.device < u64.MAX }
     requires store_countable { T.failures session.old.store < u64.MAX }
-    ensures step { (before : Standing) → HoldsAt D.honest T.honest D.image T.text session.old before
-        → (after : Standing) × HoldsAt D.honest T.honest D.image T.text session.new after × ChangeStep before change.now counts result after }
-    ensures stands { D.honest session.old.device → T.honest session.old.store → (stack : List (List ℕ)) → IsStanding D.image T.text session.old stack → Unfailed result
-        → StandsThen D.image T.text session.new (λ top. ChangeStep (Standing.Up stack) change.now counts result (Standing.Up top)) }
-    ensures device_honesty { D.honest session.new.device ↔ D.honest session.old.device }
-    ensures store_honesty { T.honest session.new.store ↔ T.honest session.old.store }
-    ensures counts { CountsOn D.failures T.failures session.old session.new }
-    ensures failed { IsCounted D.failures T.failures session.old session.new result }
-    ensures own { IsOwnRefusal result → session.new ≡ session.old }
-    ensures same { D.honest session.old.device → T.honest session.old.store → IsWholeRefusal result → IsSame D.image T.text session.old session.new }
+    ensures obeys { Obeys D.honest T.honest D.image T.text D.failures T.failures session.old session.new result (λ s. ChangeStep s change.now counts) }
 {
     match session.perform(change) {
         Ok(number) => made_reply(counts, number),
@@ -59,16 +51,7 @@ fn run_undo<D: Device, T: TextStore, A: Allocator + Clone>(
 ) -> Reply
     requires device_countable { D.failures session.old.device < u64.MAX }
     requires store_countable { T.failures session.old.store < u64.MAX }
-    ensures step { (before : Standing) → HoldsAt D.honest T.honest D.image T.text session.old before
-        → (after : Standing) × HoldsAt D.honest T.honest D.image T.text session.new after × UndoesStep before k result after }
-    ensures stands { D.honest session.old.device → T.honest session.old.store → (stack : List (List ℕ)) → IsStanding D.image T.text session.old stack → Unfailed result
-        → StandsThen D.image T.text session.new (λ top. UndoesStep (Standing.Up stack) k result (Standing.Up top)) }
-    ensures device_honesty { D.honest session.new.device ↔ D.honest session.old.device }
-    ensures store_honesty { T.honest session.new.store ↔ T.honest session.old.store }
-    ensures counts { CountsOn D.failures T.failures session.old session.new }
-    ensures failed { IsCounted D.failures T.failures session.old session.new result }
-    ensures own { IsOwnRefusal result → session.new ≡ session.old }
-    ensures same { D.honest session.old.device → T.honest session.old.store → IsWholeRefusal result → IsSame D.image T.text session.old session.new }
+    ensures obeys { Obeys D.honest T.honest D.image T.text D.failures T.failures session.old session.new result (λ s. UndoesStep s k) }
 {
     match session.undo(k) {
         Ok(left) => Reply::Undone { left },
@@ -83,16 +66,7 @@ fn run_read<D: Device, T: TextStore, A: Allocator + Clone>(
 ) -> Reply
     requires device_countable { D.failures session.old.device < u64.MAX }
     requires store_countable { T.failures session.old.store < u64.MAX }
-    ensures step { (before : Standing) → HoldsAt D.honest T.honest D.image T.text session.old before
-        → (after : Standing) × HoldsAt D.honest T.honest D.image T.text session.new after × ReadStep before (λ change. change) read result after }
-    ensures stands { D.honest session.old.device → T.honest session.old.store → (stack : List (List ℕ)) → IsStanding D.image T.text session.old stack → Unfailed result
-        → StandsThen D.image T.text session.new (λ top. ReadStep (Standing.Up stack) (λ change. change) read result (Standing.Up top)) }
-    ensures device_honesty { D.honest session.new.device ↔ D.honest session.old.device }
-    ensures store_honesty { T.honest session.new.store ↔ T.honest session.old.store }
-    ensures counts { CountsOn D.failures T.failures session.old session.new }
-    ensures failed { IsCounted D.failures T.failures session.old session.new result }
-    ensures own { IsOwnRefusal result → session.new ≡ session.old }
-    ensures same { D.honest session.old.device → T.honest session.old.store → IsWholeRefusal result → IsSame D.image T.text session.old session.new }
+    ensures obeys { Obeys D.honest T.honest D.image T.text D.failures T.failures session.old session.new result (λ s. ReadStep s (λ c. c) read) }
 {
     match read {
         Ok(change) => run_change(session, &change, None),
@@ -107,16 +81,7 @@ fn run_dd<D: Device, T: TextStore, A: Allocator + Clone>(
 ) -> Reply
     requires device_countable { D.failures session.old.device < u64.MAX }
     requires store_countable { T.failures session.old.store < u64.MAX }
-    ensures step { (before : Standing) → HoldsAt D.honest T.honest D.image T.text session.old before
-        → (after : Standing) × HoldsAt D.honest T.honest D.image T.text session.new after × DdStep before made result after }
-    ensures stands { D.honest session.old.device → T.honest session.old.store → (stack : List (List ℕ)) → IsStanding D.image T.text session.old stack → Unfailed result
-        → StandsThen D.image T.text session.new (λ top. DdStep (Standing.Up stack) made result (Standing.Up top)) }
-    ensures device_honesty { D.honest session.new.device ↔ D.honest session.old.device }
-    ensures store_honesty { T.honest session.new.store ↔ T.honest session.old.store }
-    ensures counts { CountsOn D.failures T.failures session.old session.new }
-    ensures failed { IsCounted D.failures T.failures session.old session.new result }
-    ensures own { IsOwnRefusal result → session.new ≡ session.old }
-    ensures same { D.honest session.old.device → T.honest session.old.store → IsWholeRefusal result → IsSame D.image T.text session.old session.new }
+    ensures obeys { Obeys D.honest T.honest D.image T.text D.failures T.failures session.old session.new result (λ s. DdStep s made) }
 {
     match made {
         Ok(made) => run_change(session, &made.change, Some(made.counts)),
@@ -134,16 +99,7 @@ fn run_dump<D: Device, T: TextStore, A: Allocator + Clone>(
     requires device_countable { D.failures session.old.device < u64.MAX }
     requires store_countable { T.failures session.old.store < u64.MAX }
     requires near { offset ≤ 2 ^ 62 }
-    ensures step { (before : Standing) → HoldsAt D.honest T.honest D.image T.text session.old before
-        → (after : Standing) × HoldsAt D.honest T.honest D.image T.text session.new after × DumpStep A before text.now offset result after }
-    ensures stands { D.honest session.old.device → T.honest session.old.store → (stack : List (List ℕ)) → IsStanding D.image T.text session.old stack → Unfailed result
-        → StandsThen D.image T.text session.new (λ top. DumpStep A (Standing.Up stack) text.now offset result (Standing.Up top)) }
-    ensures device_honesty { D.honest session.new.device ↔ D.honest session.old.device }
-    ensures store_honesty { T.honest session.new.store ↔ T.honest session.old.store }
-    ensures counts { CountsOn D.failures T.failures session.old session.new }
-    ensures failed { IsCounted D.failures T.failures session.old session.new result }
-    ensures own { IsOwnRefusal result → session.new ≡ session.old }
-    ensures same { D.honest session.old.device → T.honest session.old.store → IsWholeRefusal result → IsSame D.image T.text session.old session.new }
+    ensures obeys { Obeys D.honest T.honest D.image T.text D.failures T.failures session.old session.new result (λ s. DumpStep A s text.now offset) }
 {
     let change = change_of_dump(alloc, text, offset);
     run_read(session, change)
@@ -158,16 +114,7 @@ fn run_one<D: Device, T: TextStore, R: Read, A: Allocator + Clone>(
     requires device_countable { D.failures session.old.device < u64.MAX }
     requires store_countable { T.failures session.old.store < u64.MAX }
     requires near { IsNear command.old }
-    ensures step { (before : Standing) → HoldsAt D.honest T.honest D.image T.text session.old before
-        → (after : Standing) × HoldsAt D.honest T.honest D.image T.text session.new after × CommandStep R.remaining before command.old result after }
-    ensures stands { D.honest session.old.device → T.honest session.old.store → (stack : List (List ℕ)) → IsStanding D.image T.text session.old stack → Unfailed result
-        → StandsThen D.image T.text session.new (λ top. CommandStep R.remaining (Standing.Up stack) command.old result (Standing.Up top)) }
-    ensures device_honesty { D.honest session.new.device ↔ D.honest session.old.device }
-    ensures store_honesty { T.honest session.new.store ↔ T.honest session.old.store }
-    ensures counts { CountsOn D.failures T.failures session.old session.new }
-    ensures failed { IsCounted D.failures T.failures session.old session.new result }
-    ensures own { IsOwnRefusal result → session.new ≡ session.old }
-    ensures same { D.honest session.old.device → T.honest session.old.store → IsWholeRefusal result → IsSame D.image T.text session.old session.new }
+    ensures obeys { Obeys D.honest T.honest D.image T.text D.failures T.failures session.old session.new result (λ s. CommandStep R.remaining s command.old) }
 {
     match command {
         Command::Revert { text, offset } => run_dump(alloc, session, text.as_slice(), *offset),

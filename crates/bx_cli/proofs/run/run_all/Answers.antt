@@ -29,11 +29,11 @@ loop-command-preserved g c =
     let kept = c.loop-command.invariant in
     record {
       stacks = rw pushed (has_stack_run_more g.R.Read.remaining (IsStanding g.D.Device.image g.T.TextStore.text) (AreHonest g.D.Device.honest g.T.TextStore.honest) _ c.loop-command.session _ _ c.loop-command.list _ c.loop-command.command-index c.command-item.result _ _ within
-          (λ both. (c.run_one-reply.ensures.device_honesty.1 both.0, c.run_one-reply.ensures.store_honesty.1 both.1)) (λ both. c.run_one-reply.ensures.stands both.0 both.1) kept.stacks);
-      run = rw pushed (has_run_more g.R.Read.remaining (HoldsAt g.D.Device.honest g.T.TextStore.honest g.D.Device.image g.T.TextStore.text) _ c.loop-command.session _ _ c.loop-command.list _ c.loop-command.command-index c.command-item.result _ _ within c.run_one-reply.ensures.step kept.run);
-      counted = rw pushed (counted_more g.D.Device.failures g.T.TextStore.failures _ c.loop-command.session _ c.loop-command.command-index _ _ kept.counted c.run_one-reply.ensures.counts c.run_one-reply.ensures.failed);
+          (λ both. (c.run_one-reply.ensures.obeys.device_honesty.1 both.0, c.run_one-reply.ensures.obeys.store_honesty.1 both.1)) (λ both. c.run_one-reply.ensures.obeys.stands both.0 both.1) kept.stacks);
+      run = rw pushed (has_run_more g.R.Read.remaining (HoldsAt g.D.Device.honest g.T.TextStore.honest g.D.Device.image g.T.TextStore.text) _ c.loop-command.session _ _ c.loop-command.list _ c.loop-command.command-index c.command-item.result _ _ within c.run_one-reply.ensures.obeys.step kept.run);
+      counted = rw pushed (counted_more g.D.Device.failures g.T.TextStore.failures _ c.loop-command.session _ c.loop-command.command-index _ _ kept.counted c.run_one-reply.ensures.obeys.counts c.run_one-reply.ensures.obeys.failed);
       stayed = rw pushed (stayed_more g.D.Device.honest g.T.TextStore.honest g.D.Device.image g.T.TextStore.text _ c.loop-command.session _ _ _ kept.stayed
-          (λ both. (c.run_one-reply.ensures.device_honesty.1 both.0, c.run_one-reply.ensures.store_honesty.1 both.1)) c.run_one-reply.ensures.own c.run_one-reply.ensures.same);
+          (λ both. (c.run_one-reply.ensures.obeys.device_honesty.1 both.0, c.run_one-reply.ensures.obeys.store_honesty.1 both.1)) c.run_one-reply.ensures.obeys.own c.run_one-reply.ensures.obeys.same);
       ahead = ahead_more IsNear c.loop-command.list c.loop-command.command-index _ kept.ahead;
       replied = search rules;
       room = search rules;

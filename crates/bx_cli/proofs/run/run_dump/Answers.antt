@@ -1,15 +1,14 @@
 use Rattle.bx_cli.specs.Command.{dump_change}
-use Rattle.bx_cli.specs.Standing.{Standing}
 use Rattle.bx_read.specs.Text.{dump_pieces}
+use Rattle.bx_cli.proofs.Obeys.{obeys_next}
 use Rattle.bx_cli.proofs.Stands.{read_step}
 use Rattle.bx_cli.proofs.run.run_dump.Goals as goal
 
-pub returns-clause-step : goal.returns-clause-step
-returns-clause-step g c = λ before h.
-    let made = c.run_read.ensures.step before h in
-    (made.0, made.1, read_step (dump_change c.args.offset) (dump_pieces c.args.text.now) c.change_of_dump-change.result before made.0 c.run_read.result c.change_of_dump-change.ensures made.2)
-
-pub returns-clause-stands : goal.returns-clause-stands
-returns-clause-stands g c = λ device store stack standing unfailed.
-    let made = c.run_read.ensures.stands device store stack standing unfailed in
-    (made.0, made.1, read_step (dump_change c.args.offset) (dump_pieces c.args.text.now) c.change_of_dump-change.result (Standing.Up stack) (Standing.Up made.0) c.run_read.result c.change_of_dump-change.ensures made.2)
+pub returns : goal.returns
+returns g c =
+    let change = c.change_of_dump-change in
+    record {
+      obeys = obeys_next g.D.Device.honest g.T.TextStore.honest g.D.Device.image g.T.TextStore.text g.D.Device.failures g.T.TextStore.failures
+          (λ before after. read_step (dump_change c.args.offset) (dump_pieces c.args.text.now) change.result before after c.run_read.result change.ensures)
+          c.run_read.ensures.obeys;
+    }
