@@ -133,7 +133,8 @@ fn is_journal_missing(image: &Option<Metadata>, image_name: &str, journal_name: 
 /// # Errors
 /// `OpenFailed` where one is missing and isn't to be made, can't be opened, is no regular file (and, for the image, no block
 /// device either), or is locked by another program or under another name, and where a block device has no journal of another
-/// name than `IMAGE.bxj`. No file is then changed or made.
+/// name than `IMAGE.bxj`. No file is then changed, and none is made, but for an empty image behind a link that led to no file,
+/// or whose place could not be looked at again.
 pub fn pair<R: Files<File = File>>(
     rt: &R,
     image: &Name,
