@@ -45,6 +45,10 @@ RefusesLength n e = ⊥
 abbrev pub OneMore : ℕ → ℕ → ℕ → ℕ → Type 0
 OneMore d t d_new t_new = (d ≤ d_new) × (t ≤ t_new) × (d_new + t_new ≡ d + t + 1)
 
+-- the same of three devices
+abbrev pub OneMoreOfThree : ℕ → ℕ → ℕ → ℕ → ℕ → ℕ → Type 0
+OneMoreOfThree d t u d_new t_new u_new = (d ≤ d_new) × (t ≤ t_new) × (u ≤ u_new) × (d_new + t_new + u_new ≡ d + t + u + 1)
+
 -- how the counts of failed calls go on: a device's fault raises one of them by one, and another fault none
 abbrev pub FaultCounts : SessionFault → ℕ → ℕ → ℕ → ℕ → Type 0
 FaultCounts DeviceFailed d t d_new t_new = OneMore d t d_new t_new

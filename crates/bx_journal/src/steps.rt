@@ -1,5 +1,5 @@
 //! The entry of a change: its head, its end, and both with the change of the image between them.
-ghost use Rattle.std.specs.Prelude.{◌≡◌, ◌↔◌, ◌+◌, ◌<◌, ◌≤◌, [], ◌∷◌, ◌++◌, List, ℕ, length, vec_capacity, OnOk, OnErr, is_err};
+ghost use Rattle.std.specs.Prelude.{◌≡◌, ◌↔◌, ◌⊎◌, ◌+◌, ◌<◌, ◌≤◌, [], ◌∷◌, ◌++◌, List, ℕ, length, vec_capacity, OnOk, OnErr, is_err};
 ghost use Rattle.bx_journal.specs.Kept.{Kept as Record};
 ghost use Rattle.bx_image.specs.Change.{effect, saved, AllWithin, IsAsGood};
 ghost use Rattle.bx_image.specs.Device.{GoesOn};
@@ -8,6 +8,7 @@ ghost use Rattle.bx_journal.specs.Kept.{kept_of};
 ghost use Rattle.bx_journal.specs.Entry.{head_text};
 ghost use Rattle.bx_journal.specs.Stack.{Recovers};
 ghost use Rattle.bx_journal.specs.Phase.{IsAtRest, IsOpen, as_read, RecoversEither};
+ghost use Rattle.bx_journal.specs.Redo.{RecoversOpen};
 ghost use Rattle.bx_journal.specs.Step.{StartsEntry, EndsEntry, WritesEntry};
 ghost use Rattle.bx_journal.specs.Opening.{OneMore};
 
@@ -34,6 +35,8 @@ pub fn append_head<T: TextStore, A: Allocator>(
     ensures fault { T.honest store.old → (x : List ℕ) (stack : List (List ℕ)) (s : Record) → StartsEntry (T.text store.old) x stack s (head_text number (kept_of kept.now))
         → OnErr result (Recovers (T.text store.new) x stack) }
     ensures text { T.honest store.old → OnOk result (T.text store.new ≡ T.text store.old ++ head_text number (kept_of kept.now)) }
+    ensures emptied { OnOk result (page.new.items ≡ []) }
+    ensures page_kept { vec_capacity page.old ≤ vec_capacity page.new }
     ensures goes_on { GoesOn T.honest T.room T.failures (is_err result) store.old store.new }
 {
     put_head(store, page, number, kept)
@@ -46,7 +49,7 @@ pub fn append_end<T: TextStore>(store: &mut T, end: &[u8]) -> Result<(), DeviceF
     ensures ok { T.honest store.old → (x : List ℕ) (stack : List (List ℕ)) (s : Record) → EndsEntry (T.text store.old) x stack s end.now
         → OnOk result (IsAtRest (T.text store.new) x (x ∷ stack)) }
     ensures fault { T.honest store.old → (x : List ℕ) (stack : List (List ℕ)) (s : Record) → EndsEntry (T.text store.old) x stack s end.now
-        → OnErr result (RecoversEither (T.text store.new) x stack (x ∷ stack)) }
+        → OnErr result (RecoversOpen (T.text store.new) x stack ⊎ Recovers (T.text store.new) x (x ∷ stack)) }
     ensures text { T.honest store.old → OnOk result (T.text store.new ≡ T.text store.old ++ end.now) }
     ensures goes_on { GoesOn T.honest T.room T.failures (is_err result) store.old store.new }
 {

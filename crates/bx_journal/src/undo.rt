@@ -1,5 +1,5 @@
 //! Taking entries back: the newest, or some of them one after another.
-ghost use Rattle.std.specs.Prelude.{◌≡◌, ◌↔◌, ◌+◌, ◌<◌, ◌≤◌, ◌∷◌, List, ℕ, length, take, map, OnOk, OnErr, is_err};
+ghost use Rattle.std.specs.Prelude.{◌≡◌, ◌↔◌, ◌⊎◌, ◌+◌, ◌<◌, ◌≤◌, ◌∷◌, List, ℕ, length, take, map, OnOk, OnErr, is_err};
 ghost use Rattle.bx_image.specs.Change.{AllWithin, restore};
 ghost use Rattle.bx_image.specs.Device.{GoesOn};
 ghost use Rattle.bx_journal.specs.Kept.{run_of, kept_of};
@@ -9,6 +9,7 @@ ghost use Rattle.std.specs.Prelude.{◌-◌};
 ghost use Rattle.bx_journal.specs.Stack.{Recovers, StandsFor};
 ghost use Rattle.bx_journal.specs.Undoing.{AreReadFrom, HasLeft};
 ghost use Rattle.bx_journal.specs.Phase.{IsAtRest, IsOpen, RecoversEither};
+ghost use Rattle.bx_journal.specs.Redo.{RecoversOpen};
 ghost use Rattle.bx_journal.specs.Step.{HasTail, TakesBack};
 ghost use Rattle.std.specs.Prelude.{drop};
 ghost use Rattle.bx_journal.specs.Parsed.{AllKept, entries_of};
@@ -31,7 +32,7 @@ pub fn cut_end<T: TextStore>(store: &mut T, saved: u64) -> Result<(), DeviceFail
         → (t : TakesBack (T.text store.old) x below v e begins saved)
         → OnOk result (HasTail (T.text store.new) x below t.entries (Ending v e.saved) begins) }
     ensures fault { T.honest store.old → (x : List ℕ) (below : List (List ℕ)) (v : Form) (e : Entry) (begins : ℕ)
-        → TakesBack (T.text store.old) x below v e begins saved → OnErr result (RecoversEither (T.text store.new) x (x ∷ below) below) }
+        → TakesBack (T.text store.old) x below v e begins saved → OnErr result (Recovers (T.text store.new) x (x ∷ below) ⊎ RecoversOpen (T.text store.new) x below) }
     ensures text { T.honest store.old → OnOk result (T.text store.new ≡ take saved (T.text store.old)) }
     ensures goes_on { GoesOn T.honest T.room T.failures (is_err result) store.old store.new }
 {

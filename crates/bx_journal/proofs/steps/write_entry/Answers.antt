@@ -6,6 +6,7 @@ use Rattle.bx_journal.specs.Kept.{kept_of}
 use Rattle.bx_journal.specs.Entry.{head_text}
 use Rattle.bx_journal.specs.Phase.{as_read, IsAtRest, RecoversEither}
 use Rattle.bx_journal.proofs.ChangeSteps.{ends_of}
+use Rattle.bx_journal.proofs.Sharper.{either_of}
 use Rattle.bx_journal.proofs.steps.write_entry.Goals as goal
 
 always_err : {T E P : Type 0} (r : Result T E) → P → OnErr r P
@@ -38,5 +39,5 @@ returns-clause-fault g c device_honest store_honest stack writes =
     let opened = c.in_ok-append_head.ensures.ok store_honest x stack (kept_of (saved c.args.change.now x)) writes.starts in
     let moved = c.change_image.ensures.phase device_honest (g.T.TextStore.text c.append_head.new.store) stack opened in
     let ends = ends_of c.args.change.now (g.T.TextStore.text c.args.store.now) (g.T.TextStore.text c.append_head.new.store) x y stack (head_text c.args.number (kept_of c.args.kept.now)) c.args.end.now writes moved is in
-    on_err_weaker c.append_end.result (subst (λ z. RecoversEither (g.T.TextStore.text c.append_end.new.store) y stack (z ∷ stack)) is)
+    on_err_weaker c.append_end.result (λ h. subst (λ z. RecoversEither (g.T.TextStore.text c.append_end.new.store) y stack (z ∷ stack)) is (either_of _ y stack (y ∷ stack) h))
     (c.append_end.ensures.fault (c.append_head.ensures.goes_on.honesty.1 store_honest) y stack (as_read (kept_of (saved c.args.change.now x))) ends)
