@@ -57,3 +57,5 @@ pub mod TakenLemmas
 pub mod LoopLemmas
 pub mod RedoLoop
 pub mod StandingLoop
+pub mod Refused
+pub mod JudgeLemmas

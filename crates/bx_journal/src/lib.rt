@@ -11,6 +11,7 @@ mod follow;
 mod images;
 mod in_place;
 mod journal;
+mod judging;
 mod lanes;
 mod laws;
 mod lengths;
