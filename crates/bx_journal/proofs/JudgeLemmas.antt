@@ -1,7 +1,9 @@
 -- Whether what was read is a redo text, and the line at which it isn't.
-use Rattle.std.proofs.Common.{◌≡◌, ℕ, zero, suc, ◌+◌, ◌<◌, ◌≤◌, List, [], ◌∷◌, ◌++◌, length, length-append, length-drop, append_assoc, take, drop, get_or, refl, ap, sym, ◌∙◌, subst, inl, inr, ◌⊎◌, arith, Bool, true, false, eqb, cond, Option, Some, None, Result, Ok, Err}
-use Rattle.std.specs.Prelude.{is_some, IsTrue, IfSome, IfNone, IfOk, IfErr, MatchResult, ◌==◌}
-use Rattle.std.proofs.lemmas.List.{take_more}
+use Rattle.std.proofs.Common.{◌≡◌, ℕ, zero, suc, ◌+◌, ◌<◌, ◌≤◌, List, [], ◌∷◌, ◌++◌, length, length-append, length-drop, length-take, append_assoc, take, drop, get_or, refl, ap, sym, ◌∙◌, subst, inl, inr, ◌⊎◌, arith, Bool, true, false, eqb, cond, Option, Some, None, Result, Ok, Err}
+use Rattle.std.specs.Prelude.{is_some, IsTrue, IfSome, IfNone, IfOk, IfErr, MatchResult, ◌==◌, if◌then◌else◌}
+use Rattle.std.proofs.lemmas.Grind.{common_steps}
+use Rattle.std.proofs.lemmas.List.{take_more, take-append-drop}
+use Rattle.std.proofs.Math.Seq.{drop-cons}
 use Rattle.bx_journal.specs.declared.fault.SessionFault.{SessionFault}
 use Rattle.bx_journal.specs.declared.fault.SessionFault.TheVariants.{NoMemory, TooLarge, DeviceFailed, Damaged, TooFew, JournalFull, Interrupted, Broken, LengthDiffers, NothingToRedo, RedoDamaged}
 use Rattle.bx_journal.specs.declared.journal.JournalRead.{JournalRead}
@@ -11,9 +13,9 @@ use Rattle.bx_journal.specs.declared.reader.StageRead.TheVariants.{Between as Be
 use Rattle.bx_journal.specs.declared.tally.Counted.{Counted}
 use Rattle.bx_journal.specs.Calls.{ReadFault}
 use Rattle.bx_journal.specs.Journal.{HasRead}
-use Rattle.bx_journal.specs.Judging.{AllTold, IsBeyondAt, IsFit, IsRedoCounted, IsUnfitAt, IsUnfitFrom, IsUntoldAt, RedoTextFault, RefusesRedo, redo_fault}
+use Rattle.bx_journal.specs.Judging.{AllTold, IsBeyondAt, IsFit, IsRedoCounted, IsUnfitAt, IsUnfitFrom, IsUntoldAt, JudgeFault, RedoTextFault, RefusesRedo, redo_fault}
 use Rattle.bx_journal.specs.Mark.{IsMark, HasMarks}
-use Rattle.bx_journal.specs.Parsed.{entry_of, entries_onto, entries_of, stage_of, reading_of, told_by, AreMarked}
+use Rattle.bx_journal.specs.Parsed.{entry_of, entries_onto, entries_of, stage_of, reading_of, told_by, AreMarked, IsMarked}
 use Rattle.bx_journal.specs.Redo.{AllTell, BeginsAt, IsRedoOf, DamagedLine, Tail, FirstForm, IsRefusedAt, NoRedo, TooMany, Off, IsTooManyAt}
 use Rattle.bx_journal.specs.Stack.{stack_of, HaveLengths}
 use Rattle.bx_journal.specs.Tally.{IsCounted}
@@ -187,15 +189,15 @@ counted_fit text changes count told c second few = record {
 
 -- where a text is unfit no image makes it a redo text
 pub unfit_refused : (text x : List ℕ) (changes line : ℕ) → IsUnfitAt text changes line → IsRefusedAt text x changes line
-unfit_refused text x changes line unfit = elim unfit [ inl no ↦ NoRedo no | inr many ↦ TooMany many ]
+unfit_refused text x changes line unfit = elim unfit [ inl apart ↦ NoRedo apart | inr many ↦ TooMany many ]
 
 pub unfit_once : (text : List ℕ) (changes m n : ℕ) → IsUnfitAt text changes m → IsUnfitAt text changes n → m ≡ n
 unfit_once text changes m n a b = refused_once text [] changes m n (unfit_refused text [] changes m a) (unfit_refused text [] changes n b)
 
 pub fit_apart : (text : List ℕ) (changes line : ℕ) (es : List Entry) → IsFit text changes es → IsUnfitAt text changes line → ⊥
-fit_apart text changes line es fit unfit = elim unfit [ inl no ↦ not_no_redo text line es fit.finished fit.tell no | inr many ↦ too_many text changes line es fit.finished many fit.few ]
+fit_apart text changes line es fit unfit = elim unfit [ inl apart ↦ not_no_redo text line es fit.finished fit.tell apart | inr many ↦ too_many text changes line es fit.finished many fit.few ]
 
-fault_refuses : (text : List ℕ) (changes line : ℕ) (e : SessionFault) → RedoTextFault text changes e → IsUnfitAt text changes line → RefusesRedo line e
+pub fault_refuses : (text : List ℕ) (changes line : ℕ) (e : SessionFault) → RedoTextFault text changes e → IsUnfitAt text changes line → RefusesRedo line e
 fault_refuses text changes line NoMemory h unfit = tt
 fault_refuses text changes line (RedoDamaged m) h unfit = unfit_once text changes m line h unfit
 fault_refuses text changes line TooLarge h unfit = h
@@ -234,7 +236,7 @@ stack_top [] x = refl
 stack_top (e ∷ es) x = refl
 
 module _ (text x : List ℕ) (changes count : ℕ) (told : Option ℕ) (c : IsRedoCounted text changes count told) where
-  as_counted : IsCounted text count told
+  abbrev as_counted : IsCounted text count told
   as_counted = record { entries = c.entries; finished = c.fit.finished; counted = c.counted; told_is = c.told_is }
 
   pub counted_redo : IfSome told (λ n. length x ≡ n) → (undone : List (List ℕ)) × IsRedoOf text x changes undone × (count ≡ length undone)
@@ -270,7 +272,142 @@ module _ (text x : List ℕ) (changes count : ℕ) (told : Option ℕ) (c : IsRe
         line_is = last;
       })
 
--- how many newlines a text has, byte by byte
-pub newlines_more : (text : List ℕ) (i : ℕ) → i < length text
-    → length (split (take (i + 1) text)).lines ≡ (if get_or text i 0 == 10 then suc (length (split (take i text)).lines) else length (split (take i text)).lines)
-newlines_more text i within = {! !}
+-- the newlines of a text, counted byte by byte
+one_newline : ℕ → ℕ
+one_newline b = if b == 10 then 1 else 0
+
+newlines_of : List ℕ → ℕ
+newlines_of [] = 0
+newlines_of (b ∷ text) = one_newline b + newlines_of text
+
+front_lines : (b : ℕ) (s : Split) → length (with_front b s).lines ≡ length s.lines
+front_lines b s = by_lines s.lines
+  where
+    by_lines : (lines : List (List ℕ)) → length (with_front b (record { lines = lines; rest = s.rest })).lines ≡ length lines
+    by_lines [] = refl
+    by_lines (l ∷ ls) = refl
+
+lines_counted : (text : List ℕ) → length (split text).lines ≡ newlines_of text
+unfolding split newlines_of one_newline
+lines_counted [] = refl
+lines_counted (b ∷ text) = by_test (eqb b 10) (lines_counted text)
+  where
+    by_test : (is : Bool) → length (split text).lines ≡ newlines_of text
+        → length (cond is (record { lines = [] ∷ (split text).lines; rest = (split text).rest }) (with_front b (split text))).lines ≡ cond is 1 0 + newlines_of text
+    by_test true ih = omega (arith, ih)
+    by_test false ih = omega (arith, ih, front_lines b (split text))
+
+newlines_push : (text : List ℕ) (b : ℕ) → newlines_of (text ++ b ∷ []) ≡ newlines_of text + one_newline b
+unfolding newlines_of
+newlines_push [] b = omega arith
+newlines_push (c ∷ text) b = let more = newlines_push text b in omega (arith, more)
+
+newlines_more : (text : List ℕ) (i d : ℕ) → i < length text → length (split (take (i + 1) text)).lines ≡ length (split (take i text)).lines + one_newline (get_or text i d)
+newlines_more text i d within =
+    lines_counted (take (i + 1) text) ∙ ap newlines_of (take_more text i d within) ∙ newlines_push (take i text) (get_or text i d)
+    ∙ ap (λ n. n + one_newline (get_or text i d)) (sym (lines_counted (take i text)))
+
+-- one more byte
+pub newline_more : (text : List ℕ) (i count : ℕ) → i < length text → get_or text i 0 ≡ 10 → count ≡ length (split (take i text)).lines → count + 1 ≡ length (split (take (i + 1) text)).lines
+unfolding one_newline
+newline_more text i count within ten counted =
+    let one : one_newline (get_or text i 0) ≡ 1 = ap one_newline ten in
+    omega (arith, newlines_more text i 0 within, one, counted)
+
+apart_ten : (b : ℕ) → (b ≡ 10 → ⊥) → one_newline b ≡ 0
+unfolding one_newline
+apart_ten b apart = by_test (eqb b 10) refl
+  where
+    by_test : (is : Bool) → eqb b 10 ≡ is → cond is (let one : ℕ = 1 in one) 0 ≡ 0
+    by_test true is = absurd (let ten : b ≡ 10 = grind (arith, common_steps) in apart ten)
+    by_test false is = refl
+
+pub newline_same : (text : List ℕ) (i count : ℕ) → i < length text → (get_or text i 0 ≡ 10 → ⊥) → count ≡ length (split (take i text)).lines → count ≡ length (split (take (i + 1) text)).lines
+newline_same text i count within apart counted = omega (arith, newlines_more text i 0 within, apart_ten (get_or text i 0) apart, counted)
+
+-- facts of an answer that may be none
+pub some_weaker : {X : Type 0} (P Q : X → Type 0) (o : Option X) → ((x : X) → P x → Q x) → IfSome o P → IfSome o Q
+some_weaker P Q None h p = tt
+some_weaker P Q (Some x) h p = h x p
+
+pub none_weaker : {X P Q : Type 0} (o : Option X) → (P → Q) → IfNone o P → IfNone o Q
+none_weaker None h p = h p
+none_weaker (Some x) h p = tt
+
+-- one more entry that tells its length
+told_push : {A : Type 0} → (es : List (EntryRead A)) (e : EntryRead A) → AllTold es → IsTrue (is_some e.after) → AllTold (es ++ e ∷ [])
+told_push [] e told some = (some, tt)
+told_push (f ∷ es) e told some = (told.0, told_push es e told.1 some)
+
+pub told_more : {A : Type 0} → (es : List (EntryRead A)) (i : ℕ) (e : EntryRead A) → i < length es → e ≡ get_or es i e → AllTold (take i es) → IsTrue (is_some e.after) → AllTold (take (i + 1) es)
+told_more es i e within is told some =
+    subst AllTold (ap (λ f. take i es ++ f ∷ []) is ∙ sym (take_more es i e within)) (told_push (take i es) e told some)
+
+parts_at : {A : Type 0} → (es : List (EntryRead A)) (i : ℕ) (e : EntryRead A) → i < length es → e ≡ get_or es i e → es ≡ take i es ++ e ∷ drop (suc i) es
+parts_at es i e within is = sym (take-append-drop i es) ∙ ap (λ fs. take i es ++ fs) (drop-cons es i e within ∙ ap (λ f. f ∷ drop (suc i) es) (sym is))
+
+pub untold_at : {A : Type 0} → (es : List (EntryRead A)) (i : ℕ) (e : EntryRead A) → i < length es → e ≡ get_or es i e → AllTold (take i es) → e.after ≡ None → IsUntoldAt es e.begins
+untold_at es i e within is told none = record {
+  older = take i es;
+  entry = e;
+  newer = drop (suc i) es;
+  parts = parts_at es i e within is;
+  told = told;
+  untold = none;
+  begins = refl;
+}
+
+pub beyond_at : {A : Type 0} → (es : List (EntryRead A)) (changes i : ℕ) (e : EntryRead A) → i < length es → e ≡ get_or es i e → AllTold es → i + changes ≡ 65535 → IsBeyondAt es changes e.begins
+beyond_at es changes i e within is told many =
+    record {
+      older = take i es;
+      entry = e;
+      newer = drop (suc i) es;
+      parts = parts_at es i e within is;
+      told = told;
+      many = omega (arith, many, length-take i es, within);
+      begins = refl;
+    }
+
+-- judging: what counting and the image's length give together
+pub text_judged : (H : Type 0) (text x : List ℕ) (changes : ℕ) (e : SessionFault) → RedoTextFault text changes e → JudgeFault H text x changes e
+text_judged H text x changes NoMemory h = tt
+text_judged H text x changes (RedoDamaged line) h = λ th. unfit_refused text x changes line h
+text_judged H text x changes TooLarge h = h
+text_judged H text x changes DeviceFailed h = tt
+text_judged H text x changes (Damaged line) h = h
+text_judged H text x changes (TooFew have) h = h
+text_judged H text x changes JournalFull h = h
+text_judged H text x changes Interrupted h = h
+text_judged H text x changes Broken h = h
+text_judged H text x changes (LengthDiffers n) h = h
+text_judged H text x changes (NothingToRedo have) h = h
+
+-- what comparing the length may answer
+abbrev pub OffFault : Type 0 → List ℕ → List ℕ → Option ℕ → SessionFault → Type 0
+OffFault H text x told e = (e ≡ DeviceFailed) ⊎ ((e ≡ RedoDamaged (length (split text).lines)) × (H → (n : ℕ) × (told ≡ Some n) × (length x ≡ n → ⊥)))
+
+pub length_judged : (H : Type 0) (text x : List ℕ) (changes count : ℕ) (told : Option ℕ) (e : SessionFault) → IsRedoCounted text changes count told → OffFault H text x told e → JudgeFault H text x changes e
+length_judged H text x changes count told e c fault =
+    elim fault [
+      | inl is ↦ subst (JudgeFault H text x changes) (sym is) tt
+      | inr off ↦
+          subst (JudgeFault H text x changes) (sym off.0)
+          (λ h. let apart = off.1 h in counted_off text x changes count told c (length (split text).lines) apart.0 apart.1 apart.2 refl)
+    ]
+
+pub judged_refuses : (H : Type 0) (text x : List ℕ) (changes line : ℕ) (e : SessionFault) → H → JudgeFault H text x changes e → IsRefusedAt text x changes line → RefusesRedo line e
+judged_refuses H text x changes line NoMemory th h refused = tt
+judged_refuses H text x changes line DeviceFailed th h refused = tt
+judged_refuses H text x changes line (RedoDamaged m) th h refused = refused_once text x changes m line (h th) refused
+judged_refuses H text x changes line TooLarge th h refused = h
+judged_refuses H text x changes line (Damaged m) th h refused = h
+judged_refuses H text x changes line (TooFew have) th h refused = h
+judged_refuses H text x changes line JournalFull th h refused = h
+judged_refuses H text x changes line Interrupted th h refused = h
+judged_refuses H text x changes line Broken th h refused = h
+judged_refuses H text x changes line (LengthDiffers n) th h refused = h
+judged_refuses H text x changes line (NothingToRedo have) th h refused = h
+
+pub judged_keeps : (H : Type 0) (text x : List ℕ) (changes : ℕ) (undone : List (List ℕ)) (e : SessionFault) → H → IsRedoOf text x changes undone → JudgeFault H text x changes e → (line : ℕ) → e ≡ RedoDamaged line → ⊥
+judged_keeps H text x changes undone e th redo fault line is = none_refused text x changes line undone redo (subst (JudgeFault H text x changes) is fault th)

@@ -1,6 +1,6 @@
 -- Counting entries: what a line does, the loop over lines, and what opening finds.
-use Rattle.std.proofs.Common.{◌≡◌, ℕ, suc, ◌+◌, List, [], ◌∷◌, length, refl, ap, sym, ◌∙◌, subst, inl, inr, ◌⊎◌, arith, Option, Some, None, Result, Ok, Err}
-use Rattle.std.specs.Prelude.{IfSome, IfOk, IfErr, OnOk, OnErr}
+use Rattle.std.proofs.Common.{◌≡◌, ℕ, suc, ◌+◌, List, [], ◌∷◌, length, refl, ap, sym, ◌∙◌, subst, inl, inr, ◌⊎◌, arith, Bool, Option, Some, None, Result, Ok, Err}
+use Rattle.std.specs.Prelude.{is_some, IsTrue, IfSome, IfOk, IfErr, OnOk, OnErr}
 use Rattle.bx_journal.specs.declared.version.Version.{Version}
 use Rattle.bx_journal.specs.declared.tally.Place.{Place}
 use Rattle.bx_journal.specs.declared.tally.Place.TheVariants.{Between as BetweenPlace, Saving as SavingPlace, Ending as EndingPlace}
@@ -18,6 +18,9 @@ use Rattle.bx_journal.specs.declared.fault.SessionFault.TheVariants.{DeviceFaile
 use Rattle.bx_journal.specs.Calls.{how_of, Differs, OpenFault, AfterFault}
 use Rattle.bx_journal.specs.Opening.{IsOpened, RefusesLength, FaultCounts}
 use Rattle.bx_journal.specs.Tally.{place_of, tally_of, IsCounted}
+use Rattle.bx_journal.specs.Redo.{AllTell}
+use Rattle.bx_journal.specs.Undoing.{IsFinished}
+use Rattle.bx_journal.proofs.Inverse.{next_between, next_saving, next_ending}
 use Rattle.bx_journal.proofs.LineLoop.{IsLine, line_on, rest_on, lines_end, rest_end}
 use Rattle.bx_journal.proofs.OpenLemmas.{after_same, begins_told, counts_beside, differs_of, one_told, same_lengths, some_same}
 use Rattle.bx_journal.proofs.Phases.{length-stack_of}
@@ -94,40 +97,63 @@ module _ (r : Reading) (t : Tally) (line : List ℕ) (is : tally_of r ≡ t) whe
         ap (λ m. made m after BetweenPlace) n,
       )
 
--- the text is read up to what is left of it
-pub record IsTallied (text rest : List ℕ) (t : Tally) : Type 0 where
+-- where only entries that tell their lengths are taken, one more line leaves only such
+tell_on : (es : List Entry) (stage : Stage) (line : List ℕ) (q : Reading) → next_at es stage line ≡ Some q → AllTell es → ((v : Version) (s : Kept) → stage ≡ Ending v s → IsTrue (is_some (told_by q.entries)))
+    → AllTell q.entries
+tell_on es Between line q e tell last = let same = (next_between es line q e).2 in subst (λ (p : Reading). AllTell p.entries) (sym same) tell
+tell_on es (Saving v s) line q e tell last =
+    elim (next_saving es v s line q e) [
+      | inl is ↦ subst (λ (p : Reading). AllTell p.entries) (sym is.1) tell
+      | inr is ↦ subst (λ (p : Reading). AllTell p.entries) (sym is.2) tell
+    ]
+tell_on es (Ending v s) line q e tell last =
+    let n = next_ending es v s line q e in
+    let some : IsTrue (is_some n.0) = subst (λ (p : Reading). IsTrue (is_some (told_by p.entries))) n.1 (last v s refl) in
+    subst (λ (p : Reading). AllTell p.entries) (sym n.1) (some, tell)
+
+-- the text is read up to what is left of it; with `second`, each entry tells its length
+pub record IsTallied (text rest : List ℕ) (second : Bool) (t : Tally) : Type 0 where
   pub reading : Reading
   pub lines : after_lines reading (split rest).lines ≡ after_lines start (split text).lines
   pub tail : (split rest).rest ≡ (split text).rest
   pub is : tally_of reading ≡ t
+  pub tell : IsTrue second → AllTell reading.entries
 
-pub tallied_start : (text : List ℕ) → IsTallied text text (record { count = 0; told = None; place = BetweenPlace })
-tallied_start text = record { reading = start; lines = refl; tail = refl; is = refl }
+pub tallied_start : (text : List ℕ) (second : Bool) → IsTallied text text second (record { count = 0; told = None; place = BetweenPlace })
+tallied_start text second = record { reading = start; lines = refl; tail = refl; is = refl; tell = λ only. tt }
 
-pub tallied_on : (text rest line behind : List ℕ) (t u : Tally) (h : IsTallied text rest t) → IsLine rest line behind
-    → ((r : Reading) → tally_of r ≡ t → LeadsTo r line u) → IsTallied text behind u
-tallied_on text rest line behind t u h l lead =
+pub tallied_on : (text rest line behind : List ℕ) (second : Bool) (t u : Tally) (h : IsTallied text rest second t) → IsLine rest line behind
+    → ((r : Reading) → tally_of r ≡ t → LeadsTo r line u) → (IsTrue second → (v : Version) → t.place ≡ EndingPlace v → IsTrue (is_some u.told)) → IsTallied text behind second u
+tallied_on text rest line behind second t u h l lead last =
     let to : LeadsTo h.reading line u = lead h.reading h.is in
     record {
       reading = to.0;
       lines = line_on h.reading to.0 rest line behind l to.1 ∙ h.lines;
       tail = rest_on rest line behind l ∙ h.tail;
       is = to.2;
+      tell = λ only. tell_on h.reading.entries h.reading.stage line to.0 to.1 (h.tell only)
+          (λ v s at. subst (λ (m : Option ℕ). IsTrue (is_some m)) (sym (ap (λ (w : Tally). w.told) to.2)) (last only v (sym (ap (λ (w : Tally). w.place) h.is) ∙ ap place_of at)));
     }
 
-pub tallied_end : (text rest : List ℕ) (t : Tally) → IsTallied text rest t → rest ≡ [] → t.place ≡ BetweenPlace → IsCounted text t.count t.told
-tallied_end text rest t h none place =
+finished_end : (text rest : List ℕ) (second : Bool) (t : Tally) (h : IsTallied text rest second t) → rest ≡ [] → t.place ≡ BetweenPlace → IsFinished text h.reading.entries
+finished_end text rest second t h none place =
     let empty : HasNoNewline rest = subst HasNoNewline (sym none) tt in
     let at : HasForm h.reading.stage BetweenPlace = subst (HasForm h.reading.stage) place (has_form h.reading.stage t.place (ap (λ (u : Tally). u.place) h.is)) in
     let whole : (split text).rest ≡ [] = sym h.tail ∙ rest_end rest empty ∙ none in
     let lines : after_lines start (split text).lines ≡ Some (record { entries = h.reading.entries; stage = Between }) =
     sym h.lines ∙ lines_end h.reading rest empty ∙ ap (λ s. Some (record { entries = h.reading.entries; stage = s })) at in
-    record {
-      entries = h.reading.entries;
-      finished = record { reads = record { lines = lines; rest = subst (IsRest h.reading.entries Between) (sym whole) (inl refl) }; whole = whole };
-      counted = sym (ap (λ (u : Tally). u.count) h.is);
-      told_is = sym (ap (λ (u : Tally). u.told) h.is);
-    }
+    record { reads = record { lines = lines; rest = subst (IsRest h.reading.entries Between) (sym whole) (inl refl) }; whole = whole }
+
+pub tallied_end : (text rest : List ℕ) (second : Bool) (t : Tally) → IsTallied text rest second t → rest ≡ [] → t.place ≡ BetweenPlace → IsCounted text t.count t.told
+tallied_end text rest second t h none place = record {
+  entries = h.reading.entries;
+  finished = finished_end text rest second t h none place;
+  counted = sym (ap (λ (u : Tally). u.count) h.is);
+  told_is = sym (ap (λ (u : Tally). u.told) h.is);
+}
+
+pub tallied_tell : (text rest : List ℕ) (second : Bool) (t : Tally) → IsTallied text rest second t → rest ≡ [] → t.place ≡ BetweenPlace → IsTrue second → (entries : List Entry) × IsFinished text entries × AllTell entries
+tallied_tell text rest second t h none place only = (h.reading.entries, finished_end text rest second t h none place, h.tell only)
 
 -- what opening finds in such a text
 module _ (text x : List ℕ) (count : ℕ) (told : Option ℕ) (c : IsCounted text count told) where

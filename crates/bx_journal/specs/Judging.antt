@@ -1,10 +1,10 @@
 -- Whether a text is a redo text, and at which line it isn't.
-use Rattle.std.specs.Prelude.{◌≡◌, ◌⊎◌, ◌≤◌, ℕ, suc, ◌+◌, is_some, IsTrue, Option, None, List, ◌++◌, ◌∷◌, length, take}
+use Rattle.std.specs.Prelude.{◌≡◌, ◌⊎◌, ◌≤◌, ℕ, suc, ◌+◌, is_some, IsTrue, Option, None, List, [], ◌++◌, ◌∷◌, length, take}
 use Rattle.bx_journal.specs.declared.fault.SessionFault.{SessionFault}
 use Rattle.bx_journal.specs.declared.fault.SessionFault.TheVariants.{NoMemory, TooLarge, DeviceFailed, Damaged, TooFew, JournalFull, Interrupted, Broken, LengthDiffers, NothingToRedo, RedoDamaged}
 use Rattle.bx_journal.specs.declared.reader.EntryRead.{EntryRead}
 use Rattle.bx_journal.specs.Parsed.{entries_of, told_by}
-use Rattle.bx_journal.specs.Redo.{AllTell, IsNoRedoAt, IsTooManyAt}
+use Rattle.bx_journal.specs.Redo.{AllTell, IsNoRedoAt, IsRefusedAt, IsTooManyAt}
 use Rattle.bx_journal.specs.Text.{Entry, split}
 use Rattle.bx_journal.specs.Undoing.{IsFinished}
 
@@ -38,6 +38,20 @@ RedoTextFault text changes Interrupted = ⊥
 RedoTextFault text changes Broken = ⊥
 RedoTextFault text changes (LengthDiffers expected) = ⊥
 RedoTextFault text changes (NothingToRedo have) = ⊥
+
+-- which fault judging the redo text of an image may answer
+abbrev pub JudgeFault : Type 0 → List ℕ → List ℕ → ℕ → SessionFault → Type 0
+JudgeFault honest text x changes NoMemory = Unit {0}
+JudgeFault honest text x changes DeviceFailed = Unit {0}
+JudgeFault honest text x changes (RedoDamaged line) = honest → IsRefusedAt text x changes line
+JudgeFault honest text x changes TooLarge = ⊥
+JudgeFault honest text x changes (Damaged line) = ⊥
+JudgeFault honest text x changes (TooFew have) = ⊥
+JudgeFault honest text x changes JournalFull = ⊥
+JudgeFault honest text x changes Interrupted = ⊥
+JudgeFault honest text x changes Broken = ⊥
+JudgeFault honest text x changes (LengthDiffers expected) = ⊥
+JudgeFault honest text x changes (NothingToRedo have) = ⊥
 
 -- which fault a redo text that is refused at a line makes, where no other came before
 abbrev pub RefusesRedo : ℕ → SessionFault → Type 0

@@ -1,7 +1,8 @@
 //! Whether a text is a redo text: finished entries of the second form, no more than a journal holds beside its changes.
 ghost use Rattle.std.specs.Prelude.{◌≡◌, ◌↔◌, ◌⊎◌, ◌+◌, ◌<◌, ◌≤◌, List, ℕ, suc, length, take, Some, OnOk, IfOk, IfErr, IfSome, IfNone, MatchResult};
 ghost use Rattle.bx_journal.specs.Journal.{HasRead};
-ghost use Rattle.bx_journal.specs.Judging.{AllTold, IsBeyondAt, IsFit, IsRedoCounted, IsUnfitAt, IsUnfitFrom, IsUntoldAt, RedoTextFault, RefusesRedo, redo_fault};
+ghost use Rattle.bx_journal.specs.Judging.{AllTold, IsBeyondAt, IsFit, IsRedoCounted, IsUnfitAt, IsUnfitFrom, IsUntoldAt, JudgeFault, RedoTextFault, RefusesRedo, redo_fault};
+ghost use Rattle.bx_journal.specs.Redo.{IsRedoOf, IsRefusedAt};
 ghost use Rattle.bx_journal.specs.Opening.{FaultCounts};
 ghost use Rattle.bx_journal.specs.Parsed.{entries_of};
 ghost use Rattle.bx_journal.specs.Text.{split};
@@ -15,7 +16,8 @@ use std::alloc::Allocator;
 
 /// How many newlines a text has.
 fn newlines(text: &[u8]) -> u64
-    ensures { result ≡ length (split text.now).lines }
+    ensures lines { result ≡ length (split text.now).lines }
+    ensures most { result ≤ length text.now }
 {
     let mut count: u64 = 0;
     for byte in text {
@@ -163,4 +165,34 @@ pub fn check_redo_length<D: Device>(
         });
     }
     Ok(())
+}
+
+/// How many changes are undone, where the text is the redo text of the image and of so many changes. It changes nothing.
+pub fn judge_redo<D: Device, A: Allocator + Clone>(
+    alloc: &A,
+    device: &mut D,
+    text: &[u8],
+    changes: u32,
+) -> Result<u32, SessionFault>
+    requires countable { D.failures device.old < u64.MAX }
+    requires few { changes ≤ 65535 }
+    ensures undone { D.honest device.old → IfOk result (λ n. (undone : List (List ℕ)) × IsRedoOf text.now (D.image device.old) changes undone × (n ≡ length undone)) }
+    ensures sum { IfOk result (λ n. changes + n ≤ 65535) }
+    ensures fault { IfErr result (JudgeFault (D.honest device.old) text.now (D.image device.old) changes) }
+    ensures unfit { D.honest device.old → (line : ℕ) → IsRefusedAt text.now (D.image device.old) changes line → MatchResult result (λ _. ⊥) (RefusesRedo line) }
+    ensures kept { D.honest device.old → (undone : List (List ℕ)) → IsRedoOf text.now (D.image device.old) changes undone
+        → IfErr result (λ e. (line : ℕ) → e ≡ SessionFault.RedoDamaged line → ⊥) }
+    ensures image { D.honest device.old → D.image device.new ≡ D.image device.old }
+    ensures honesty { D.honest device.new ↔ D.honest device.old }
+    ensures ok { OnOk result (D.failures device.new ≡ D.failures device.old) }
+    ensures counts { IfErr result (λ e. FaultCounts e (D.failures device.old) 0 (D.failures device.new) 0) }
+{
+    let found = match redo_counted(alloc, text, changes) {
+        Ok(found) => found,
+        Err(fault) => return Err(fault),
+    };
+    if let Err(fault) = check_redo_length(device, text, found.told) {
+        return Err(fault);
+    }
+    Ok(found.count)
 }

@@ -7,6 +7,7 @@ ghost use Rattle.bx_journal.specs.Text.{Between as Resting, Saving as Keeping, E
 ghost use Rattle.bx_journal.specs.Parsed.{told_by};
 ghost use Rattle.bx_journal.specs.Redo.{AllTell};
 ghost use Rattle.bx_journal.specs.Undoing.{IsFinished};
+ghost use Rattle.bx_journal.specs.declared.version.Version.{Version as Form};
 
 use crate::Version;
 use crate::ends::{end_at, line_end};
@@ -67,7 +68,7 @@ fn save(number: u32, version: Version, len: u64, line: &[u8]) -> Option<Place>
 fn take_one(tally: Tally, line: &[u8], only_second: bool) -> Option<Tally>
     ensures leads { (r : Reading) → tally_of r ≡ tally → IfSome result (λ t. (q : Reading) × (next r line.now ≡ Some q) × (tally_of q ≡ t)) }
     ensures few { tally.count ≤ 65535 → IfSome result (λ t. t.count ≤ 65535) }
-    ensures second { IsTrue only_second → IfSome result (λ t. t.place ≡ Place.Between → IsTrue (is_some t.told)) }
+    ensures second { IsTrue only_second → (v : Form) → tally.place ≡ Place.Ending v → IfSome result (λ t. IsTrue (is_some t.told)) }
 {
     if tally.count >= MOST_CHANGES {
         return None;
