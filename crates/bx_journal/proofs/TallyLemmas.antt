@@ -1,5 +1,5 @@
 -- Counting entries: what a line does, the loop over lines, and what opening finds.
-use Rattle.std.proofs.Common.{◌≡◌, ℕ, Bool, true, suc, ◌+◌, List, [], ◌∷◌, length, refl, ap, sym, ◌∙◌, subst, inl, inr, ◌⊎◌, arith, Option, Some, None, Result, Ok, Err}
+use Rattle.std.proofs.Common.{◌≡◌, ℕ, Bool, suc, ◌+◌, List, [], ◌∷◌, length, refl, ap, sym, ◌∙◌, subst, inl, inr, ◌⊎◌, arith, Option, Some, None, Result, Ok, Err}
 use Rattle.std.specs.Prelude.{is_some, IsTrue, IfSome, IfOk, IfErr, OnOk, OnErr}
 use Rattle.bx_journal.specs.declared.version.Version.{Version}
 use Rattle.bx_journal.specs.declared.tally.Place.{Place}
@@ -83,7 +83,7 @@ module _ (only_second : Bool) (r : Reading) (t : Tally) (line : List ℕ) (is : 
       leads (Saving v at.0) p at.1 (lead r.entries at.0 (omega (arith, counted, one)) at.2)
 
   pub end_counts : (number : ℕ) (v : Version) (after : Option ℕ) → t.place ≡ EndingPlace v → number ≡ t.count + 1
-      → Some after ≡ after_in v number line → (only_second ≡ true → IsTrue (is_some after))
+      → Some after ≡ after_in v number line → (IsTrue only_second → IsTrue (is_some after))
       → LeadsTo only_second r line (record { count = number; told = after; place = BetweenPlace })
   end_counts number v after place one is_end second =
       let at : HasForm r.stage (EndingPlace v) = subst (HasForm r.stage) place form in
@@ -101,7 +101,7 @@ pub record IsTallied (only_second : Bool) (text rest : List ℕ) (t : Tally) : T
   pub lines : after_lines reading (split rest).lines ≡ after_lines start (split text).lines
   pub tail : (split rest).rest ≡ (split text).rest
   pub is : tally_of reading ≡ t
-  pub tell : only_second ≡ true → AllTell reading.entries
+  pub tell : IsTrue only_second → AllTell reading.entries
 
 pub tallied_start : (only_second : Bool) (text : List ℕ) → IsTallied only_second text text (record { count = 0; told = None; place = BetweenPlace })
 tallied_start only_second text = record { reading = start; lines = refl; tail = refl; is = refl; tell = λ only. tt }
@@ -137,12 +137,9 @@ tallied_end only_second text rest t h none place = record {
   told_is = sym (ap (λ (u : Tally). u.told) h.is);
 }
 
-pub tallied_tell : (only_second : Bool) (text rest : List ℕ) (t : Tally) → IsTallied only_second text rest t → rest ≡ [] → t.place ≡ BetweenPlace → only_second ≡ true
-    → (entries : List Entry) → IsFinished text entries → AllTell entries
-tallied_tell only_second text rest t h none place only entries finished =
-    let same = some_same (record { entries = h.reading.entries; stage = Between }) (record { entries = entries; stage = Between })
-    (sym (ended_at only_second text rest t h none place).reads.lines ∙ finished.reads.lines) in
-    subst AllTell (ap (λ (r : Reading). r.entries) same) (h.tell only)
+pub tallied_tell : (only_second : Bool) (text rest : List ℕ) (t : Tally) → IsTallied only_second text rest t → rest ≡ [] → t.place ≡ BetweenPlace → IsTrue only_second
+    → (entries : List Entry) × IsFinished text entries × AllTell entries
+tallied_tell only_second text rest t h none place only = (h.reading.entries, ended_at only_second text rest t h none place, h.tell only)
 
 -- what opening finds in such a text
 module _ (text x : List ℕ) (count : ℕ) (told : Option ℕ) (c : IsCounted text count told) where

@@ -1,5 +1,5 @@
 -- Entries that are counted, and not kept.
-use Rattle.std.specs.Prelude.{◌≡◌, ℕ, Bool, true, Option, Some, List, length}
+use Rattle.std.specs.Prelude.{◌≡◌, ℕ, Bool, IsTrue, Option, Some, List, length}
 use Rattle.bx_journal.specs.declared.tally.Place.{Place}
 use Rattle.bx_journal.specs.declared.tally.Place.TheVariants.{Between as BetweenPlace, Saving as SavingPlace, Ending as EndingPlace}
 use Rattle.bx_journal.specs.declared.tally.Tally.{Tally}
@@ -23,7 +23,7 @@ pub record LeadsTo (only_second : Bool) (r : Reading) (line : List ℕ) (t : Tal
   pub reading : Reading
   pub leads : next r line ≡ Some reading
   pub is : tally_of reading ≡ t
-  pub tell : only_second ≡ true → AllTell r.entries → AllTell reading.entries
+  pub tell : IsTrue only_second → AllTell r.entries → AllTell reading.entries
 
 -- the text is so many finished entries alone, and the newest tells this length
 pub record IsCounted (text : List ℕ) (count : ℕ) (told : Option ℕ) : Type 0 where

@@ -1,5 +1,5 @@
 //! A journal's text whose entries are counted, and of which nothing else is kept.
-ghost use Rattle.std.specs.Prelude.{◌≡◌, ◌+◌, ◌<◌, ◌≤◌, ◌++◌, ◌∷◌, List, ℕ, suc, length, take, drop, true, is_some, IsTrue, Some, IfSome, IfNone};
+ghost use Rattle.std.specs.Prelude.{◌≡◌, ◌+◌, ◌<◌, ◌≤◌, ◌++◌, ◌∷◌, List, ℕ, suc, length, take, drop, is_some, IsTrue, Some, IfSome, IfNone};
 ghost use Rattle.bx_journal.specs.Kept.{Kept as Record};
 ghost use Rattle.bx_journal.specs.Line.{after_in as after_at};
 ghost use Rattle.bx_journal.specs.Plain.{HasNoNewline};
@@ -67,7 +67,7 @@ fn save(number: u32, version: Version, len: u64, line: &[u8]) -> Option<Place>
 #[inline]
 fn told_in(only_second: bool, version: Version, number: u32, line: &[u8]) -> Option<Option<u64>>
     ensures found { IfSome result (λ told. Some told ≡ after_at version number line.now) }
-    ensures second { only_second ≡ true → IfSome result (λ told. IsTrue (is_some told)) }
+    ensures second { IsTrue only_second → IfSome result (λ told. IsTrue (is_some told)) }
 {
     let told = after_in(version, number, line)?;
     if !only_second {
@@ -156,7 +156,7 @@ pub struct Counted {
 pub fn count_entries(text: &[u8], only_second: bool) -> Option<Counted>
     ensures counted { IfSome result (λ c. IsCounted text.now c.count c.told) }
     ensures few { IfSome result (λ c. c.count ≤ 65535) }
-    ensures second { only_second ≡ true → IfSome result (λ c. (entries : List Entry) → IsFinished text.now entries → AllTell entries) }
+    ensures second { IsTrue only_second → IfSome result (λ _. (entries : List Entry) × IsFinished text.now entries × AllTell entries) }
 {
     let mut tally = Tally {
         count: 0,
