@@ -28,7 +28,7 @@ read_fault_opens text bytes x r JournalFull same reads h = h
 read_fault_opens text bytes x r Interrupted same reads h = tt
 read_fault_opens text bytes x r Broken same reads h = h
 read_fault_opens text bytes x r (LengthDiffers n) same reads h = absurd h
-read_fault_opens text bytes x r (NothingToRedo have) same reads h = absurd h
+read_fault_opens text bytes x r (NothingToRedo have) same reads h = h
 read_fault_opens text bytes x r (RedoDamaged line) same reads h = absurd h
 
 pub read_fault_refuses : (text bytes : List ℕ) (r : Reading) (n : ℕ) (e : SessionFault) → text ≡ bytes → Reads text r → ReadFault bytes e → RefusesLength n e
@@ -41,5 +41,5 @@ read_fault_refuses text bytes r n JournalFull same reads h = h
 read_fault_refuses text bytes r n Interrupted same reads h = h
 read_fault_refuses text bytes r n Broken same reads h = h
 read_fault_refuses text bytes r n (LengthDiffers m) same reads h = absurd h
-read_fault_refuses text bytes r n (NothingToRedo have) same reads h = absurd h
-read_fault_refuses text bytes r n (RedoDamaged line) same reads h = absurd h
+read_fault_refuses text bytes r n (NothingToRedo have) same reads h = h
+read_fault_refuses text bytes r n (RedoDamaged line) same reads h = h
