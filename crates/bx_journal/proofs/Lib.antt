@@ -57,3 +57,4 @@ pub mod TakenLemmas
 pub mod LoopLemmas
 pub mod RedoLoop
 pub mod StandingLoop
+pub mod AloneLemmas
