@@ -1,5 +1,5 @@
 -- An undo that gives up what was undone.
-use Rattle.std.proofs.Common.{◌≡◌, ℕ, zero, suc, ◌+◌, ◌≤◌, ◌<◌, ◌==◌, if◌then◌else◌, List, [], ◌∷◌, length, drop, refl, ap, sym, ◌∙◌, subst, inl, inr, arith, length-drop}
+use Rattle.std.proofs.Common.{◌≡◌, ℕ, zero, suc, ◌+◌, ◌≤◌, ◌<◌, List, [], ◌∷◌, length, drop, refl, ap, sym, ◌∙◌, subst, inl, inr, arith, length-drop}
 use Rattle.bx_journal.specs.Machine.{changes_of}
 use Rattle.bx_journal.specs.Phase.{IsAtRest}
 use Rattle.bx_journal.specs.Images.{Images, undo_alone}
@@ -48,14 +48,14 @@ alone_stops text x redo new x_new redo_new y s i k here shape one less leaves =
 
 -- what an undo of k leaves of the redo text and of the count
 pub alone_keeps : (redo x redo_new y : List ℕ) (s : Images) (k count left u n : ℕ) → left + k ≡ count → IsRedoOf redo x count s.undone → u ≡ length s.undone
-    → (k ≡ 0 → (y ≡ x) × (redo_new ≡ redo)) → (1 ≤ k → redo_new ≡ []) → n ≡ (if k == 0 then u else 0)
+    → (k ≡ 0 → (y ≡ x) × (redo_new ≡ redo)) → (1 ≤ k → redo_new ≡ []) → (k ≡ 0 → n ≡ u) → (1 ≤ k → n ≡ 0)
     → IsRedoOf redo_new y left (undo_alone k s).undone × (n ≡ length (undo_alone k s).undone)
-alone_keeps redo x redo_new y s zero count left u n sum r counted same none is =
+alone_keeps redo x redo_new y s zero count left u n sum r counted same none first later =
     let few : count ≡ left = omega (arith, sum) in
     let both = same refl in (
       subst (λ t. IsRedoOf t y left s.undone) (sym both.1) (subst (λ z. IsRedoOf redo z left s.undone) (sym both.0) (subst (λ m. IsRedoOf redo x m s.undone) few r)),
-      is ∙ counted,
+      first refl ∙ counted,
     )
-alone_keeps redo x redo_new y s (suc k) count left u n sum r counted same none is =
+alone_keeps redo x redo_new y s (suc k) count left u n sum r counted same none first later =
     let few : left ≤ 65535 = omega (arith, sum, r.few) in
-    let some : 1 ≤ suc k = omega arith in (subst (λ t. IsRedoOf t y left []) (sym (none some)) (empty_is_redo y left few), is)
+    let some : 1 ≤ suc k = omega arith in (subst (λ t. IsRedoOf t y left []) (sym (none some)) (empty_is_redo y left few), later some)
