@@ -116,7 +116,7 @@ returns-in-Ok-clause-undone g c =
     let image : g.D.Device.image c.make_room.new.device ≡ x = c.make_room.ensures.image dh in
     let same : c.args.k ≡ 0 → (y ≡ x) × (redo_new ≡ redo) =
     λ none. let both = c.in-Ok.ensures.none none in (ap g.D.Device.image both.0 ∙ image, ap g.T.TextStore.text both.1) in
-    let kept = alone_keeps redo x redo_new y s c.args.k c.self.inside.count c.count_left.result c.self.inside.undone c.in-Ok.undone c.count_left.ensures has.redo has.counted same (c.in-Ok.ensures.emptied rh) c.in-Ok.ensures.none_undone c.in-Ok.ensures.cleared in
+    let kept = alone_keeps redo x redo_new y s c.args.k c.self.inside.count c.count_left-self-inside.result c.self.inside.undone c.in-Ok.undone c.count_left-self-inside.ensures has.redo has.counted same (c.in-Ok.ensures.emptied rh) c.in-Ok.ensures.none_undone c.in-Ok.ensures.cleared in
     record { redo = kept.0; counted = kept.1 })
 
 pub returns-clause-finds : goal.returns-clause-finds
