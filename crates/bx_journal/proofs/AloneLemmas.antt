@@ -6,7 +6,7 @@ use Rattle.bx_journal.specs.Images.{Images, undo_alone}
 use Rattle.bx_journal.specs.Redo.{Finds, IsRedoOf, LeavesEither}
 use Rattle.bx_journal.specs.Turns.{AreAtRest, side_of}
 use Rattle.bx_journal.proofs.RedoText.{empty_is_redo}
-use Rattle.bx_journal.proofs.Found.{step_is_found}
+use Rattle.bx_journal.proofs.StepFound.{step_is_found}
 
 pub alone_stack : (i : ℕ) (s : Images) → (undo_alone i s).stack ≡ drop i s.stack
 alone_stack zero s = refl

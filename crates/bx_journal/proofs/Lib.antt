@@ -47,7 +47,7 @@ pub mod OverLemmas
 pub mod ImageLemmas
 pub mod RedoText
 pub mod Sharper
-pub mod Found
+pub mod StepFound
 pub mod Pushed
 pub mod TurnLemmas
 pub mod TrioLemmas
@@ -58,3 +58,4 @@ pub mod LoopLemmas
 pub mod RedoLoop
 pub mod StandingLoop
 pub mod AloneLemmas
+pub mod RecoverLemmas

@@ -30,3 +30,4 @@ pub mod Redo
 pub mod RedoLaws
 pub mod Turns
 pub mod Takens
+pub mod Recovery

@@ -8,6 +8,7 @@ mod ends;
 mod fault;
 mod filling;
 mod follow;
+mod found;
 mod images;
 mod in_place;
 mod journal;

@@ -245,7 +245,7 @@ pub fn recover<D: Device, T: TextStore, A: Allocator + Clone>(
         Ok(bytes) => bytes,
         Err(fault) => return Err(of_text(fault)),
     };
-    if let Some(found) = count_entries(&bytes) {
+    if let Some(found) = count_entries(&bytes, false) {
         return open_counted(device, found);
     }
     let len = bytes.len() as u64;
