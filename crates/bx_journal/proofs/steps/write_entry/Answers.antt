@@ -10,7 +10,8 @@ use Rattle.bx_journal.specs.Stack.{Recovers}
 use Rattle.bx_journal.specs.Turns.{place_of, side_of}
 use Rattle.bx_journal.specs.declared.version.Version.TheVariants.{Second}
 use Rattle.bx_journal.proofs.ChangeSteps.{ends_of}
-use Rattle.bx_journal.proofs.Sharper.{either_of, open_recovers}
+use Rattle.bx_journal.proofs.Phases.{open_recovers}
+use Rattle.bx_journal.proofs.Sharper.{either_of}
 use Rattle.bx_journal.proofs.TrioLemmas.{within_old, last_stops}
 use Rattle.bx_journal.proofs.steps.write_entry.Goals as goal
 
@@ -60,3 +61,23 @@ returns-clause-left g c dh th rh stack writes =
   where
     at_new : (text y : List ℕ) (stack : List (List ℕ)) (new : List ℕ) → y ≡ new → RecoversOpen text y stack ⊎ Recovers text y (y ∷ stack) → RecoversOpen text y stack ⊎ Recovers text y (new ∷ stack)
     at_new text y stack new is h = subst (λ z. RecoversOpen text y stack ⊎ Recovers text y (z ∷ stack)) is h
+
+pub returns-in_err-change_with-clause-fault : goal.returns-in_err-change_with-clause-fault
+returns-in_err-change_with-clause-fault g c dh th stack writes =
+    let x : List ℕ = g.D.Device.image c.args.device.now in
+    let y : List ℕ = g.D.Device.image c.change_with.new.device in
+    let s : Kept = kept_of (saved c.args.change.now x) in
+    let opened = c.in_ok-append_head.ensures.ok th x stack s writes.starts in
+    let moved = c.change_with.ensures.phase dh (g.T.TextStore.text c.append_head.new.store) stack opened in
+    always_err c.from_residual-in_err-change_with.result (inl (open_recovers Second (as_read s) (g.T.TextStore.text c.append_head.new.store) y stack moved))
+
+pub returns-clause-fault : goal.returns-clause-fault
+returns-clause-fault g c dh th stack writes =
+    let x : List ℕ = g.D.Device.image c.args.device.now in
+    let y : List ℕ = g.D.Device.image c.change_with.new.device in
+    let is : y ≡ effect c.args.change.now x = c.in_ok-change_with.ensures.image dh in
+    let opened = c.in_ok-append_head.ensures.ok th x stack (kept_of (saved c.args.change.now x)) writes.starts in
+    let moved = c.change_with.ensures.phase dh (g.T.TextStore.text c.append_head.new.store) stack opened in
+    let ends = ends_of c.args.change.now (g.T.TextStore.text c.args.store.now) (g.T.TextStore.text c.append_head.new.store) x y stack (head_text c.args.number (kept_of c.args.kept.now)) c.args.end.now writes moved is in
+    on_err_weaker c.append_end.result (λ h. subst (λ z. RecoversEither (g.T.TextStore.text c.append_end.new.store) y stack (z ∷ stack)) is (either_of _ y stack (y ∷ stack) h))
+    (c.append_end.ensures.fault (c.append_head.ensures.goes_on.honesty.1 th) y stack (as_read (kept_of (saved c.args.change.now x))) ends)
