@@ -58,3 +58,5 @@ pub mod LoopLemmas
 pub mod RedoLoop
 pub mod StandingLoop
 pub mod RecoverLemmas
+pub mod Refused
+pub mod JudgeLemmas

@@ -1,6 +1,8 @@
 -- What is found in a journal's text: finished entries alone, or something unfinished.
 use Rattle.std.proofs.Common.{◌≡◌, ℕ, suc, ◌≤◌, List, [], ◌∷◌, length, drop, refl, ap, sym, ◌∙◌, subst, arith, Option, Some, None, Result, Ok, Err, length-drop}
 use Rattle.std.specs.Prelude.{IfOk, IfErr, IfSome, OnOk, OnErr}
+use Rattle.bx_image.specs.declared.record.Saved.{Saved}
+use Rattle.bx_journal.specs.declared.version.Version.{Version}
 use Rattle.bx_journal.specs.declared.journal.JournalRead.{JournalRead}
 use Rattle.bx_journal.specs.declared.reader.StageRead.{StageRead}
 use Rattle.bx_journal.specs.declared.reader.StageRead.TheVariants.{Between as BetweenRead, Saving as SavingRead, Ending as EndingRead}
@@ -11,6 +13,7 @@ use Rattle.bx_journal.specs.Tally.{IsCounted}
 use Rattle.bx_journal.specs.Text.{Stage, Between, Saving, Ending, Reading, Reads, split}
 use Rattle.bx_journal.proofs.OpenLemmas.{read_once}
 use Rattle.bx_journal.proofs.ReadLemmas.{length-entries_of}
+use Rattle.bx_journal.proofs.TailLemmas.{begins_at, begin_mark}
 use Rattle.bx_journal.proofs.Tails.{rest_none}
 
 -- finished entries alone that were read are counted
@@ -36,3 +39,10 @@ pub unfinished_apart : {A : Type 0} → (text : List ℕ) (j : JournalRead A) �
 unfinished_apart text j read unfinished clean =
     let same = read_once text text j (record { entries = clean.0; stage = Between }) read refl clean.1.reads in
     unfinished (between_back j.stage (ap (λ (r : Reading). r.stage) same)) (omega (arith, ap length (read.places.rest ∙ clean.1.whole), length-drop j.whole text, read.places.mark.within))
+
+-- an entry that has its save line begins within the text
+pub ending_begins : {A : Type 0} → (text bytes : List ℕ) (j : JournalRead A) (v : Version) (kept : Saved A) (begins saved : ℕ) → HasRead bytes j → j.stage ≡ EndingRead v kept begins saved → text ≡ bytes
+    → begins ≤ length text
+ending_begins text bytes j v kept begins saved read is same =
+    let mark = begin_mark bytes j.entries.items j.stage j.whole read.places.mark read.places.marked in
+    omega (arith, mark.within, ap (λ s. begins_at s j.whole) is, ap length same)
