@@ -1,5 +1,5 @@
 -- Whether what was read is a redo text, and the line at which it isn't.
-use Rattle.std.proofs.Common.{◌≡◌, ℕ, zero, suc, ◌+◌, ◌<◌, ◌≤◌, List, [], ◌∷◌, ◌++◌, length, length-append, length-drop, length-take, append_assoc, take, drop, get_or, refl, ap, sym, ◌∙◌, subst, inl, inr, ◌⊎◌, arith, Bool, true, false, eqb, cond, Option, Some, None, Result, Ok, Err}
+use Rattle.std.proofs.Common.{◌≡◌, ℕ, suc, ◌+◌, ◌<◌, ◌≤◌, List, [], ◌∷◌, ◌++◌, length, length-append, length-drop, length-take, append_assoc, take, drop, get_or, refl, ap, sym, ◌∙◌, subst, inl, inr, ◌⊎◌, arith, Bool, true, false, eqb, cond, Option, Some, None, Result, Ok, Err}
 use Rattle.std.specs.Prelude.{is_some, IsTrue, IfSome, IfNone, IfOk, IfErr, MatchResult, ◌==◌, if◌then◌else◌}
 use Rattle.std.proofs.lemmas.Grind.{common_steps}
 use Rattle.std.proofs.lemmas.List.{take_more, take-append-drop}
@@ -8,18 +8,17 @@ use Rattle.bx_journal.specs.declared.fault.SessionFault.{SessionFault}
 use Rattle.bx_journal.specs.declared.fault.SessionFault.TheVariants.{NoMemory, TooLarge, DeviceFailed, Damaged, TooFew, JournalFull, Interrupted, Broken, LengthDiffers, NothingToRedo, RedoDamaged}
 use Rattle.bx_journal.specs.declared.journal.JournalRead.{JournalRead}
 use Rattle.bx_journal.specs.declared.reader.EntryRead.{EntryRead}
-use Rattle.bx_journal.specs.declared.reader.StageRead.{StageRead}
 use Rattle.bx_journal.specs.declared.reader.StageRead.TheVariants.{Between as BetweenRead, Saving as SavingRead, Ending as EndingRead}
 use Rattle.bx_journal.specs.declared.tally.Counted.{Counted}
 use Rattle.bx_journal.specs.Calls.{ReadFault}
 use Rattle.bx_journal.specs.Journal.{HasRead}
-use Rattle.bx_journal.specs.Judging.{AllTold, IsBeyondAt, IsFit, IsRedoCounted, IsUnfitAt, IsUnfitFrom, IsUntoldAt, RedoTextFault, RefusesRedo, redo_fault}
+use Rattle.bx_journal.specs.Judging.{AllTold, IsBeyondAt, IsFit, IsRedoCounted, IsUnfitAt, IsUnfitFrom, IsUntoldAt, JudgeFault, RedoTextFault, RefusesRedo, redo_fault}
 use Rattle.bx_journal.specs.Mark.{IsMark, HasMarks}
-use Rattle.bx_journal.specs.Parsed.{entry_of, entries_onto, entries_of, stage_of, reading_of, told_by, AreMarked, IsMarked}
-use Rattle.bx_journal.specs.Redo.{AllTell, BeginsAt, IsRedoOf, DamagedLine, Tail, FirstForm, IsRefusedAt, NoRedo, TooMany, Off, IsTooManyAt}
-use Rattle.bx_journal.specs.Stack.{stack_of, HaveLengths}
+use Rattle.bx_journal.specs.Parsed.{entry_of, entries_onto, entries_of, stage_of, reading_of, AreMarked, IsMarked}
+use Rattle.bx_journal.specs.Redo.{AllTell, BeginsAt, IsRedoOf, DamagedLine, Tail, FirstForm, IsRefusedAt, NoRedo, TooMany, Off}
+use Rattle.bx_journal.specs.Stack.{stack_of}
 use Rattle.bx_journal.specs.Tally.{IsCounted}
-use Rattle.bx_journal.specs.Text.{Entry, Stage, Between, Reading, Reads, Split, split, with_front, start, after_lines}
+use Rattle.bx_journal.specs.Text.{Entry, Between, Reading, Reads, Split, split, with_front, start, after_lines}
 use Rattle.bx_journal.specs.Undoing.{IsFinished}
 use Rattle.bx_journal.proofs.Damage.{split_at_mark}
 use Rattle.bx_journal.proofs.Phases.{length-stack_of}

@@ -3,7 +3,7 @@ use Rattle.std.specs.Prelude.{◌≡◌, ◌⊎◌, ◌≤◌, ℕ, suc, ◌+◌
 use Rattle.bx_journal.specs.declared.fault.SessionFault.{SessionFault}
 use Rattle.bx_journal.specs.declared.fault.SessionFault.TheVariants.{NoMemory, TooLarge, DeviceFailed, Damaged, TooFew, JournalFull, Interrupted, Broken, LengthDiffers, NothingToRedo, RedoDamaged}
 use Rattle.bx_journal.specs.declared.reader.EntryRead.{EntryRead}
-use Rattle.bx_journal.specs.Parsed.{entries_of, told_by}
+use Rattle.bx_journal.specs.Parsed.{told_by}
 use Rattle.bx_journal.specs.Redo.{AllTell, IsNoRedoAt, IsRefusedAt, IsTooManyAt}
 use Rattle.bx_journal.specs.Text.{Entry, split}
 use Rattle.bx_journal.specs.Undoing.{IsFinished}

@@ -187,7 +187,12 @@ pub fn judge_redo<D: Device, A: Allocator + Clone>(
     ensures ok { OnOk result (D.failures device.new ≡ D.failures device.old) }
     ensures counts { IfErr result (λ e. FaultCounts e (D.failures device.old) 0 (D.failures device.new) 0) }
 {
-    let found = redo_counted(alloc, text, changes)?;
-    check_redo_length(device, text, found.told)?;
+    let found = match redo_counted(alloc, text, changes) {
+        Ok(found) => found,
+        Err(fault) => return Err(fault),
+    };
+    if let Err(fault) = check_redo_length(device, text, found.told) {
+        return Err(fault);
+    }
     Ok(found.count)
 }

@@ -1,4 +1,4 @@
-use Rattle.std.proofs.Common.{◌≡◌, Option, None, arith}
+use Rattle.std.proofs.Common.{◌≡◌, None, arith}
 use Rattle.std.specs.Prelude.{is_some, IsTrue}
 use Rattle.std.proofs.lemmas.Grind.{common_steps}
 use Rattle.bx_journal.proofs.JudgeLemmas.{told_more, untold_at}

@@ -1,6 +1,6 @@
 use Rattle.std.proofs.Common.{refl, sym, subst, arith}
 use Rattle.bx_journal.specs.Calls.{ReadFault}
-use Rattle.bx_journal.specs.Judging.{RedoTextFault, RefusesRedo}
+use Rattle.bx_journal.specs.Judging.{RedoTextFault}
 use Rattle.bx_journal.proofs.JudgeLemmas.{counted_fit, fit_apart, fault_refuses, read_fault_redo, unfit_refuses}
 use Rattle.bx_journal.proofs.judging.redo_counted.Goals as goal
 

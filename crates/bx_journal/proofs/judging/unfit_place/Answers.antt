@@ -1,4 +1,4 @@
-use Rattle.std.proofs.Common.{◌≡◌, ◌⊎◌, length, List, subst, arith}
+use Rattle.std.proofs.Common.{◌≡◌, ◌⊎◌, length, subst, arith}
 use Rattle.bx_journal.specs.Judging.{IsUntoldAt, IsBeyondAt, IsUnfitFrom, AllTold}
 use Rattle.bx_journal.proofs.JudgeLemmas.{rest_unfit, saving_unfit, ending_unfit, entry_unfit, fit_read, some_weaker, none_weaker}
 use Rattle.bx_journal.proofs.judging.unfit_place.Goals as goal
