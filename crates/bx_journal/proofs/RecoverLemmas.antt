@@ -12,7 +12,7 @@ use Rattle.bx_journal.specs.Journal.{HasRead}
 use Rattle.bx_journal.specs.Opening.{FaultCounts, LookFault, OneMore, OneMoreOfThree, ThreeCounts}
 use Rattle.bx_journal.specs.Parsed.{entries_of, stage_of, reading_of, told_by}
 use Rattle.bx_journal.specs.Recovery.{RecoverFault}
-use Rattle.bx_journal.specs.Redo.{IsClean}
+use Rattle.bx_journal.specs.Redo.{IsClean, IsRefusedAt}
 use Rattle.bx_journal.specs.Tally.{IsCounted}
 use Rattle.bx_journal.specs.Text.{Entry, Stage, Between, Saving, Ending, Reading, Reads, split}
 use Rattle.bx_journal.proofs.OpenLemmas.{read_once}
@@ -80,3 +80,7 @@ counts_among Broken a b a_new b_new d t u d_new t_new u_new h one same = same h
 counts_among (LengthDiffers n) a b a_new b_new d t u d_new t_new u_new h one same = same h
 counts_among (NothingToRedo have) a b a_new b_new d t u d_new t_new u_new h one same = same h
 counts_among (RedoDamaged line) a b a_new b_new d t u d_new t_new u_new h one same = same h
+
+-- a redo text that is refused, under other names
+pub refused_at : (redo text x y : List ℕ) (changes line : ℕ) → redo ≡ text → x ≡ y → IsRefusedAt redo x changes line → IsRefusedAt text y changes line
+refused_at redo text x y changes line same image refused = subst (λ t. IsRefusedAt t y changes line) same (subst (λ z. IsRefusedAt redo z changes line) image refused)
