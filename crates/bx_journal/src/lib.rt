@@ -7,6 +7,7 @@ mod closing;
 mod ends;
 mod fault;
 mod filling;
+mod finished;
 mod follow;
 mod found;
 mod images;
