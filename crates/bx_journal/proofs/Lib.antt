@@ -61,4 +61,3 @@ pub mod AloneLemmas
 pub mod RecoverLemmas
 pub mod Refused
 pub mod JudgeLemmas
-pub mod FindsLemmas
