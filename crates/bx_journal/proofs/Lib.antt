@@ -50,7 +50,7 @@ pub mod Sharper
 pub mod StepFound
 pub mod Pushed
 pub mod TurnLemmas
-pub mod TrioLemmas
+pub mod StopLemmas
 pub mod Shapes
 pub mod Bounds
 pub mod TakenLemmas
