@@ -2,7 +2,7 @@ use Rattle.std.proofs.Common.{◌≡◌, ◌-◌, List, length, drop, ap, ◌∙
 use Rattle.std.specs.Prelude.{OnOk}
 use Rattle.bx_journal.specs.declared.reader.EntryRead.{EntryRead}
 use Rattle.bx_journal.proofs.AgainLemmas.{kept_last}
-use Rattle.bx_journal.proofs.undoing.make_room.Goals as goal
+use Rattle.bx_journal.proofs.taking.make_room.Goals as goal
 
 always_ok : {T E P : Type 0} (r : Result T E) → P → OnOk r P
 always_ok (Ok x) p = p
