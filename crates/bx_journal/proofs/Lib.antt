@@ -54,6 +54,7 @@ pub mod StopLemmas
 pub mod Shapes
 pub mod Bounds
 pub mod TakenLemmas
+pub mod TakingLemmas
 pub mod LoopLemmas
 pub mod RedoLoop
 pub mod StandingLoop
