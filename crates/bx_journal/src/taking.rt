@@ -40,6 +40,7 @@ fn longest_of<A: Allocator>(entries: &[EntryRead<A>]) -> u64
 /// The length of the image that restoring the entry at a place starts from, where `len` is that of the image now: the
 /// entries above it are restored before.
 fn length_above<A: Allocator>(entries: &[EntryRead<A>], place: usize, len: u64) -> u64
+    requires { place < length entries.now }
     ensures { result ≡ length_at (drop (place + 1) entries.now) len }
 {
     match entries.get(place + 1) {
@@ -51,7 +52,7 @@ fn length_above<A: Allocator>(entries: &[EntryRead<A>], place: usize, len: u64) 
 /// A record of zeros for what restoring an entry overwrites in an image of this length. Of an image that is longer
 /// than an entry can tell it has no bytes.
 fn taken_of<A: Allocator + Clone>(
-    alloc: &A,
+    alloc: A,
     entry: &EntryRead<A>,
     len: u64,
 ) -> Result<Saved<A>, NoMemory>
@@ -61,10 +62,10 @@ fn taken_of<A: Allocator + Clone>(
     if len > MAX_LEN {
         return Ok(Saved {
             len,
-            runs: Pieces::from_vec(Vec::new(alloc.clone()?)),
+            runs: Pieces::from_vec(Vec::new(alloc)),
         });
     }
-    room_to_restore(alloc.clone()?, &entry.kept, len)
+    room_to_restore(alloc, &entry.kept, len)
 }
 
 /// A record of zeros for each of the last k entries, in their order, where the image has `len` bytes.
@@ -73,17 +74,21 @@ fn takens<A: Allocator + Clone>(
     entries: &[EntryRead<A>],
     k: u32,
     len: u64,
-) -> Result<Vec<Saved<A>, A>, NoMemory>
+) -> Result<Vec<Saved<A>, A>, SessionFault>
     requires few { k ≤ length entries.now }
     ensures zeros { IfOk result (λ ts. AreZeros len (reverse entries.now) (reverse ts.items)) }
     ensures shaped { IfOk result (λ ts. AllShaped ts.items) }
     ensures count { IfOk result (λ ts. length ts.items ≡ k) }
+    ensures kind { IfErr result (λ e. e ≡ SessionFault.NoMemory) }
 {
     let count = entries.len();
     let mut takens = Vec::with_capacity(alloc.clone()?, k as usize)?;
     for place in count - k as usize..count {
         let above = length_above(entries, place, len);
-        takens.push(taken_of(alloc, &entries[place], above)?)?;
+        let taken = taken_of(alloc.clone()?, &entries[place], above)?;
+        if takens.push(taken).is_err() {
+            return Err(SessionFault::NoMemory);
+        }
     }
     Ok(takens)
 }
