@@ -59,3 +59,5 @@ pub mod RedoLoop
 pub mod StandingLoop
 pub mod AloneLemmas
 pub mod RecoverLemmas
+pub mod Refused
+pub mod JudgeLemmas

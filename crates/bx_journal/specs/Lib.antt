@@ -31,3 +31,4 @@ pub mod RedoLaws
 pub mod Turns
 pub mod Takens
 pub mod Recovery
+pub mod Judging

@@ -1,5 +1,6 @@
 -- What opening finds in a journal's text, and what it leaves of the redo text.
 use Rattle.std.specs.Prelude.{◌≡◌, ◌≤◌, ℕ, Option, Some, List, length, IfSome}
+use Rattle.bx_journal.specs.declared.calls.Recovered.{Recovered}
 use Rattle.bx_journal.specs.declared.fault.SessionFault.{SessionFault}
 use Rattle.bx_journal.specs.declared.fault.SessionFault.TheVariants.{NoMemory, TooLarge, DeviceFailed, Damaged, TooFew, JournalFull, Interrupted, Broken, LengthDiffers, NothingToRedo, RedoDamaged}
 use Rattle.bx_journal.specs.declared.found.Found.{Found}
@@ -7,7 +8,7 @@ use Rattle.bx_journal.specs.declared.found.Found.TheVariants.{Finished, Unfinish
 use Rattle.bx_journal.specs.declared.journal.JournalRead.{JournalRead}
 use Rattle.bx_journal.specs.declared.reader.StageRead.TheVariants.{Between as BetweenRead}
 use Rattle.bx_journal.specs.Journal.{HasRead}
-use Rattle.bx_journal.specs.Redo.{IsRedoOf, IsRefusedAt}
+use Rattle.bx_journal.specs.Redo.{IsRedoOf, IsRefusedAt, found_undone}
 use Rattle.bx_journal.specs.Tally.{IsCounted}
 use Rattle.bx_journal.specs.Text.{IsDamagedAt}
 
@@ -76,19 +77,9 @@ OpenKind (NothingToRedo have) = ⊥
 abbrev pub HasUndoneCount : List ℕ → List ℕ → ℕ → ℕ → Type 0
 HasUndoneCount redo x changes count = (undone : List (List ℕ)) × IsRedoOf redo x changes undone × (count ≡ length undone)
 
--- which fault judging a redo text may answer, where image and redo text are known if their devices are honest
-abbrev pub JudgeFault : Type 0 → List ℕ → List ℕ → ℕ → SessionFault → Type 0
-JudgeFault honest redo x changes NoMemory = Unit {0}
-JudgeFault honest redo x changes DeviceFailed = Unit {0}
-JudgeFault honest redo x changes (RedoDamaged line) = honest → IsRefusedAt redo x changes line
-JudgeFault honest redo x changes TooLarge = ⊥
-JudgeFault honest redo x changes (Damaged line) = ⊥
-JudgeFault honest redo x changes (TooFew have) = ⊥
-JudgeFault honest redo x changes JournalFull = ⊥
-JudgeFault honest redo x changes Interrupted = ⊥
-JudgeFault honest redo x changes Broken = ⊥
-JudgeFault honest redo x changes (LengthDiffers expected) = ⊥
-JudgeFault honest redo x changes (NothingToRedo have) = ⊥
+-- what opening leaves of the redo text and the image stands for the undone images that it keeps, and it tells their number
+abbrev pub KeepsUndone : List ℕ → List ℕ → Recovered → List (List ℕ) → Type 0
+KeepsUndone redo x o undone = IsRedoOf redo x o.changes (found_undone o.how undone) × (o.undone ≡ length (found_undone o.how undone))
 
 -- the image has the length that is told, if any
 abbrev pub HasToldLength : Option ℕ → List ℕ → Type 0

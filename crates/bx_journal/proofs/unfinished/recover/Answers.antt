@@ -56,7 +56,7 @@ counted_in text bytes count told same c = subst (λ t. IsCounted t count told) s
 pub returns-in-Some-clause-opened : goal.returns-in-Some-clause-opened
 returns-in-Some-clause-opened g c dh th r reads =
     let text : List ℕ = g.T.TextStore.text c.args.store.now in
-    let is : IsCounted text c.in-Some.found.count c.in-Some.found.told = counted_in text c.deref.result.now _ _ (c.deref.ensures.value ∙ c.in-Ok.ensures.bytes th) c.in-Some.ensures in
+    let is : IsCounted text c.in-Some.found.count c.in-Some.found.told = counted_in text c.deref.result.now _ _ (c.deref.ensures.value ∙ c.in-Ok.ensures.bytes th) c.in-Some.ensures.counted in
     subst (λ t. IfOk c.open_counted.result (λ o. IsOpened text (g.D.Device.image c.args.device.now) r t (g.D.Device.image c.open_counted.new.device) o.how o.changes)) (sym (c.read_all.ensures.text th)) (c.open_counted.ensures.opened dh text r is reads)
 
 pub returns-in-Some-clause-clean : goal.returns-in-Some-clause-clean
@@ -65,7 +65,7 @@ returns-in-Some-clause-clean g c dh th = ok_then _ c.open_counted.result (c.read
 pub returns-in-Some-clause-accepted : goal.returns-in-Some-clause-accepted
 returns-in-Some-clause-accepted g c th =
     let text : List ℕ = g.T.TextStore.text c.args.store.now in
-    let is : IsCounted text c.in-Some.found.count c.in-Some.found.told = counted_in text c.deref.result.now _ _ (c.deref.ensures.value ∙ c.in-Ok.ensures.bytes th) c.in-Some.ensures in
+    let is : IsCounted text c.in-Some.found.count c.in-Some.found.told = counted_in text c.deref.result.now _ _ (c.deref.ensures.value ∙ c.in-Ok.ensures.bytes th) c.in-Some.ensures.counted in
     ok_always c.open_counted.result (record { entries = is.entries; stage = Between }, is.finished.reads)
 
 pub returns-in-Some-clause-damaged : goal.returns-in-Some-clause-damaged
@@ -74,25 +74,25 @@ returns-in-Some-clause-damaged g c th = err_apart _ c.open_counted.result c.open
 pub returns-in-Some-clause-unaccepted : goal.returns-in-Some-clause-unaccepted
 returns-in-Some-clause-unaccepted g c th apart =
     let text : List ℕ = g.T.TextStore.text c.args.store.now in
-    let is : IsCounted text c.in-Some.found.count c.in-Some.found.told = counted_in text c.deref.result.now _ _ (c.deref.ensures.value ∙ c.in-Ok.ensures.bytes th) c.in-Some.ensures in
+    let is : IsCounted text c.in-Some.found.count c.in-Some.found.told = counted_in text c.deref.result.now _ _ (c.deref.ensures.value ∙ c.in-Ok.ensures.bytes th) c.in-Some.ensures.counted in
     absurd (apart (record { entries = is.entries; stage = Between }, is.finished.reads))
 
 pub returns-in-Some-clause-faults : goal.returns-in-Some-clause-faults
 returns-in-Some-clause-faults g c dh th r reads =
     let text : List ℕ = g.T.TextStore.text c.args.store.now in
-    let is : IsCounted text c.in-Some.found.count c.in-Some.found.told = counted_in text c.deref.result.now _ _ (c.deref.ensures.value ∙ c.in-Ok.ensures.bytes th) c.in-Some.ensures in
+    let is : IsCounted text c.in-Some.found.count c.in-Some.found.told = counted_in text c.deref.result.now _ _ (c.deref.ensures.value ∙ c.in-Ok.ensures.bytes th) c.in-Some.ensures.counted in
     c.open_counted.ensures.faults dh text r is reads
 
 pub returns-in-Some-clause-differs : goal.returns-in-Some-clause-differs
 returns-in-Some-clause-differs g c dh th r n reads differs =
     let text : List ℕ = g.T.TextStore.text c.args.store.now in
-    let is : IsCounted text c.in-Some.found.count c.in-Some.found.told = counted_in text c.deref.result.now _ _ (c.deref.ensures.value ∙ c.in-Ok.ensures.bytes th) c.in-Some.ensures in
+    let is : IsCounted text c.in-Some.found.count c.in-Some.found.told = counted_in text c.deref.result.now _ _ (c.deref.ensures.value ∙ c.in-Ok.ensures.bytes th) c.in-Some.ensures.counted in
     c.open_counted.ensures.differs dh text r n is reads differs
 
 pub returns-in-Some-clause-keeps : goal.returns-in-Some-clause-keeps
 returns-in-Some-clause-keeps g c dh th stack rec =
     let text : List ℕ = g.T.TextStore.text c.args.store.now in
-    let is : IsCounted text c.in-Some.found.count c.in-Some.found.told = counted_in text c.deref.result.now _ _ (c.deref.ensures.value ∙ c.in-Ok.ensures.bytes th) c.in-Some.ensures in
+    let is : IsCounted text c.in-Some.found.count c.in-Some.found.told = counted_in text c.deref.result.now _ _ (c.deref.ensures.value ∙ c.in-Ok.ensures.bytes th) c.in-Some.ensures.counted in
     ok_always c.open_counted.result (subst (λ t. IsAtRest t (g.D.Device.image c.open_counted.new.device) stack) (sym (c.read_all.ensures.text th)) (c.open_counted.ensures.keeps dh text stack is rec))
 
 pub returns-in-Some-clause-keeps_err : goal.returns-in-Some-clause-keeps_err
@@ -104,7 +104,7 @@ returns-in-Some-clause-keeps_err g c dh th stack rec =
 pub returns-in-Some-clause-counted : goal.returns-in-Some-clause-counted
 returns-in-Some-clause-counted g c dh th stack rec =
     let text : List ℕ = g.T.TextStore.text c.args.store.now in
-    let is : IsCounted text c.in-Some.found.count c.in-Some.found.told = counted_in text c.deref.result.now _ _ (c.deref.ensures.value ∙ c.in-Ok.ensures.bytes th) c.in-Some.ensures in
+    let is : IsCounted text c.in-Some.found.count c.in-Some.found.told = counted_in text c.deref.result.now _ _ (c.deref.ensures.value ∙ c.in-Ok.ensures.bytes th) c.in-Some.ensures.counted in
     c.open_counted.ensures.counted text (g.D.Device.image c.args.device.now) stack is rec
 
 pub returns-in-Some-clause-refused : goal.returns-in-Some-clause-refused
