@@ -60,3 +60,4 @@ pub mod StandingLoop
 pub mod RecoverLemmas
 pub mod Refused
 pub mod JudgeLemmas
+pub mod OpenedLemmas
