@@ -1,4 +1,4 @@
-use Rattle.std.proofs.Common.{rules, sym, ◌∙◌}
+use Rattle.std.proofs.Common.{sym, ◌∙◌}
 use Rattle.bx_journal.proofs.RecoverLemmas.{refused_at}
 use Rattle.bx_journal.proofs.finished.open_finished.Goals as goal
 
@@ -11,9 +11,3 @@ pub returns-clause-unfit : goal.returns-clause-unfit
 returns-clause-unfit g c dh rh line told refused =
     c.in-Ok-judge_redo.ensures.unfit (c.check_length.ensures.honesty.1 dh) line
     (refused_at _ _ _ _ c.args.found.count line (sym (c.deref.ensures.value ∙ c.in-Ok.ensures.bytes rh)) (sym (c.check_length.ensures.image dh)) refused)
-
-pub returns-clause-redo_same : goal.returns-clause-redo_same
-returns-clause-redo_same g c rh = c.read_all.ensures.text rh
-
-pub returns-clause-no_failure : goal.returns-clause-no_failure
-returns-clause-no_failure g c = search rules
