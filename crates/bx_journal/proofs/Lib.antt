@@ -62,3 +62,4 @@ pub mod AloneLemmas
 pub mod RecoverLemmas
 pub mod Refused
 pub mod JudgeLemmas
+pub mod OpenedLemmas

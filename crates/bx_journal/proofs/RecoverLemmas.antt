@@ -1,6 +1,5 @@
 -- What is found in a journal's text: finished entries alone, or something unfinished.
-use Rattle.std.proofs.Common.{◌≡◌, ℕ, suc, ◌≤◌, List, [], ◌∷◌, length, drop, refl, ap, sym, ◌∙◌, subst, arith, Option, Some, None, Result, Ok, Err, length-drop}
-use Rattle.std.specs.Prelude.{IfOk, IfErr, IfSome, OnOk, OnErr}
+use Rattle.std.proofs.Common.{◌≡◌, ℕ, ◌≤◌, List, length, refl, ap, sym, ◌∙◌, subst, arith, Option, length-drop}
 use Rattle.bx_image.specs.declared.record.Saved.{Saved}
 use Rattle.bx_journal.specs.declared.version.Version.{Version}
 use Rattle.bx_journal.specs.declared.journal.JournalRead.{JournalRead}
@@ -14,7 +13,7 @@ use Rattle.bx_journal.specs.Parsed.{entries_of, stage_of, reading_of, told_by}
 use Rattle.bx_journal.specs.Recovery.{RecoverFault}
 use Rattle.bx_journal.specs.Redo.{IsClean, IsRefusedAt}
 use Rattle.bx_journal.specs.Tally.{IsCounted}
-use Rattle.bx_journal.specs.Text.{Entry, Stage, Between, Saving, Ending, Reading, Reads, split}
+use Rattle.bx_journal.specs.Text.{Entry, Between, Reading, Reads}
 use Rattle.bx_journal.proofs.OpenLemmas.{read_once}
 use Rattle.bx_journal.proofs.ReadLemmas.{length-entries_of}
 use Rattle.bx_journal.proofs.TailLemmas.{begins_at, begin_mark}
@@ -84,3 +83,7 @@ counts_among (RedoDamaged line) a b a_new b_new d t u d_new t_new u_new h one sa
 -- a redo text that is refused, under other names
 pub refused_at : (redo text x y : List ℕ) (changes line : ℕ) → redo ≡ text → x ≡ y → IsRefusedAt redo x changes line → IsRefusedAt text y changes line
 refused_at redo text x y changes line same image refused = subst (λ t. IsRefusedAt t y changes line) same (subst (λ z. IsRefusedAt redo z changes line) image refused)
+
+-- one more failed call of two devices is one more of three
+pub one_more_beside : (d t u d_new t_new u_new : ℕ) → u_new ≡ u → OneMore d t d_new t_new → OneMoreOfThree d t u d_new t_new u_new
+one_more_beside d t u d_new t_new u_new same one = omega (arith, same, one)

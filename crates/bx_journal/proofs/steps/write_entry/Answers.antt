@@ -1,4 +1,4 @@
-use Rattle.std.proofs.Common.{◌≡◌, ◌⊎◌, ℕ, List, ◌∷◌, take, inl, Result, Ok, Err, subst}
+use Rattle.std.proofs.Common.{◌≡◌, ◌⊎◌, ℕ, List, ◌∷◌, take, inl, Result, Ok, Err, refl, subst}
 use Rattle.std.specs.Prelude.{OnErr}
 use Rattle.std.proofs.lemmas.Result.{on_ok_weaker, on_err_weaker}
 use Rattle.bx_image.specs.Change.{effect, saved}
@@ -12,12 +12,26 @@ use Rattle.bx_journal.specs.declared.version.Version.TheVariants.{Second}
 use Rattle.bx_journal.proofs.ChangeSteps.{ends_of}
 use Rattle.bx_journal.proofs.Phases.{open_recovers}
 use Rattle.bx_journal.proofs.Sharper.{either_of}
-use Rattle.bx_journal.proofs.StopLemmas.{within_old, last_stops}
+use Rattle.bx_journal.proofs.StopLemmas.{before_stops, within_old, last_stops}
 use Rattle.bx_journal.proofs.steps.write_entry.Goals as goal
 
 always_err : {T E P : Type 0} (r : Result T E) → P → OnErr r P
 always_err (Ok x) p = tt
 always_err (Err e) p = p
+
+pub returns-in_err-append_head-clause-fault : goal.returns-in_err-append_head-clause-fault
+returns-in_err-append_head-clause-fault g c dh th stack writes =
+    let x : List ℕ = g.D.Device.image c.args.device.now in
+    always_err c.from_residual.result (inl (c.in_err-append_head.ensures.fault th x stack (kept_of (saved c.args.change.now x)) writes.starts))
+
+pub returns-in_err-append_head-clause-left : goal.returns-in_err-append_head-clause-left
+returns-in_err-append_head-clause-left g c dh th rh stack writes =
+    let x : List ℕ = g.D.Device.image c.args.device.now in
+    let r : List ℕ = g.T.TextStore.text c.args.redo_text.now in
+    let new : List ℕ = effect c.args.change.now x in
+    always_err c.from_residual.result
+    (before_stops (g.T.TextStore.text c.append_head.new.store) x r (side_of stack x r) (side_of (new ∷ stack) new (take (place_of c.args.part) r)) refl refl
+    (c.in_err-append_head.ensures.fault th x stack (kept_of (saved c.args.change.now x)) writes.starts))
 
 -- in the middle the journal is open, whatever was done
 pub returns-in_err-change_with-clause-left : goal.returns-in_err-change_with-clause-left
