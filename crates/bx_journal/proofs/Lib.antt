@@ -58,7 +58,6 @@ pub mod TakingLemmas
 pub mod LoopLemmas
 pub mod RedoLoop
 pub mod StandingLoop
-pub mod AloneLemmas
 pub mod RecoverLemmas
 pub mod Refused
 pub mod JudgeLemmas
