@@ -9,6 +9,18 @@ use std::alloc::{AllocError, Global};
 pub const PATCHED: &str =
     "change2 00000001 0000000000000008\n00000002: 4344                                     CD\nsave 00000001\ndone2 00000001 0000000000000008\n";
 
+/// The redo text of the same patch, once it is taken back.
+pub const UNDONE_PATCH: &str =
+    "change2 00000001 0000000000000008\n00000002: 7879                                     xy\nsave 00000001\ndone2 00000001 0000000000000008\n";
+
+/// The redo text of the second and third of three patches of one byte at 0, once they are taken back from `c` to `a`.
+pub const UNDONE_TWO: &str =
+    "change2 00000001 0000000000000001\n00000000: 63                                       c\nsave 00000001\ndone2 00000001 0000000000000001\nchange2 00000002 0000000000000001\n00000000: 62                                       b\nsave 00000002\ndone2 00000002 0000000000000001\n";
+
+/// The redo text of a byte at 5 of `AB`, once it is taken back.
+pub const UNDONE_GAP: &str =
+    "change2 00000001 0000000000000006\n00000002: 0000 005a                                ...Z\nsave 00000001\ndone2 00000001 0000000000000002\n";
+
 /// The journal of two pieces at 2 and 3 of `ABCDEFGH`.
 pub const OVERLAPPED: &str =
     "change2 00000001 0000000000000008\n00000002: 4344 45                                  CDE\nsave 00000001\ndone2 00000001 0000000000000008\n";
@@ -120,6 +132,20 @@ pub fn bad_second_line(alloc: Global) -> Made {
     Ok(script)
 }
 
+/// What is refused leaves the redo text, an undo of nothing too; a change empties it.
+pub fn refusals_keep_redo(alloc: Global) -> Made {
+    let first = b"ABCDEFGH";
+    let mut script = Script::with_redo(alloc, first, UNDONE_PATCH);
+    let odd = Reply::Refused(Fault::OddDigits { line: 1 });
+    script.then(Ask::Plain("414", 0), odd, first)?;
+    let too_large = Reply::Refused(Fault::TooLarge);
+    script.then(Ask::Revert("ffffffffffff: 41"), too_large, first)?;
+    script.then(Ask::Undo(1), too_few(0), first)?;
+    script.then_redo(Ask::Undo(0), undone(0), first, UNDONE_PATCH)?;
+    script.then(Ask::Revert("0: 5a"), changed(1), b"ZBCDEFGH")?;
+    Ok(script)
+}
+
 /// A byte behind the greatest image.
 pub fn image_limit(alloc: Global) -> Made {
     let mut script = Script::new(alloc, b"AB");
@@ -217,6 +243,7 @@ fn with_others(alloc: Global, scripts: Scripts) -> Result<Scripts, AllocError> {
     let mut scripts = scripts;
     scripts.push(bad_second_line(alloc)?)?;
     scripts.push(image_limit(alloc)?)?;
+    scripts.push(refusals_keep_redo(alloc)?)?;
     scripts.push(refusals(alloc)?)?;
     scripts.push(plain_hex(alloc)?)?;
     scripts.push(run_of_twenty(alloc)?)?;
