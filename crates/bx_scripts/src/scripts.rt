@@ -79,6 +79,16 @@ pub fn patch_and_undo(alloc: Global) -> Made {
     Ok(script)
 }
 
+/// The same patch, where it was made before and taken back.
+pub fn patch_over_redo(alloc: Global) -> Made {
+    let mut script = Script::with_redo(alloc, b"ABCDEFGH", UNDONE_PATCH);
+    script.then_redo(Ask::Undo(0), undone(0), b"ABCDEFGH", UNDONE_PATCH)?;
+    let dump = Ask::Revert("00000002: 7879\n");
+    script.then_redo(dump, changed(1), b"ABxyEFGH", "")?;
+    script.then_redo(Ask::Undo(1), undone(0), b"ABCDEFGH", "")?;
+    Ok(script)
+}
+
 pub fn overlapping_lines(alloc: Global) -> Made {
     let mut script = Script::new(alloc, b"ABCDEFGH");
     let dump = Ask::Revert("00000002: 7879\n00000003: 7a7a\n");
@@ -229,6 +239,7 @@ type Scripts = Vec<Script<'static>>;
 fn dumps(alloc: Global) -> Result<Scripts, AllocError> {
     let mut scripts = Vec::new(alloc);
     scripts.push(patch_and_undo(alloc)?)?;
+    scripts.push(patch_over_redo(alloc)?)?;
     scripts.push(overlapping_lines(alloc)?)?;
     scripts.push(gap_and_undo(alloc)?)?;
     scripts.push(three_patches_reopened(alloc)?)?;
@@ -291,6 +302,7 @@ pub fn cut_and_grown(alloc: Global) -> Made {
 fn failing_dumps(alloc: Global) -> Result<Scripts, AllocError> {
     let mut scripts = Vec::new(alloc);
     scripts.push(patch_and_undo(alloc)?)?;
+    scripts.push(patch_over_redo(alloc)?)?;
     scripts.push(overlapping_lines(alloc)?)?;
     scripts.push(gap_and_undo(alloc)?)?;
     scripts.push(three_patches_reopened(alloc)?)?;
