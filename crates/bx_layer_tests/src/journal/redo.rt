@@ -1,5 +1,5 @@
 //! Redo texts that opening finds beside an image and a journal.
-use crate::journal::script::{assert_held, clean_with, held_of, on_both, on_memory};
+use crate::journal::script::{Step, assert_held, clean_with, held_of, on_both, on_memory, writes};
 use crate::journal::tools::{PATCHED, PATCHED_FIRST, UNDONE, entries_of_nothing};
 use bx_journal::{How, Recovered, SessionFault};
 use std::alloc::{AllocError, Global};
@@ -23,6 +23,10 @@ const UNDONE_GAP: &[u8] =
 // An entry of the first form behind one of the second.
 const SECOND_THEN_FIRST: &[u8] =
     b"change2 00000001 0000000000000001\nsave 00000001\ndone2 00000001 0000000000000001\nchange 00000002 00000001\nsave 00000002\ndone 00000002\n";
+
+// The second entry of the journal of a patch, of one byte at 0.
+const SECOND: &[u8] =
+    b"change2 00000002 0000000000000008\n00000000: 41                                       A\nsave 00000002\ndone2 00000002 0000000000000008\n";
 
 // An image, its journal and its redo text.
 type Bytes<'a> = (&'a [u8], &'a [u8], &'a [u8]);
@@ -196,4 +200,35 @@ fn redo_text_too_many(rt: HostRuntime) -> Result<(), Fail> {
     assert_counted(&rt, 65_534, 2, Err(SessionFault::RedoDamaged { line: 4 }))?;
     assert_counted(&rt, 0, 65_535, clean_with(0, 65_535))?;
     assert_counted(&rt, 1, 65_535, Err(SessionFault::RedoDamaged { line: 196_603 }))
+}
+
+// A call on a patched image with its redo text: the redo text is then so, and image and journal are as they were or as they have
+// to be.
+fn assert_call<R>(rt: &R, name: &str, step: Step<'_>, left: Bytes<'_>) -> Result<(), Fail>
+where
+    R: Files<File = File> + AllocGlobal + Abort,
+{
+    let start = held_of(rt.alloc(), b"ABxyEFGH", PATCHED, UNDONE)?;
+    let held = on_both(rt, name, &start, clean_with(1, 1), &[step])?;
+    assert_held(rt, &held, left.0, left.1, left.2);
+    Ok(())
+}
+
+#[test]
+fn redo_text_kept_and_emptied(rt: HostRuntime) -> Result<(), Fail> {
+    let name = "redo_text_kept_and_emptied";
+    let same: Bytes<'_> = (b"ABxyEFGH", PATCHED, UNDONE);
+    assert_call(&rt, name, Step::List { rows: 1 }, same)?;
+    let count = 0;
+    assert_call(&rt, name, Step::Undo { count, answer: Ok(1) }, same)?;
+    let count = 2;
+    let answer = Err(SessionFault::TooFew { have: 1 });
+    assert_call(&rt, name, Step::Undo { count, answer }, same)?;
+    let count = 1;
+    let undone: Bytes<'_> = (b"ABCDEFGH", b"", b"");
+    assert_call(&rt, name, Step::Undo { count, answer: Ok(0) }, undone)?;
+    let mut journal = PATCHED.to_vec(rt.alloc())?;
+    journal.extend_from_slice(SECOND)?;
+    let changed: Bytes<'_> = (b"ZBxyEFGH", journal.as_slice(), b"");
+    assert_call(&rt, name, writes(0, b"Z", 2), changed)
 }

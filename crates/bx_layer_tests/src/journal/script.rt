@@ -142,7 +142,7 @@ struct Names {
     redo: String,
 }
 
-fn names(alloc: Global, name: &str) -> Result<Names, AllocError> {
+fn files_of(alloc: Global, name: &str) -> Result<Names, AllocError> {
     Ok(Names {
         image: format!(in alloc; "{name}.img")?,
         journal: format!(in alloc; "{name}.bxj")?,
@@ -188,7 +188,7 @@ fn on_files<R>(
 where
     R: Files<File = File> + AllocGlobal + Abort,
 {
-    let names = names(rt.alloc(), name)?;
+    let names = files_of(rt.alloc(), name)?;
     let trio = make(rt, &names, start)?;
     let _closed = sit(rt.alloc(), rt, trio, found, steps)?;
     take(rt, &names)
