@@ -168,7 +168,8 @@ fn assert_first(rt: &impl Abort, session: Arena<'_>) {
 fn undoing_one(rt: &impl Abort, alloc: Global, bytes: usize, changed: &Held) -> Result<bool, Fail> {
     let bump = ration(alloc, bytes)?;
     let image = changed.image.as_slice();
-    let Ok((mut session, _)) = open(&bump, trio(alloc, image, changed.journal.as_slice(), b"")?) else {
+    let Ok((mut session, _)) = open(&bump, trio(alloc, image, changed.journal.as_slice(), b"")?)
+    else {
         return Ok(false);
     };
     let refused = undoing(rt, &bump, &mut session, 1)?;

@@ -60,7 +60,12 @@ fn redo_texts_in_order(rt: HostRuntime) -> Result<(), Fail> {
     let name = "redo_texts_in_order";
     assert_opens(&rt, name, (b"ABCDEFGH", b"", UNDONE), clean_with(0, 1))?;
     assert_opens(&rt, name, (b"ABxyEFGH", PATCHED, UNDONE), clean_with(1, 1))?;
-    assert_opens(&rt, name, (b"ABxyEFGH", PATCHED_FIRST, UNDONE), clean_with(1, 1))?;
+    assert_opens(
+        &rt,
+        name,
+        (b"ABxyEFGH", PATCHED_FIRST, UNDONE),
+        clean_with(1, 1),
+    )?;
     assert_opens(&rt, name, (b"AB", b"", UNDONE_GAP), clean_with(0, 1))?;
     assert_opens(&rt, name, (b"a", ONE, UNDONE_TWO), clean_with(1, 2))
 }
@@ -77,7 +82,12 @@ fn redo_text_cut_short(rt: HostRuntime) -> Result<(), Fail> {
 #[test]
 fn foreign_redo_texts(rt: HostRuntime) -> Result<(), Fail> {
     let name = "foreign_redo_texts";
-    for redo in [b"hello\n".as_slice(), b"\0\0\0\0\0\0\0\0", b"\n", b"change2 00000002 "] {
+    for redo in [
+        b"hello\n".as_slice(),
+        b"\0\0\0\0\0\0\0\0",
+        b"\n",
+        b"change2 00000002 ",
+    ] {
         assert_refused(&rt, name, (b"ABxyEFGH", PATCHED, redo), 1)?;
     }
     Ok(())
@@ -98,7 +108,10 @@ fn redo_texts_of_the_first_form(rt: HostRuntime) -> Result<(), Fail> {
 #[test]
 fn redo_texts_with_a_tail(rt: HostRuntime) -> Result<(), Fail> {
     let name = "redo_texts_with_a_tail";
-    for tail in [b"c".as_slice(), b"change2 00000002 0000000000000008\n00000000: 41"] {
+    for tail in [
+        b"c".as_slice(),
+        b"change2 00000002 0000000000000008\n00000000: 41",
+    ] {
         let mut redo = UNDONE.to_vec(rt.alloc())?;
         redo.extend_from_slice(tail)?;
         assert_refused(&rt, name, (b"ABCDEFGH", b"", redo.as_slice()), 5)?;
@@ -129,13 +142,7 @@ fn lengths_before_redo(rt: HostRuntime) -> Result<(), Fail> {
 }
 
 // Opening takes this front of the patch's journal back: no text stays.
-fn assert_recovers<R>(
-    rt: &R,
-    name: &str,
-    front: usize,
-    redo: &[u8],
-    how: How,
-) -> Result<(), Fail>
+fn assert_recovers<R>(rt: &R, name: &str, front: usize, redo: &[u8], how: How) -> Result<(), Fail>
 where
     R: Files<File = File> + AllocGlobal + Abort,
 {
@@ -154,7 +161,13 @@ where
 #[test]
 fn unfinished_and_any_redo(rt: HostRuntime) -> Result<(), Fail> {
     let name = "unfinished_and_any_redo";
-    for redo in [b"hello".as_slice(), b"\0", UNDONE_GAP, UNDONE, PATCHED_FIRST] {
+    for redo in [
+        b"hello".as_slice(),
+        b"\0",
+        UNDONE_GAP,
+        UNDONE,
+        PATCHED_FIRST,
+    ] {
         assert_recovers(&rt, name, 1, redo, How::Dropped)?;
         assert_recovers(&rt, name, 101, redo, How::Dropped)?;
         assert_recovers(&rt, name, 102, redo, How::Restored { number: 1 })?;
@@ -166,8 +179,7 @@ fn unfinished_and_any_redo(rt: HostRuntime) -> Result<(), Fail> {
 fn undone_nothings(alloc: Global, count: u32) -> Result<Vec<u8>, AllocError> {
     let mut redo = Vec::new(alloc);
     for n in 1..=count {
-        let entry = format!(
-            in alloc;
+        let entry = format!(in alloc;
             "change2 {n:08x} 0000000000000000\nsave {n:08x}\ndone2 {n:08x} 0000000000000000\n"
         )?;
         redo.extend_from_slice(entry.as_bytes())?;
@@ -199,7 +211,12 @@ fn redo_text_too_many(rt: HostRuntime) -> Result<(), Fail> {
     assert_counted(&rt, 65_534, 1, clean_with(65_534, 1))?;
     assert_counted(&rt, 65_534, 2, Err(SessionFault::RedoDamaged { line: 4 }))?;
     assert_counted(&rt, 0, 65_535, clean_with(0, 65_535))?;
-    assert_counted(&rt, 1, 65_535, Err(SessionFault::RedoDamaged { line: 196_603 }))
+    assert_counted(
+        &rt,
+        1,
+        65_535,
+        Err(SessionFault::RedoDamaged { line: 196_603 }),
+    )
 }
 
 // A call on a patched image with its redo text: the redo text is then so, and image and journal are as they were or as they have
@@ -220,13 +237,29 @@ fn redo_text_kept_and_emptied(rt: HostRuntime) -> Result<(), Fail> {
     let same: Bytes<'_> = (b"ABxyEFGH", PATCHED, UNDONE);
     assert_call(&rt, name, Step::List { rows: 1 }, same)?;
     let count = 0;
-    assert_call(&rt, name, Step::Undo { count, answer: Ok(1) }, same)?;
+    assert_call(
+        &rt,
+        name,
+        Step::Undo {
+            count,
+            answer: Ok(1),
+        },
+        same,
+    )?;
     let count = 2;
     let answer = Err(SessionFault::TooFew { have: 1 });
     assert_call(&rt, name, Step::Undo { count, answer }, same)?;
     let count = 1;
     let undone: Bytes<'_> = (b"ABCDEFGH", b"", b"");
-    assert_call(&rt, name, Step::Undo { count, answer: Ok(0) }, undone)?;
+    assert_call(
+        &rt,
+        name,
+        Step::Undo {
+            count,
+            answer: Ok(0),
+        },
+        undone,
+    )?;
     let mut journal = PATCHED.to_vec(rt.alloc())?;
     journal.extend_from_slice(SECOND)?;
     let changed: Bytes<'_> = (b"ZBxyEFGH", journal.as_slice(), b"");
