@@ -2,7 +2,7 @@
 use Rattle.std.proofs.Common.{◌≡◌, ℕ, List, length, sym, subst, inl, inr}
 use Rattle.std.proofs.lemmas.Bool.{cases_lt}
 use Rattle.bx_journal.specs.declared.fault.SessionFault.{SessionFault}
-use Rattle.bx_journal.specs.declared.fault.SessionFault.TheVariants.{NoMemory, TooLarge, DeviceFailed, Damaged, TooFew, JournalFull, Interrupted, Broken, LengthDiffers}
+use Rattle.bx_journal.specs.declared.fault.SessionFault.TheVariants.{NoMemory, TooLarge, DeviceFailed, Damaged, TooFew, JournalFull, Interrupted, Broken, LengthDiffers, NothingToRedo, RedoDamaged}
 use Rattle.bx_journal.specs.Text.{Reading, Reads, IsAccepted, IsDamagedAt, split, start}
 use Rattle.bx_journal.specs.Calls.{ReadFault, OpenFault}
 use Rattle.bx_journal.specs.Opening.{RefusesLength}
@@ -28,6 +28,8 @@ read_fault_opens text bytes x r JournalFull same reads h = h
 read_fault_opens text bytes x r Interrupted same reads h = tt
 read_fault_opens text bytes x r Broken same reads h = h
 read_fault_opens text bytes x r (LengthDiffers n) same reads h = absurd h
+read_fault_opens text bytes x r (NothingToRedo have) same reads h = h
+read_fault_opens text bytes x r (RedoDamaged line) same reads h = absurd h
 
 pub read_fault_refuses : (text bytes : List ℕ) (r : Reading) (n : ℕ) (e : SessionFault) → text ≡ bytes → Reads text r → ReadFault bytes e → RefusesLength n e
 read_fault_refuses text bytes r n NoMemory same reads h = tt
@@ -39,3 +41,5 @@ read_fault_refuses text bytes r n JournalFull same reads h = h
 read_fault_refuses text bytes r n Interrupted same reads h = h
 read_fault_refuses text bytes r n Broken same reads h = h
 read_fault_refuses text bytes r n (LengthDiffers m) same reads h = absurd h
+read_fault_refuses text bytes r n (NothingToRedo have) same reads h = h
+read_fault_refuses text bytes r n (RedoDamaged line) same reads h = h

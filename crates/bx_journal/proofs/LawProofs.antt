@@ -15,7 +15,7 @@ use Rattle.bx_journal.proofs.RowLemmas.{all_rows_are}
 use Rattle.bx_journal.proofs.EntryRun.{head_run, end_run, between}
 use Rattle.bx_journal.proofs.Judged.{undamaged}
 
-joined-append : (a b : List (List ℕ)) → joined (a ++ b) ≡ joined a ++ joined b
+pub joined-append : (a b : List (List ℕ)) → joined (a ++ b) ≡ joined a ++ joined b
 joined-append [] b = refl
 joined-append (l ∷ a) b = ap (λ t. (l ++ 10 ∷ []) ++ t) (joined-append a b) ∙ sym (append_assoc (l ++ 10 ∷ []) (joined a) (joined b))
 

@@ -44,3 +44,16 @@ pub mod DigitLanes
 pub mod PartLemmas
 pub mod FollowLemmas
 pub mod OverLemmas
+pub mod ImageLemmas
+pub mod RedoText
+pub mod Sharper
+pub mod Found
+pub mod Pushed
+pub mod TurnLemmas
+pub mod TrioLemmas
+pub mod Shapes
+pub mod Bounds
+pub mod TakenLemmas
+pub mod LoopLemmas
+pub mod RedoLoop
+pub mod StandingLoop

@@ -9,7 +9,7 @@ use Rattle.bx_journal.specs.declared.version.Version.{Version}
 use Rattle.bx_journal.specs.declared.calls.How.{How}
 use Rattle.bx_journal.specs.declared.calls.How.TheVariants.{Clean, Dropped, Restored}
 use Rattle.bx_journal.specs.declared.fault.SessionFault.{SessionFault}
-use Rattle.bx_journal.specs.declared.fault.SessionFault.TheVariants.{NoMemory, TooLarge, DeviceFailed, Damaged, TooFew, JournalFull, Interrupted, Broken, LengthDiffers}
+use Rattle.bx_journal.specs.declared.fault.SessionFault.TheVariants.{NoMemory, TooLarge, DeviceFailed, Damaged, TooFew, JournalFull, Interrupted, Broken, LengthDiffers, NothingToRedo, RedoDamaged}
 use Rattle.bx_journal.specs.declared.journal.JournalRead.{JournalRead}
 use Rattle.bx_journal.specs.declared.reader.StageRead.TheVariants.{Between as BetweenRead, Saving as SavingRead, Ending as EndingRead}
 use Rattle.bx_journal.specs.Text.{Entry, Between, Reading, Reads, IsRest, split, may_begin}
@@ -163,6 +163,8 @@ look_opens H es x y r (TooFew have) h same image look = absurd look
 look_opens H es x y r JournalFull h same image look = absurd look
 look_opens H es x y r Interrupted h same image look = absurd look
 look_opens H es x y r Broken h same image look = absurd look
+look_opens H es x y r (NothingToRedo have) h same image look = absurd look
+look_opens H es x y r (RedoDamaged line) h same image look = absurd look
 
 pub one_told : (es : List Entry) (x : List ℕ) (m n : ℕ) → Differs es x m → Differs es x n → m ≡ n
 one_told [] x m n d e = absurd d
@@ -178,6 +180,8 @@ look_refuses H es x n (TooFew have) h differs look = look
 look_refuses H es x n JournalFull h differs look = look
 look_refuses H es x n Interrupted h differs look = look
 look_refuses H es x n Broken h differs look = look
+look_refuses H es x n (NothingToRedo have) h differs look = look
+look_refuses H es x n (RedoDamaged line) h differs look = look
 
 -- a device's fault counted beside another device's count
 pub counts_beside : (e : SessionFault) (d t new : ℕ) → FaultCounts e d 0 new 0 → FaultCounts e d t new t
@@ -190,6 +194,8 @@ counts_beside (TooFew have) d t new h = (h.0, refl)
 counts_beside JournalFull d t new h = (h.0, refl)
 counts_beside Broken d t new h = (h.0, refl)
 counts_beside (LengthDiffers n) d t new h = (h.0, refl)
+counts_beside (NothingToRedo have) d t new h = (h.0, refl)
+counts_beside (RedoDamaged line) d t new h = (h.0, refl)
 
 pub after_same : (e : SessionFault) (P : Type 0) → P → AfterFault e (Unit {0}) P
 after_same Interrupted P p = tt
@@ -201,6 +207,8 @@ after_same (TooFew have) P p = p
 after_same JournalFull P p = p
 after_same Broken P p = p
 after_same (LengthDiffers n) P p = p
+after_same (NothingToRedo have) P p = p
+after_same (RedoDamaged line) P p = p
 
 -- a pair that recovers has its lengths
 pub recovers_same : (text x : List ℕ) (stack : List (List ℕ)) (e : SessionFault) (n : ℕ) (rec : Recovers text x stack) → OpenFault rec.reading x e → e ≡ LengthDiffers n → ⊥

@@ -5,7 +5,7 @@ use Rattle.bx_journal.specs.declared.calls.LogRow.{LogRow}
 use Rattle.bx_journal.specs.declared.calls.How.{How}
 use Rattle.bx_journal.specs.declared.calls.How.TheVariants.{Clean, Dropped, Restored}
 use Rattle.bx_journal.specs.declared.fault.SessionFault.{SessionFault}
-use Rattle.bx_journal.specs.declared.fault.SessionFault.TheVariants.{NoMemory, DeviceFailed, Damaged, Interrupted, LengthDiffers}
+use Rattle.bx_journal.specs.declared.fault.SessionFault.TheVariants.{NoMemory, DeviceFailed, Damaged, Interrupted, LengthDiffers, RedoDamaged}
 use Rattle.bx_journal.specs.Text.{Entry, Stage, Between, Saving, Ending, Reading, IsDamagedAt}
 use Rattle.bx_journal.specs.Stack.{image_at, Recovers}
 
@@ -41,6 +41,7 @@ OpenFault r x NoMemory = Unit {0}
 OpenFault r x DeviceFailed = Unit {0}
 OpenFault r x Interrupted = Unit {0}
 OpenFault r x (LengthDiffers expected) = Differs r.entries (image_at r.stage x) expected
+OpenFault r x (RedoDamaged line) = r.stage ≡ Between
 OpenFault r x e = ⊥
 
 -- after an undo that was interrupted: some of the images are off the stack

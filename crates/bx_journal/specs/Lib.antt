@@ -25,3 +25,8 @@ pub mod Undoing
 pub mod Page
 pub mod Tally
 pub mod Followed
+pub mod Images
+pub mod Redo
+pub mod RedoLaws
+pub mod Turns
+pub mod Takens

@@ -4,7 +4,7 @@ use Rattle.bx_image.specs.declared.change.Change.{Change}
 use Rattle.bx_image.specs.declared.change.TheConstants.{MAX_LEN}
 use Rattle.bx_image.specs.Change.{effect, Fits}
 use Rattle.bx_journal.specs.declared.fault.SessionFault.{SessionFault}
-use Rattle.bx_journal.specs.declared.fault.SessionFault.TheVariants.{NoMemory, TooLarge, DeviceFailed, Damaged, TooFew, JournalFull, Interrupted, Broken, LengthDiffers}
+use Rattle.bx_journal.specs.declared.fault.SessionFault.TheVariants.{NoMemory, TooLarge, DeviceFailed, Damaged, TooFew, JournalFull, Interrupted, Broken, LengthDiffers, NothingToRedo, RedoDamaged}
 
 abbrev pub top : List (List ℕ) → List ℕ
 top [] = []
@@ -27,6 +27,8 @@ PerformStep old c (Err (TooFew have)) new = ⊥
 PerformStep old c (Err Interrupted) new = ⊥
 PerformStep old c (Err Broken) new = ⊥
 PerformStep old c (Err (LengthDiffers expected)) new = ⊥
+PerformStep old c (Err (NothingToRedo have)) new = ⊥
+PerformStep old c (Err (RedoDamaged line)) new = ⊥
 
 abbrev pub UndoStep : List (List ℕ) → ℕ → Result ℕ SessionFault → List (List ℕ) → Type 0
 UndoStep old k (Ok left) new = (k ≤ changes_of old) × (left ≡ changes_of old - k) × (new ≡ drop k old)
@@ -39,3 +41,5 @@ UndoStep old k (Err (Damaged line)) new = ⊥
 UndoStep old k (Err Interrupted) new = ⊥
 UndoStep old k (Err Broken) new = ⊥
 UndoStep old k (Err (LengthDiffers expected)) new = ⊥
+UndoStep old k (Err (NothingToRedo have)) new = ⊥
+UndoStep old k (Err (RedoDamaged line)) new = ⊥

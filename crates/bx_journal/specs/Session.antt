@@ -1,7 +1,11 @@
 -- What a session over a device and a store is.
-use Rattle.std.specs.Prelude.{◌≡◌, ℕ, suc, false, List, length}
+use Rattle.std.specs.Prelude.{◌≡◌, ◌⊎◌, ℕ, suc, false, List, length}
 use Rattle.bx_journal.specs.SessionView.{SessionView}
 use Rattle.bx_journal.specs.Phase.{IsAtRest}
+use Rattle.bx_journal.specs.Images.{Images}
+use Rattle.bx_journal.specs.Opening.{ThreeCounts}
+use Rattle.bx_journal.specs.Redo.{Finds, IsRedoOf}
+use Rattle.bx_journal.specs.declared.fault.SessionFault.{SessionFault}
 
 -- the session may go on, and its pair stands for the stack
 pub record IsReady {D T : Type 0} (image : D → List ℕ) (text : T → List ℕ) (s : SessionView D T) (stack : List (List ℕ)) : Type 0 where
@@ -15,3 +19,30 @@ pub record IsSame {D T : Type 0} (image : D → List ℕ) (text : T → List ℕ
   pub text_same : text new.store ≡ text old.store
   pub count : new.count ≡ old.count
   pub broken : new.is_broken ≡ old.is_broken
+
+-- the session's redo text and image stand for the undone images
+pub record HasUndone {D T : Type 0} (image : D → List ℕ) (text : T → List ℕ) (s : SessionView D T) (undone : List (List ℕ)) : Type 0 where
+  pub redo : IsRedoOf (text s.redo_text) (image s.device) s.count undone
+  pub counted : s.undone ≡ length undone
+
+-- redo text and count of undone changes are as they were
+pub record IsRedoSame {D T : Type 0} (text : T → List ℕ) (old new : SessionView D T) : Type 0 where
+  pub text_same : text new.redo_text ≡ text old.redo_text
+  pub undone : new.undone ≡ old.undone
+
+-- what opening finds of the session's three devices
+abbrev pub SessionFinds : {D T : Type 0} → (D → List ℕ) → (T → List ℕ) → SessionView D T → Images → Type 0
+SessionFinds image text s images = Finds (text s.store) (image s.device) (text s.redo_text) images
+
+-- opening finds the one images or the others
+abbrev pub FindsEither : {D T : Type 0} → (D → List ℕ) → (T → List ℕ) → SessionView D T → Images → Images → Type 0
+FindsEither image text s old new = SessionFinds image text s old ⊎ SessionFinds image text s new
+
+-- no call of a device failed
+abbrev pub IsUnfailed : {D T : Type 0} → (D → ℕ) → (T → ℕ) → SessionView D T → SessionView D T → Type 0
+IsUnfailed failures text_failures old new = (failures new.device ≡ failures old.device) × (text_failures new.store ≡ text_failures old.store) × (text_failures new.redo_text ≡ text_failures old.redo_text)
+
+-- how the counts of failed calls of the session's three devices go on
+abbrev pub SessionCounts : {D T : Type 0} → (D → ℕ) → (T → ℕ) → SessionView D T → SessionView D T → SessionFault → Type 0
+SessionCounts failures text_failures old new e =
+    ThreeCounts e (failures old.device) (text_failures old.store) (text_failures old.redo_text) (failures new.device) (text_failures new.store) (text_failures new.redo_text)

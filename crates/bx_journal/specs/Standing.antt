@@ -1,7 +1,7 @@
 -- A session whose pair stands for a stack, be it sound or not.
 use Rattle.std.specs.Prelude.{◌≡◌, ℕ, suc, false, List, length}
 use Rattle.bx_journal.specs.declared.fault.SessionFault.{SessionFault}
-use Rattle.bx_journal.specs.declared.fault.SessionFault.TheVariants.{NoMemory, TooLarge, DeviceFailed, Damaged, TooFew, JournalFull, Interrupted, Broken, LengthDiffers}
+use Rattle.bx_journal.specs.declared.fault.SessionFault.TheVariants.{NoMemory, TooLarge, DeviceFailed, Damaged, TooFew, JournalFull, Interrupted, Broken, LengthDiffers, NothingToRedo, RedoDamaged}
 use Rattle.bx_journal.specs.SessionView.{SessionView}
 use Rattle.bx_journal.specs.Stack.{StandsFor}
 
@@ -16,6 +16,8 @@ abbrev pub PerformFault : SessionFault → Type 0
 PerformFault (Damaged line) = ⊥
 PerformFault (TooFew have) = ⊥
 PerformFault (LengthDiffers expected) = ⊥
+PerformFault (NothingToRedo have) = ⊥
+PerformFault (RedoDamaged line) = ⊥
 PerformFault NoMemory = Unit {0}
 PerformFault TooLarge = Unit {0}
 PerformFault DeviceFailed = Unit {0}
@@ -31,6 +33,8 @@ PrepareFault DeviceFailed = Unit {0}
 PrepareFault (Damaged line) = ⊥
 PrepareFault (TooFew have) = ⊥
 PrepareFault (LengthDiffers expected) = ⊥
+PrepareFault (NothingToRedo have) = ⊥
+PrepareFault (RedoDamaged line) = ⊥
 PrepareFault JournalFull = ⊥
 PrepareFault Interrupted = ⊥
 PrepareFault Broken = ⊥

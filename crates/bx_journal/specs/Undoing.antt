@@ -1,7 +1,7 @@
 -- What undoing starts from and leaves.
 use Rattle.std.specs.Prelude.{◌≡◌, ◌⊎◌, ◌≤◌, ◌<◌, ◌^◌, ℕ, List, [], length}
 use Rattle.bx_journal.specs.declared.fault.SessionFault.{SessionFault}
-use Rattle.bx_journal.specs.declared.fault.SessionFault.TheVariants.{NoMemory, TooLarge, DeviceFailed, Damaged, TooFew, JournalFull, Interrupted, Broken, LengthDiffers}
+use Rattle.bx_journal.specs.declared.fault.SessionFault.TheVariants.{NoMemory, TooLarge, DeviceFailed, Damaged, TooFew, JournalFull, Interrupted, Broken, LengthDiffers, NothingToRedo, RedoDamaged}
 use Rattle.bx_journal.specs.declared.reader.EntryRead.{EntryRead}
 use Rattle.bx_journal.specs.Text.{Entry, Between, Reads, split, IsPrefix, IsDamagedAt, IsAccepted}
 use Rattle.bx_journal.specs.Mark.{IsMark}
@@ -59,6 +59,8 @@ AgainFault honest text count JournalFull = ⊥
 AgainFault honest text count Interrupted = ⊥
 AgainFault honest text count Broken = ⊥
 AgainFault honest text count (LengthDiffers expected) = ⊥
+AgainFault honest text count (NothingToRedo have) = ⊥
+AgainFault honest text count (RedoDamaged line) = ⊥
 
 -- which fault undoing may answer, where `count` changes stand
 abbrev pub UndoFault : ℕ → SessionFault → Type 0
@@ -66,6 +68,8 @@ UndoFault count (TooFew have) = have ≡ count
 UndoFault count TooLarge = ⊥
 UndoFault count JournalFull = ⊥
 UndoFault count (LengthDiffers expected) = ⊥
+UndoFault count (NothingToRedo have) = ⊥
+UndoFault count (RedoDamaged line) = ⊥
 UndoFault count NoMemory = Unit {0}
 UndoFault count DeviceFailed = Unit {0}
 UndoFault count (Damaged line) = Unit {0}

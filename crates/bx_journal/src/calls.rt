@@ -11,11 +11,12 @@ pub enum How {
     Restored { number: u32 },
 }
 
-/// What opening found, and how many changes stand.
+/// What opening found, how many changes stand, and how many are undone.
 #[derive(Clone, Copy, Debug, PartialEq, Eq)]
 pub struct Recovered {
     pub how: How,
     pub changes: u32,
+    pub undone: u32,
 }
 
 /// One change of a journal: its number from 1, the image's length in bytes before it, and how many bytes its saved

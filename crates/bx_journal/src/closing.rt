@@ -14,19 +14,34 @@ impl<D: Device, T: TextStore, A: Allocator> Session<D, T, A> {
         self.count
     }
 
-    /// The greater of the two counts of failed device calls.
-    pub fn faults(&self) -> u64
-        ensures { result ≡ max (D.failures self.now.device) (T.failures self.now.store) }
+    /// How many changes are undone, and can be made again. Of a broken session it is the number before the call that
+    /// broke it.
+    pub fn undone(&self) -> u32
+        ensures { result ≡ self.now.undone }
     {
-        self.device.faults().max(self.store.faults())
+        self.undone
     }
 
-    /// Hands both devices back as they are.
-    pub fn close(self) -> (D, T)
+    /// The greatest of the three counts of failed device calls.
+    pub fn faults(&self) -> u64
+        ensures { result ≡ max (max (D.failures self.now.device) (T.failures self.now.store)) (T.failures self.now.redo_text) }
+    {
+        let pair = self.device.faults().max(self.store.faults());
+        pair.max(self.redo_text.faults())
+    }
+
+    /// Hands the three devices back as they are: the image's, the journal's, and the redo text's.
+    pub fn close(self) -> (D, T, T)
         ensures device { result.0 ≡ self.device }
         ensures store { result.1 ≡ self.store }
+        ensures redo_text { result.2 ≡ self.redo_text }
     {
-        let Session { device, store, .. } = self;
-        (device, store)
+        let Session {
+            device,
+            store,
+            redo_text,
+            ..
+        } = self;
+        (device, store, redo_text)
     }
 }

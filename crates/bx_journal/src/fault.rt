@@ -39,6 +39,12 @@ pub enum SessionFault {
     /// The image hasn't the length that the journal's last finished entry tells.
     #[error("image should have {expected} bytes")]
     LengthDiffers { expected: u64 },
+    /// There are fewer undone changes than are to be made again.
+    #[error("only {have} changes to redo")]
+    NothingToRedo { have: u32 },
+    /// The redo text isn't one that belongs to the image and the journal; the line counts from 1.
+    #[error("redo line {line} is damaged")]
+    RedoDamaged { line: u64 },
 }
 
 impl From<NoMemory> for SessionFault {

@@ -61,7 +61,9 @@ impl<D: Device, T: TextStore, A: Allocator + Clone> Session<D, T, A> {
         // Nothing is changed. A broken session isn't even read.
         ensures text { T.honest self.old.store → T.text self.new.store ≡ T.text self.old.store }
         ensures device { self.new.device ≡ self.old.device }
+        ensures redo_text { self.new.redo_text ≡ self.old.redo_text }
         ensures count { self.new.count ≡ self.old.count }
+        ensures undone { self.new.undone ≡ self.old.undone }
         ensures is_broken { self.new.is_broken ≡ self.old.is_broken }
         ensures broken { (self.old.is_broken ≡ true) ↔ IsErrOf result SessionFault.Broken }
         ensures untouched { IsErrOf result SessionFault.Broken → self.new.store ≡ self.old.store }

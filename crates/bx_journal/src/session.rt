@@ -3,11 +3,13 @@ ghost use Rattle.std.specs.Prelude.{◌≡◌, ◌↔◌, ◌⊎◌, ◌+◌, �
 ghost use Rattle.bx_image.specs.Change.{effect, saved, Fits, AllWithin};
 ghost use Rattle.bx_journal.specs.Kept.{kept_of};
 ghost use Rattle.bx_journal.specs.Entry.{head_text, end_text, entry_text};
+ghost use Rattle.bx_journal.specs.Images.{Images as Pictures, change_to};
 ghost use Rattle.bx_journal.specs.Machine.{PerformStep, top};
 ghost use Rattle.bx_journal.specs.Phase.{RecoversEither};
 
 use crate::SessionFault;
 use crate::preparing::prepare_change;
+use crate::redo_text::RedoCut;
 use crate::step::MOST_CHANGES;
 use crate::steps::write_entry;
 use bx_image::{Change, Device, MAX_LEN};
@@ -15,15 +17,18 @@ use bx_store::TextStore;
 use std::alloc::{Allocator, Global};
 use std::marker::Model;
 
-/// An image and the journal of its changes. After a fault in the middle of writing it is broken: it answers
-/// `Broken` until the pair is opened again.
+/// An image, the journal of its changes, and the redo text of those that were undone. After a fault in the middle of
+/// writing it is broken: it answers `Broken` until the three are opened again.
 #[derive(Drop)]
 pub struct Session<D: Device, T: TextStore, A: Allocator = Global> {
     pub(crate) alloc: A,
     pub(crate) device: D,
     pub(crate) store: T,
+    pub(crate) redo_text: T,
     pub(crate) count: u32,
+    pub(crate) undone: u32,
     pub(crate) is_broken: bool,
+    ghost few: { count + undone ≤ 65535 },
 }
 
 impl<D: Device, T: TextStore, A: Allocator> Model for Session<D, T, A> {
@@ -31,16 +36,16 @@ impl<D: Device, T: TextStore, A: Allocator> Model for Session<D, T, A> {
 
     ghost Value = { SessionView D T };
 
-    ghost view = { λ s. record { device = s.device; store = s.store; count = s.count; is_broken = s.is_broken } };
+    ghost view = { λ s. record { device = s.device; store = s.store; redo_text = s.redo_text; count = s.count; undone = s.undone; is_broken = s.is_broken } };
 }
 
 impl<D: Device, T: TextStore, A: Allocator + Clone> Session<D, T, A> {
     ghost use Rattle.bx_journal.specs.Calls.{AfterFault};
-    ghost use Rattle.bx_journal.specs.Session.{IsReady, IsSame};
+    ghost use Rattle.bx_journal.specs.Session.{FindsEither, HasUndone, IsReady, IsRedoSame, IsSame, IsUnfailed, SessionCounts};
     ghost use Rattle.bx_journal.specs.Standing.{IsStanding, PerformFault};
-    ghost use Rattle.bx_journal.specs.Opening.{FaultCounts};
 
-    /// Changes the image, and answers the change's number, which is how many changes then stand.
+    /// Changes the image, and answers the change's number, which is how many changes then stand. What was undone is
+    /// given up: the redo text is then empty.
     ///
     /// All memory is taken before the first write. The faults come in this order: `Broken`, `JournalFull`,
     /// `DeviceFailed` of the length, `TooLarge`, then `DeviceFailed` and `NoMemory` of saving and reserving, and
@@ -48,6 +53,7 @@ impl<D: Device, T: TextStore, A: Allocator + Clone> Session<D, T, A> {
     pub fn perform(&mut self, change: &Change<A>) -> Result<u32, SessionFault>
         requires device_countable { D.failures self.old.device < u64.MAX }
         requires store_countable { T.failures self.old.store < u64.MAX }
+        requires redo_countable { T.failures self.old.redo_text < u64.MAX }
 
         // Accepted, it makes the machine's step, and the session goes on.
         ensures accepted { D.honest self.old.device → T.honest self.old.store → (stack : List (List ℕ)) → IsStanding D.image T.text self.old stack
@@ -55,10 +61,14 @@ impl<D: Device, T: TextStore, A: Allocator + Clone> Session<D, T, A> {
             × IsStanding D.image T.text self.new (effect change.now (top stack) ∷ stack)) }
         ensures sound { D.honest self.old.device → T.honest self.old.store → (stack : List (List ℕ)) → IsReady D.image T.text self.old stack
             → OnOk result (IsReady D.image T.text self.new (effect change.now (top stack) ∷ stack)) }
-        ensures number { IfOk result (λ n. (n ≡ self.old.count + 1) × (self.new.count ≡ n) × (self.new.is_broken ≡ false)) }
+        ensures number { IfOk result (λ n. (n ≡ self.old.count + 1) × (self.new.count ≡ n) × (self.new.undone ≡ 0) × (self.new.is_broken ≡ false)) }
         ensures entry { D.honest self.old.device → T.honest self.old.store → IfOk result (λ n.
             T.text self.new.store ≡ T.text self.old.store
             ++ entry_text n (kept_of (saved change.now (D.image self.old.device))) (length (effect change.now (D.image self.old.device)))) }
+
+        // What was undone is given up.
+        ensures emptied { T.honest self.old.redo_text → OnOk result (T.text self.new.redo_text ≡ []) }
+        ensures undone { T.honest self.old.redo_text → OnOk result (HasUndone D.image T.text self.new []) }
 
         // An interruption leaves the old stack or the new one, and another fault leaves all as it was.
         ensures fault { D.honest self.old.device → T.honest self.old.store → (stack : List (List ℕ)) → IsReady D.image T.text self.old stack
@@ -67,17 +77,22 @@ impl<D: Device, T: TextStore, A: Allocator + Clone> Session<D, T, A> {
             (IsSame D.image T.text self.old self.new)) }
 
         ensures refused { D.honest self.old.device → T.honest self.old.store → IfErr result (λ e. AfterFault e (Unit {0}) (IsSame D.image T.text self.old self.new)) }
-        ensures breaks { IsErrOf result SessionFault.Interrupted → (self.new.is_broken ≡ true) × (self.new.count ≡ self.old.count) }
+        ensures finds { D.honest self.old.device → T.honest self.old.store → T.honest self.old.redo_text → (s : Pictures)
+            → IsReady D.image T.text self.old s.stack → HasUndone D.image T.text self.old s.undone
+            → IfErr result (λ e. AfterFault e (FindsEither D.image T.text self.new s (change_to (effect change.now (top s.stack)) s)) (Unit {0})) }
+        ensures redo_same { T.honest self.old.redo_text → IfErr result (λ e. AfterFault e (Unit {0}) (IsRedoSame T.text self.old self.new)) }
+        ensures breaks { IsErrOf result SessionFault.Interrupted → (self.new.is_broken ≡ true) × (self.new.count ≡ self.old.count) × (self.new.undone ≡ self.old.undone) }
 
         ensures kind { IfErr result PerformFault }
         ensures broken { (self.old.is_broken ≡ true) ↔ IsErrOf result SessionFault.Broken }
-        ensures untouched { IsErrOf result SessionFault.Broken → (self.new.device ≡ self.old.device) × (self.new.store ≡ self.old.store) }
+        ensures untouched { IsErrOf result SessionFault.Broken → (self.new.device ≡ self.old.device) × (self.new.store ≡ self.old.store) × (self.new.redo_text ≡ self.old.redo_text) }
         ensures full { IsErrOf result SessionFault.JournalFull ↔ ((self.old.is_broken ≡ false) × (65535 ≤ self.old.count)) }
         ensures large { D.honest self.old.device → IsErrOf result SessionFault.TooLarge → Fits change.now (length (D.image self.old.device)) MAX_LEN → ⊥ }
         ensures device_honesty { D.honest self.new.device ↔ D.honest self.old.device }
         ensures store_honesty { T.honest self.new.store ↔ T.honest self.old.store }
-        ensures no_failure { OnOk result ((D.failures self.new.device ≡ D.failures self.old.device) × (T.failures self.new.store ≡ T.failures self.old.store)) }
-        ensures counts { IfErr result (λ e. FaultCounts e (D.failures self.old.device) (T.failures self.old.store) (D.failures self.new.device) (T.failures self.new.store)) }
+        ensures redo_honesty { T.honest self.new.redo_text ↔ T.honest self.old.redo_text }
+        ensures no_failure { OnOk result (IsUnfailed D.failures T.failures self.old self.new) }
+        ensures counts { IfErr result (SessionCounts D.failures T.failures self.old self.new) }
     {
         if self.is_broken {
             return Err(SessionFault::Broken);
@@ -97,13 +112,16 @@ impl<D: Device, T: TextStore, A: Allocator + Clone> Session<D, T, A> {
         match write_entry(
             &mut self.device,
             &mut self.store,
+            &mut self.redo_text,
             &mut ready.page,
             change,
             number,
             &ready.kept,
             line,
+            RedoCut::All,
         ) {
             Ok(()) => {
+                self.undone = 0;
                 self.count = number;
                 Ok(number)
             }

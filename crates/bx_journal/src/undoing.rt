@@ -1,5 +1,6 @@
 //! Taking changes back.
 ghost use Rattle.std.specs.Prelude.{◌≡◌, ◌↔◌, ◌+◌, ◌-◌, ◌<◌, ◌≤◌, [], List, ℕ, length, drop, true, false, All, IfOk, IfErr, OnOk, IsErrOf, Ok as Done};
+ghost use Rattle.bx_journal.specs.Images.{Images as Pictures, undo_alone};
 ghost use Rattle.bx_journal.specs.Machine.{UndoStep};
 ghost use Rattle.bx_journal.specs.Parsed.{AllKept, entries_of};
 ghost use Rattle.bx_journal.specs.Stack.{Recovers};
@@ -58,13 +59,13 @@ fn make_room<D: Device, T: TextStore, A: Allocator>(
 }
 
 impl<D: Device, T: TextStore, A: Allocator + Clone> Session<D, T, A> {
-    ghost use Rattle.bx_journal.specs.Session.{IsReady, IsSame};
+    ghost use Rattle.bx_journal.specs.Session.{HasUndone, IsReady, IsRedoSame, IsSame, IsUnfailed, SessionCounts, SessionFinds};
     ghost use Rattle.bx_journal.specs.Standing.{IsStanding};
     ghost use Rattle.bx_journal.specs.Calls.{AfterFault, RecoversBelow};
-    ghost use Rattle.bx_journal.specs.Opening.{FaultCounts};
     ghost use Rattle.bx_journal.specs.Undoing.{IsOutOfStep, UndoFault};
 
-    /// Takes the last k changes back, the newest first, and answers how many are left.
+    /// Takes the last k changes back, the newest first, and answers how many are left. What was undone before is given
+    /// up, unless k is 0.
     ///
     /// All memory is taken before the first write. The faults come in this order: `Broken`, `TooFew`, `DeviceFailed`
     /// and `NoMemory` of reading, `Damaged` where the text was changed by others, `NoMemory` of reserving, and
@@ -72,6 +73,7 @@ impl<D: Device, T: TextStore, A: Allocator + Clone> Session<D, T, A> {
     pub fn undo(&mut self, k: u32) -> Result<u32, SessionFault>
         requires device_countable { D.failures self.old.device < u64.MAX }
         requires store_countable { T.failures self.old.store < u64.MAX }
+        requires redo_countable { T.failures self.old.redo_text < u64.MAX }
 
         // Accepted, it makes the machine's step, and the session goes on.
         ensures accepted { D.honest self.old.device → T.honest self.old.store → (stack : List (List ℕ)) → IsStanding D.image T.text self.old stack
@@ -84,17 +86,27 @@ impl<D: Device, T: TextStore, A: Allocator + Clone> Session<D, T, A> {
         ensures text { T.honest self.old.store → (entries : List Entry) → IsFinished (T.text self.old.store) entries
             → OnOk result (HasLeft (T.text self.old.store) (T.text self.new.store) (drop k entries)) }
 
+        // An undo of none leaves what is undone, and any other gives it up.
+        ensures undone { D.honest self.old.device → T.honest self.old.store → T.honest self.old.redo_text → (s : Pictures)
+            → IsStanding D.image T.text self.old s.stack → HasUndone D.image T.text self.old s.undone
+            → OnOk result (HasUndone D.image T.text self.new (undo_alone k s).undone) }
+        ensures emptied { T.honest self.old.redo_text → 1 ≤ k → OnOk result ((T.text self.new.redo_text ≡ []) × (self.new.undone ≡ 0)) }
+
         // An interruption leaves the stack without some of the images, and another fault leaves all as it was.
         ensures fault { D.honest self.old.device → T.honest self.old.store → (stack : List (List ℕ)) → IsReady D.image T.text self.old stack
             → IfErr result (λ e. AfterFault e
             (RecoversBelow (T.text self.new.store) (D.image self.new.device) stack k)
             (IsSame D.image T.text self.old self.new)) }
         ensures refused { D.honest self.old.device → T.honest self.old.store → IfErr result (λ e. AfterFault e (Unit {0}) (IsSame D.image T.text self.old self.new)) }
-        ensures breaks { IsErrOf result SessionFault.Interrupted → (self.new.is_broken ≡ true) × (self.new.count ≡ self.old.count) }
+        ensures finds { D.honest self.old.device → T.honest self.old.store → T.honest self.old.redo_text → (s : Pictures)
+            → IsReady D.image T.text self.old s.stack → HasUndone D.image T.text self.old s.undone
+            → IfErr result (λ e. AfterFault e ((i : ℕ) × (i ≤ k) × SessionFinds D.image T.text self.new (undo_alone i s)) (Unit {0})) }
+        ensures redo_same { T.honest self.old.redo_text → IfErr result (λ e. AfterFault e (Unit {0}) (IsRedoSame T.text self.old self.new)) }
+        ensures breaks { IsErrOf result SessionFault.Interrupted → (self.new.is_broken ≡ true) × (self.new.count ≡ self.old.count) × (self.new.undone ≡ self.old.undone) }
 
         ensures kind { IfErr result (UndoFault self.old.count) }
         ensures broken { (self.old.is_broken ≡ true) ↔ IsErrOf result SessionFault.Broken }
-        ensures untouched { IsErrOf result SessionFault.Broken → (self.new.device ≡ self.old.device) × (self.new.store ≡ self.old.store) }
+        ensures untouched { IsErrOf result SessionFault.Broken → (self.new.device ≡ self.old.device) × (self.new.store ≡ self.old.store) × (self.new.redo_text ≡ self.old.redo_text) }
         ensures few { ((self.old.is_broken ≡ false) × (self.old.count < k)) ↔ IsErrOf result (SessionFault.TooFew self.old.count) }
 
         // The text is called damaged exactly where it isn't so many finished entries alone.
@@ -104,8 +116,9 @@ impl<D: Device, T: TextStore, A: Allocator + Clone> Session<D, T, A> {
 
         ensures device_honesty { D.honest self.new.device ↔ D.honest self.old.device }
         ensures store_honesty { T.honest self.new.store ↔ T.honest self.old.store }
-        ensures no_failure { OnOk result ((D.failures self.new.device ≡ D.failures self.old.device) × (T.failures self.new.store ≡ T.failures self.old.store)) }
-        ensures counts { IfErr result (λ e. FaultCounts e (D.failures self.old.device) (T.failures self.old.store) (D.failures self.new.device) (T.failures self.new.store)) }
+        ensures redo_honesty { T.honest self.new.redo_text ↔ T.honest self.old.redo_text }
+        ensures no_failure { OnOk result (IsUnfailed D.failures T.failures self.old self.new) }
+        ensures counts { IfErr result (SessionCounts D.failures T.failures self.old self.new) }
     {
         if self.is_broken {
             return Err(SessionFault::Broken);
@@ -115,8 +128,16 @@ impl<D: Device, T: TextStore, A: Allocator + Clone> Session<D, T, A> {
         }
         let mut read = read_again(&self.alloc, &mut self.store, self.count)?;
         make_room(&mut self.device, &mut self.store, &read, k)?;
-        match undo_entries(&mut self.device, &mut self.store, &mut read.entries, k) {
-            Ok(()) => {
+        match undo_entries(
+            &mut self.device,
+            &mut self.store,
+            &mut self.redo_text,
+            &mut read.entries,
+            k,
+            self.undone,
+        ) {
+            Ok(undone) => {
+                self.undone = undone;
                 self.count = count_left(self.count, k);
                 Ok(self.count)
             }

@@ -12,6 +12,7 @@ ghost use Rattle.bx_journal.specs.Text.{IsAccepted, IsDamagedAt, Reading, Reads}
 use crate::fault::of_text;
 use crate::journal::{JournalRead, read_journal};
 use crate::recovery::{drop_tail, take_back};
+use crate::redo_text::cut_redo;
 use crate::step::told_length;
 use crate::tally::{Counted, count_entries};
 use crate::{How, Recovered, SessionFault, StageRead};
@@ -69,11 +70,13 @@ fn prepare<D: Device, A: Allocator>(
 fn finish<D: Device, T: TextStore, A: Allocator>(
     device: &mut D,
     store: &mut T,
+    redo_text: &mut T,
     len: u64,
     journal: JournalRead<A>,
 ) -> Result<Recovered, DeviceFailed>
     requires device_countable { D.failures device.old < u64.MAX }
     requires store_countable { T.failures store.old < u64.MAX }
+    requires redo_countable { T.failures redo_text.old < u64.MAX }
     requires read { IsReadIn (T.honest store.old) (T.text store.old) len journal }
     requires room { HasRoomFor journal.stage (D.room device.old) }
     ensures opened { D.honest device.old → T.honest store.old → HaveLengths (entries_of journal.entries.items) (image_at (stage_of journal.stage) (D.image device.old))
@@ -101,28 +104,35 @@ fn finish<D: Device, T: TextStore, A: Allocator>(
                 return Ok(Recovered {
                     how: How::Clean,
                     changes,
+                    undone: 0,
                 });
             }
+            cut_redo(redo_text, 0)?;
             drop_tail(store, whole)?;
             Ok(Recovered {
                 how: How::Dropped,
                 changes,
+                undone: 0,
             })
         }
         StageRead::Saving { begins, .. } => {
+            cut_redo(redo_text, 0)?;
             drop_tail(store, begins)?;
             Ok(Recovered {
                 how: How::Dropped,
                 changes,
+                undone: 0,
             })
         }
         StageRead::Ending { kept, begins, .. } => {
+            cut_redo(redo_text, 0)?;
             take_back(device, store, kept, begins)?;
             Ok(Recovered {
                 how: How::Restored {
                     number: changes + 1,
                 },
                 changes,
+                undone: 0,
             })
         }
     }
@@ -132,11 +142,13 @@ fn finish<D: Device, T: TextStore, A: Allocator>(
 pub fn recover_read<D: Device, T: TextStore, A: Allocator>(
     device: &mut D,
     store: &mut T,
+    redo_text: &mut T,
     len: u64,
     journal: JournalRead<A>,
 ) -> Result<Recovered, SessionFault>
     requires device_countable { D.failures device.old < u64.MAX }
     requires store_countable { T.failures store.old < u64.MAX }
+    requires redo_countable { T.failures redo_text.old < u64.MAX }
     requires read { IsReadIn (T.honest store.old) (T.text store.old) len journal }
     ensures opened { D.honest device.old → T.honest store.old → (r : Reading) → Reads (T.text store.old) r
         → IfOk result (λ o. IsOpened (T.text store.old) (D.image device.old) r (T.text store.new) (D.image device.new) o.how o.changes) }
@@ -161,7 +173,7 @@ pub fn recover_read<D: Device, T: TextStore, A: Allocator>(
     if let Err(fault) = prepare(device, &journal) {
         return Err(fault);
     }
-    match finish(device, store, len, journal) {
+    match finish(device, store, redo_text, len, journal) {
         Ok(found) => Ok(found),
         Err(_) => Err(SessionFault::Interrupted),
     }
@@ -193,6 +205,7 @@ fn open_counted<D: Device>(device: &mut D, found: Counted) -> Result<Recovered, 
     Ok(Recovered {
         how: How::Clean,
         changes: found.count,
+        undone: 0,
     })
 }
 
@@ -201,9 +214,11 @@ pub fn recover<D: Device, T: TextStore, A: Allocator + Clone>(
     alloc: &A,
     device: &mut D,
     store: &mut T,
+    redo_text: &mut T,
 ) -> Result<Recovered, SessionFault>
     requires device_countable { D.failures device.old < u64.MAX }
     requires store_countable { T.failures store.old < u64.MAX }
+    requires redo_countable { T.failures redo_text.old < u64.MAX }
     ensures opened { D.honest device.old → T.honest store.old → (r : Reading) → Reads (T.text store.old) r
         → IfOk result (λ o. IsOpened (T.text store.old) (D.image device.old) r (T.text store.new) (D.image device.new) o.how o.changes) }
     ensures clean { D.honest device.old → T.honest store.old → IfOk result (λ o. o.how ≡ How.Clean → (T.text store.new ≡ T.text store.old) × (D.image device.new ≡ D.image device.old)) }
@@ -238,5 +253,5 @@ pub fn recover<D: Device, T: TextStore, A: Allocator + Clone>(
         Ok(journal) => journal,
         Err(fault) => return Err(fault),
     };
-    recover_read(device, store, len, journal)
+    recover_read(device, store, redo_text, len, journal)
 }

@@ -38,6 +38,8 @@ pub fn put_head<T: TextStore, A: Allocator>(
     requires room { 82 ≤ vec_capacity page.old }
     ensures ok { T.honest store.old → OnOk result (T.text store.new ≡ T.text store.old ++ head_text number (kept_of kept.now)) }
     ensures fault { T.honest store.old → OnErr result (IsPartlyAppended (head_text number (kept_of kept.now)) (T.text store.old) (T.text store.new)) }
+    ensures emptied { OnOk result (page.new.items ≡ []) }
+    ensures page_room { vec_capacity page.old ≤ vec_capacity page.new }
     ensures goes_on { GoesOn T.honest T.room T.failures (is_err result) store.old store.new }
 {
     put_words(store, page, start_words(number, kept.len))?;

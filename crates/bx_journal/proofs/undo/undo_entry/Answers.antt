@@ -1,8 +1,9 @@
-use Rattle.std.proofs.Common.{ℕ, List, sym, subst, inr, Result, Ok, Err}
+use Rattle.std.proofs.Common.{ℕ, List, ◌∷◌, sym, subst, inr, Result, Ok, Err}
 use Rattle.std.specs.Prelude.{OnErr}
 use Rattle.std.proofs.lemmas.Result.{on_err_weaker}
 use Rattle.bx_journal.specs.Step.{HasTail}
 use Rattle.bx_journal.specs.Text.{Ending}
+use Rattle.bx_journal.proofs.Sharper.{either_below}
 use Rattle.bx_journal.proofs.undo.undo_entry.Goals as goal
 
 always_err : {T E P : Type 0} (r : Result T E) → P → OnErr r P
@@ -11,7 +12,8 @@ always_err (Err e) p = p
 
 pub returns-in_err-cut_end-clause-fault : goal.returns-in_err-cut_end-clause-fault
 returns-in_err-cut_end-clause-fault g c dh th below v e t is =
-    always_err c.from_residual.result (c.in_err-cut_end.ensures.fault th (g.D.Device.image c.args.device.now) below v e c.args.begins t)
+    let x : List ℕ = g.D.Device.image c.args.device.now in
+    always_err c.from_residual.result (either_below _ x (x ∷ below) below (c.in_err-cut_end.ensures.fault th x below v e c.args.begins t))
 
 pub returns-clause-ok : goal.returns-clause-ok
 returns-clause-ok g c dh th below v e t is =
