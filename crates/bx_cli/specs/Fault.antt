@@ -1,7 +1,7 @@
 -- The faults of all crates, with their numbers.
 use Rattle.std.specs.Prelude.{ℕ}
 use Rattle.bx_cli.specs.declared.fault.Fault.{Fault}
-use Rattle.bx_cli.specs.declared.fault.Fault.TheVariants.{NoMemory, ReadFailed, WriteFailed, InputTooLong, SkipPastEnd, BadAddress, MissingColon, BadPair, NoData, TooWide, AddressTooLarge, OddDigits, UnknownOperand, BadNumber, NumberTooLarge, ZeroSize, Conflict, MissingCbs, Repeated, SeekWithoutOutput, TooLarge, DeviceFailed, Damaged, TooFew, JournalFull, Interrupted, Broken, LengthDiffers, Usage, OpenFailed}
+use Rattle.bx_cli.specs.declared.fault.Fault.TheVariants.{NoMemory, ReadFailed, WriteFailed, InputTooLong, SkipPastEnd, BadAddress, MissingColon, BadPair, NoData, TooWide, AddressTooLarge, OddDigits, UnknownOperand, BadNumber, NumberTooLarge, ZeroSize, Conflict, MissingCbs, Repeated, SeekWithoutOutput, TooLarge, DeviceFailed, Damaged, TooFew, JournalFull, Interrupted, Broken, LengthDiffers, NothingToRedo, RedoDamaged, Usage, OpenFailed}
 use Rattle.bx_text.specs.declared.fault.IoFault.{IoFault}
 use Rattle.bx_text.specs.declared.fault.IoFault.TheVariants.{NoMemory as IoNoMemory, ReadFailed as IoReadFailed, WriteFailed as IoWriteFailed, InputTooLong as IoInputTooLong, SkipPastEnd as IoSkipPastEnd}
 use Rattle.bx_read.specs.declared.fault.ReadFault.{ReadFault}
@@ -41,6 +41,8 @@ number_of JournalFull = 42
 number_of Interrupted = 43
 number_of Broken = 44
 number_of (LengthDiffers _) = 45
+number_of (NothingToRedo _) = 46
+number_of (RedoDamaged _) = 47
 number_of Usage = 50
 number_of OpenFailed = 51
 

@@ -70,6 +70,10 @@ pub enum Fault {
     Broken,
     /// The image hasn't the length that the journal's last finished entry tells.
     LengthDiffers { expected: u64 },
+    /// There are fewer undone changes than are to be made again.
+    NothingToRedo { have: u32 },
+    /// The redo text isn't accepted beside this image and journal; the line counts from 1.
+    RedoDamaged { line: u64 },
     /// The words of the command line are wrong.
     Usage,
     /// A file could not be opened.
@@ -110,6 +114,8 @@ impl Fault {
             Fault::Interrupted => 43,
             Fault::Broken => 44,
             Fault::LengthDiffers { .. } => 45,
+            Fault::NothingToRedo { .. } => 46,
+            Fault::RedoDamaged { .. } => 47,
             Fault::Usage => 50,
             Fault::OpenFailed => 51,
         }
@@ -146,6 +152,8 @@ impl Fault {
             Fault::Interrupted => ("interrupted: open again to recover", ""),
             Fault::Broken => ("session is broken", ""),
             Fault::LengthDiffers { .. } => ("image should have ", " bytes"),
+            Fault::NothingToRedo { .. } => ("only ", " changes to redo"),
+            Fault::RedoDamaged { .. } => ("redo line ", " is damaged"),
             Fault::Usage => ("bad arguments", ""),
             Fault::OpenFailed => ("cannot open file", ""),
         }
@@ -162,13 +170,14 @@ impl Fault {
             | Fault::TooWide { line }
             | Fault::AddressTooLarge { line }
             | Fault::OddDigits { line }
-            | Fault::Damaged { line } => Some(line),
+            | Fault::Damaged { line }
+            | Fault::RedoDamaged { line } => Some(line),
             Fault::UnknownOperand { place }
             | Fault::BadNumber { place }
             | Fault::NumberTooLarge { place }
             | Fault::ZeroSize { place }
             | Fault::Repeated { place } => Some(place),
-            Fault::TooFew { have } => Some(have as u64),
+            Fault::TooFew { have } | Fault::NothingToRedo { have } => Some(have as u64),
             Fault::LengthDiffers { expected } => Some(expected),
             _ => None,
         }

@@ -90,20 +90,29 @@ pub struct StringsJob {
     ghost short: { least ≤ 4096 },
 }
 
-/// `dd`: what its operands ask for, and the operands themselves. Where `of=` names an image there is its journal; else `journal` is none, and the output is a stream.
+/// The names of the two texts beside an image.
+#[derive(Drop)]
+pub struct Texts {
+    /// The name of the journal.
+    pub journal: Name,
+    /// The name of the redo file: the journal's, followed by `.redo`.
+    pub redo: Name,
+}
+
+/// `dd`: what its operands ask for, and the operands themselves. Where `of=` names an image there are its texts; else `texts` is none, and the output is a stream.
 #[derive(Drop)]
 pub struct DdJob {
     /// What the operands ask for.
     pub plan: Plan,
     /// The operands as they were given.
     pub operands: Words,
-    /// The journal of the image that `of=` names; none where it names none.
-    pub journal: Option<Name>,
+    /// The texts of the image that `of=` names; none where it names none.
+    pub texts: Option<Texts>,
     ghost planned: { IsPlanOf operands plan },
-    ghost paired: { is_some journal ≡ is_some plan.output },
+    ghost paired: { is_some texts ≡ is_some plan.output },
 }
 
-/// `revert`: the dump, and the image and journal that it is written onto. `at` is added to the addresses, or with `plain` the place of the first byte.
+/// `revert`: the dump, and the image that it is written onto, with its texts. `at` is added to the addresses, or with `plain` the place of the first byte.
 #[derive(Drop)]
 pub struct RevertJob {
     /// The dump's name; none is standard input.
@@ -114,8 +123,8 @@ pub struct RevertJob {
     pub at: u64,
     /// The name of the image that is changed.
     pub image: Name,
-    /// The name of the image's journal.
-    pub journal: Name,
+    /// The names of the image's texts.
+    pub texts: Texts,
     ghost near: { at ≤ 2 ^ 62 },
 }
 
@@ -140,15 +149,15 @@ pub enum Job {
         count: u32,
         /// The name of the image.
         image: Name,
-        /// The name of its journal.
-        journal: Name,
+        /// The names of its texts.
+        texts: Texts,
     },
     /// Lists the changes that stand.
     Log {
         /// The name of the image.
         image: Name,
-        /// The name of its journal.
-        journal: Name,
+        /// The names of its texts.
+        texts: Texts,
     },
     /// Writes a text of help.
     Help {

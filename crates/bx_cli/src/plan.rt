@@ -2,7 +2,7 @@
 ghost use Rattle.std.specs.Prelude.{◌≤◌, ◌^◌, IfOk, IfSome};
 
 use crate::fault::Fault;
-use crate::job::{DdJob, HexdumpJob, Job, OdJob, RevertJob, StringsJob, XxdJob, XxdLook};
+use crate::job::{DdJob, HexdumpJob, Job, OdJob, RevertJob, StringsJob, Texts, XxdJob, XxdLook};
 use crate::options::program;
 use bx_dd::parse;
 use bx_dump::{Address, Kind, NumForm, Size};
@@ -117,25 +117,29 @@ fn name(alloc: Global, m: &ArgMatches<'_>, id: &str) -> Result<Option<Name>, Fau
     }
 }
 
-// The image and its journal.
-fn pair(alloc: Global, m: &ArgMatches<'_>) -> Result<(Name, Name), Fault> {
+// The image and the texts beside it.
+fn image_and_texts(alloc: Global, m: &ArgMatches<'_>) -> Result<(Name, Texts), Fault> {
     let Some(image) = m.get_str("image") else {
         return Err(Fault::Usage);
     };
-    let journal = journal_of(alloc, m, image)?;
-    Ok((name_of(alloc, image)?, journal))
+    let texts = texts_of(alloc, m, image)?;
+    Ok((name_of(alloc, image)?, texts))
 }
 
-// The journal of an image, which is another file.
-fn journal_of(alloc: Global, m: &ArgMatches<'_>, image: &str) -> Result<Name, Fault> {
+// The journal of an image and the redo file beside it: neither is the image.
+fn texts_of(alloc: Global, m: &ArgMatches<'_>, image: &str) -> Result<Texts, Fault> {
     let journal = match m.get_str("journal") {
         Some(journal) => String::from_str(alloc, journal)?,
         None => format!(in alloc; "{image}.bxj")?,
     };
-    if journal.as_str() == image {
+    let redo = format!(in alloc; "{journal}.redo")?;
+    if journal.as_str() == image || redo.as_str() == image {
         return Err(Fault::Usage);
     }
-    Ok(Name::from_string(journal))
+    Ok(Texts {
+        journal: Name::from_string(journal),
+        redo: Name::from_string(redo),
+    })
 }
 
 fn radix(text: Option<&str>, none: Address, with_n: bool) -> Result<Address, Fault> {
@@ -268,44 +272,44 @@ fn operands_of(alloc: Global, m: &ArgMatches<'_>) -> Result<Words, Fault> {
     Ok(operands)
 }
 
-// The operands' faults come before that of the journal's name.
+// The operands' faults come before that of the texts' names.
 fn dd(alloc: Global, m: &ArgMatches<'_>) -> Result<Job, Fault> {
     let operands = operands_of(alloc, m)?;
     let plan = parse(alloc, &operands)?;
-    let journal = match &plan.output {
-        Some(image) => Some(journal_of(alloc, m, image.as_str())?),
+    let texts = match &plan.output {
+        Some(image) => Some(texts_of(alloc, m, image.as_str())?),
         None => None,
     };
     Ok(Job::Dd(DdJob {
         plan,
         operands,
-        journal,
+        texts,
     }))
 }
 
 fn revert(alloc: Global, m: &ArgMatches<'_>) -> Result<Job, Fault> {
     let at = number_or(m, "offset", SizeStyle::Bare, 0)?;
-    let (image, journal) = pair(alloc, m)?;
+    let (image, texts) = image_and_texts(alloc, m)?;
     Ok(Job::Revert(RevertJob {
         dump: name(alloc, m, "dump")?,
         plain: m.get_flag("plain"),
         at,
         image,
-        journal,
+        texts,
     }))
 }
 
 fn undo(alloc: Global, m: &ArgMatches<'_>) -> Result<Job, Fault> {
     let count = count_or(m, "count", 1, MOST_STEPS)? as u32;
-    let (image, journal) = pair(alloc, m)?;
+    let (image, texts) = image_and_texts(alloc, m)?;
     Ok(Job::Undo {
         count,
         image,
-        journal,
+        texts,
     })
 }
 
 fn log(alloc: Global, m: &ArgMatches<'_>) -> Result<Job, Fault> {
-    let (image, journal) = pair(alloc, m)?;
-    Ok(Job::Log { image, journal })
+    let (image, texts) = image_and_texts(alloc, m)?;
+    Ok(Job::Log { image, texts })
 }
