@@ -214,7 +214,14 @@ fn slow_and_broken_inputs(rt: HostRuntime) -> Result<(), Fail> {
         let input = trickling(b"abcde", interruptions, fails_after);
         assert_trickled(&rt, alloc, &mut session, "ibs=2", input, failed)?;
     }
-    let mut session = reopened(&rt, alloc, &Memory, session, b"01234567", (Some(b""), Some(b"")))?;
+    let mut session = reopened(
+        &rt,
+        alloc,
+        &Memory,
+        session,
+        b"01234567",
+        (Some(b""), Some(b"")),
+    )?;
     // Four bytes are enough for the first two blocks.
     let input = trickling(b"abcde", 999, 4);
     let line = "bs=2 skip=1 count=1 seek=1 conv=notrunc";

@@ -36,7 +36,10 @@ struct Undone<'a> {
     count: u32,
 }
 
-const NOTHING: Undone<'static> = Undone { text: b"", count: 0 };
+const NOTHING: Undone<'static> = Undone {
+    text: b"",
+    count: 0,
+};
 
 /// The stacks that a run may leave: those of the images with at least so many changes. Where as many as `before` stand and
 /// nothing was recovered, these images are undone, else none.
@@ -157,7 +160,11 @@ fn fused_trio(trio: MemTrio, fused: Fused) -> FusedTrio {
 
 fn unfused(trio: FusedTrio) -> MemTrio {
     let (image, text, redo_text) = trio;
-    (image.into_inner(), text.into_inner(), redo_text.into_inner())
+    (
+        image.into_inner(),
+        text.into_inner(),
+        redo_text.into_inner(),
+    )
 }
 
 /// A row that nothing stopped.

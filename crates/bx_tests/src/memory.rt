@@ -269,10 +269,7 @@ fn growths_of_an_undo(rt: HostRuntime) -> Result<(), Fail> {
 }
 
 /// Opens a session and closes it, and tells what was found.
-fn open_once<'a>(
-    bump: &'a Bump,
-    left: Left<'a>,
-) -> (Left<'a>, Result<Recovered, SessionFault>) {
+fn open_once<'a>(bump: &'a Bump, left: Left<'a>) -> (Left<'a>, Result<Recovered, SessionFault>) {
     let (device, store, redo_text) = left;
     match Session::open(bump, device, store, redo_text) {
         Ok((session, found)) => (session.close(), Ok(found)),

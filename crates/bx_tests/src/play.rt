@@ -74,7 +74,14 @@ pub fn reopened<D: Device + Drop, T: TextStore + Drop, P: Place<D, T>>(
     assert_image(rt, alloc, &mut device, image)?;
     assert_text(rt, alloc, &mut store, texts.0)?;
     assert_text(rt, alloc, &mut redo_text, texts.1)?;
-    open_clean(rt, alloc, place, (device, store, redo_text), changes, undone)
+    open_clean(
+        rt,
+        alloc,
+        place,
+        (device, store, redo_text),
+        changes,
+        undone,
+    )
 }
 
 /// Runs the command of a row, and opens all anew.

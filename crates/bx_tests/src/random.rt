@@ -151,7 +151,14 @@ fn unwind<D: Device + Drop, T: TextStore + Drop, P: Place<D, T>>(
         assert_reply(rt, alloc, &mut session, Ask::Undo(1), undone)?;
         session = reopened(rt, alloc, place, session, images.top(), (None, None))?;
     }
-    let _session = reopened(rt, alloc, place, session, images.top(), (Some(b""), Some(b"")))?;
+    let _session = reopened(
+        rt,
+        alloc,
+        place,
+        session,
+        images.top(),
+        (Some(b""), Some(b"")),
+    )?;
     Ok(())
 }
 
