@@ -4,7 +4,8 @@ use Rattle.std.proofs.lemmas.List.{append_assoc, append-nil, drop_more, drop-set
 use Rattle.std.proofs.lemmas.List.Elements.{All-append}
 use Rattle.bx_cli.specs.declared.command.Command.{Command}
 use Rattle.bx_cli.specs.declared.command.Reply.{Reply}
-use Rattle.bx_cli.specs.Standing.{Standing, CountsOn}
+use Rattle.bx_cli.specs.Standing.{Standing, CountsOn, failures_of}
+use Rattle.bx_journal.specs.Session.{IsUnfailed}
 use Rattle.bx_journal.specs.SessionView.{SessionView}
 use Rattle.bx_cli.specs.Run.{CommandStep, CommandRun, Unfailed, IsCounted}
 
@@ -79,30 +80,50 @@ all_one P x h zero d within = h
 all_one P x h (suc k) d within = absurd (omega arith)
 
 -- how the counts of failed calls stand after some commands
-pub record HasCounted {D T : Type 0} (device_failures : D → ℕ) (store_failures : T → ℕ) (first now : SessionView D T) (i : ℕ) (replies : List Reply) : Type 0 where
+pub record HasCounted {D T : Type 0} (device_failures : D → ℕ) (text_failures : T → ℕ) (first now : SessionView D T) (i : ℕ) (replies : List Reply) : Type 0 where
   pub device_least : device_failures first.device ≤ device_failures now.device
-  pub store_least : store_failures first.store ≤ store_failures now.store
-  pub most : device_failures now.device + store_failures now.store ≤ device_failures first.device + store_failures first.store + i
-  pub unfailed : device_failures now.device + store_failures now.store ≡ device_failures first.device + store_failures first.store → All Unfailed replies
+  pub store_least : text_failures first.store ≤ text_failures now.store
+  pub redo_least : text_failures first.redo_text ≤ text_failures now.redo_text
+  pub most : failures_of device_failures text_failures now ≤ failures_of device_failures text_failures first + i
+  pub unfailed : failures_of device_failures text_failures now ≡ failures_of device_failures text_failures first → All Unfailed replies
 
-pub counted_none : {D T : Type 0} (device_failures : D → ℕ) (store_failures : T → ℕ) (first : SessionView D T) → HasCounted device_failures store_failures first first 0 []
-counted_none device_failures store_failures first = record {
+pub counted_none : {D T : Type 0} (device_failures : D → ℕ) (text_failures : T → ℕ) (first : SessionView D T) → HasCounted device_failures text_failures first first 0 []
+counted_none device_failures text_failures first = record {
   device_least = omega arith;
   store_least = omega arith;
+  redo_least = omega arith;
   most = omega arith;
   unfailed = λ same k d within. absurd (omega arith);
 }
 
-pub counted_more : {D T : Type 0} (device_failures : D → ℕ) (store_failures : T → ℕ) (first now next : SessionView D T) (i : ℕ) (replies : List Reply) (reply : Reply)
-    → HasCounted device_failures store_failures first now i replies → CountsOn device_failures store_failures now next → IsCounted device_failures store_failures now next reply
-    → HasCounted device_failures store_failures first next (i + 1) (replies ++ reply ∷ [])
-counted_more device_failures store_failures first now next i replies reply has on failed = record {
+pub counted_more : {D T : Type 0} (device_failures : D → ℕ) (text_failures : T → ℕ) (first now next : SessionView D T) (i : ℕ) (replies : List Reply) (reply : Reply)
+    → HasCounted device_failures text_failures first now i replies → CountsOn device_failures text_failures now next 1 → IsCounted device_failures text_failures now next reply
+    → HasCounted device_failures text_failures first next (i + 1) (replies ++ reply ∷ [])
+counted_more device_failures text_failures first now next i replies reply has on failed = record {
   device_least = let a = has.device_least in let b = on.device_least in omega arith;
   store_least = let a = has.store_least in let b = on.store_least in omega arith;
+  redo_least = let a = has.redo_least in let b = on.redo_least in omega arith;
   most = let a = has.most in let b = on.most in omega arith;
   unfailed = λ same.
-      let d = has.device_least in let t = has.store_least in let e = on.device_least in let u = on.store_least in
-      let before : device_failures now.device + store_failures now.store ≡ device_failures first.device + store_failures first.store = omega arith in
+      let a = has.device_least in let b = has.store_least in let c = has.redo_least in
+      let d = on.device_least in let e = on.store_least in let f = on.redo_least in
+      let before : failures_of device_failures text_failures now ≡ failures_of device_failures text_failures first = omega arith in
       let last : Unfailed reply = λ f. let rises = failed f in absurd (omega arith) in
       All-append Unfailed replies (reply ∷ []) (has.unfailed before) (all_one Unfailed reply last);
 }
+
+-- behind all commands
+pub counted_all : {D T : Type 0} (device_failures : D → ℕ) (text_failures : T → ℕ) (first now : SessionView D T) (i n : ℕ) (replies : List Reply) → i ≤ n
+    → HasCounted device_failures text_failures first now i replies → CountsOn device_failures text_failures first now n
+counted_all device_failures text_failures first now i n replies within has = record {
+  device_least = has.device_least;
+  store_least = has.store_least;
+  redo_least = has.redo_least;
+  most = let most = has.most in omega arith;
+}
+
+-- no count rose: no reply tells of a failure
+pub counted_unfailed : {D T : Type 0} (device_failures : D → ℕ) (text_failures : T → ℕ) (first now : SessionView D T) (i : ℕ) (replies : List Reply)
+    → HasCounted device_failures text_failures first now i replies → IsUnfailed device_failures text_failures first now → All Unfailed replies
+counted_unfailed device_failures text_failures first now i replies has same =
+    has.unfailed (let d = same.0 in let t = same.1.0 in let u = same.1.1 in omega arith)

@@ -9,7 +9,7 @@ use Rattle.bx_image.specs.declared.change.TheConstants.{MAX_LEN}
 use Rattle.bx_image.specs.Change.{Fits}
 use Rattle.bx_journal.specs.SessionView.{SessionView}
 use Rattle.bx_journal.specs.declared.fault.SessionFault.{SessionFault}
-use Rattle.bx_journal.specs.declared.fault.SessionFault.TheVariants.{NoMemory, TooLarge, DeviceFailed, Damaged, TooFew, JournalFull, Interrupted, Broken, LengthDiffers}
+use Rattle.bx_journal.specs.declared.fault.SessionFault.TheVariants.{NoMemory, TooLarge, DeviceFailed, Damaged, TooFew, JournalFull, Interrupted, Broken, LengthDiffers, NothingToRedo, RedoDamaged}
 use Rattle.bx_journal.specs.Standing.{IsStanding, PerformFault}
 use Rattle.bx_journal.specs.Undoing.{HasCount, UndoFault}
 use Rattle.bx_journal.specs.Machine.{top, changes_of}
@@ -83,6 +83,8 @@ perform_refused hd ht image text old new c Broken broken full large kind refused
 perform_refused hd ht image text old new c (Damaged line) broken full large kind refused device store stack standing unfailed = absurd kind
 perform_refused hd ht image text old new c (TooFew have) broken full large kind refused device store stack standing unfailed = absurd kind
 perform_refused hd ht image text old new c (LengthDiffers expected) broken full large kind refused device store stack standing unfailed = absurd kind
+perform_refused hd ht image text old new c (NothingToRedo have) broken full large kind refused device store stack standing unfailed = absurd kind
+perform_refused hd ht image text old new c (RedoDamaged line) broken full large kind refused device store stack standing unfailed = absurd kind
 
 -- an undo that was refused, by no device
 pub undo_refused : {D T : Type 0} (hd : Type 0) (ht : Type 0) (image : D → List ℕ) (text : T → List ℕ) (old new : SessionView D T) (k : ℕ) (e : SessionFault)
@@ -110,6 +112,8 @@ undo_refused hd ht image text old new k (Damaged line) broken few kind undamaged
 undo_refused hd ht image text old new k TooLarge broken few kind undamaged refused device store stack standing unfailed = absurd kind
 undo_refused hd ht image text old new k JournalFull broken few kind undamaged refused device store stack standing unfailed = absurd kind
 undo_refused hd ht image text old new k (LengthDiffers expected) broken few kind undamaged refused device store stack standing unfailed = absurd kind
+undo_refused hd ht image text old new k (NothingToRedo have) broken few kind undamaged refused device store stack standing unfailed = absurd kind
+undo_refused hd ht image text old new k (RedoDamaged line) broken few kind undamaged refused device store stack standing unfailed = absurd kind
 
 abbrev pub AreHonest : {D T : Type 0} → (D → Type 0) → (T → Type 0) → SessionView D T → Type 0
 AreHonest device store s = device s.device × store s.store

@@ -6,13 +6,13 @@ use Rattle.bx_image.specs.declared.change.TheConstants.{MAX_LEN}
 use Rattle.bx_image.specs.Change.{effect, Fits}
 use Rattle.bx_journal.specs.SessionView.{SessionView}
 use Rattle.bx_journal.specs.declared.fault.SessionFault.{SessionFault}
-use Rattle.bx_journal.specs.declared.fault.SessionFault.TheVariants.{NoMemory, TooLarge, DeviceFailed, Damaged, TooFew, JournalFull, Interrupted, Broken, LengthDiffers}
+use Rattle.bx_journal.specs.declared.fault.SessionFault.TheVariants.{NoMemory, TooLarge, DeviceFailed, Damaged, TooFew, JournalFull, Interrupted, Broken, LengthDiffers, NothingToRedo, RedoDamaged}
 use Rattle.bx_journal.specs.Standing.{IsStanding, PerformFault}
 use Rattle.bx_journal.specs.Undoing.{HasCount, UndoFault}
 use Rattle.bx_journal.specs.Machine.{PerformStep, UndoStep, top, changes_of}
 use Rattle.bx_journal.specs.Session.{IsReady, IsSame}
 use Rattle.bx_journal.specs.Calls.{AfterFault, RecoversBelow}
-use Rattle.bx_journal.specs.Opening.{FaultCounts}
+use Rattle.bx_journal.specs.Opening.{ThreeCounts}
 use Rattle.bx_journal.specs.Phase.{IsAtRest, RecoversEither}
 use Rattle.bx_journal.specs.Stack.{Recovers}
 use Rattle.bx_journal.proofs.Phases.{length-stack_of}
@@ -109,7 +109,7 @@ pub perform_err : {D T A : Type 0} (hd : D → Type 0) (ht : T → Type 0) (imag
     → (hd old.device → IsErrOf (refusal e) TooLarge → Fits c (length (image old.device)) MAX_LEN → ⊥)
     → PerformFault e
     → (hd old.device → ht old.store → AfterFault e (Unit {0}) (IsSame image text old new))
-    → (IsErrOf (refusal e) Interrupted → (new.is_broken ≡ true) × (new.count ≡ old.count))
+    → (IsErrOf (refusal e) Interrupted → (new.is_broken ≡ true) × (new.count ≡ old.count) × (new.undone ≡ old.undone))
     → (hd new.device ↔ hd old.device) → (ht new.store ↔ ht old.store)
     → (before : Standing) → HoldsAt hd ht image text old before → (after : Standing) × HoldsAt hd ht image text new after × PerformFrom before c (Err e) after
 perform_err hd ht image text old new c e fault broken full large faults refused breaks device store (Standing.Down stack) h =
@@ -147,6 +147,8 @@ perform_err hd ht image text old new c Broken fault broken full large faults ref
 perform_err hd ht image text old new c (Damaged line) fault broken full large faults refused breaks device store (Standing.Up stack) h = absurd faults
 perform_err hd ht image text old new c (TooFew have) fault broken full large faults refused breaks device store (Standing.Up stack) h = absurd faults
 perform_err hd ht image text old new c (LengthDiffers expected) fault broken full large faults refused breaks device store (Standing.Up stack) h = absurd faults
+perform_err hd ht image text old new c (NothingToRedo have) fault broken full large faults refused breaks device store (Standing.Up stack) h = absurd faults
+perform_err hd ht image text old new c (RedoDamaged line) fault broken full large faults refused breaks device store (Standing.Up stack) h = absurd faults
 
 -- changes that were taken back
 pub undo_ok : {D T : Type 0} (hd : D → Type 0) (ht : T → Type 0) (image : D → List ℕ) (text : T → List ℕ) (old new : SessionView D T) (k left : ℕ)
@@ -171,7 +173,7 @@ pub undo_err : {D T : Type 0} (hd : D → Type 0) (ht : T → Type 0) (image : D
     → UndoFault old.count e
     → (ht old.store → HasCount (text old.store) old.count → (line : ℕ) → e ≡ Damaged line → ⊥)
     → (hd old.device → ht old.store → AfterFault e (Unit {0}) (IsSame image text old new))
-    → (IsErrOf (refusal e) Interrupted → (new.is_broken ≡ true) × (new.count ≡ old.count))
+    → (IsErrOf (refusal e) Interrupted → (new.is_broken ≡ true) × (new.count ≡ old.count) × (new.undone ≡ old.undone))
     → (hd new.device ↔ hd old.device) → (ht new.store ↔ ht old.store)
     → (before : Standing) → HoldsAt hd ht image text old before → (after : Standing) × HoldsAt hd ht image text new after × UndoFrom before k (Err e) after
 undo_err hd ht image text old new k e fault broken few kind undamaged refused breaks device store (Standing.Down stack) h =
@@ -202,40 +204,48 @@ undo_err hd ht image text old new k JournalFull fault broken few kind undamaged 
 undo_err hd ht image text old new k (Damaged line) fault broken few kind undamaged refused breaks device store (Standing.Up stack) h =
     absurd (undamaged h.store (has_count image text old stack h.stands) line refl)
 undo_err hd ht image text old new k (LengthDiffers expected) fault broken few kind undamaged refused breaks device store (Standing.Up stack) h = absurd kind
+undo_err hd ht image text old new k (NothingToRedo have) fault broken few kind undamaged refused breaks device store (Standing.Up stack) h = absurd kind
+undo_err hd ht image text old new k (RedoDamaged line) fault broken few kind undamaged refused breaks device store (Standing.Up stack) h = absurd kind
 
 -- how the counts go on where a call failed
-pub counts_least : (e : SessionFault) (d t d_new t_new : ℕ) → FaultCounts e d t d_new t_new → (d ≤ d_new) × (t ≤ t_new)
-counts_least NoMemory d t d_new t_new c = (omega arith, omega arith)
-counts_least TooLarge d t d_new t_new c = (omega arith, omega arith)
-counts_least DeviceFailed d t d_new t_new c = (omega arith, omega arith)
-counts_least (Damaged line) d t d_new t_new c = (omega arith, omega arith)
-counts_least (TooFew have) d t d_new t_new c = (omega arith, omega arith)
-counts_least JournalFull d t d_new t_new c = (omega arith, omega arith)
-counts_least Interrupted d t d_new t_new c = (omega arith, omega arith)
-counts_least Broken d t d_new t_new c = (omega arith, omega arith)
-counts_least (LengthDiffers expected) d t d_new t_new c = (omega arith, omega arith)
+pub counts_least : (e : SessionFault) (d t u d_new t_new u_new : ℕ) → ThreeCounts e d t u d_new t_new u_new → (d ≤ d_new) × (t ≤ t_new) × (u ≤ u_new)
+counts_least NoMemory d t u d_new t_new u_new c = (omega arith, omega arith, omega arith)
+counts_least TooLarge d t u d_new t_new u_new c = (omega arith, omega arith, omega arith)
+counts_least DeviceFailed d t u d_new t_new u_new c = (omega arith, omega arith, omega arith)
+counts_least (Damaged line) d t u d_new t_new u_new c = (omega arith, omega arith, omega arith)
+counts_least (TooFew have) d t u d_new t_new u_new c = (omega arith, omega arith, omega arith)
+counts_least JournalFull d t u d_new t_new u_new c = (omega arith, omega arith, omega arith)
+counts_least Interrupted d t u d_new t_new u_new c = (omega arith, omega arith, omega arith)
+counts_least Broken d t u d_new t_new u_new c = (omega arith, omega arith, omega arith)
+counts_least (LengthDiffers expected) d t u d_new t_new u_new c = (omega arith, omega arith, omega arith)
+counts_least (NothingToRedo have) d t u d_new t_new u_new c = (omega arith, omega arith, omega arith)
+counts_least (RedoDamaged line) d t u d_new t_new u_new c = (omega arith, omega arith, omega arith)
 
-pub counts_most : (e : SessionFault) (d t d_new t_new : ℕ) → FaultCounts e d t d_new t_new → d_new + t_new ≤ d + t + 1
-counts_most NoMemory d t d_new t_new c = omega arith
-counts_most TooLarge d t d_new t_new c = omega arith
-counts_most DeviceFailed d t d_new t_new c = omega arith
-counts_most (Damaged line) d t d_new t_new c = omega arith
-counts_most (TooFew have) d t d_new t_new c = omega arith
-counts_most JournalFull d t d_new t_new c = omega arith
-counts_most Interrupted d t d_new t_new c = omega arith
-counts_most Broken d t d_new t_new c = omega arith
-counts_most (LengthDiffers expected) d t d_new t_new c = omega arith
+pub counts_most : (e : SessionFault) (d t u d_new t_new u_new : ℕ) → ThreeCounts e d t u d_new t_new u_new → d_new + t_new + u_new ≤ d + t + u + 1
+counts_most NoMemory d t u d_new t_new u_new c = omega arith
+counts_most TooLarge d t u d_new t_new u_new c = omega arith
+counts_most DeviceFailed d t u d_new t_new u_new c = omega arith
+counts_most (Damaged line) d t u d_new t_new u_new c = omega arith
+counts_most (TooFew have) d t u d_new t_new u_new c = omega arith
+counts_most JournalFull d t u d_new t_new u_new c = omega arith
+counts_most Interrupted d t u d_new t_new u_new c = omega arith
+counts_most Broken d t u d_new t_new u_new c = omega arith
+counts_most (LengthDiffers expected) d t u d_new t_new u_new c = omega arith
+counts_most (NothingToRedo have) d t u d_new t_new u_new c = omega arith
+counts_most (RedoDamaged line) d t u d_new t_new u_new c = omega arith
 
-pub counts_failed : (e : SessionFault) (d t d_new t_new : ℕ) → FaultCounts e d t d_new t_new → HasFailed (Refused (of_session e)) → d + t < d_new + t_new
-counts_failed NoMemory d t d_new t_new c f = absurd f
-counts_failed TooLarge d t d_new t_new c f = absurd f
-counts_failed DeviceFailed d t d_new t_new c f = omega arith
-counts_failed (Damaged line) d t d_new t_new c f = absurd f
-counts_failed (TooFew have) d t d_new t_new c f = absurd f
-counts_failed JournalFull d t d_new t_new c f = absurd f
-counts_failed Interrupted d t d_new t_new c f = omega arith
-counts_failed Broken d t d_new t_new c f = absurd f
-counts_failed (LengthDiffers expected) d t d_new t_new c f = absurd f
+pub counts_failed : (e : SessionFault) (d t u d_new t_new u_new : ℕ) → ThreeCounts e d t u d_new t_new u_new → HasFailed (Refused (of_session e)) → d + t + u < d_new + t_new + u_new
+counts_failed NoMemory d t u d_new t_new u_new c f = absurd f
+counts_failed TooLarge d t u d_new t_new u_new c f = absurd f
+counts_failed DeviceFailed d t u d_new t_new u_new c f = omega arith
+counts_failed (Damaged line) d t u d_new t_new u_new c f = absurd f
+counts_failed (TooFew have) d t u d_new t_new u_new c f = absurd f
+counts_failed JournalFull d t u d_new t_new u_new c f = absurd f
+counts_failed Interrupted d t u d_new t_new u_new c f = omega arith
+counts_failed Broken d t u d_new t_new u_new c f = absurd f
+counts_failed (LengthDiffers expected) d t u d_new t_new u_new c f = absurd f
+counts_failed (NothingToRedo have) d t u d_new t_new u_new c f = absurd f
+counts_failed (RedoDamaged line) d t u d_new t_new u_new c f = absurd f
 
 -- a change that was made tells of no failure
 pub made_unfailed : (counts : Option Counts) (n : ℕ) → HasFailed (made_reply counts n) → ⊥

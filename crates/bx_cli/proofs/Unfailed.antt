@@ -3,7 +3,7 @@ use Rattle.std.proofs.Common.{◌≡◌, inl, inr, ℕ, suc, Option, None, Some,
 use Rattle.bx_image.specs.declared.change.Change.{Change}
 use Rattle.bx_read.specs.declared.fault.ReadFault.{ReadFault}
 use Rattle.bx_journal.specs.declared.fault.SessionFault.{SessionFault}
-use Rattle.bx_journal.specs.declared.fault.SessionFault.TheVariants.{NoMemory, TooLarge, DeviceFailed, Damaged, TooFew, JournalFull, Interrupted, Broken, LengthDiffers}
+use Rattle.bx_journal.specs.declared.fault.SessionFault.TheVariants.{NoMemory, TooLarge, DeviceFailed, Damaged, TooFew, JournalFull, Interrupted, Broken, LengthDiffers, NothingToRedo, RedoDamaged}
 use Rattle.bx_cli.specs.declared.command.Command.{Command}
 use Rattle.bx_cli.specs.declared.command.Command.TheVariants.{Revert, RevertPlain, Dd, Undo}
 use Rattle.bx_cli.specs.declared.command.Reply.{Reply}
@@ -36,6 +36,8 @@ perform_up old c counts (Err JournalFull) after unfailed p = (old, p.1)
 perform_up old c counts (Err Interrupted) after unfailed p = absurd (unfailed tt)
 perform_up old c counts (Err Broken) after unfailed p = (old, p.0)
 perform_up old c counts (Err (LengthDiffers expected)) after unfailed p = (old, p.0)
+perform_up old c counts (Err (NothingToRedo have)) after unfailed p = (old, p.0)
+perform_up old c counts (Err (RedoDamaged line)) after unfailed p = (old, p.0)
 
 undo_up : (old : List (List ℕ)) (k : ℕ) (r : Result ℕ SessionFault) (after : Standing) → Unfailed (undone r) → UndoFrom (Standing.Up old) k r after → IsUp after
 undo_up old k (Ok left) after unfailed p = (p.0, p.1)
@@ -48,6 +50,8 @@ undo_up old k (Err JournalFull) after unfailed p = (old, p.0)
 undo_up old k (Err Interrupted) after unfailed p = absurd (unfailed tt)
 undo_up old k (Err Broken) after unfailed p = (old, p.0)
 undo_up old k (Err (LengthDiffers expected)) after unfailed p = (old, p.0)
+undo_up old k (Err (NothingToRedo have)) after unfailed p = (old, p.0)
+undo_up old k (Err (RedoDamaged line)) after unfailed p = (old, p.0)
 
 change_up : {A : Type 0} (old : List (List ℕ)) (c : Change A) (counts : Option Counts) (reply : Reply) (after : Standing) → Unfailed reply → ChangeStep (Standing.Up old) c counts reply after → IsUp after
 change_up old c counts reply after unfailed step = perform_up old c counts step.0 after (told reply (changed counts step.0) step.1 unfailed) step.2

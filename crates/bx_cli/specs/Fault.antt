@@ -7,7 +7,7 @@ use Rattle.bx_text.specs.declared.fault.IoFault.TheVariants.{NoMemory as IoNoMem
 use Rattle.bx_read.specs.declared.fault.ReadFault.{ReadFault}
 use Rattle.bx_read.specs.declared.fault.ReadFault.TheVariants.{NoMemory as ReadNoMemory, BadAddress as ReadBadAddress, MissingColon as ReadMissingColon, BadPair as ReadBadPair, NoData as ReadNoData, TooWide as ReadTooWide, AddressTooLarge as ReadAddressTooLarge, OddDigits as ReadOddDigits}
 use Rattle.bx_journal.specs.declared.fault.SessionFault.{SessionFault}
-use Rattle.bx_journal.specs.declared.fault.SessionFault.TheVariants.{NoMemory as SessionNoMemory, TooLarge as SessionTooLarge, DeviceFailed as SessionDeviceFailed, Damaged as SessionDamaged, TooFew as SessionTooFew, JournalFull as SessionJournalFull, Interrupted as SessionInterrupted, Broken as SessionBroken, LengthDiffers as SessionLengthDiffers}
+use Rattle.bx_journal.specs.declared.fault.SessionFault.TheVariants.{NoMemory as SessionNoMemory, TooLarge as SessionTooLarge, DeviceFailed as SessionDeviceFailed, Damaged as SessionDamaged, TooFew as SessionTooFew, JournalFull as SessionJournalFull, Interrupted as SessionInterrupted, Broken as SessionBroken, LengthDiffers as SessionLengthDiffers, NothingToRedo as SessionNothingToRedo, RedoDamaged as SessionRedoDamaged}
 use Rattle.bx_dd.specs.declared.fault.DdFault.{DdFault}
 use Rattle.bx_dd.specs.declared.fault.DdFault.TheVariants.{NoMemory as DdNoMemory, ReadFailed as DdReadFailed, InputTooLong as DdInputTooLong, UnknownOperand as DdUnknownOperand, BadNumber as DdBadNumber, NumberTooLarge as DdNumberTooLarge, ZeroSize as DdZeroSize, Conflict as DdConflict, MissingCbs as DdMissingCbs, Repeated as DdRepeated, SeekWithoutOutput as DdSeekWithoutOutput}
 
@@ -76,6 +76,8 @@ of_session SessionJournalFull = JournalFull
 of_session SessionInterrupted = Interrupted
 of_session SessionBroken = Broken
 of_session (SessionLengthDiffers n) = LengthDiffers n
+of_session (SessionNothingToRedo n) = NothingToRedo n
+of_session (SessionRedoDamaged n) = RedoDamaged n
 
 -- the same fault, among those of all crates
 abbrev pub of_dd : DdFault → Fault

@@ -1,5 +1,5 @@
 -- The machine of commands.
-use Rattle.std.specs.Prelude.{◌≡◌, ℕ, ◌+◌, ◌<◌, ◌⊎◌, Option, None, Some, Result, Ok, Err, List, [], ◌∷◌}
+use Rattle.std.specs.Prelude.{◌≡◌, ℕ, ◌<◌, ◌⊎◌, Option, None, Some, Result, Ok, Err, List, [], ◌∷◌}
 use Rattle.bx_dd.specs.declared.counts.Counts.{Counts}
 use Rattle.bx_dd.specs.declared.fault.DdFault.{DdFault}
 use Rattle.bx_image.specs.declared.change.Change.{Change}
@@ -19,7 +19,7 @@ use Rattle.bx_cli.specs.Command.{dump_change, plain_change}
 use Rattle.bx_cli.specs.Copy.{Makes}
 use Rattle.bx_cli.specs.Fault.{of_dd, of_read, of_session}
 use Rattle.bx_journal.specs.Standing.{IsStanding}
-use Rattle.bx_cli.specs.Standing.{Standing, PerformFrom, UndoFrom}
+use Rattle.bx_cli.specs.Standing.{Standing, PerformFrom, UndoFrom, failures_of}
 
 -- the reply to a change that was made; dd's tells its counts too
 abbrev pub made_reply : Option Counts → ℕ → Reply
@@ -86,8 +86,8 @@ HasFailed p = ⊥
 
 -- a failure raised a count
 abbrev pub IsCounted : {D T : Type 0} → (D → ℕ) → (T → ℕ) → SessionView D T → SessionView D T → Reply → Type 0
-IsCounted device_failures store_failures old new reply =
-    HasFailed reply → device_failures old.device + store_failures old.store < device_failures new.device + store_failures new.store
+IsCounted device_failures text_failures old new reply =
+    HasFailed reply → failures_of device_failures text_failures old < failures_of device_failures text_failures new
 
 -- no device's failure refused the command
 abbrev pub Unfailed : Reply → Type 0

@@ -51,8 +51,13 @@ abbrev pub UndoFrom : Standing → ℕ → Result ℕ SessionFault → Standing 
 UndoFrom (Up old) k r after = UndoUp old k r after
 UndoFrom (Down old) k r after = (r ≡ Err Broken) × (after ≡ Down old)
 
--- The counts of failed calls: one of them rises by one and the other stays, or none rises
-pub record CountsOn {D T : Type 0} (device_failures : D → ℕ) (store_failures : T → ℕ) (old new : SessionView D T) : Type 0 where
+-- how many calls of the three devices failed
+abbrev pub failures_of : {D T : Type 0} → (D → ℕ) → (T → ℕ) → SessionView D T → ℕ
+failures_of device_failures text_failures s = device_failures s.device + text_failures s.store + text_failures s.redo_text
+
+-- No count of failed calls falls, and the three together rise by no more than so many
+pub record CountsOn {D T : Type 0} (device_failures : D → ℕ) (text_failures : T → ℕ) (old new : SessionView D T) (calls : ℕ) : Type 0 where
   pub device_least : device_failures old.device ≤ device_failures new.device
-  pub store_least : store_failures old.store ≤ store_failures new.store
-  pub most : device_failures new.device + store_failures new.store ≤ device_failures old.device + store_failures old.store + 1
+  pub store_least : text_failures old.store ≤ text_failures new.store
+  pub redo_least : text_failures old.redo_text ≤ text_failures new.redo_text
+  pub most : failures_of device_failures text_failures new ≤ failures_of device_failures text_failures old + calls

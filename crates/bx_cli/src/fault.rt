@@ -271,6 +271,8 @@ where
         SessionFault::Interrupted => Fault::Interrupted,
         SessionFault::Broken => Fault::Broken,
         SessionFault::LengthDiffers { expected } => Fault::LengthDiffers { expected },
+        SessionFault::NothingToRedo { have } => Fault::NothingToRedo { have },
+        SessionFault::RedoDamaged { line } => Fault::RedoDamaged { line },
     }
 }
 

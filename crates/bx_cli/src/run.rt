@@ -1,9 +1,9 @@
 //! Lists of commands, run in order on a session.
 ghost use Rattle.std.specs.Prelude.{◌≡◌, ◌↔◌, ◌⊎◌, ◌+◌, ◌^◌, ◌≤◌, ◌<◌, List, ℕ, length, None, Some, IfOk, OnErr, All};
-ghost use Rattle.bx_journal.specs.Session.{IsReady, IsSame};
+ghost use Rattle.bx_journal.specs.Session.{IsReady, IsRedoSame, IsSame, IsUnfailed};
 ghost use Rattle.bx_journal.specs.Standing.{IsStanding};
 ghost use Rattle.bx_cli.specs.Obeys.{Obeys};
-ghost use Rattle.bx_cli.specs.Standing.{Standing, HoldsAt};
+ghost use Rattle.bx_cli.specs.Standing.{CountsOn, HoldsAt, Standing};
 ghost use Rattle.bx_cli.specs.Command.{IsNear};
 ghost use Rattle.bx_cli.specs.Refusal.{IsOwnRefusal, IsWholeRefusal};
 ghost use Rattle.bx_cli.specs.Run.{made_reply, ChangeStep, UndoesStep, ReadStep, DdStep, DumpStep, CommandStep, CommandRun, StackRun, StandsThen, Unfailed};
@@ -26,6 +26,7 @@ fn run_change<D: Device, T: TextStore, A: Allocator + Clone>(
 ) -> Reply
     requires device_countable { D.failures session.old.device < u64.MAX }
     requires store_countable { T.failures session.old.store < u64.MAX }
+    requires redo_countable { T.failures session.old.redo_text < u64.MAX }
     ensures obeys { Obeys D.honest T.honest D.image T.text D.failures T.failures session.old session.new result (λ s. ChangeStep s change.now counts) }
 {
     match session.perform(change) {
@@ -51,6 +52,7 @@ fn run_undo<D: Device, T: TextStore, A: Allocator + Clone>(
 ) -> Reply
     requires device_countable { D.failures session.old.device < u64.MAX }
     requires store_countable { T.failures session.old.store < u64.MAX }
+    requires redo_countable { T.failures session.old.redo_text < u64.MAX }
     ensures obeys { Obeys D.honest T.honest D.image T.text D.failures T.failures session.old session.new result (λ s. UndoesStep s k) }
 {
     match session.undo(k) {
@@ -66,6 +68,7 @@ fn run_read<D: Device, T: TextStore, A: Allocator + Clone>(
 ) -> Reply
     requires device_countable { D.failures session.old.device < u64.MAX }
     requires store_countable { T.failures session.old.store < u64.MAX }
+    requires redo_countable { T.failures session.old.redo_text < u64.MAX }
     ensures obeys { Obeys D.honest T.honest D.image T.text D.failures T.failures session.old session.new result (λ s. ReadStep s (λ c. c) read) }
 {
     match read {
@@ -81,6 +84,7 @@ fn run_dd<D: Device, T: TextStore, A: Allocator + Clone>(
 ) -> Reply
     requires device_countable { D.failures session.old.device < u64.MAX }
     requires store_countable { T.failures session.old.store < u64.MAX }
+    requires redo_countable { T.failures session.old.redo_text < u64.MAX }
     ensures obeys { Obeys D.honest T.honest D.image T.text D.failures T.failures session.old session.new result (λ s. DdStep s made) }
 {
     match made {
@@ -98,6 +102,7 @@ fn run_dump<D: Device, T: TextStore, A: Allocator + Clone>(
 ) -> Reply
     requires device_countable { D.failures session.old.device < u64.MAX }
     requires store_countable { T.failures session.old.store < u64.MAX }
+    requires redo_countable { T.failures session.old.redo_text < u64.MAX }
     requires near { offset ≤ 2 ^ 62 }
     ensures obeys { Obeys D.honest T.honest D.image T.text D.failures T.failures session.old session.new result (λ s. DumpStep A s text.now offset) }
 {
@@ -113,6 +118,7 @@ fn run_one<D: Device, T: TextStore, R: Read, A: Allocator + Clone>(
 ) -> Reply
     requires device_countable { D.failures session.old.device < u64.MAX }
     requires store_countable { T.failures session.old.store < u64.MAX }
+    requires redo_countable { T.failures session.old.redo_text < u64.MAX }
     requires near { IsNear command.old }
     ensures obeys { Obeys D.honest T.honest D.image T.text D.failures T.failures session.old session.new result (λ s. CommandStep R.remaining s command.old) }
 {
@@ -139,17 +145,18 @@ pub fn run_all<D: Device, T: TextStore, R: Read, A: Allocator + Clone>(
 ) -> Result<Vec<Reply, A>, NoMemory>
     requires device_countable { D.failures session.old.device + length list.old ≤ u64.MAX }
     requires store_countable { T.failures session.old.store + length list.old ≤ u64.MAX }
+    requires redo_countable { T.failures session.old.redo_text + length list.old ≤ u64.MAX }
     requires near { All IsNear list.old }
 
     // Where no device fails, the replies and the final pair are a run of the machine, from the stack of whole images that
     // the first pair stands for to the one that the final pair stands for.
     ensures headline { D.honest session.old.device → T.honest session.old.store → (stack : List (List ℕ)) → IsStanding D.image T.text session.old stack
-        → D.failures session.new.device ≡ D.failures session.old.device → T.failures session.new.store ≡ T.failures session.old.store
+        → IsUnfailed D.failures T.failures session.old session.new
         → IfOk result (λ replies. StandsThen D.image T.text session.new (λ top. StackRun R.remaining stack list.old replies.items top)) }
 
     // From a sound pair it leaves a sound one.
     ensures sound { D.honest session.old.device → T.honest session.old.store → (stack : List (List ℕ)) → IsReady D.image T.text session.old stack
-        → D.failures session.new.device ≡ D.failures session.old.device → T.failures session.new.store ≡ T.failures session.old.store
+        → IsUnfailed D.failures T.failures session.old session.new
         → IfOk result (λ replies. (top : List (List ℕ)) × IsReady D.image T.text session.new top × StackRun R.remaining stack list.old replies.items top) }
 
     // Whatever devices fail: up to the first failure after a write it is a run in which a device may refuse a command, and
@@ -158,18 +165,18 @@ pub fn run_all<D: Device, T: TextStore, R: Read, A: Allocator + Clone>(
         (after : Standing) × HoldsAt D.honest T.honest D.image T.text session.new after × CommandRun R.remaining before list.old replies.items after) }
 
     // A device's failure raises its count.
-    ensures unfailed { D.failures session.new.device ≡ D.failures session.old.device → T.failures session.new.store ≡ T.failures session.old.store
-        → IfOk result (λ replies. All Unfailed replies.items) }
+    ensures unfailed { IsUnfailed D.failures T.failures session.old session.new → IfOk result (λ replies. All Unfailed replies.items) }
 
-    // No count of failures falls, and both together rise by no more than one for each command.
-    ensures counts { (D.failures session.old.device ≤ D.failures session.new.device) × (T.failures session.old.store ≤ T.failures session.new.store)
-        × (D.failures session.new.device + T.failures session.new.store ≤ D.failures session.old.device + T.failures session.old.store + length list.old) }
+    // No count of failures falls, and the three together rise by no more than one for each command.
+    ensures counts { CountsOn D.failures T.failures session.old session.new (length list.old) }
 
     // Commands that are refused for faults of their own leave the session. Those that are refused, but by no interruption,
-    // leave image and text, byte for byte.
+    // leave image and text, byte for byte, and the redo text with the count of what is undone.
     ensures own { IfOk result (λ replies. All IsOwnRefusal replies.items → session.new ≡ session.old) }
     ensures same { D.honest session.old.device → T.honest session.old.store
         → IfOk result (λ replies. All IsWholeRefusal replies.items → IsSame D.image T.text session.old session.new) }
+    ensures redo_same { T.honest session.old.redo_text
+        → IfOk result (λ replies. All IsWholeRefusal replies.items → IsRedoSame T.text session.old session.new) }
 
     // Where memory for the replies is refused, no command ran.
     ensures refused { OnErr result (session.new ≡ session.old) }
