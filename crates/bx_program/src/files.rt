@@ -129,7 +129,7 @@ fn is_journal_missing(image: &Option<Metadata>, image_name: &str, journal_name: 
 
 /// An image, its journal and its redo text: open, locked, and each a file of its own.
 #[derive(Drop)]
-pub struct Trio {
+pub struct SessionFiles {
     /// The image.
     pub image: File,
     /// Its journal.
@@ -181,11 +181,11 @@ pub fn trio<R: Files<File = File>>(
     image: &Name,
     texts: &Texts,
     make: bool,
-) -> Result<Trio, Fault> {
+) -> Result<SessionFiles, Fault> {
     look_at_all(rt, image, texts, make)?;
     let image = Opened::new(rt, image.as_str(), make, Holds::Image)?;
     match open_texts(rt, texts, make) {
-        Ok((journal, redo)) => Ok(Trio {
+        Ok((journal, redo)) => Ok(SessionFiles {
             image: image.file,
             journal,
             redo,
