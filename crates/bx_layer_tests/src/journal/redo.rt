@@ -187,36 +187,48 @@ fn undone_nothings(alloc: Global, count: u32) -> Result<Vec<u8>, AllocError> {
     Ok(redo)
 }
 
-// So many changes and so many undone ones, on the empty image: opening answers this.
+// The bytes of one entry of the texts of changes of nothing.
+const FIRST_LEN: usize = 53;
+
+const SECOND_LEN: usize = 80;
+
+// Opening the empty image with these texts answers this.
 fn assert_counted(
     rt: &(impl Abort + AllocGlobal),
-    changes: u32,
-    undone: u32,
+    journal: &[u8],
+    redo: &[u8],
     found: Result<Recovered, SessionFault>,
 ) -> Result<(), Fail> {
     let alloc = rt.alloc();
-    let journal = entries_of_nothing(alloc, changes)?;
-    let redo = undone_nothings(alloc, undone)?;
-    let start = held_of(alloc, b"", journal.as_slice(), redo.as_slice())?;
+    let start = held_of(alloc, b"", journal, redo)?;
     let left = on_memory(alloc, rt, &start, found, &[])?;
-    assert_held(rt, &left, b"", journal.as_slice(), redo.as_slice());
+    assert_held(rt, &left, b"", journal, redo);
     Ok(())
 }
 
+// The first entry that makes more than 65,535 changes and undone ones in all is refused.
 #[test]
-fn redo_text_too_many(rt: HostRuntime) -> Result<(), Fail> {
+fn redo_text_beside_too_many(rt: HostRuntime) -> Result<(), Fail> {
+    let full = entries_of_nothing(rt.alloc(), 65_535)?;
+    let redo = undone_nothings(rt.alloc(), 2)?;
+    assert_eq!(rt; full.len(), 65_535 * FIRST_LEN);
+    assert_eq!(rt; redo.len(), 2 * SECOND_LEN);
+    let (less, _) = full.as_slice().split_at(65_534 * FIRST_LEN);
+    let (one, _) = redo.as_slice().split_at(SECOND_LEN);
     let first = Err(SessionFault::RedoDamaged { line: 1 });
-    assert_counted(&rt, 65_535, 1, first)?;
-    assert_counted(&rt, 65_535, 2, first)?;
-    assert_counted(&rt, 65_534, 1, clean_with(65_534, 1))?;
-    assert_counted(&rt, 65_534, 2, Err(SessionFault::RedoDamaged { line: 4 }))?;
-    assert_counted(&rt, 0, 65_535, clean_with(0, 65_535))?;
-    assert_counted(
-        &rt,
-        1,
-        65_535,
-        Err(SessionFault::RedoDamaged { line: 196_603 }),
-    )
+    let second = Err(SessionFault::RedoDamaged { line: 4 });
+    assert_counted(&rt, full.as_slice(), one, first)?;
+    assert_counted(&rt, less, one, clean_with(65_534, 1))?;
+    assert_counted(&rt, less, redo.as_slice(), second)
+}
+
+#[test]
+fn redo_text_of_too_many(rt: HostRuntime) -> Result<(), Fail> {
+    let journal = entries_of_nothing(rt.alloc(), 1)?;
+    let full = undone_nothings(rt.alloc(), 65_535)?;
+    assert_counted(&rt, b"", full.as_slice(), clean_with(0, 65_535))?;
+    let last = Err(SessionFault::RedoDamaged { line: 196_603 });
+    assert_counted(&rt, journal.as_slice(), full.as_slice(), last)
 }
 
 // A call on a patched image with its redo text: the redo text is then so, and image and journal are as they were or as they have
