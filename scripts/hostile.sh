@@ -155,8 +155,12 @@ bad_redo_files() {
     truncate -s 1G redo
     fresh ABxyEFGH text redo
     rm redo
-    (ulimit -v 4000000 && expect "a redo file of a gigabyte, in four of memory" same 1 "redo line 1 is damaged" log img && [ "$failed" = 0 ])
-    if [ $? = 0 ]; then passed=$((passed + 1)); else failed=$((failed + 1)); fi
+    if (
+        ulimit -v 4000000
+        failed=0
+        expect "a redo file of a gigabyte, in four of memory" same 1 "redo line 1 is damaged" log img
+        [ "$failed" = 0 ]
+    ); then passed=$((passed + 1)); else failed=$((failed + 1)); fi
     awk 'BEGIN { for (n = 1; n <= 65535; n++) printf "change %08x 00000000\nsave %08x\ndone %08x\n", n, n, n }' > text
     printf 'change2 00000001 0000000000000000\nsave 00000001\ndone2 00000001 0000000000000000\n' > redo
     fresh "" text redo && expect "one undone beside a full journal" same 1 "redo line 1 is damaged" log img
