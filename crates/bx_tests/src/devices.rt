@@ -369,7 +369,7 @@ fn assert_recovers<'a>(
     Ok(expected)
 }
 
-/// The ways in which a device fails while it is opened, and those besides in which it fails in a run.
+/// The ways in which a device fails while it is opened, and those in which it fails in a run.
 const OPENING: [Calls; 4] = [
     Calls::Writes(Part::Nothing, false),
     Calls::Writes(Part::Half, false),
@@ -377,7 +377,11 @@ const OPENING: [Calls; 4] = [
     Calls::Reads,
 ];
 
-const ONCE: [Calls; 3] = [
+const RUNNING: [Calls; 7] = [
+    Calls::Writes(Part::Nothing, false),
+    Calls::Writes(Part::Half, false),
+    Calls::Writes(Part::All, false),
+    Calls::Reads,
     Calls::Writes(Part::Nothing, true),
     Calls::Writes(Part::Half, true),
     Calls::Writes(Part::All, true),
@@ -532,8 +536,8 @@ fn assert_script(
         runs: 0,
         openings: 0,
     };
-    for calls in OPENING.iter().chain(&ONCE) {
-        let more = assert_stops(rt, alloc, script, target, *calls)?;
+    for calls in RUNNING {
+        let more = assert_stops(rt, alloc, script, target, calls)?;
         stops.runs = stops.runs.saturating_add(more.runs);
         stops.openings = stops.openings.saturating_add(more.openings);
     }
