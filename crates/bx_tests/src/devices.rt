@@ -18,6 +18,9 @@ use std::test::Fail;
 /// No run makes so many calls.
 const MOST_CALLS: u64 = 200;
 
+/// No run leaves so much that openings are stopped on.
+const MOST_STOPS: u32 = 100_000;
+
 /// What a run came to.
 #[derive(Clone, Copy, PartialEq, Eq)]
 enum Course {
@@ -369,25 +372,32 @@ fn assert_recovers<'a>(
     Ok(expected)
 }
 
-/// The ways in which a device fails while it is opened, and those in which it fails in a run.
-const OPENING: [Calls; 4] = [
+/// The ways in which a device fails in a run.
+const WAYS: [Calls; 7] = [
     Calls::Writes(Part::Nothing, false),
     Calls::Writes(Part::Half, false),
     Calls::Writes(Part::All, false),
-    Calls::Reads,
-];
-
-const RUNNING: [Calls; 7] = [
-    Calls::Writes(Part::Nothing, false),
-    Calls::Writes(Part::Half, false),
-    Calls::Writes(Part::All, false),
-    Calls::Reads,
     Calls::Writes(Part::Nothing, true),
     Calls::Writes(Part::Half, true),
     Calls::Writes(Part::All, true),
+    Calls::Reads,
 ];
 
-const TARGETS: [Target; 3] = [Target::Image, Target::Journal, Target::Redo];
+/// The devices that fail while they are opened, in each of the ways that last.
+const OPENINGS: [(Target, Calls); 12] = [
+    (Target::Image, Calls::Writes(Part::Nothing, false)),
+    (Target::Image, Calls::Writes(Part::Half, false)),
+    (Target::Image, Calls::Writes(Part::All, false)),
+    (Target::Image, Calls::Reads),
+    (Target::Journal, Calls::Writes(Part::Nothing, false)),
+    (Target::Journal, Calls::Writes(Part::Half, false)),
+    (Target::Journal, Calls::Writes(Part::All, false)),
+    (Target::Journal, Calls::Reads),
+    (Target::Redo, Calls::Writes(Part::Nothing, false)),
+    (Target::Redo, Calls::Writes(Part::Half, false)),
+    (Target::Redo, Calls::Writes(Part::All, false)),
+    (Target::Redo, Calls::Reads),
+];
 
 /// Opens devices of which one fails, and closes the session. Tells whether opening was stopped.
 fn open_fused(
@@ -425,68 +435,89 @@ fn stopped_opening(
     Ok(Some(trio))
 }
 
-/// Stops an opening at each call of a device. Answers each of what is left.
-fn stopped_openings(
+/// Stops an opening at each call of a device, and adds what each leaves to the list. Tells how often it was stopped.
+fn stop_at_each(
     rt: &impl Abort,
     alloc: Global,
     bytes: Bytes<'_>,
     images: &Images,
     expected: Expected<'_>,
-    target: Target,
-) -> Result<Vec<MemTrio>, Fail> {
-    let mut list = Vec::new(alloc);
-    for calls in OPENING {
-        for pass in 0..MOST_CALLS {
-            let fused = Fused {
-                target,
-                calls,
-                pass,
-            };
-            match stopped_opening(rt, alloc, bytes, images, expected, fused)? {
-                Some(trio) => list.push(trio)?,
-                None => break,
-            }
-        }
-    }
-    Ok(list)
-}
-
-/// Stops an opening at each call of each device. Tells how often it was stopped.
-fn assert_once_more(
-    rt: &impl Abort,
-    alloc: Global,
-    bytes: Bytes<'_>,
-    images: &Images,
-    expected: Expected<'_>,
+    way: (Target, Calls),
+    list: &mut Vec<MemTrio>,
 ) -> Result<u32, Fail> {
     let mut stops = 0u32;
-    for target in TARGETS {
-        let list = stopped_openings(rt, alloc, bytes, images, expected, target)?;
-        stops = stops.saturating_add(list.len().min(1000) as u32);
+    let (target, calls) = way;
+    for pass in 0..MOST_CALLS {
+        let fused = Fused {
+            target,
+            calls,
+            pass,
+        };
+        let Some(trio) = stopped_opening(rt, alloc, bytes, images, expected, fused)? else {
+            return Ok(stops);
+        };
+        list.push(trio)?;
+        stops = stops.saturating_add(1);
+    }
+    Err(Fault::DeviceFailed.into())
+}
+
+/// The same for each device and each way.
+fn stop_in_each_way(
+    rt: &impl Abort,
+    alloc: Global,
+    bytes: Bytes<'_>,
+    images: &Images,
+    expected: Expected<'_>,
+    list: &mut Vec<MemTrio>,
+) -> Result<u32, Fail> {
+    let mut stops = 0u32;
+    for way in OPENINGS {
+        let more = stop_at_each(rt, alloc, bytes, images, expected, way, list)?;
+        stops = stops.saturating_add(more);
     }
     Ok(stops)
 }
 
-/// Stops an opening at each call of each device, and then that of what is left. Tells how often it was stopped.
+fn is_seen(seen: &[MemTrio], bytes: Bytes<'_>) -> bool {
+    for trio in seen {
+        let (image, journal, redo) = bytes_of(trio);
+        if image == bytes.0 && journal == bytes.1 && redo == bytes.2 {
+            return true;
+        }
+    }
+    false
+}
+
+/// Stops the opening of what a run left, then that of what is left each time, and so on: each once. Tells how often openings
+/// were stopped.
 fn assert_openings(
     rt: &impl Abort,
     alloc: Global,
-    bytes: Bytes<'_>,
-    images: &Images,
+    left: Left<'_>,
     expected: Expected<'_>,
+    seen: &mut Vec<MemTrio>,
 ) -> Result<u32, Fail> {
+    let Left { trio, standing } = left;
     let mut stops = 0u32;
-    for target in TARGETS {
-        let list = stopped_openings(rt, alloc, bytes, images, expected, target)?;
-        for trio in list.as_slice() {
-            let more = assert_once_more(rt, alloc, bytes_of(trio), images, expected)?;
-            stops = stops.saturating_add(more).saturating_add(1);
+    let mut list = Vec::new(alloc);
+    list.push(trio)?;
+    for _ in 0..MOST_STOPS {
+        let Some(trio) = list.pop() else {
+            return Ok(stops);
+        };
+        let bytes = bytes_of(&trio);
+        if !is_seen(seen.as_slice(), bytes) {
+            let images = &standing.images;
+            let more = stop_in_each_way(rt, alloc, bytes, images, expected, &mut list)?;
+            stops = stops.saturating_add(more);
+            seen.push(trio)?;
         }
     }
-    Ok(stops)
+    Err(Fault::DeviceFailed.into())
 }
 
-/// How often runs were stopped, and how often the openings of what they left.
+/// How often runs were stopped, and how often openings of what they left.
 #[derive(Clone, Copy)]
 struct Stops {
     runs: u32,
@@ -498,12 +529,12 @@ fn assert_stops(
     rt: &impl Abort,
     alloc: Global,
     script: &Script<'_>,
-    target: Target,
-    calls: Calls,
+    way: (Target, Calls),
+    seen: &mut Vec<MemTrio>,
 ) -> Result<Stops, Fail> {
     let mut runs = 0u32;
     let mut openings = 0u32;
-    let mut course = Course::Stopped;
+    let (target, calls) = way;
     for pass in 0..MOST_CALLS {
         let fused = Fused {
             target,
@@ -512,17 +543,14 @@ fn assert_stops(
         };
         let left = run_fused(rt, alloc, script, fused)?;
         let expected = assert_recovers(rt, alloc, &left)?;
-        course = left.standing.course;
-        if course == Course::Whole {
-            break;
+        if left.standing.course == Course::Whole {
+            return Ok(Stops { runs, openings });
         }
-        let images = &left.standing.images;
-        let more = assert_openings(rt, alloc, bytes_of(&left.trio), images, expected)?;
+        let more = assert_openings(rt, alloc, left, expected, seen)?;
         openings = openings.saturating_add(more);
         runs = runs.saturating_add(1);
     }
-    assert!(rt; course == Course::Whole);
-    Ok(Stops { runs, openings })
+    Err(Fault::DeviceFailed.into())
 }
 
 /// Stops a script at each call of one device, in each way.
@@ -532,24 +560,24 @@ fn assert_script(
     script: &Script<'_>,
     target: Target,
 ) -> Result<Stops, Fail> {
-    let mut stops = Stops {
-        runs: 0,
-        openings: 0,
-    };
-    for calls in RUNNING {
-        let more = assert_stops(rt, alloc, script, target, calls)?;
-        stops.runs = stops.runs.saturating_add(more.runs);
-        stops.openings = stops.openings.saturating_add(more.openings);
+    let mut runs = 0u32;
+    let mut openings = 0u32;
+    let mut seen = Vec::new(alloc);
+    for calls in WAYS {
+        let more = assert_stops(rt, alloc, script, (target, calls), &mut seen)?;
+        runs = runs.saturating_add(more.runs);
+        openings = openings.saturating_add(more.openings);
     }
-    assert!(rt; stops.runs > 0);
-    Ok(stops)
+    assert!(rt; runs > 0);
+    Ok(Stops { runs, openings })
 }
 
-/// Stops all scripts at each call of one device.
+/// Stops all scripts at each call of one device: at least so many runs and openings.
 fn assert_device(
     rt: &(impl Abort + Print + Alloc),
     alloc: Global,
     target: Target,
+    least: Stops,
 ) -> Result<(), Fail> {
     let mut runs = 0u32;
     let mut openings = 0u32;
@@ -559,21 +587,33 @@ fn assert_device(
         openings = openings.saturating_add(more.openings);
     }
     println!(rt; "{runs} runs and {openings} openings stopped")?;
-    assert!(rt; runs > 50 && openings > 500);
+    assert!(rt; runs >= least.runs && openings >= least.openings);
     Ok(())
 }
 
 #[test]
 fn runs_stopped_at_calls_of_the_image(rt: HostRuntime) -> Result<(), Fail> {
-    assert_device(&rt, rt.alloc(), Target::Image)
+    let least = Stops {
+        runs: 100,
+        openings: 100,
+    };
+    assert_device(&rt, rt.alloc(), Target::Image, least)
 }
 
 #[test]
 fn runs_stopped_at_calls_of_the_journal(rt: HostRuntime) -> Result<(), Fail> {
-    assert_device(&rt, rt.alloc(), Target::Journal)
+    let least = Stops {
+        runs: 100,
+        openings: 100,
+    };
+    assert_device(&rt, rt.alloc(), Target::Journal, least)
 }
 
 #[test]
 fn runs_stopped_at_calls_of_the_redo_text(rt: HostRuntime) -> Result<(), Fail> {
-    assert_device(&rt, rt.alloc(), Target::Redo)
+    let least = Stops {
+        runs: 100,
+        openings: 100,
+    };
+    assert_device(&rt, rt.alloc(), Target::Redo, least)
 }
