@@ -301,32 +301,47 @@ fn fronts_beside_an_unfinished_journal(rt: HostRuntime) -> Result<(), Fail> {
     Ok(())
 }
 
-/// Each byte of the redo text made each other byte.
-fn assert_redo_changes(
+/// The redo text with one byte made another.
+fn with_byte(alloc: Global, redo: &[u8], i: usize, byte: u8) -> Result<Vec<u8>, AllocError> {
+    let mut changed = redo.to_vec(alloc)?;
+    if let Some(place) = changed.get_mut(i) {
+        *place = byte;
+    }
+    Ok(changed)
+}
+
+/// The redo text with a byte made each other byte.
+fn assert_redo_byte(
     rt: &impl Abort,
     alloc: Global,
     image: &[u8],
-    journal: &str,
     redo: &[u8],
+    i: usize,
 ) -> Result<(), Fail> {
-    for (i, old) in redo.iter().enumerate() {
-        let mut changed = redo.to_vec(alloc)?;
-        for byte in 0..=255u8 {
-            if byte == *old {
-                continue;
-            }
-            if let Some(place) = changed.get_mut(i) {
-                *place = byte;
-            }
-            let bytes = (image, journal.as_bytes(), changed.as_slice());
-            assert_all_judged(rt, alloc, bytes, i)?;
-        }
+    for byte in 0..=255u8 {
+        let changed = with_byte(alloc, redo, i, byte)?;
+        assert_all_judged(rt, alloc, (image, b"", changed.as_slice()), i)?;
     }
     Ok(())
 }
 
 #[test]
 fn each_byte_of_a_redo_text(rt: HostRuntime) -> Result<(), Fail> {
-    assert_redo_changes(&rt, rt.alloc(), b"AB", "", UNDONE_GAP.as_bytes())?;
-    assert_redo_changes(&rt, rt.alloc(), b"a", FIRST_PATCH, UNDONE_TWO.as_bytes())
+    let redo = UNDONE_GAP.as_bytes();
+    for i in 0..redo.len() {
+        assert_redo_byte(&rt, rt.alloc(), b"AB", redo, i)?;
+    }
+    Ok(())
+}
+
+/// Each byte made its neighbour, in a redo text of two entries beside a journal.
+#[test]
+fn bytes_of_two_in_a_redo_text(rt: HostRuntime) -> Result<(), Fail> {
+    let alloc = rt.alloc();
+    for (i, byte) in UNDONE_TWO.as_bytes().iter().enumerate() {
+        let changed = with_byte(alloc, UNDONE_TWO.as_bytes(), i, byte.wrapping_add(1))?;
+        let bytes: Bytes<'_> = (b"a", FIRST_PATCH.as_bytes(), changed.as_slice());
+        assert_all_judged(&rt, alloc, bytes, i)?;
+    }
+    Ok(())
 }
