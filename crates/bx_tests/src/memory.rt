@@ -333,6 +333,9 @@ fn found(how: How, changes: u32, undone: u32) -> Result<Recovered, SessionFault>
 /// A journal of one change in the first form, which tells no length behind it.
 const DONE: &str = "change 00000001 00000040\n00000030: 4142\nsave 00000001\ndone 00000001\n";
 
+const FOREIGN: &str =
+    "a text that is neither a journal nor a redo text, and long enough to have room of its own\n";
+
 #[test]
 fn growths_of_opening(rt: HostRuntime) -> Result<(), Fail> {
     let front = ("change 00000001 00000040\n00000030: 4142\n", "");
@@ -355,7 +358,7 @@ fn growths_of_opening_with_a_redo_text(rt: HostRuntime) -> Result<(), Fail> {
     sweep_opening(&rt, rt.alloc(), in_order, found(How::Clean, 1, 2), 2)?;
     let first = Err(SessionFault::RedoDamaged { line: 1 });
     sweep_opening(&rt, rt.alloc(), (DONE, DONE), first, 4)?;
-    sweep_opening(&rt, rt.alloc(), (DONE, "hello\n"), first, 3)?;
+    sweep_opening(&rt, rt.alloc(), (DONE, FOREIGN), first, 3)?;
     // The length is compared without memory.
     let last = Err(SessionFault::RedoDamaged { line: 4 });
     sweep_opening(&rt, rt.alloc(), (DONE, UNDONE_PATCH), last, 2)
