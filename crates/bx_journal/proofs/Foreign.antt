@@ -89,6 +89,17 @@ lines_grow (l ∷ ls) r q e =
     let b = bind_some (λ p. after_lines p ls) (next r l) q e in
     omega (arith, next_grows r.entries r.stage l b.0 b.1, lines_grow ls b.0 q b.2)
 
+-- from between two entries no line leads back to there
+pub no_way_back : (es : List Entry) (ls : List (List ℕ)) → after_lines (record { entries = es; stage = Between }) ls ≡ Some (record { entries = es; stage = Between }) → length ls ≡ 0
+unfolding after_lines weight weight_of
+no_way_back es [] is = refl
+no_way_back es (l ∷ ls) is =
+    let b = bind_some (λ q. after_lines q ls) (next (record { entries = es; stage = Between }) l) (record { entries = es; stage = Between }) is in
+    let first = next_between es l b.0 b.1 in
+    let grows = lines_grow ls b.0 (record { entries = es; stage = Between }) b.2 in
+    let heavy : weight b.0 ≡ 3 * length es + 1 = ap weight (first.2 ∙ ap (λ s. record { entries = es; stage = s }) first.1.7) in
+    absurd (omega (arith, grows, heavy))
+
 pub and_true : (a b : Bool) → (a && b) ≡ true → (a ≡ true) × (b ≡ true)
 and_true true b h = (refl, h)
 and_true false b h = absurd (cc)

@@ -47,7 +47,7 @@ pub mod OverLemmas
 pub mod ImageLemmas
 pub mod RedoText
 pub mod Sharper
-pub mod Found
+pub mod StepFound
 pub mod Pushed
 pub mod TurnLemmas
 pub mod TrioLemmas
@@ -57,3 +57,8 @@ pub mod TakenLemmas
 pub mod LoopLemmas
 pub mod RedoLoop
 pub mod StandingLoop
+pub mod AloneLemmas
+pub mod RecoverLemmas
+pub mod Refused
+pub mod JudgeLemmas
+pub mod OpenedLemmas

@@ -30,3 +30,5 @@ pub mod Redo
 pub mod RedoLaws
 pub mod Turns
 pub mod Takens
+pub mod Recovery
+pub mod Judging

@@ -1,5 +1,6 @@
 //! Laws over the definitions alone.
 ghost use Rattle.bx_journal.specs.Laws.{WrittenIsRead, StandsForOne, DamagedAtOne, EmptyIsSound};
+ghost use Rattle.bx_journal.specs.RedoLaws.{EmptyIsRedo, RedoIsOne, RedoLineOne};
 
 /// The entry that is written is read again, and gives its number, its record and its length.
 pub fn written_entry_is_read()
@@ -19,4 +20,19 @@ pub fn one_damaged_line()
 /// An empty text is sound with every image.
 pub fn empty_text_is_sound()
     ensures { EmptyIsSound }
+{}
+
+/// An empty text is the redo text of no undone image, whatever the image is.
+pub fn empty_is_redo()
+    ensures { EmptyIsRedo }
+{}
+
+/// A redo text and an image determine the undone images.
+pub fn one_undone()
+    ensures { RedoIsOne }
+{}
+
+/// A redo text is refused at one line, and only where it isn't one.
+pub fn one_redo_line()
+    ensures { RedoLineOne }
 {}

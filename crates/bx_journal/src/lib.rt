@@ -7,10 +7,13 @@ mod closing;
 mod ends;
 mod fault;
 mod filling;
+mod finished;
 mod follow;
+mod found;
 mod images;
 mod in_place;
 mod journal;
+mod judging;
 mod lanes;
 mod laws;
 mod lengths;
@@ -40,7 +43,10 @@ mod writer;
 
 pub use calls::{How, LogRow, Recovered};
 pub use fault::SessionFault;
-pub use laws::{empty_text_is_sound, one_damaged_line, one_stack, written_entry_is_read};
+pub use laws::{
+    empty_is_redo, empty_text_is_sound, one_damaged_line, one_redo_line, one_stack, one_undone,
+    written_entry_is_read,
+};
 pub(crate) use reader::{EntryRead, StageRead};
 pub use session::Session;
 pub(crate) use version::Version;

@@ -1,10 +1,13 @@
 //! A journal's text whose entries are counted, and of which nothing else is kept.
-ghost use Rattle.std.specs.Prelude.{◌≡◌, ◌+◌, ◌<◌, ◌≤◌, ◌++◌, ◌∷◌, List, ℕ, suc, length, take, drop, Some, IfSome, IfNone};
+ghost use Rattle.std.specs.Prelude.{◌≡◌, ◌+◌, ◌<◌, ◌≤◌, ◌++◌, ◌∷◌, List, ℕ, suc, length, take, drop, is_some, IsTrue, Some, IfSome, IfNone};
 ghost use Rattle.bx_journal.specs.Kept.{Kept as Record};
+ghost use Rattle.bx_journal.specs.Line.{after_in as after_at};
 ghost use Rattle.bx_journal.specs.Plain.{HasNoNewline};
-ghost use Rattle.bx_journal.specs.Tally.{IsCounted, tally_of, place_of};
+ghost use Rattle.bx_journal.specs.Redo.{AllTell};
+ghost use Rattle.bx_journal.specs.Tally.{IsCounted, LeadsTo, tally_of, place_of};
 ghost use Rattle.bx_journal.specs.Text.{Between as Resting, Saving as Keeping, Entry, Reading, Stage, next, next_at};
 ghost use Rattle.bx_journal.specs.Parsed.{told_by};
+ghost use Rattle.bx_journal.specs.Undoing.{IsFinished};
 
 use crate::Version;
 use crate::ends::{end_at, line_end};
@@ -60,10 +63,26 @@ fn save(number: u32, version: Version, len: u64, line: &[u8]) -> Option<Place>
     Some(Place::Saving { version, len })
 }
 
-/// The tally after one more line, where the line is in place.
+/// The length that an end line tells, if any. With `only_second` a line that tells none isn't taken.
 #[inline]
-fn take_one(tally: Tally, line: &[u8]) -> Option<Tally>
-    ensures { (r : Reading) → tally_of r ≡ tally → IfSome result (λ t. (q : Reading) × (next r line.now ≡ Some q) × (tally_of q ≡ t)) }
+fn told_in(only_second: bool, version: Version, number: u32, line: &[u8]) -> Option<Option<u64>>
+    ensures found { IfSome result (λ told. Some told ≡ after_at version number line.now) }
+    ensures second { IsTrue only_second → IfSome result (λ told. IsTrue (is_some told)) }
+{
+    let told = after_in(version, number, line)?;
+    if !only_second {
+        return Some(told);
+    }
+    let after = told?;
+    Some(Some(after))
+}
+
+/// The tally after one more line, where the line is in place. With `only_second` an entry that tells no length isn't
+/// counted.
+#[inline]
+fn take_one(tally: Tally, line: &[u8], only_second: bool) -> Option<Tally>
+    ensures leads { (r : Reading) → tally_of r ≡ tally → IfSome result (LeadsTo only_second r line.now) }
+    ensures few { tally.count ≤ 65535 → IfSome result (λ t. t.count ≤ 65535) }
 {
     if tally.count >= MOST_CHANGES {
         return None;
@@ -87,7 +106,7 @@ fn take_one(tally: Tally, line: &[u8]) -> Option<Tally>
             })
         }
         Place::Ending { version } => {
-            let told = after_in(version, number, line)?;
+            let told = told_in(only_second, version, number, line)?;
             Some(Tally {
                 count: number,
                 told,
@@ -132,9 +151,12 @@ pub struct Counted {
     pub told: Option<u64>,
 }
 
-/// Counts the entries of a text of finished entries alone. It answers none where the text is anything else.
-pub fn count_entries(text: &[u8]) -> Option<Counted>
-    ensures { IfSome result (λ c. IsCounted text.now c.count c.told) }
+/// Counts the entries of a text of finished entries alone. It answers none where the text is anything else, and with
+/// `only_second` also where an entry tells no length.
+pub fn count_entries(text: &[u8], only_second: bool) -> Option<Counted>
+    ensures counted { IfSome result (λ c. IsCounted text.now c.count c.told) }
+    ensures few { IfSome result (λ c. c.count ≤ 65535) }
+    ensures second { IsTrue only_second → IfSome result (λ _. (entries : List Entry) × IsFinished text.now entries × AllTell entries) }
 {
     let mut tally = Tally {
         count: 0,
@@ -143,7 +165,7 @@ pub fn count_entries(text: &[u8]) -> Option<Counted>
     };
     let mut rest = text;
     while let Some(i) = next_end(tally.place, rest) {
-        tally = take_one(tally, &rest[..i])?;
+        tally = take_one(tally, &rest[..i], only_second)?;
         let (_, behind) = rest.split_at(i + 1);
         rest = behind;
     }

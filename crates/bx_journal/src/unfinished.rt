@@ -1,27 +1,30 @@
-//! What opening finds, and how it takes back what is unfinished.
-ghost use Rattle.std.specs.Prelude.{◌≡◌, ◌↔◌, ◌⊎◌, Some, ◌+◌, ◌<◌, ◌≤◌, List, ℕ, length, suc, OnOk, OnErr, IfOk, IfErr, IfSome, MatchResult};
+//! What is unfinished in a journal, and how opening takes it back.
+ghost use Rattle.std.specs.Prelude.{◌≡◌, ◌↔◌, ◌⊎◌, Some, ◌+◌, ◌<◌, ◌≤◌, [], List, ℕ, length, suc, OnOk, OnErr, IfOk, IfErr, IfSome, MatchResult};
 ghost use Rattle.bx_journal.specs.Calls.{AfterFault, Differs, OpenFault};
-ghost use Rattle.bx_journal.specs.Journal.{HasRead, IsReadIn};
-ghost use Rattle.bx_journal.specs.Opening.{FaultCounts, OneMore, HasRoomFor, IsOpened, LookFault, RefusesLength, RefusesText};
+ghost use Rattle.bx_journal.specs.Images.{Images};
+ghost use Rattle.bx_journal.specs.Journal.{HasRead};
+ghost use Rattle.bx_journal.specs.Judging.{RefusesRedo};
+ghost use Rattle.bx_journal.specs.Opening.{FaultCounts, OneMoreOfThree, ThreeCounts, HasRoomFor, IsOpened, LookFault, RefusesLength, RefusesText};
 ghost use Rattle.bx_journal.specs.Parsed.{entries_of, reading_of, stage_of};
 ghost use Rattle.bx_journal.specs.Phase.{IsAtRest};
+ghost use Rattle.bx_journal.specs.Recovery.{HasUndoneCount, IsUnfinishedIn, KeepsUndone, OpenKind, RecoverFault};
+ghost use Rattle.bx_journal.specs.Redo.{Finds, IsClean, RefusesRedoAt};
 ghost use Rattle.bx_journal.specs.Stack.{HaveLengths, Recovers, image_at};
-ghost use Rattle.bx_journal.specs.Tally.{IsCounted};
 ghost use Rattle.bx_journal.specs.Text.{IsAccepted, IsDamagedAt, Reading, Reads};
 
-use crate::fault::of_text;
-use crate::journal::{JournalRead, read_journal};
+use crate::finished::open_finished;
+use crate::found::{Found, read_text};
+use crate::journal::JournalRead;
 use crate::recovery::{drop_tail, take_back};
 use crate::redo_text::cut_redo;
 use crate::step::told_length;
-use crate::tally::{Counted, count_entries};
 use crate::{How, Recovered, SessionFault, StageRead};
 use bx_image::{Device, DeviceFailed};
 use bx_store::TextStore;
 use std::alloc::Allocator;
 
 /// Whether the image has the length that the last entry tells, if it tells one.
-fn check_length<D: Device>(device: &mut D, told: Option<u64>) -> Result<(), SessionFault>
+pub fn check_length<D: Device>(device: &mut D, told: Option<u64>) -> Result<(), SessionFault>
     requires { D.failures device.old < u64.MAX }
     ensures same_length { D.honest device.old → OnOk result (IfSome told (λ n. length (D.image device.old) ≡ n)) }
     ensures fault { IfErr result (λ e. (e ≡ SessionFault.DeviceFailed)
@@ -66,32 +69,35 @@ fn prepare<D: Device, A: Allocator>(
     }
 }
 
-/// Cuts off what is unfinished, and takes its change back where its save line stands.
+/// Empties the redo text, cuts off what is unfinished, and takes its change back where its save line stands.
 fn finish<D: Device, T: TextStore, A: Allocator>(
     device: &mut D,
     store: &mut T,
     redo_text: &mut T,
-    len: u64,
     journal: JournalRead<A>,
 ) -> Result<Recovered, DeviceFailed>
     requires device_countable { D.failures device.old < u64.MAX }
     requires store_countable { T.failures store.old < u64.MAX }
     requires redo_countable { T.failures redo_text.old < u64.MAX }
-    requires read { IsReadIn (T.honest store.old) (T.text store.old) len journal }
+    requires read { IsUnfinishedIn (T.honest store.old) (T.text store.old) journal }
     requires room { HasRoomFor journal.stage (D.room device.old) }
     ensures opened { D.honest device.old → T.honest store.old → HaveLengths (entries_of journal.entries.items) (image_at (stage_of journal.stage) (D.image device.old))
         → IfOk result (λ o. IsOpened (T.text store.old) (D.image device.old) (reading_of journal.entries.items journal.stage) (T.text store.new) (D.image device.new) o.how o.changes) }
-    ensures clean { D.honest device.old → T.honest store.old → IfOk result (λ o. o.how ≡ How.Clean → (T.text store.new ≡ T.text store.old) × (D.image device.new ≡ D.image device.old)) }
+    ensures unclean { IfOk result (λ o. (o.how ≡ How.Clean → ⊥) × (o.undone ≡ 0)) }
     ensures keeps { D.honest device.old → T.honest store.old → (stack : List (List ℕ)) → Recovers (T.text store.old) (D.image device.old) stack
         → OnOk result (IsAtRest (T.text store.new) (D.image device.new) stack) }
     ensures keeps_err { D.honest device.old → T.honest store.old → (stack : List (List ℕ)) → Recovers (T.text store.old) (D.image device.old) stack
         → OnErr result (Recovers (T.text store.new) (D.image device.new) stack) }
     ensures changes { IfOk result (λ o. o.changes ≡ length journal.entries.items) }
+    ensures emptied { T.honest redo_text.old → OnOk result (T.text redo_text.new ≡ []) }
+    ensures emptied_first { T.honest redo_text.old → OnErr result ((store.new ≡ store.old) ⊎ (T.text redo_text.new ≡ [])) }
     ensures device_honesty { D.honest device.new ↔ D.honest device.old }
     ensures store_honesty { T.honest store.new ↔ T.honest store.old }
-    ensures no_failure { OnOk result ((D.failures device.new ≡ D.failures device.old) × (T.failures store.new ≡ T.failures store.old)) }
-    ensures failure { OnErr result (OneMore (D.failures device.old) (T.failures store.old) (D.failures device.new) (T.failures store.new)) }
+    ensures redo_honesty { T.honest redo_text.new ↔ T.honest redo_text.old }
+    ensures no_failure { OnOk result ((D.failures device.new ≡ D.failures device.old) × (T.failures store.new ≡ T.failures store.old) × (T.failures redo_text.new ≡ T.failures redo_text.old)) }
+    ensures failure { OnErr result (OneMoreOfThree (D.failures device.old) (T.failures store.old) (T.failures redo_text.old) (D.failures device.new) (T.failures store.new) (T.failures redo_text.new)) }
 {
+    cut_redo(redo_text, 0)?;
     let JournalRead {
         entries,
         stage,
@@ -100,14 +106,6 @@ fn finish<D: Device, T: TextStore, A: Allocator>(
     let changes = entries.len() as u32;
     match stage {
         StageRead::Between => {
-            if whole == len {
-                return Ok(Recovered {
-                    how: How::Clean,
-                    changes,
-                    undone: 0,
-                });
-            }
-            cut_redo(redo_text, 0)?;
             drop_tail(store, whole)?;
             Ok(Recovered {
                 how: How::Dropped,
@@ -116,7 +114,6 @@ fn finish<D: Device, T: TextStore, A: Allocator>(
             })
         }
         StageRead::Saving { begins, .. } => {
-            cut_redo(redo_text, 0)?;
             drop_tail(store, begins)?;
             Ok(Recovered {
                 how: How::Dropped,
@@ -125,7 +122,6 @@ fn finish<D: Device, T: TextStore, A: Allocator>(
             })
         }
         StageRead::Ending { kept, begins, .. } => {
-            cut_redo(redo_text, 0)?;
             take_back(device, store, kept, begins)?;
             Ok(Recovered {
                 how: How::Restored {
@@ -143,17 +139,18 @@ pub fn recover_read<D: Device, T: TextStore, A: Allocator>(
     device: &mut D,
     store: &mut T,
     redo_text: &mut T,
-    len: u64,
     journal: JournalRead<A>,
 ) -> Result<Recovered, SessionFault>
     requires device_countable { D.failures device.old < u64.MAX }
     requires store_countable { T.failures store.old < u64.MAX }
     requires redo_countable { T.failures redo_text.old < u64.MAX }
-    requires read { IsReadIn (T.honest store.old) (T.text store.old) len journal }
+    requires read { IsUnfinishedIn (T.honest store.old) (T.text store.old) journal }
     ensures opened { D.honest device.old → T.honest store.old → (r : Reading) → Reads (T.text store.old) r
         → IfOk result (λ o. IsOpened (T.text store.old) (D.image device.old) r (T.text store.new) (D.image device.new) o.how o.changes) }
-    ensures clean { D.honest device.old → T.honest store.old → IfOk result (λ o. o.how ≡ How.Clean → (T.text store.new ≡ T.text store.old) × (D.image device.new ≡ D.image device.old)) }
+    ensures unclean { IfOk result (λ o. (o.how ≡ How.Clean → ⊥) × (o.undone ≡ 0)) }
+    ensures sum { IfOk result (λ o. o.changes + o.undone ≤ 65535) }
     ensures faults { D.honest device.old → T.honest store.old → (r : Reading) → Reads (T.text store.old) r → IfErr result (OpenFault r (D.image device.old)) }
+    ensures kind { IfErr result RecoverFault }
     ensures differs { D.honest device.old → T.honest store.old → (r : Reading) (n : ℕ) → Reads (T.text store.old) r → Differs r.entries (image_at r.stage (D.image device.old)) n
         → MatchResult result (λ _. ⊥) (RefusesLength n) }
     ensures keeps { D.honest device.old → T.honest store.old → (stack : List (List ℕ)) → Recovers (T.text store.old) (D.image device.old) stack
@@ -162,54 +159,27 @@ pub fn recover_read<D: Device, T: TextStore, A: Allocator>(
         → OnErr result (Recovers (T.text store.new) (D.image device.new) stack) }
     ensures counted { D.honest device.old → T.honest store.old → (stack : List (List ℕ)) → Recovers (T.text store.old) (D.image device.old) stack
         → IfOk result (λ o. length stack ≡ suc o.changes) }
-    ensures undamaged { IfErr result (λ e. (line : ℕ) → e ≡ SessionFault.Damaged line → ⊥) }
     ensures refused { D.honest device.old → T.honest store.old → IfErr result (λ e. AfterFault e (Unit {0})
         ((T.text store.new ≡ T.text store.old) × (D.image device.new ≡ D.image device.old))) }
+    ensures emptied { T.honest redo_text.old → OnOk result (T.text redo_text.new ≡ []) }
+    ensures emptied_first { T.honest redo_text.old → OnErr result ((store.new ≡ store.old) ⊎ (T.text redo_text.new ≡ [])) }
+    ensures redo_same { T.honest redo_text.old → IfErr result (λ e. AfterFault e (Unit {0}) (T.text redo_text.new ≡ T.text redo_text.old)) }
     ensures device_honesty { D.honest device.new ↔ D.honest device.old }
     ensures store_honesty { T.honest store.new ↔ T.honest store.old }
-    ensures no_failure { OnOk result ((D.failures device.new ≡ D.failures device.old) × (T.failures store.new ≡ T.failures store.old)) }
-    ensures counts { IfErr result (λ e. FaultCounts e (D.failures device.old) (T.failures store.old) (D.failures device.new) (T.failures store.new)) }
+    ensures redo_honesty { T.honest redo_text.new ↔ T.honest redo_text.old }
+    ensures no_failure { OnOk result ((D.failures device.new ≡ D.failures device.old) × (T.failures store.new ≡ T.failures store.old) × (T.failures redo_text.new ≡ T.failures redo_text.old)) }
+    ensures counts { IfErr result (λ e. ThreeCounts e (D.failures device.old) (T.failures store.old) (T.failures redo_text.old) (D.failures device.new) (T.failures store.new) (T.failures redo_text.new)) }
 {
     if let Err(fault) = prepare(device, &journal) {
         return Err(fault);
     }
-    match finish(device, store, redo_text, len, journal) {
+    match finish(device, store, redo_text, journal) {
         Ok(found) => Ok(found),
         Err(_) => Err(SessionFault::Interrupted),
     }
 }
 
-/// Opens a journal of finished entries alone.
-fn open_counted<D: Device>(device: &mut D, found: Counted) -> Result<Recovered, SessionFault>
-    requires { D.failures device.old < u64.MAX }
-    ensures opened { D.honest device.old → (text : List ℕ) (r : Reading) → IsCounted text found.count found.told → Reads text r
-        → IfOk result (λ o. IsOpened text (D.image device.old) r text (D.image device.new) o.how o.changes) }
-    ensures faults { D.honest device.old → (text : List ℕ) (r : Reading) → IsCounted text found.count found.told → Reads text r
-        → IfErr result (OpenFault r (D.image device.old)) }
-    ensures differs { D.honest device.old → (text : List ℕ) (r : Reading) (n : ℕ) → IsCounted text found.count found.told → Reads text r
-        → Differs r.entries (image_at r.stage (D.image device.old)) n → MatchResult result (λ _. ⊥) (RefusesLength n) }
-    ensures keeps { D.honest device.old → (text : List ℕ) (stack : List (List ℕ)) → IsCounted text found.count found.told → Recovers text (D.image device.old) stack
-        → IsAtRest text (D.image device.new) stack }
-    ensures counted { (text x : List ℕ) (stack : List (List ℕ)) → IsCounted text found.count found.told → Recovers text x stack
-        → IfOk result (λ o. length stack ≡ suc o.changes) }
-    ensures undamaged { IfErr result (λ e. (line : ℕ) → e ≡ SessionFault.Damaged line → ⊥) }
-    ensures kind { IfErr result (λ e. e ≡ SessionFault.Interrupted → ⊥) }
-    ensures image { D.honest device.old → D.image device.new ≡ D.image device.old }
-    ensures honesty { D.honest device.new ↔ D.honest device.old }
-    ensures ok { OnOk result (D.failures device.new ≡ D.failures device.old) }
-    ensures counts { IfErr result (λ e. FaultCounts e (D.failures device.old) 0 (D.failures device.new) 0) }
-{
-    if let Err(fault) = check_length(device, found.told) {
-        return Err(fault);
-    }
-    Ok(Recovered {
-        how: How::Clean,
-        changes: found.count,
-        undone: 0,
-    })
-}
-
-/// Reads the journal, and takes back what is unfinished.
+/// Reads the journal. Beside finished entries alone the redo text is judged; anything else is taken back.
 pub fn recover<D: Device, T: TextStore, A: Allocator + Clone>(
     alloc: &A,
     device: &mut D,
@@ -226,6 +196,8 @@ pub fn recover<D: Device, T: TextStore, A: Allocator + Clone>(
     ensures damaged { T.honest store.old → IfErr result (λ e. (line : ℕ) → e ≡ SessionFault.Damaged line → IsDamagedAt (T.text store.old) line) }
     ensures unaccepted { T.honest store.old → (IsAccepted (T.text store.old) → ⊥) → MatchResult result (λ _. ⊥) RefusesText }
     ensures faults { D.honest device.old → T.honest store.old → (r : Reading) → Reads (T.text store.old) r → IfErr result (OpenFault r (D.image device.old)) }
+    ensures kind { IfErr result OpenKind }
+    ensures unfinished { T.honest store.old → IfErr result (λ e. e ≡ SessionFault.Interrupted → IsClean (T.text store.old) → ⊥) }
     ensures differs { D.honest device.old → T.honest store.old → (r : Reading) (n : ℕ) → Reads (T.text store.old) r → Differs r.entries (image_at r.stage (D.image device.old)) n
         → MatchResult result (λ _. ⊥) (RefusesLength n) }
     ensures keeps { D.honest device.old → T.honest store.old → (stack : List (List ℕ)) → Recovers (T.text store.old) (D.image device.old) stack
@@ -236,22 +208,35 @@ pub fn recover<D: Device, T: TextStore, A: Allocator + Clone>(
         → IfOk result (λ o. length stack ≡ suc o.changes) }
     ensures refused { D.honest device.old → T.honest store.old → IfErr result (λ e. AfterFault e (Unit {0})
         ((T.text store.new ≡ T.text store.old) × (D.image device.new ≡ D.image device.old))) }
+    ensures clean_redo { T.honest redo_text.old → IfOk result (λ o. o.how ≡ How.Clean → T.text redo_text.new ≡ T.text redo_text.old) }
+    ensures emptied { T.honest redo_text.old → IfOk result (λ o. (o.how ≡ How.Clean → ⊥) → (T.text redo_text.new ≡ []) × (o.undone ≡ 0)) }
+    ensures redo_same { T.honest redo_text.old → IfErr result (λ e. AfterFault e (Unit {0}) (T.text redo_text.new ≡ T.text redo_text.old)) }
+    ensures undone { D.honest device.old → T.honest store.old → T.honest redo_text.old
+        → IfOk result (λ o. HasUndoneCount (T.text redo_text.new) (D.image device.new) o.changes o.undone) }
+    ensures sum { IfOk result (λ o. o.changes + o.undone ≤ 65535) }
+    ensures redo_refused { D.honest device.old → T.honest store.old → T.honest redo_text.old → IfErr result (λ e. (line : ℕ) → e ≡ SessionFault.RedoDamaged line
+        → RefusesRedoAt (T.text store.old) (D.image device.old) (T.text redo_text.old) line) }
+    ensures redo_unfit { D.honest device.old → T.honest store.old → T.honest redo_text.old → (line : ℕ)
+        → RefusesRedoAt (T.text store.old) (D.image device.old) (T.text redo_text.old) line → MatchResult result (λ _. ⊥) (RefusesRedo line) }
+    ensures keeps_undone { D.honest device.old → T.honest store.old → T.honest redo_text.old → (s : Images) → Finds (T.text store.old) (D.image device.old) (T.text redo_text.old) s
+        → IfOk result (λ o. KeepsUndone (T.text redo_text.new) (D.image device.new) o s.undone) }
+    ensures finds_err { D.honest device.old → T.honest store.old → T.honest redo_text.old → (s : Images) → Finds (T.text store.old) (D.image device.old) (T.text redo_text.old) s
+        → IfErr result (λ e. AfterFault e (Finds (T.text store.new) (D.image device.new) (T.text redo_text.new) (record { stack = s.stack; undone = [] }))
+        (Finds (T.text store.new) (D.image device.new) (T.text redo_text.new) s)) }
+    ensures redo_kept { D.honest device.old → T.honest store.old → T.honest redo_text.old → (s : Images) → Finds (T.text store.old) (D.image device.old) (T.text redo_text.old) s
+        → IfErr result (λ e. (line : ℕ) → e ≡ SessionFault.RedoDamaged line → ⊥) }
     ensures device_honesty { D.honest device.new ↔ D.honest device.old }
     ensures store_honesty { T.honest store.new ↔ T.honest store.old }
-    ensures no_failure { OnOk result ((D.failures device.new ≡ D.failures device.old) × (T.failures store.new ≡ T.failures store.old)) }
-    ensures counts { IfErr result (λ e. FaultCounts e (D.failures device.old) (T.failures store.old) (D.failures device.new) (T.failures store.new)) }
+    ensures redo_honesty { T.honest redo_text.new ↔ T.honest redo_text.old }
+    ensures no_failure { OnOk result ((D.failures device.new ≡ D.failures device.old) × (T.failures store.new ≡ T.failures store.old) × (T.failures redo_text.new ≡ T.failures redo_text.old)) }
+    ensures counts { IfErr result (λ e. ThreeCounts e (D.failures device.old) (T.failures store.old) (T.failures redo_text.old) (D.failures device.new) (T.failures store.new) (T.failures redo_text.new)) }
 {
-    let bytes = match store.read_all(alloc.clone()?) {
-        Ok(bytes) => bytes,
-        Err(fault) => return Err(of_text(fault)),
-    };
-    if let Some(found) = count_entries(&bytes) {
-        return open_counted(device, found);
-    }
-    let len = bytes.len() as u64;
-    let journal = match read_journal(alloc, bytes) {
-        Ok(journal) => journal,
+    let found = match read_text(alloc, store) {
+        Ok(found) => found,
         Err(fault) => return Err(fault),
     };
-    recover_read(device, store, redo_text, len, journal)
+    match found {
+        Found::Finished(counted) => open_finished(alloc, device, redo_text, counted),
+        Found::Unfinished(journal) => recover_read(device, store, redo_text, journal),
+    }
 }

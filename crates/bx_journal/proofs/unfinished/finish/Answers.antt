@@ -2,27 +2,19 @@ use Rattle.std.proofs.Common.{refl, arith, Result, Ok, Err}
 use Rattle.std.specs.Prelude.{OnErr}
 use Rattle.bx_journal.specs.declared.reader.StageRead.TheVariants.{Between as BetweenRead}
 use Rattle.bx_journal.specs.Text.{Between}
-use Rattle.bx_journal.proofs.TailLemmas.{tail_at, clean_at, ending_within}
-use Rattle.bx_journal.proofs.OpenLemmas.{opened_clean, opened_dropped, opened_saving, opened_ending}
+use Rattle.bx_journal.proofs.TailLemmas.{tail_at, ending_within}
+use Rattle.bx_journal.proofs.RecoverLemmas.{ending_begins}
+use Rattle.bx_journal.proofs.OpenLemmas.{opened_dropped, opened_saving, opened_ending}
 use Rattle.bx_journal.proofs.unfinished.finish.Goals as goal
 
 always_err : {T E P : Type 0} (r : Result T E) → P → OnErr r P
 always_err (Ok x) p = tt
 always_err (Err e) p = p
 
-pub returns-then-whole-len-clause-opened : goal.returns-then-whole-len-clause-opened
-returns-then-whole-len-clause-opened g c dh th lengths =
-    opened_clean (g.T.TextStore.text c.args.store.now) c.requires.read.text (g.D.Device.image c.args.device.now) c.args.journal c.len-changes.result
-    c.requires.read.read c.in-Between.is (c.requires.read.is th) (omega (arith, c.requires.read.long)) lengths (omega arith)
-
-pub returns-then-whole-len-clause-keeps : goal.returns-then-whole-len-clause-keeps
-returns-then-whole-len-clause-keeps g c dh th stack rec =
-    clean_at (g.T.TextStore.text c.args.store.now) c.requires.read.text (g.D.Device.image c.args.device.now) stack c.args.journal c.requires.read.read c.in-Between.is (c.requires.read.is th) rec (omega (arith, c.requires.read.long))
-
 pub returns-in-Between-clause-opened : goal.returns-in-Between-clause-opened
 returns-in-Between-clause-opened g c dh th lengths =
     opened_dropped (g.T.TextStore.text c.args.store.now) c.requires.read.text (g.D.Device.image c.args.device.now) (g.T.TextStore.text c.drop_tail.new.store) c.args.journal c.len-changes.result
-    c.requires.read.read c.in-Between.is (c.requires.read.is th) (λ e. omega (arith, c.requires.read.long)) lengths (c.in_ok-drop_tail-in-Between.ensures.text th) (omega arith)
+    c.requires.read.read c.in-Between.is (c.requires.read.is th) (c.requires.read.unfinished c.in-Between.is) lengths (c.in_ok-drop_tail-in-Between.ensures.text th) (omega arith)
 
 pub returns-in-Between-clause-keeps : goal.returns-in-Between-clause-keeps
 returns-in-Between-clause-keeps g c dh th stack rec =
@@ -56,3 +48,13 @@ pub returns-in_err-take_back-in-Ending-clause-keeps_err : goal.returns-in_err-ta
 returns-in_err-take_back-in-Ending-clause-keeps_err g c dh th stack rec =
     let t = tail_at (g.T.TextStore.text c.args.store.now) c.requires.read.text (g.D.Device.image c.args.device.now) stack c.args.journal _ c.requires.read.read c.in-Ending.is (c.requires.read.is th) rec in
     always_err c.from_residual-in_err-take_back-in-Ending.result (c.in_err-take_back-in-Ending.ensures.fault dh th stack _ _ t)
+
+pub returns-in_err-drop_tail-in-Between-clause-keeps_err :
+    goal.returns-in_err-drop_tail-in-Between-clause-keeps_err
+returns-in_err-drop_tail-in-Between-clause-keeps_err g c dh th stack rec =
+    let t = tail_at (g.T.TextStore.text c.args.store.now) c.requires.read.text (g.D.Device.image c.args.device.now) stack c.args.journal BetweenRead c.requires.read.read c.in-Between.is (c.requires.read.is th) rec in
+    always_err c.from_residual-in_err-drop_tail-in-Between.result (c.in_err-drop_tail-in-Between.ensures.fault th (g.D.Device.image c.args.device.now) stack _ Between t refl)
+
+pub take_back-requires-clause-within_text : goal.take_back-requires-clause-within_text
+take_back-requires-clause-within_text g c th =
+    ending_begins (g.T.TextStore.text c.args.store.now) c.requires.read.text c.args.journal _ _ _ _ c.requires.read.read c.in-Ending.is (c.requires.read.is th)

@@ -1,10 +1,12 @@
-use Rattle.std.proofs.Common.{◌≡◌, ℕ, suc, List, refl, ap, sym, ◌∙◌, subst}
+use Rattle.std.proofs.Common.{◌≡◌, ℕ, suc, List, refl, ap, sym, ◌∙◌, subst, arith}
 use Rattle.bx_journal.specs.Text.{Reading}
 use Rattle.bx_journal.specs.Stack.{Recovers, image_at, HaveLengths}
 use Rattle.bx_journal.specs.Calls.{Differs}
 use Rattle.bx_journal.specs.Opening.{IsOpened}
 use Rattle.bx_journal.specs.Parsed.{entries_of, stage_of, reading_of}
-use Rattle.bx_journal.proofs.OpenLemmas.{counted_of, read_once, look_opens, look_refuses, counts_beside, after_same, same_lengths}
+use Rattle.bx_journal.proofs.OpenLemmas.{counted_of, read_once, look_opens, look_refuses, after_same, same_lengths}
+use Rattle.bx_journal.proofs.ReadLoop.{marked_few}
+use Rattle.bx_journal.proofs.RecoverLemmas.{counts_among, look_kind}
 use Rattle.bx_journal.proofs.unfinished.recover_read.Goals as goal
 
 pub returns-in-Err-clause-faults : goal.returns-in-Err-clause-faults
@@ -27,7 +29,14 @@ pub returns-in-Err-clause-refused : goal.returns-in-Err-clause-refused
 returns-in-Err-clause-refused g c dh th = after_same c.in-Err.fault _ (refl, c.prepare.ensures.image dh)
 
 pub returns-in-Err-clause-counts : goal.returns-in-Err-clause-counts
-returns-in-Err-clause-counts g c = counts_beside c.in-Err.fault _ _ _ c.in-Err.ensures.counts
+returns-in-Err-clause-counts g c =
+    counts_among c.in-Err.fault _ _ _ _ _ _ _ _ _ _ c.in-Err.ensures.counts (λ h. omega (arith, h)) (λ h. (h.0, refl, refl))
+
+pub returns-in-Err-clause-kind : goal.returns-in-Err-clause-kind
+returns-in-Err-clause-kind g c = look_kind _ _ _ c.in-Err.fault c.in-Err.ensures.fault
+
+pub returns-in-Err-clause-redo_same : goal.returns-in-Err-clause-redo_same
+returns-in-Err-clause-redo_same g c th = after_same c.in-Err.fault _ refl
 
 pub returns-in-Ok-clause-opened : goal.returns-in-Ok-clause-opened
 returns-in-Ok-clause-opened g c dh th r reads =
@@ -39,10 +48,10 @@ returns-in-Ok-clause-opened g c dh th r reads =
     subst (λ q. IsOpened (g.T.TextStore.text c.args.store.now) x q (g.T.TextStore.text c.finish.new.store) (g.D.Device.image c.finish.new.device) c.in-Ok.found.how c.in-Ok.found.changes) same
     (subst (λ z. IsOpened (g.T.TextStore.text c.args.store.now) z (reading_of c.args.journal.entries.items c.args.journal.stage) (g.T.TextStore.text c.finish.new.store) (g.D.Device.image c.finish.new.device) c.in-Ok.found.how c.in-Ok.found.changes) image found)
 
-pub returns-in-Ok-clause-clean : goal.returns-in-Ok-clause-clean
-returns-in-Ok-clause-clean g c dh th clean =
-    let kept = c.in-Ok.ensures.clean (c.prepare.ensures.honesty.1 dh) th clean in
-    (kept.0, kept.1 ∙ c.prepare.ensures.image dh)
+pub returns-in-Ok-clause-sum : goal.returns-in-Ok-clause-sum
+returns-in-Ok-clause-sum g c =
+    let j = c.args.journal in
+    omega (arith, c.in-Ok.ensures.changes, c.in-Ok.ensures.unclean.1, marked_few c.requires.read.text j.entries.items j.stage j.whole c.requires.read.read.places.marked)
 
 pub returns-in-Ok-clause-differs : goal.returns-in-Ok-clause-differs
 returns-in-Ok-clause-differs g c dh th r n reads differs =

@@ -1,0 +1,412 @@
+-- Whether what was read is a redo text, and the line at which it isn't.
+use Rattle.std.proofs.Common.{◌≡◌, ℕ, suc, ◌+◌, ◌<◌, ◌≤◌, List, [], ◌∷◌, ◌++◌, length, length-append, length-drop, length-take, append_assoc, take, drop, get_or, refl, ap, sym, ◌∙◌, subst, inl, inr, ◌⊎◌, arith, Bool, true, false, eqb, cond, Option, Some, None, Result, Ok, Err}
+use Rattle.std.specs.Prelude.{is_some, IsTrue, IfSome, IfNone, IfOk, IfErr, MatchResult, ◌==◌, if◌then◌else◌}
+use Rattle.std.proofs.lemmas.Grind.{common_steps}
+use Rattle.std.proofs.lemmas.List.{take_more, take-append-drop}
+use Rattle.std.proofs.Math.Seq.{drop-cons}
+use Rattle.bx_journal.specs.declared.fault.SessionFault.{SessionFault}
+use Rattle.bx_journal.specs.declared.fault.SessionFault.TheVariants.{NoMemory, TooLarge, DeviceFailed, Damaged, TooFew, JournalFull, Interrupted, Broken, LengthDiffers, NothingToRedo, RedoDamaged}
+use Rattle.bx_journal.specs.declared.journal.JournalRead.{JournalRead}
+use Rattle.bx_journal.specs.declared.reader.EntryRead.{EntryRead}
+use Rattle.bx_journal.specs.declared.reader.StageRead.TheVariants.{Between as BetweenRead, Saving as SavingRead, Ending as EndingRead}
+use Rattle.bx_journal.specs.declared.tally.Counted.{Counted}
+use Rattle.bx_journal.specs.Calls.{ReadFault}
+use Rattle.bx_journal.specs.Journal.{HasRead}
+use Rattle.bx_journal.specs.Judging.{AllTold, IsBeyondAt, IsFit, IsRedoCounted, IsUnfitAt, IsUnfitFrom, IsUntoldAt, JudgeFault, RedoTextFault, RefusesRedo, redo_fault}
+use Rattle.bx_journal.specs.Mark.{IsMark, HasMarks}
+use Rattle.bx_journal.specs.Parsed.{entry_of, entries_onto, entries_of, stage_of, reading_of, AreMarked, IsMarked}
+use Rattle.bx_journal.specs.Redo.{AllTell, BeginsAt, IsRedoOf, DamagedLine, Tail, FirstForm, IsRefusedAt, NoRedo, TooMany, Off}
+use Rattle.bx_journal.specs.Stack.{stack_of}
+use Rattle.bx_journal.specs.Tally.{IsCounted}
+use Rattle.bx_journal.specs.Text.{Entry, Between, Reading, Reads, Split, split, with_front, start, after_lines}
+use Rattle.bx_journal.specs.Undoing.{IsFinished}
+use Rattle.bx_journal.proofs.Damage.{split_at_mark}
+use Rattle.bx_journal.proofs.Phases.{length-stack_of}
+use Rattle.bx_journal.proofs.ReadLemmas.{length-entries_of}
+use Rattle.bx_journal.proofs.RedoText.{one_reading, one_list}
+use Rattle.bx_journal.proofs.Refused.{not_no_redo, too_many, refused_once, none_refused}
+use Rattle.bx_journal.proofs.TailLemmas.{begins_at, begin_mark}
+use Rattle.bx_journal.proofs.Tails.{rest_none}
+use Rattle.bx_journal.proofs.TallyLemmas.{counted_lengths}
+
+-- entries that were read, in parts
+onto-append : {A : Type 0} → (done : List Entry) (a b : List (EntryRead A)) → entries_onto done (a ++ b) ≡ entries_onto (entries_onto done a) b
+onto-append done [] b = refl
+onto-append done (e ∷ a) b = onto-append (entry_of e ∷ done) a b
+
+onto_done : {A : Type 0} → (done : List Entry) (es : List (EntryRead A)) → entries_onto done es ≡ entries_of es ++ done
+onto_done done [] = refl
+onto_done done (e ∷ es) =
+    onto_done (entry_of e ∷ done) es ∙ sym (append_assoc (entries_of es) (entry_of e ∷ []) done) ∙ ap (λ fs. fs ++ done) (sym (onto_done (entry_of e ∷ []) es))
+
+entries_apart : {A : Type 0} → (older newer : List (EntryRead A)) (e : EntryRead A) → entries_of (older ++ e ∷ newer) ≡ entries_of newer ++ entry_of e ∷ entries_of older
+entries_apart older newer e = onto-append [] older (e ∷ newer) ∙ onto_done (entry_of e ∷ entries_of older) newer
+
+tell_of : {A : Type 0} → (done : List Entry) (es : List (EntryRead A)) → AllTold es → AllTell done → AllTell (entries_onto done es)
+tell_of done [] told tell = tell
+tell_of done (e ∷ es) told tell = tell_of (entry_of e ∷ done) es told.1 (told.0, tell)
+
+marks_in : {A : Type 0} → (text : List ℕ) (done : List Entry) (from to : ℕ) (older newer : List (EntryRead A)) (e : EntryRead A) → AreMarked text done from (older ++ e ∷ newer) to
+    → HasMarks text (entries_onto done older) e.version (entry_of e) e.begins e.saved
+marks_in text done from to [] newer e are = are.1
+marks_in text done from to (f ∷ older) newer e are = marks_in text (entry_of f ∷ done) f.saved to older newer e are.2
+
+take_front : (a b : List (List ℕ)) → take (length a) (a ++ b) ≡ a
+take_front [] b = refl
+take_front (l ∷ a) b = ap (λ s. l ∷ s) (take_front a b)
+
+-- at a mark between two entries a line begins
+begins_of : (text : List ℕ) (at : ℕ) (es : List Entry) → IsMark text at (record { entries = es; stage = Between }) → BeginsAt text es (suc (length (split (take at text)).lines))
+begins_of text at es mark =
+    let a : List (List ℕ) = (split (take at text)).lines in
+    let b : List (List ℕ) = (split (drop at text)).lines in
+    let parts : (split text).lines ≡ a ++ b = ap (λ (s : Split). s.lines) (split_at_mark text at (record { entries = es; stage = Between }) mark) in
+    record {
+      before = length a;
+      within = omega (arith, ap length parts, length-append a b);
+      reads = ap (λ ls. after_lines start (take (length a) ls)) parts ∙ ap (after_lines start) (take_front a b) ∙ mark.lines;
+      line_is = refl;
+    }
+
+-- the first entry that tells no length
+pub untold_unfit : {A : Type 0} → (text : List ℕ) (changes at to : ℕ) (es : List (EntryRead A)) → IsFinished text (entries_of es) → AreMarked text [] 0 es to → IsUntoldAt es at → IsUnfitFrom text changes at
+untold_unfit text changes at to es f are u =
+    let marks = marks_in text [] 0 to u.older u.newer u.entry (subst (λ fs. AreMarked text [] 0 fs to) u.parts are) in
+    let same : entries_of es ≡ entries_of u.newer ++ entry_of u.entry ∷ entries_of u.older = ap entries_of u.parts ∙ entries_apart u.older u.newer u.entry in
+    subst (IsUnfitFrom text changes) (sym u.begins)
+    (record {
+      within = marks.beginning.within;
+      unfit = inl (FirstForm (record {
+        newer = entries_of u.newer;
+        entry = entry_of u.entry;
+        older = entries_of u.older;
+        finished = subst (IsFinished text) same f;
+        untold = u.untold;
+        told = tell_of [] u.older u.told tt;
+        begins = begins_of text u.entry.begins (entries_of u.older) marks.beginning;
+      }));
+    })
+
+not_empty : (xs : List Entry) (x : Entry) → xs ++ x ∷ [] ≡ [] → ⊥
+not_empty [] x e = absurd (let h : x ∷ [] ≡ [] = e in cc)
+not_empty (y ∷ xs) x e = absurd (let h : y ∷ (xs ++ x ∷ []) ≡ [] = e in cc)
+
+-- the first entry that is too many
+pub beyond_unfit : {A : Type 0} → (text : List ℕ) (changes at to : ℕ) (es : List (EntryRead A)) → IsFinished text (entries_of es) → AreMarked text [] 0 es to → IsBeyondAt es changes at → IsUnfitFrom text changes at
+beyond_unfit text changes at to es f are u =
+    let marks = marks_in text [] 0 to u.older u.newer u.entry (subst (λ fs. AreMarked text [] 0 fs to) u.parts are) in
+    let same : entries_of es ≡ (entries_of u.newer ++ entry_of u.entry ∷ []) ++ entries_of u.older =
+    ap entries_of u.parts ∙ entries_apart u.older u.newer u.entry ∙ sym (append_assoc (entries_of u.newer) (entry_of u.entry ∷ []) (entries_of u.older)) in
+    subst (IsUnfitFrom text changes) (sym u.begins)
+    (record {
+      within = marks.beginning.within;
+      unfit = inr (record {
+        newer = entries_of u.newer ++ entry_of u.entry ∷ [];
+        older = entries_of u.older;
+        finished = subst (IsFinished text) same f;
+        tell = subst AllTell same (tell_of [] es u.told tt);
+        some = not_empty (entries_of u.newer) (entry_of u.entry);
+        many = omega (arith, u.many, length-entries_of u.older);
+        begins = begins_of text u.entry.begins (entries_of u.older) marks.beginning;
+      });
+    })
+
+-- what is unfinished
+tail_unfit : {A : Type 0} → (text : List ℕ) (changes at : ℕ) (j : JournalRead A) → HasRead text j → at ≡ begins_at j.stage j.whole → (IsFinished text (entries_of j.entries.items) → ⊥) → IsUnfitFrom text changes at
+tail_unfit text changes at j read is apart =
+    let mark : IsMark text (begins_at j.stage j.whole) (record { entries = entries_of j.entries.items; stage = Between }) = begin_mark text j.entries.items j.stage j.whole read.places.mark read.places.marked in
+    subst (IsUnfitFrom text changes) (sym is)
+    (record {
+      within = mark.within;
+      unfit = inl (Tail (record {
+        reading = reading_of j.entries.items j.stage;
+        reads = read.reads;
+        unfinished = apart;
+        begins = begins_of text (begins_at j.stage j.whole) (entries_of j.entries.items) mark;
+      }));
+    })
+
+module _ {A : Type 0} (text : List ℕ) (changes : ℕ) (j : JournalRead A) (read : HasRead text j) where
+  stage_is : IsFinished text (entries_of j.entries.items) → stage_of j.stage ≡ Between
+  stage_is f = ap (λ (r : Reading). r.stage) (one_reading (sym read.reads.lines ∙ f.reads.lines))
+
+  pub rest_unfit : j.stage ≡ BetweenRead → (j.whole ≡ length text → ⊥) → IsUnfitFrom text changes j.whole
+  rest_unfit is apart =
+      tail_unfit text changes j.whole j read (ap (λ s. begins_at s j.whole) (sym is))
+      (λ f. apart (omega (arith, ap length (read.places.rest ∙ f.whole), length-drop j.whole text, read.places.mark.within)))
+
+  pub saving_unfit : (v : _) (len : ℕ) (runs : _) (begins : ℕ) → j.stage ≡ SavingRead v len runs begins → IsUnfitFrom text changes begins
+  saving_unfit v len runs begins is =
+      tail_unfit text changes begins j read (ap (λ s. begins_at s j.whole) (sym is)) (λ f. apart (sym (ap stage_of is) ∙ stage_is f))
+    where
+      apart : stage_of (SavingRead v len runs begins) ≡ Between → ⊥
+      apart e = absurd (cc)
+
+  pub ending_unfit : (v : _) (kept : _) (begins saved : ℕ) → j.stage ≡ EndingRead v kept begins saved → IsUnfitFrom text changes begins
+  ending_unfit v kept begins saved is =
+      tail_unfit text changes begins j read (ap (λ s. begins_at s j.whole) (sym is)) (λ f. apart (sym (ap stage_of is) ∙ stage_is f))
+    where
+      apart : stage_of (EndingRead v kept begins saved) ≡ Between → ⊥
+      apart e = absurd (cc)
+
+  pub finished_read : j.stage ≡ BetweenRead → j.whole ≡ length text → IsFinished text (entries_of j.entries.items)
+  finished_read is all = record {
+    reads = subst (λ s. Reads text (reading_of j.entries.items s)) is read.reads;
+    whole = rest_none text j.whole read.places.rest all;
+  }
+
+  marked_read : j.stage ≡ BetweenRead → AreMarked text [] 0 j.entries.items j.whole
+  marked_read is = (subst (λ s. IsMarked text j.entries.items s j.whole) is read.places.marked).0
+
+  -- an entry that is unfit
+  pub entry_unfit : (at : ℕ) → j.stage ≡ BetweenRead → j.whole ≡ length text → IsUntoldAt j.entries.items at ⊎ IsBeyondAt j.entries.items changes at → IsUnfitFrom text changes at
+  entry_unfit at is all unfit =
+      elim unfit [
+        | inl u ↦ untold_unfit text changes at j.whole j.entries.items (finished_read is all) (marked_read is) u
+        | inr b ↦ beyond_unfit text changes at j.whole j.entries.items (finished_read is all) (marked_read is) b
+      ]
+
+  pub fit_read : j.stage ≡ BetweenRead → j.whole ≡ length text → AllTold j.entries.items → changes + length j.entries.items ≤ 65535 → IsFit text changes (entries_of j.entries.items)
+  fit_read is all told few = record {
+    finished = finished_read is all;
+    tell = tell_of [] j.entries.items told tt;
+    few = omega (arith, few, length-entries_of j.entries.items);
+  }
+
+-- a text that was counted
+pub counted_fit : (text : List ℕ) (changes count : ℕ) (told : Option ℕ) → IsCounted text count told → (entries : List Entry) × IsFinished text entries × AllTell entries → changes + count ≤ 65535 → IsRedoCounted text changes count told
+counted_fit text changes count told c second few = record {
+  entries = c.entries;
+  fit = record {
+    finished = c.finished;
+    tell = subst AllTell (one_list text second.0 c.entries second.1.reads c.finished.reads) second.2;
+    few = omega (arith, few, c.counted);
+  };
+  counted = c.counted;
+  told_is = c.told_is;
+}
+
+-- where a text is unfit no image makes it a redo text
+pub unfit_refused : (text x : List ℕ) (changes line : ℕ) → IsUnfitAt text changes line → IsRefusedAt text x changes line
+unfit_refused text x changes line unfit = elim unfit [ inl apart ↦ NoRedo apart | inr many ↦ TooMany many ]
+
+pub unfit_once : (text : List ℕ) (changes m n : ℕ) → IsUnfitAt text changes m → IsUnfitAt text changes n → m ≡ n
+unfit_once text changes m n a b = refused_once text [] changes m n (unfit_refused text [] changes m a) (unfit_refused text [] changes n b)
+
+pub fit_apart : (text : List ℕ) (changes line : ℕ) (es : List Entry) → IsFit text changes es → IsUnfitAt text changes line → ⊥
+fit_apart text changes line es fit unfit = elim unfit [ inl apart ↦ not_no_redo text line es fit.finished fit.tell apart | inr many ↦ too_many text changes line es fit.finished many fit.few ]
+
+pub fault_refuses : (text : List ℕ) (changes line : ℕ) (e : SessionFault) → RedoTextFault text changes e → IsUnfitAt text changes line → RefusesRedo line e
+fault_refuses text changes line NoMemory h unfit = tt
+fault_refuses text changes line (RedoDamaged m) h unfit = unfit_once text changes m line h unfit
+fault_refuses text changes line TooLarge h unfit = h
+fault_refuses text changes line DeviceFailed h unfit = tt
+fault_refuses text changes line (Damaged m) h unfit = h
+fault_refuses text changes line (TooFew have) h unfit = h
+fault_refuses text changes line JournalFull h unfit = h
+fault_refuses text changes line Interrupted h unfit = h
+fault_refuses text changes line Broken h unfit = h
+fault_refuses text changes line (LengthDiffers n) h unfit = h
+fault_refuses text changes line (NothingToRedo have) h unfit = h
+
+pub unfit_refuses : (text : List ℕ) (changes line : ℕ) (r : Result Counted SessionFault) → IfOk r (λ c. IsRedoCounted text changes c.count c.told) → IfErr r (RedoTextFault text changes) → IsUnfitAt text changes line
+    → MatchResult r (λ _. ⊥) (RefusesRedo line)
+unfit_refuses text changes line (Ok c) ok refused unfit = fit_apart text changes line ok.entries ok.fit unfit
+unfit_refuses text changes line (Err e) ok refused unfit = fault_refuses text changes line e refused unfit
+
+-- a fault of reading, as one of the redo text
+pub read_fault_redo : (text : List ℕ) (changes : ℕ) (e : SessionFault) → ReadFault text e → RedoTextFault text changes (redo_fault e)
+read_fault_redo text changes NoMemory h = tt
+read_fault_redo text changes (Damaged line) h = inl (DamagedLine h)
+read_fault_redo text changes TooLarge h = h
+read_fault_redo text changes DeviceFailed h = h
+read_fault_redo text changes (TooFew have) h = h
+read_fault_redo text changes JournalFull h = h
+read_fault_redo text changes Interrupted h = h
+read_fault_redo text changes Broken h = h
+read_fault_redo text changes (LengthDiffers n) h = h
+read_fault_redo text changes (NothingToRedo have) h = h
+read_fault_redo text changes (RedoDamaged line) h = absurd h
+
+-- a redo text of the image's length stands for its undone images
+stack_top : (es : List Entry) (x : List ℕ) → x ∷ drop 1 (stack_of es x) ≡ stack_of es x
+unfolding stack_of
+stack_top [] x = refl
+stack_top (e ∷ es) x = refl
+
+module _ (text x : List ℕ) (changes count : ℕ) (told : Option ℕ) (c : IsRedoCounted text changes count told) where
+  abbrev as_counted : IsCounted text count told
+  as_counted = record { entries = c.entries; finished = c.fit.finished; counted = c.counted; told_is = c.told_is }
+
+  pub counted_redo : IfSome told (λ n. length x ≡ n) → (undone : List (List ℕ)) × IsRedoOf text x changes undone × (count ≡ length undone)
+  counted_redo same =
+      let undone : List (List ℕ) = drop 1 (stack_of c.entries x) in
+      let top : x ∷ undone ≡ stack_of c.entries x = stack_top c.entries x in
+      let long : suc (length undone) ≡ suc (length c.entries) = ap length top ∙ length-stack_of c.entries x in (
+        undone,
+        record {
+          stands = record {
+            entries = c.entries;
+            reads = c.fit.finished.reads;
+            whole = c.fit.finished.whole;
+            lengths = counted_lengths text x count told as_counted same;
+            stack_is = top;
+          };
+          tell = c.fit.tell;
+          few = omega (arith, c.fit.few, long);
+        },
+        omega (arith, c.counted, long),
+      )
+
+  pub counted_off : (line n : ℕ) → told ≡ Some n → (length x ≡ n → ⊥) → line ≡ length (split text).lines → IsRefusedAt text x changes line
+  counted_off line n is apart last =
+      Off (record {
+        entries = c.entries;
+        expected = n;
+        finished = c.fit.finished;
+        tell = c.fit.tell;
+        few = c.fit.few;
+        told = sym c.told_is ∙ is;
+        differs = apart;
+        line_is = last;
+      })
+
+-- the newlines of a text, counted byte by byte
+one_newline : ℕ → ℕ
+one_newline b = if b == 10 then 1 else 0
+
+newlines_of : List ℕ → ℕ
+newlines_of [] = 0
+newlines_of (b ∷ text) = one_newline b + newlines_of text
+
+front_lines : (b : ℕ) (s : Split) → length (with_front b s).lines ≡ length s.lines
+front_lines b s = by_lines s.lines
+  where
+    by_lines : (lines : List (List ℕ)) → length (with_front b (record { lines = lines; rest = s.rest })).lines ≡ length lines
+    by_lines [] = refl
+    by_lines (l ∷ ls) = refl
+
+lines_counted : (text : List ℕ) → length (split text).lines ≡ newlines_of text
+unfolding split newlines_of one_newline
+lines_counted [] = refl
+lines_counted (b ∷ text) = by_test (eqb b 10) (lines_counted text)
+  where
+    by_test : (is : Bool) → length (split text).lines ≡ newlines_of text
+        → length (cond is (record { lines = [] ∷ (split text).lines; rest = (split text).rest }) (with_front b (split text))).lines ≡ cond is 1 0 + newlines_of text
+    by_test true ih = omega (arith, ih)
+    by_test false ih = omega (arith, ih, front_lines b (split text))
+
+newlines_push : (text : List ℕ) (b : ℕ) → newlines_of (text ++ b ∷ []) ≡ newlines_of text + one_newline b
+unfolding newlines_of
+newlines_push [] b = omega arith
+newlines_push (c ∷ text) b = let more = newlines_push text b in omega (arith, more)
+
+newlines_more : (text : List ℕ) (i d : ℕ) → i < length text → length (split (take (i + 1) text)).lines ≡ length (split (take i text)).lines + one_newline (get_or text i d)
+newlines_more text i d within =
+    lines_counted (take (i + 1) text) ∙ ap newlines_of (take_more text i d within) ∙ newlines_push (take i text) (get_or text i d)
+    ∙ ap (λ n. n + one_newline (get_or text i d)) (sym (lines_counted (take i text)))
+
+-- one more byte
+pub newline_more : (text : List ℕ) (i count : ℕ) → i < length text → get_or text i 0 ≡ 10 → count ≡ length (split (take i text)).lines → count + 1 ≡ length (split (take (i + 1) text)).lines
+unfolding one_newline
+newline_more text i count within ten counted =
+    let one : one_newline (get_or text i 0) ≡ 1 = ap one_newline ten in
+    omega (arith, newlines_more text i 0 within, one, counted)
+
+apart_ten : (b : ℕ) → (b ≡ 10 → ⊥) → one_newline b ≡ 0
+unfolding one_newline
+apart_ten b apart = by_test (eqb b 10) refl
+  where
+    by_test : (is : Bool) → eqb b 10 ≡ is → cond is (let one : ℕ = 1 in one) 0 ≡ 0
+    by_test true is = absurd (let ten : b ≡ 10 = grind (arith, common_steps) in apart ten)
+    by_test false is = refl
+
+pub newline_same : (text : List ℕ) (i count : ℕ) → i < length text → (get_or text i 0 ≡ 10 → ⊥) → count ≡ length (split (take i text)).lines → count ≡ length (split (take (i + 1) text)).lines
+newline_same text i count within apart counted = omega (arith, newlines_more text i 0 within, apart_ten (get_or text i 0) apart, counted)
+
+-- facts of an answer that may be none
+pub some_weaker : {X : Type 0} (P Q : X → Type 0) (o : Option X) → ((x : X) → P x → Q x) → IfSome o P → IfSome o Q
+some_weaker P Q None h p = tt
+some_weaker P Q (Some x) h p = h x p
+
+pub none_weaker : {X P Q : Type 0} (o : Option X) → (P → Q) → IfNone o P → IfNone o Q
+none_weaker None h p = h p
+none_weaker (Some x) h p = tt
+
+-- one more entry that tells its length
+told_push : {A : Type 0} → (es : List (EntryRead A)) (e : EntryRead A) → AllTold es → IsTrue (is_some e.after) → AllTold (es ++ e ∷ [])
+told_push [] e told some = (some, tt)
+told_push (f ∷ es) e told some = (told.0, told_push es e told.1 some)
+
+pub told_more : {A : Type 0} → (es : List (EntryRead A)) (i : ℕ) (e : EntryRead A) → i < length es → e ≡ get_or es i e → AllTold (take i es) → IsTrue (is_some e.after) → AllTold (take (i + 1) es)
+told_more es i e within is told some =
+    subst AllTold (ap (λ f. take i es ++ f ∷ []) is ∙ sym (take_more es i e within)) (told_push (take i es) e told some)
+
+parts_at : {A : Type 0} → (es : List (EntryRead A)) (i : ℕ) (e : EntryRead A) → i < length es → e ≡ get_or es i e → es ≡ take i es ++ e ∷ drop (suc i) es
+parts_at es i e within is = sym (take-append-drop i es) ∙ ap (λ fs. take i es ++ fs) (drop-cons es i e within ∙ ap (λ f. f ∷ drop (suc i) es) (sym is))
+
+pub untold_at : {A : Type 0} → (es : List (EntryRead A)) (i : ℕ) (e : EntryRead A) → i < length es → e ≡ get_or es i e → AllTold (take i es) → e.after ≡ None → IsUntoldAt es e.begins
+untold_at es i e within is told none = record {
+  older = take i es;
+  entry = e;
+  newer = drop (suc i) es;
+  parts = parts_at es i e within is;
+  told = told;
+  untold = none;
+  begins = refl;
+}
+
+pub beyond_at : {A : Type 0} → (es : List (EntryRead A)) (changes i : ℕ) (e : EntryRead A) → i < length es → e ≡ get_or es i e → AllTold es → i + changes ≡ 65535 → IsBeyondAt es changes e.begins
+beyond_at es changes i e within is told many =
+    record {
+      older = take i es;
+      entry = e;
+      newer = drop (suc i) es;
+      parts = parts_at es i e within is;
+      told = told;
+      many = omega (arith, many, length-take i es, within);
+      begins = refl;
+    }
+
+-- judging: what counting and the image's length give together
+pub text_judged : (H : Type 0) (text x : List ℕ) (changes : ℕ) (e : SessionFault) → RedoTextFault text changes e → JudgeFault H text x changes e
+text_judged H text x changes NoMemory h = tt
+text_judged H text x changes (RedoDamaged line) h = λ th. unfit_refused text x changes line h
+text_judged H text x changes TooLarge h = h
+text_judged H text x changes DeviceFailed h = tt
+text_judged H text x changes (Damaged line) h = h
+text_judged H text x changes (TooFew have) h = h
+text_judged H text x changes JournalFull h = h
+text_judged H text x changes Interrupted h = h
+text_judged H text x changes Broken h = h
+text_judged H text x changes (LengthDiffers n) h = h
+text_judged H text x changes (NothingToRedo have) h = h
+
+-- what comparing the length may answer
+abbrev pub OffFault : Type 0 → List ℕ → List ℕ → Option ℕ → SessionFault → Type 0
+OffFault H text x told e = (e ≡ DeviceFailed) ⊎ ((e ≡ RedoDamaged (length (split text).lines)) × (H → (n : ℕ) × (told ≡ Some n) × (length x ≡ n → ⊥)))
+
+pub length_judged : (H : Type 0) (text x : List ℕ) (changes count : ℕ) (told : Option ℕ) (e : SessionFault) → IsRedoCounted text changes count told → OffFault H text x told e → JudgeFault H text x changes e
+length_judged H text x changes count told e c fault =
+    elim fault [
+      | inl is ↦ subst (JudgeFault H text x changes) (sym is) tt
+      | inr off ↦
+          subst (JudgeFault H text x changes) (sym off.0)
+          (λ h. let apart = off.1 h in counted_off text x changes count told c (length (split text).lines) apart.0 apart.1 apart.2 refl)
+    ]
+
+pub judged_refuses : (H : Type 0) (text x : List ℕ) (changes line : ℕ) (e : SessionFault) → H → JudgeFault H text x changes e → IsRefusedAt text x changes line → RefusesRedo line e
+judged_refuses H text x changes line NoMemory th h refused = tt
+judged_refuses H text x changes line DeviceFailed th h refused = tt
+judged_refuses H text x changes line (RedoDamaged m) th h refused = refused_once text x changes m line (h th) refused
+judged_refuses H text x changes line TooLarge th h refused = h
+judged_refuses H text x changes line (Damaged m) th h refused = h
+judged_refuses H text x changes line (TooFew have) th h refused = h
+judged_refuses H text x changes line JournalFull th h refused = h
+judged_refuses H text x changes line Interrupted th h refused = h
+judged_refuses H text x changes line Broken th h refused = h
+judged_refuses H text x changes line (LengthDiffers n) th h refused = h
+judged_refuses H text x changes line (NothingToRedo have) th h refused = h
+
+pub judged_keeps : (H : Type 0) (text x : List ℕ) (changes : ℕ) (undone : List (List ℕ)) (e : SessionFault) → H → IsRedoOf text x changes undone → JudgeFault H text x changes e → (line : ℕ) → e ≡ RedoDamaged line → ⊥
+judged_keeps H text x changes undone e th redo fault line is = none_refused text x changes line undone redo (subst (JudgeFault H text x changes) is fault th)

@@ -1,0 +1,210 @@
+-- What opening leaves of the three devices: beside finished entries alone, and beside something unfinished.
+use Rattle.std.proofs.Common.{◌≡◌, ℕ, suc, ◌+◌, ◌≤◌, List, [], ◌∷◌, length, refl, ap, sym, ◌∙◌, subst, inl, inr, ◌⊎◌, arith, Option, Some, None, Result, Ok, Err}
+use Rattle.std.specs.Prelude.{IfOk, IfErr, IfSome, OnOk, OnErr, MatchResult}
+use Rattle.std.proofs.lemmas.Bool.{cases_lt}
+use Rattle.bx_journal.specs.declared.calls.How.{How}
+use Rattle.bx_journal.specs.declared.calls.How.TheVariants.{Clean, Dropped, Restored}
+use Rattle.bx_journal.specs.declared.calls.Recovered.{Recovered}
+use Rattle.bx_journal.specs.declared.fault.SessionFault.{SessionFault}
+use Rattle.bx_journal.specs.declared.fault.SessionFault.TheVariants.{NoMemory, TooLarge, DeviceFailed, Damaged, TooFew, JournalFull, Interrupted, Broken, LengthDiffers, NothingToRedo, RedoDamaged}
+use Rattle.bx_journal.specs.declared.found.Found.{Found}
+use Rattle.bx_journal.specs.declared.found.Found.TheVariants.{Finished, Unfinished}
+use Rattle.bx_journal.specs.declared.journal.JournalRead.{JournalRead}
+use Rattle.bx_journal.specs.declared.tally.Counted.{Counted}
+use Rattle.bx_journal.specs.Calls.{AfterFault, Differs, OpenFault}
+use Rattle.bx_journal.specs.Images.{Images}
+use Rattle.bx_journal.specs.Judging.{RefusesRedo}
+use Rattle.bx_journal.specs.Machine.{changes_of}
+use Rattle.bx_journal.specs.Opening.{IsOpened, RefusesLength}
+use Rattle.bx_journal.specs.Parsed.{told_by}
+use Rattle.bx_journal.specs.Phase.{IsAtRest}
+use Rattle.bx_journal.specs.Recovery.{FindFault, FinishedFault, HasToldLength, HasUndoneCount, IsCountedIn, IsFoundIn, IsUnfinishedIn, KeepsUndone, RecoverFault}
+use Rattle.bx_journal.specs.Redo.{Finds, IsClean, IsRedoOf, IsRefusedAt, RefusesRedoAt, found_undone}
+use Rattle.bx_journal.specs.Stack.{Recovers}
+use Rattle.bx_journal.specs.Tally.{IsCounted}
+use Rattle.bx_journal.specs.Text.{Between, Entry, Reading, Reads}
+use Rattle.bx_journal.proofs.Judged.{undamaged}
+use Rattle.bx_journal.proofs.OpenLemmas.{counted_of, differs_of}
+use Rattle.bx_journal.proofs.ReadLoop.{marked_few}
+use Rattle.bx_journal.proofs.RecoverLemmas.{unfinished_apart}
+use Rattle.bx_journal.proofs.RedoText.{empty_is_redo, one_list}
+use Rattle.bx_journal.proofs.Refused.{none_refused}
+use Rattle.bx_journal.proofs.TallyLemmas.{counted_opened, counted_stack}
+
+-- a fault of reading the journal, where the text is accepted
+module _ (H : Type 0) (text : List ℕ) (r : Reading) (h : H) (reads : Reads text r) where
+  pub find_opens : (x : List ℕ) (e : SessionFault) → FindFault H text e → OpenFault r x e
+  find_opens x NoMemory f = tt
+  find_opens x DeviceFailed f = tt
+  find_opens x (Damaged line) f = undamaged text line (r, reads) (f h)
+  find_opens x TooLarge f = f
+  find_opens x (TooFew have) f = f
+  find_opens x JournalFull f = f
+  find_opens x Interrupted f = tt
+  find_opens x Broken f = f
+  find_opens x (LengthDiffers n) f = absurd f
+  find_opens x (NothingToRedo have) f = f
+  find_opens x (RedoDamaged line) f = absurd f
+
+  pub find_refuses : (n : ℕ) (e : SessionFault) → FindFault H text e → RefusesLength n e
+  find_refuses n NoMemory f = tt
+  find_refuses n DeviceFailed f = tt
+  find_refuses n (Damaged line) f = undamaged text line (r, reads) (f h)
+  find_refuses n TooLarge f = f
+  find_refuses n (TooFew have) f = f
+  find_refuses n JournalFull f = f
+  find_refuses n Interrupted f = f
+  find_refuses n Broken f = f
+  find_refuses n (LengthDiffers m) f = absurd f
+  find_refuses n (NothingToRedo have) f = f
+  find_refuses n (RedoDamaged line) f = f
+
+  pub find_redo : (m : ℕ) (e : SessionFault) → FindFault H text e → RefusesRedo m e
+  find_redo m NoMemory f = tt
+  find_redo m DeviceFailed f = tt
+  find_redo m (Damaged line) f = undamaged text line (r, reads) (f h)
+  find_redo m TooLarge f = f
+  find_redo m (TooFew have) f = f
+  find_redo m JournalFull f = f
+  find_redo m Interrupted f = f
+  find_redo m Broken f = f
+  find_redo m (LengthDiffers n) f = f
+  find_redo m (NothingToRedo have) f = f
+  find_redo m (RedoDamaged line) f = absurd f
+
+-- what was found is of the store's text
+pub found_counted : {A : Type 0} → (H : Type 0) (text : List ℕ) (f : Found A) (n : Counted) → IsFoundIn H text f → f ≡ Finished n → H → IsCounted text n.count n.told
+found_counted H text f n found is h =
+    let i : IsCountedIn H text n.count n.told = subst (IsFoundIn H text) is found in
+    subst (λ t. IsCounted t n.count n.told) (sym (i.is h)) i.counted
+
+pub found_read : {A : Type 0} → (H : Type 0) (text : List ℕ) (f : Found A) (j : JournalRead A) → IsFoundIn H text f → f ≡ Unfinished j → IsUnfinishedIn H text j
+found_read H text f j found is = subst (IsFoundIn H text) is found
+
+pub found_unclean : {A : Type 0} → (H : Type 0) (text : List ℕ) (j : JournalRead A) → IsUnfinishedIn H text j → H → IsClean text → ⊥
+found_unclean H text j i h clean = unfinished_apart i.text j i.read i.unfinished (subst IsClean (i.is h) clean)
+
+-- so many changes fit in a journal
+pub found_few : {A : Type 0} → (H : Type 0) (text x : List ℕ) (stack : List (List ℕ)) (j : JournalRead A) → IsUnfinishedIn H text j → H → Recovers text x stack → changes_of stack ≤ 65535
+found_few H text x stack j i h rec =
+    omega (arith, counted_of text i.text x stack j i.read (i.is h) rec, marked_few i.text j.entries.items j.stage j.whole i.read.places.marked)
+
+told_holds : (told : Option ℕ) (x : List ℕ) → ((n : ℕ) → told ≡ Some n → (length x ≡ n → ⊥) → ⊥) → HasToldLength told x
+told_holds None x apart = tt
+told_holds (Some n) x apart =
+    elim (cases_lt n (length x)) [
+      | inl below ↦ absurd (apart n refl (λ e. omega (arith, below, e)))
+      | inr most ↦
+          elim (cases_lt (length x) n) [
+            | inl above ↦ absurd (apart n refl (λ e. omega (arith, above, e)))
+            | inr least ↦ omega (arith, most, least)
+          ]
+    ]
+
+-- beside finished entries alone
+module _ (text x : List ℕ) (count : ℕ) (told : Option ℕ) (c : IsCounted text count told) (o : Result Recovered SessionFault) where
+  -- what is answered is clean, and tells the count
+  abbrev pub TellsCount : Type 0
+  TellsCount = IfOk o (λ v. (v.how ≡ Clean) × (v.changes ≡ count))
+
+  pub finished_opened : (new y : List ℕ) (r : Reading) → Reads text r → new ≡ text → y ≡ x → TellsCount → OnOk o (HasToldLength told x) → IfOk o (λ v. IsOpened text x r new y v.how v.changes)
+  finished_opened new y r reads same image = by_answer o
+    where
+      by_answer : (p : Result Recovered SessionFault) → IfOk p (λ v. (v.how ≡ Clean) × (v.changes ≡ count)) → OnOk p (HasToldLength told x) → IfOk p (λ v. IsOpened text x r new y v.how v.changes)
+      by_answer (Ok v) clean told_ok =
+          subst (λ t. IsOpened text x r t y v.how v.changes) (sym same)
+          (subst (λ h. IsOpened text x r text y h v.changes) (sym clean.0)
+          (subst (IsOpened text x r text y Clean) (sym clean.1) (counted_opened text x count told c r y reads image told_ok)))
+      by_answer (Err e) clean told_ok = tt
+
+  pub finished_stack : (stack : List (List ℕ)) → Recovers text x stack → TellsCount → IfOk o (λ v. length stack ≡ suc v.changes)
+  finished_stack stack rec = by_answer o
+    where
+      by_answer : (p : Result Recovered SessionFault) → IfOk p (λ v. (v.how ≡ Clean) × (v.changes ≡ count)) → IfOk p (λ v. length stack ≡ suc v.changes)
+      by_answer (Ok v) clean = counted_stack text x count told c stack rec ∙ ap suc (sym clean.1)
+      by_answer (Err e) clean = tt
+
+  pub finished_unfit : (redo : List ℕ) (line : ℕ) → RefusesRedoAt text x redo line
+      → (HasToldLength told x → IsRefusedAt redo x count line → MatchResult o (λ v. ⊥) (RefusesRedo line)) → MatchResult o (λ v. ⊥) (RefusesRedo line)
+  finished_unfit redo line r unfit =
+      let same : c.entries ≡ r.entries = one_list text c.entries r.entries c.finished.reads r.finished.reads in
+      let holds : HasToldLength told x = told_holds told x (λ n is apart. r.same_length n (differs_of r.entries x n (sym (ap told_by same) ∙ sym c.told_is ∙ is) apart)) in
+      unfit holds (subst (λ n. IsRefusedAt redo x n line) (sym (c.counted ∙ ap length same)) r.refused)
+
+  pub finished_kept : (I B : Type 0) (redo : List ℕ) (s : Images) → Finds text x redo s → B → IfErr o (FinishedFault I B redo x count told) → IfErr o (λ e. (line : ℕ) → e ≡ RedoDamaged line → ⊥)
+  finished_kept I B redo s finds b = by_answer o
+    where
+      by_answer : (p : Result Recovered SessionFault) → IfErr p (FinishedFault I B redo x count told) → IfErr p (λ e. (line : ℕ) → e ≡ RedoDamaged line → ⊥)
+      by_answer (Ok v) fault = tt
+      by_answer (Err e) fault = λ line is.
+          let count_is : changes_of s.stack ≡ count = omega (arith, counted_stack text x count told c s.stack finds.recovers) in
+          none_refused redo x count line s.undone (subst (λ n. IsRedoOf redo x n s.undone) count_is (finds.undone (c.entries, c.finished))) ((subst (FinishedFault I B redo x count told) is fault).1 b)
+
+-- beside something unfinished
+pub err_then : {T E P : Type 0} (Q : E → Type 0) (o : Result T E) → P → IfErr o (λ e. Q e → P)
+err_then Q (Ok v) p = tt
+err_then Q (Err e) p = λ q. p
+
+found_none : (how : How) (undone : List (List ℕ)) → (how ≡ Clean → ⊥) → [] ≡ found_undone how undone
+found_none Clean undone apart = absurd (apart refl)
+found_none Dropped undone apart = refl
+found_none (Restored n) undone apart = refl
+
+module _ (redo y : List ℕ) where
+  -- the redo text is empty, nothing is undone, and the changes fit
+  abbrev pub IsEmptied : Recovered → Type 0
+  IsEmptied v = (redo ≡ []) × ((v.how ≡ Clean → ⊥) × (v.undone ≡ 0)) × (v.changes + v.undone ≤ 65535)
+
+  nothing_undone : (v : Recovered) → IsEmptied v → IsRedoOf redo y v.changes []
+  nothing_undone v e = subst (λ t. IsRedoOf t y v.changes []) (sym e.0) (empty_is_redo y v.changes (omega (arith, e.2)))
+
+  pub emptied_undone : (o : Result Recovered SessionFault) → OnOk o (redo ≡ []) → IfOk o (λ v. (v.how ≡ Clean → ⊥) × (v.undone ≡ 0)) → IfOk o (λ v. v.changes + v.undone ≤ 65535)
+      → IfOk o (λ v. HasUndoneCount redo y v.changes v.undone)
+  emptied_undone (Ok v) none unclean sum = ([], nothing_undone v (none, unclean, sum), unclean.1)
+  emptied_undone (Err e) none unclean sum = tt
+
+  pub emptied_keeps : (undone : List (List ℕ)) (o : Result Recovered SessionFault) → OnOk o (redo ≡ []) → IfOk o (λ v. (v.how ≡ Clean → ⊥) × (v.undone ≡ 0)) → IfOk o (λ v. v.changes + v.undone ≤ 65535)
+      → IfOk o (λ v. KeepsUndone redo y v undone)
+  emptied_keeps undone (Ok v) none unclean sum =
+      let found = found_none v.how undone unclean.0 in
+      (subst (IsRedoOf redo y v.changes) found (nothing_undone v (none, unclean, sum)), unclean.1 ∙ ap length found)
+  emptied_keeps undone (Err e) none unclean sum = tt
+
+pub recover_kind : (o : Result Recovered SessionFault) → IfErr o RecoverFault → IfErr o (λ e. (line : ℕ) → e ≡ RedoDamaged line → ⊥)
+recover_kind (Ok v) kind = tt
+recover_kind (Err e) kind = λ line is. subst RecoverFault is kind
+
+-- an interruption leaves the one, and another fault all that it is said to keep
+after_both : (e : SessionFault) (A B P Q : Type 0) → AfterFault e (Unit {0}) A → AfterFault e (Unit {0}) B → P → (A → B → Q) → AfterFault e P Q
+after_both Interrupted A B P Q a b p f = p
+after_both NoMemory A B P Q a b p f = f a b
+after_both DeviceFailed A B P Q a b p f = f a b
+after_both (Damaged line) A B P Q a b p f = f a b
+after_both TooLarge A B P Q a b p f = f a b
+after_both (TooFew have) A B P Q a b p f = f a b
+after_both JournalFull A B P Q a b p f = f a b
+after_both Broken A B P Q a b p f = f a b
+after_both (LengthDiffers n) A B P Q a b p f = f a b
+after_both (NothingToRedo have) A B P Q a b p f = f a b
+after_both (RedoDamaged line) A B P Q a b p f = f a b
+
+module _ (text x redo new y redo_new : List ℕ) (s : Images) (finds : Finds text x redo s) (unclean : IsClean text → ⊥) (few : changes_of s.stack ≤ 65535) where
+  -- the redo text was emptied before the journal was cut
+  stopped_finds : Recovers new y s.stack → ((new ≡ text) ⊎ (redo_new ≡ [])) → Finds new y redo_new (record { stack = s.stack; undone = [] })
+  stopped_finds rec first = record {
+    recovers = rec;
+    undone = λ clean. elim first [
+      | inl same ↦ absurd (unclean (subst IsClean same clean))
+      | inr none ↦ subst (λ t. IsRedoOf t y (changes_of s.stack) []) (sym none) (empty_is_redo y (changes_of s.stack) few)
+    ];
+  }
+
+  same_finds : (new ≡ text) × (y ≡ x) → redo_new ≡ redo → Finds new y redo_new s
+  same_finds same redo_same =
+      subst (λ t. Finds t y redo_new s) (sym same.0) (subst (λ z. Finds text z redo_new s) (sym same.1) (subst (λ t. Finds text x t s) (sym redo_same) finds))
+
+  pub unfinished_finds : (o : Result Recovered SessionFault) → OnErr o (Recovers new y s.stack) → OnErr o ((new ≡ text) ⊎ (redo_new ≡ []))
+      → IfErr o (λ e. AfterFault e (Unit {0}) ((new ≡ text) × (y ≡ x))) → IfErr o (λ e. AfterFault e (Unit {0}) (redo_new ≡ redo))
+      → IfErr o (λ e. AfterFault e (Finds new y redo_new (record { stack = s.stack; undone = [] })) (Finds new y redo_new s))
+  unfinished_finds (Ok v) rec first same redo_same = tt
+  unfinished_finds (Err e) rec first same redo_same = after_both e _ _ _ _ same redo_same (stopped_finds rec first) same_finds

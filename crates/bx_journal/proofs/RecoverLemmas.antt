@@ -1,0 +1,86 @@
+-- What is found in a journal's text: finished entries alone, or something unfinished.
+use Rattle.std.proofs.Common.{◌≡◌, ℕ, suc, ◌≤◌, List, [], ◌∷◌, length, drop, refl, ap, sym, ◌∙◌, subst, arith, Option, Some, None, Result, Ok, Err, length-drop}
+use Rattle.std.specs.Prelude.{IfOk, IfErr, IfSome, OnOk, OnErr}
+use Rattle.bx_image.specs.declared.record.Saved.{Saved}
+use Rattle.bx_journal.specs.declared.version.Version.{Version}
+use Rattle.bx_journal.specs.declared.journal.JournalRead.{JournalRead}
+use Rattle.bx_journal.specs.declared.reader.StageRead.{StageRead}
+use Rattle.bx_journal.specs.declared.reader.StageRead.TheVariants.{Between as BetweenRead, Saving as SavingRead, Ending as EndingRead}
+use Rattle.bx_journal.specs.declared.fault.SessionFault.{SessionFault}
+use Rattle.bx_journal.specs.declared.fault.SessionFault.TheVariants.{NoMemory, TooLarge, DeviceFailed, Damaged, TooFew, JournalFull, Interrupted, Broken, LengthDiffers, NothingToRedo, RedoDamaged}
+use Rattle.bx_journal.specs.Journal.{HasRead}
+use Rattle.bx_journal.specs.Opening.{FaultCounts, LookFault, OneMore, OneMoreOfThree, ThreeCounts}
+use Rattle.bx_journal.specs.Parsed.{entries_of, stage_of, reading_of, told_by}
+use Rattle.bx_journal.specs.Recovery.{RecoverFault}
+use Rattle.bx_journal.specs.Redo.{IsClean, IsRefusedAt}
+use Rattle.bx_journal.specs.Tally.{IsCounted}
+use Rattle.bx_journal.specs.Text.{Entry, Stage, Between, Saving, Ending, Reading, Reads, split}
+use Rattle.bx_journal.proofs.OpenLemmas.{read_once}
+use Rattle.bx_journal.proofs.ReadLemmas.{length-entries_of}
+use Rattle.bx_journal.proofs.TailLemmas.{begins_at, begin_mark}
+use Rattle.bx_journal.proofs.Tails.{rest_none}
+
+-- finished entries alone that were read are counted
+pub read_counted : {A : Type 0} → (text : List ℕ) (j : JournalRead A) (count : ℕ) (told : Option ℕ) → HasRead text j → j.stage ≡ BetweenRead → j.whole ≡ length text
+    → count ≡ length j.entries.items → told ≡ told_by (entries_of j.entries.items) → IsCounted text count told
+read_counted text j count told read is all counted told_is = record {
+  entries = entries_of j.entries.items;
+  finished = record {
+    reads = subst (λ s. Reads text (reading_of j.entries.items s)) is read.reads;
+    whole = rest_none text j.whole read.places.rest all;
+  };
+  counted = counted ∙ sym (length-entries_of j.entries.items);
+  told_is = told_is;
+}
+
+between_back : {A : Type 0} → (s : StageRead A) → stage_of s ≡ Between → s ≡ BetweenRead
+between_back BetweenRead is = refl
+between_back (SavingRead v len runs begins) is = absurd (cc)
+between_back (EndingRead v kept begins saved) is = absurd (cc)
+
+-- what is unfinished isn't finished entries alone
+pub unfinished_apart : {A : Type 0} → (text : List ℕ) (j : JournalRead A) → HasRead text j → (j.stage ≡ BetweenRead → j.whole ≡ length text → ⊥) → IsClean text → ⊥
+unfinished_apart text j read unfinished clean =
+    let same = read_once text text j (record { entries = clean.0; stage = Between }) read refl clean.1.reads in
+    unfinished (between_back j.stage (ap (λ (r : Reading). r.stage) same)) (omega (arith, ap length (read.places.rest ∙ clean.1.whole), length-drop j.whole text, read.places.mark.within))
+
+-- an entry that has its save line begins within the text
+pub ending_begins : {A : Type 0} → (text bytes : List ℕ) (j : JournalRead A) (v : Version) (kept : Saved A) (begins saved : ℕ) → HasRead bytes j → j.stage ≡ EndingRead v kept begins saved → text ≡ bytes
+    → begins ≤ length text
+ending_begins text bytes j v kept begins saved read is same =
+    let mark = begin_mark bytes j.entries.items j.stage j.whole read.places.mark read.places.marked in
+    omega (arith, mark.within, ap (λ s. begins_at s j.whole) is, ap length same)
+
+-- a fault between reading and the first write is one of taking back
+pub look_kind : (H : Type 0) (es : List Entry) (x : List ℕ) (e : SessionFault) → LookFault H es x e → RecoverFault e
+look_kind H es x NoMemory look = tt
+look_kind H es x DeviceFailed look = tt
+look_kind H es x (LengthDiffers n) look = tt
+look_kind H es x TooLarge look = look
+look_kind H es x (Damaged line) look = look
+look_kind H es x (TooFew have) look = look
+look_kind H es x JournalFull look = look
+look_kind H es x Interrupted look = tt
+look_kind H es x Broken look = look
+look_kind H es x (NothingToRedo have) look = look
+look_kind H es x (RedoDamaged line) look = look
+
+-- the counts of two devices among those of three
+pub counts_among : (e : SessionFault) (a b a_new b_new d t u d_new t_new u_new : ℕ) → FaultCounts e a b a_new b_new
+    → (OneMore a b a_new b_new → OneMoreOfThree d t u d_new t_new u_new) → ((a_new ≡ a) × (b_new ≡ b) → (d_new ≡ d) × (t_new ≡ t) × (u_new ≡ u))
+    → ThreeCounts e d t u d_new t_new u_new
+counts_among DeviceFailed a b a_new b_new d t u d_new t_new u_new h one same = one h
+counts_among Interrupted a b a_new b_new d t u d_new t_new u_new h one same = one h
+counts_among NoMemory a b a_new b_new d t u d_new t_new u_new h one same = same h
+counts_among TooLarge a b a_new b_new d t u d_new t_new u_new h one same = same h
+counts_among (Damaged line) a b a_new b_new d t u d_new t_new u_new h one same = same h
+counts_among (TooFew have) a b a_new b_new d t u d_new t_new u_new h one same = same h
+counts_among JournalFull a b a_new b_new d t u d_new t_new u_new h one same = same h
+counts_among Broken a b a_new b_new d t u d_new t_new u_new h one same = same h
+counts_among (LengthDiffers n) a b a_new b_new d t u d_new t_new u_new h one same = same h
+counts_among (NothingToRedo have) a b a_new b_new d t u d_new t_new u_new h one same = same h
+counts_among (RedoDamaged line) a b a_new b_new d t u d_new t_new u_new h one same = same h
+
+-- a redo text that is refused, under other names
+pub refused_at : (redo text x y : List ℕ) (changes line : ℕ) → redo ≡ text → x ≡ y → IsRefusedAt redo x changes line → IsRefusedAt text y changes line
+refused_at redo text x y changes line same image refused = subst (λ t. IsRefusedAt t y changes line) same (subst (λ z. IsRefusedAt redo z changes line) image refused)
