@@ -59,7 +59,7 @@ module _ {D T : Type 0} (hd : D → Type 0) (ht : T → Type 0) (image : D → L
   -- a call that was accepted raises no count
   unfailed_counts : (old new : SessionView D T) → IsUnfailed fd ft old new → CountsOn fd ft old new 1
   unfailed_counts old new same =
-      let d = same.0 in let t = same.1.0 in let u = same.1.1 in
+      let d = same.0 in let t = same.1 in let u = same.2 in
       record { device_least = omega arith; store_least = omega arith; redo_least = omega arith; most = omega arith }
 
   -- a call that was refused raises one count, or none
@@ -68,8 +68,8 @@ module _ {D T : Type 0} (hd : D → Type 0) (ht : T → Type 0) (image : D → L
       let least = counts_least e (fd old.device) (ft old.store) (ft old.redo_text) (fd new.device) (ft new.store) (ft new.redo_text) counts in
       record {
         device_least = least.0;
-        store_least = least.1.0;
-        redo_least = least.1.1;
+        store_least = least.1;
+        redo_least = least.2;
         most = counts_most e (fd old.device) (ft old.store) (ft old.redo_text) (fd new.device) (ft new.store) (ft new.redo_text) counts;
       }
 

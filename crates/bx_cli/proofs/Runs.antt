@@ -126,4 +126,4 @@ counted_all device_failures text_failures first now i n replies within has = rec
 pub counted_unfailed : {D T : Type 0} (device_failures : D → ℕ) (text_failures : T → ℕ) (first now : SessionView D T) (i : ℕ) (replies : List Reply)
     → HasCounted device_failures text_failures first now i replies → IsUnfailed device_failures text_failures first now → All Unfailed replies
 counted_unfailed device_failures text_failures first now i replies has same =
-    has.unfailed (let d = same.0 in let t = same.1.0 in let u = same.1.1 in omega arith)
+    has.unfailed (let d = same.0 in let t = same.1 in let u = same.2 in omega arith)

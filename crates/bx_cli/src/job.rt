@@ -1,5 +1,5 @@
 //! What a command line asks for.
-ghost use Rattle.std.specs.Prelude.{◌≡◌, ◌≤◌, ◌^◌, is_some};
+ghost use Rattle.std.specs.Prelude.{◌≡◌, ◌≤◌, ◌^◌, ◌++◌, codes, is_some};
 ghost use Rattle.bx_dd.specs.Parsing.{IsPlanOf};
 
 use bx_dd::Plan;
@@ -97,6 +97,7 @@ pub struct Texts {
     pub journal: Name,
     /// The name of the redo file: the journal's, followed by `.redo`.
     pub redo: Name,
+    ghost named: { redo ≡ journal ++ codes ".redo" },
 }
 
 /// `dd`: what its operands ask for, and the operands themselves. Where `of=` names an image there are its texts; else `texts` is none, and the output is a stream.
