@@ -149,7 +149,7 @@ def dd_differs(rng, bx, folder):
         files = [open(path, "rb").read() for path in (mine, theirs)]
         undone = run([bx, "undo", mine], b"")
         same = same and files[0] == files[1] and undone[0] == b"0\n" and open(mine, "rb").read() == old
-        for path in (mine, mine + ".bxj", theirs):
+        for path in (mine, mine + ".bxj", mine + ".bxj.redo", theirs):
             os.remove(path)
     return None if same else f"dd {' '.join(words)} on {data!r}, {'onto' if onto else 'not onto'} {old!r}\n  bx:   {a}\n  real: {b}"
 

@@ -1,7 +1,7 @@
 #!/usr/bin/env bash
 # Runs bx on bad texts, full devices, closed pipes and closed streams, on what is no regular file, on loop devices, two at
 # once, and with each memory request and each read or write failing in turn. Compares exit statuses, messages, and that
-# image and journal are as they should be. Prints a line for each case, and a count at the end; the status is 1 where a case
+# image, journal and redo file are as they should be. Prints a line for each case, and a count at the end; the status is 1 where a case
 # fails. Outside the gate. Loop devices want root.
 #
 # Usage: scripts/hostile.sh [PATH OF bx]
@@ -28,14 +28,20 @@ say() { # say WELL NAME DETAIL
     fi
 }
 
-fresh() { # fresh IMAGE-TEXT [JOURNAL-FILE]
-    printf %s "$1" > img
-    rm -f img.bxj
-    if [ $# -gt 1 ]; then cp "$2" img.bxj; fi
-    sums=$(cat img img.bxj 2> /dev/null | sha256sum)
+# What image, journal and redo file are now. A redo file that is empty is as one that is missing.
+trio_sum() {
+    cat img img.bxj img.bxj.redo 2> /dev/null | sha256sum
 }
 
-# Runs bx, and compares the status and the last line on standard error; `same` says that image and journal stay.
+fresh() { # fresh IMAGE-TEXT [JOURNAL-FILE [REDO-FILE]]
+    printf %s "$1" > img
+    rm -f img.bxj img.bxj.redo
+    if [ $# -gt 1 ]; then cp "$2" img.bxj; fi
+    if [ $# -gt 2 ]; then cp "$3" img.bxj.redo; fi
+    sums=$(trio_sum)
+}
+
+# Runs bx, and compares the status and the last line on standard error; `same` says that image, journal and redo file stay.
 expect() { # expect NAME same|any STATUS MESSAGE ARG ..
     local name=$1 stays=$2 want=$3 message=$4 status well=1 found
     shift 4
@@ -44,12 +50,16 @@ expect() { # expect NAME same|any STATUS MESSAGE ARG ..
     found=$(tail -n 1 err)
     [ "$status" = "$want" ] || well=0
     [ "$found" = "${message:+bx: $message}" ] || well=0
-    if [ "$stays" = same ] && [ "$(cat img img.bxj 2> /dev/null | sha256sum)" != "$sums" ]; then well=0; fi
+    if [ "$stays" = same ] && [ "$(trio_sum)" != "$sums" ]; then well=0; fi
     say "$well" "$name" "status $status${found:+, $found}"
 }
 
 patched() { # the journal of two bytes at 2 of an image of 8
     printf 'change2 00000001 0000000000000008\n00000002: 4344%37sCD\nsave 00000001\ndone2 00000001 0000000000000008\n' ''
+}
+
+unpatched() { # the redo text of that patch, once it is taken back
+    printf 'change2 00000001 0000000000000008\n00000002: 7879%37sxy\nsave 00000001\ndone2 00000001 0000000000000008\n' ''
 }
 
 letters() { # letters COUNT LETTER
@@ -110,6 +120,52 @@ bad_journals() {
     fresh "" text && expect "an entry above the greatest number" same 1 "journal line 196606 is damaged" log img
 }
 
+# Redo files that are none of the image and the journal: each command is refused, and all three files stay.
+bad_redo_files() {
+    local n well=1
+    patched > text
+    printf '0: 41\n' > dump
+    head -c 1000000 /dev/zero > redo
+    fresh ABxyEFGH text redo && expect "a redo file of a megabyte of NUL bytes" same 1 "redo line 1 is damaged" undo img
+    letters 1000000 s > redo
+    fresh ABxyEFGH text redo && expect "a redo file of a line of a megabyte" same 1 "redo line 1 is damaged" revert -f dump img
+    cp "$bx" redo
+    fresh ABxyEFGH text redo && expect "a program as a redo file" same 1 "redo line 1 is damaged" log img
+    (unpatched && unpatched) > redo
+    fresh ABxyEFGH text redo && expect "an undone entry twice" same 1 "redo line 5 is damaged" undo -k 0 img
+    (unpatched && printf 'change2 00000002 0000000000000008\n') > redo
+    fresh ABxyEFGH text redo && expect "an undone entry and half of one" same 1 "redo line 5 is damaged" dd if=dump of=img
+    printf 'change 00000001 00000008\nsave 00000001\ndone 00000001\n' > redo
+    fresh ABxyEFGH text redo && expect "a redo file in the older form" same 1 "redo line 1 is damaged" log img
+    unpatched > redo
+    : > none
+    fresh ABCDEFG none redo && expect "a redo file of a longer image" same 1 "redo line 4 is damaged" revert -f dump img
+    fresh ABxyEFG text redo && expect "a longer image is told by its journal first" same 1 "image should have 8 bytes" log img
+    fresh ABxyEFGH text redo && expect "a redo file in order" same 0 "" log img
+    fresh ABxyEFGH text redo && expect "an undo of none leaves it" same 0 "" undo -k 0 img
+    fresh ABxyEFGH text redo && expect "an undo empties it" any 0 "" undo img
+    [ "$(cat img)" = ABCDEFGH ] && [ ! -s img.bxj ] && [ ! -s img.bxj.redo ] && say 1 "and it is empty" || say 0 "and it is empty"
+    for n in $(seq 1 133); do
+        unpatched | head -c "$n" > redo
+        fresh ABxyEFGH text redo
+        "$bx" log img > out 2> err && well=0
+        [ "$(cat err)" = "bx: redo line 1 is damaged" ] && [ "$(trio_sum)" = "$sums" ] || well=0
+    done
+    say "$well" "each front of a redo file" "133 runs"
+    truncate -s 1G redo
+    fresh ABxyEFGH text redo
+    rm redo
+    if (
+        ulimit -v 4000000
+        failed=0
+        expect "a redo file of a gigabyte, in four of memory" same 1 "redo line 1 is damaged" log img
+        [ "$failed" = 0 ]
+    ); then passed=$((passed + 1)); else failed=$((failed + 1)); fi
+    awk 'BEGIN { for (n = 1; n <= 65535; n++) printf "change %08x 00000000\nsave %08x\ndone %08x\n", n, n, n }' > text
+    printf 'change2 00000001 0000000000000000\nsave 00000001\ndone2 00000001 0000000000000000\n' > redo
+    fresh "" text redo && expect "one undone beside a full journal" same 1 "redo line 1 is damaged" log img
+}
+
 # The image as its own journal, under each kind of name. It begins as a journal does, so that opening it as one would cut it.
 two_names() {
     local name
@@ -123,9 +179,19 @@ two_names() {
         expect "and dd" same 1 "cannot open file" dd if=dump of="$name" -J img
     done
     rm soft hard
+    patched > own
+    for name in img own; do
+        fresh ABxyEFGH
+        ln -f "$name" own.redo
+        expect "$name as the redo file, by a second name" same 1 "cannot open file" undo -J own img
+        ln -sf "$name" own.redo
+        expect "$name as the redo file, by a link" same 1 "cannot open file" revert -f dump -J own img
+    done
+    [ "$(patched | sha256sum)" = "$(sha256sum < own)" ] && say 1 "and the journal is as it was" || say 0 "and the journal is as it was"
+    rm own own.redo
 }
 
-# What is no regular file, as an image and as a journal: it is refused before anything is written or made.
+# What is no regular file, as an image, a journal and a redo file: it is refused before anything is written or made.
 other_kinds() {
     local name names=("/" "/dev/null" "/dev/full" "/dev/zero") before
     mkdir folder
@@ -151,9 +217,21 @@ other_kinds() {
         expect "$name as the journal of undo" same 1 "cannot open file" undo -J "$name" img
         expect "$name as the journal of log" same 1 "cannot open file" log -J "$name" img
     done
+    : > kind
+    for name in "${names[@]}"; do
+        ln -sfn "$(realpath -s "$name")" kind.redo
+        expect "$name as the redo file" same 1 "cannot open file" revert -f dump -J kind img
+        expect "$name as the redo file of a new image" same 1 "cannot open file" dd if=dump of=new -J kind
+        expect "$name as the redo file of undo" same 1 "cannot open file" undo -J kind img
+        expect "$name as the redo file of log" same 1 "cannot open file" log -J kind img
+    done
+    [ ! -s kind ] && rm kind kind.redo
+    mkdir new.bxj.redo
+    expect "a folder as the redo file of a new image and journal" same 1 "cannot open file" dd if=dump of=new -J new.bxj
+    rmdir new.bxj.redo
     expect "a journal in no folder, of a new image" same 1 "cannot open file" revert -f dump -J no/such new
     expect "an image in no folder" same 1 "cannot open file" revert -f dump -J new.bxj no/such
-    [ "$before" = "$(ls; stat -c %s img dump)" ] && [ ! -e /.bxj ] && [ ! -e /dev/null.bxj ] \
+    [ "$before" = "$(ls; stat -c %s img dump)" ] && [ ! -e /.bxj ] && [ ! -e /dev/null.bxj ] && [ ! -e /.bxj.redo ] \
         && say 1 "nothing was made beside them" || say 0 "nothing was made beside them"
     rm -rf folder pipe socket
 }
@@ -167,9 +245,10 @@ held() {
     local name command
     printf '0: 41\n' > dump
     patched | head -n 3 > text
-    for name in img img.bxj; do
+    unpatched > redo
+    for name in img img.bxj img.bxj.redo; do
         for command in "revert -f dump img" "dd if=dump of=img" "undo img" "undo -k 0 img" "log img"; do
-            fresh ABxyEFGH text
+            fresh ABxyEFGH text redo
             exec 9< "$name"
             flock -n 9
             # shellcheck disable=SC2086
@@ -177,29 +256,39 @@ held() {
             exec 9<&-
         done
     done
-    fresh ABxyEFGH text
+    fresh ABxyEFGH text redo
     exec 9< img.bxj
     flock -n 9
     expect "a new image, and the journal is held" same 1 "cannot open file" dd if=dump of=new -J img.bxj
     exec 9<&-
     [ ! -e new ] && say 1 "the new image is taken away" || say 0 "the new image is taken away"
+    cp redo new.bxj.redo
+    exec 9< new.bxj.redo
+    flock -n 9
+    expect "a new image and journal, and the redo file is held" same 1 "cannot open file" dd if=dump of=new -J new.bxj
+    exec 9<&-
+    [ ! -e new ] && [ ! -e new.bxj ] && cmp -s redo new.bxj.redo && say 1 "both are taken away" || say 0 "both are taken away"
+    rm new.bxj.redo
     expect "and then nothing is held" any 0 "recovered: change 1 was taken back" log img
 }
 
 # Each front of a patch's journal over the image before, in the middle of and behind it: the image comes back, and what was
-# recovered is told.
+# recovered is told. Whatever stands in the redo file, it is then empty.
 fronts() {
     local n image want told well=1 shown
     patched > whole
+    printf 'hello\n' > redo
+    : > none
     for image in ABCDEFGH ABxDEFGH ABxyEFGH; do
         for n in $(seq 0 133); do
             head -c "$n" whole > text
-            fresh "$image" text
+            if [ "$n" = 0 ]; then fresh "$image" text; else fresh "$image" text redo; fi
             shown=$("$bx" undo -k 0 img 2> err) || well=0
             want=$image told='bx: recovered: an unfinished entry was dropped'
             [ "$n" = 0 ] && told=
             [ "$n" -ge 102 ] && want=ABCDEFGH told='bx: recovered: change 1 was taken back'
-            [ "$shown" = 0 ] && [ "$(cat img)" = "$want" ] && [ ! -s img.bxj ] && [ "$(cat err)" = "$told" ] || well=0
+            [ "$shown" = 0 ] && [ "$(cat img)" = "$want" ] && [ ! -s img.bxj ] && [ ! -s img.bxj.redo ] \
+                && [ "$(cat err)" = "$told" ] || well=0
         done
     done
     say "$well" "each front of a journal over three images" "402 runs"
@@ -222,6 +311,8 @@ undo -k 65536 img
 log -k 1 img
 revert -s 1k img
 revert -J img img
+undo -J img j
+log -J j j.redo
 END
     fresh xyz && expect "words: a name that is not UTF-8" same 2 "bad arguments" xxd "$(printf 'a\377')"
 }
@@ -275,7 +366,7 @@ run_closed() { # run_closed NUMBERS ARG ..
 }
 
 # One command under one set of closed streams. NEEDS has a 0 where it reads standard input, and a 1 where it writes to standard
-# output; `img2`, `img2.bxj`, `out2` and `err2` are what it makes with all three open.
+# output; `out2` and `err2` are what it writes with all three open, and `after` is what it leaves.
 closed_case() { # closed_case NUMBERS NEEDS IMAGE ARG ..
     local numbers=$1 needs=$2 image=$3 status want=0 message='' well=1
     shift 3
@@ -290,8 +381,8 @@ closed_case() { # closed_case NUMBERS NEEDS IMAGE ARG ..
     esac
     [ "$status" = "$want" ] || well=0
     case $message in
-        'bx: read failed') [ "$(cat img img.bxj | sha256sum)" = "$sums" ] && [ ! -s out ] || well=0 ;;
-        *) cmp -s img img2 && cmp -s img.bxj img2.bxj || well=0 ;;
+        'bx: read failed') [ "$(trio_sum)" = "$sums" ] && [ ! -s out ] || well=0 ;;
+        *) [ "$(trio_sum)" = "$after" ] || well=0 ;;
     esac
     case $numbers in *1*) [ ! -s out ] || well=0 ;; *) [ -n "$message" ] || cmp -s out out2 || well=0 ;; esac
     case $numbers in
@@ -303,12 +394,11 @@ closed_case() { # closed_case NUMBERS NEEDS IMAGE ARG ..
 
 # Each set of closed streams: no file of the user's takes their numbers, and using one fails.
 closed_command() { # closed_command NEEDS IMAGE ARG ..
-    local needs=$1 image=$2 numbers wrong=
+    local needs=$1 image=$2 numbers wrong='' after
     shift 2
     fresh "$image" text
     run_closed "" "$@" || wrong=" status"
-    cp img img2
-    cp img.bxj img2.bxj
+    after=$(trio_sum)
     cp out out2
     cp err err2
     for numbers in "" 0 1 2 01 02 12 012; do
@@ -348,7 +438,7 @@ full_disk() {
     letters 8000 5 > dump
     for blocks in 1 2 3 4 5 6; do
         cp before img
-        rm -f img.bxj
+        rm -f img.bxj img.bxj.redo
         (
             trap '' XFSZ
             ulimit -f "$blocks"
@@ -373,7 +463,8 @@ kill_after() { # kill_after SECONDS ARG ..
     kill -KILL "$pid" 2> /dev/null && kills=$((kills + 1))
     wait "$pid" 2> /dev/null
     if [ -e img.bxj ]; then
-        changes=$("$bx" log img 2> recovered | wc -l)
+        "$bx" log img > out 2> recovered || wrong=$((wrong + 1))
+        changes=$(wc -l < out)
         "$bx" undo -k "$changes" img > out 2>&1
     fi
     cmp -s before img || wrong=$((wrong + 1))
@@ -385,14 +476,16 @@ say_kills() { # say_kills NAME
     say "$well" "$1" "$kills of 30 were still running"
 }
 
-# Killed at a random moment: the image comes back, whatever the moment.
+# Killed at a random moment: the image comes back, whatever the moment, and no redo file is then called damaged.
 killed() {
     local n kills=0 wrong=0
     head -c 3000000 /dev/zero > before
+    printf 'change2 00000001 00000000002dc6c0\n00000000: 41%39sA\nsave 00000001\ndone2 00000001 00000000002dc6c0\n' '' > redo
     awk 'BEGIN { for (i = 0; i < 60000; i++) printf "%x: 41\n", (i * 7919) % 2999999 }' > dump
     for n in $(seq 1 30); do
         cp before img
         rm -f img.bxj
+        cp redo img.bxj.redo
         kill_after "$(awk -v n="$n" 'BEGIN { printf "%.4f", n * 0.004 }')" revert -f dump img
     done
     say_kills "killed in the middle of a change"
@@ -403,25 +496,21 @@ killed() {
     for n in $(seq 1 30); do
         cp after img
         cp text img.bxj
+        cp redo img.bxj.redo
         kill_after "$(awk -v n="$n" 'BEGIN { printf "%.4f", n * 0.003 }')" undo img
     done
     say_kills "killed in the middle of an undo"
 }
 
-# What image and journal are now.
-pair_sum() {
-    cat img img.bxj 2> /dev/null | sha256sum
-}
-
 # Two commands at once, many times: one is refused, or both are done, and image and journal are as one of them or an order of
-# both makes them. START makes the pair before each try.
+# both makes them. START makes them before each try.
 at_once() { # at_once NAME TRIES START FIRST SECOND
     local name=$1 tries=$2 start=$3 first=$4 second=$5 n wrong=0 refused=0 a b sum
     local only_first only_second in_order in_turn
     # shellcheck disable=SC2086
     {
-        $start && "$bx" $first > out 2> err && only_first=$(pair_sum) && "$bx" $second > out 2> err && in_order=$(pair_sum)
-        $start && "$bx" $second > out 2> err && only_second=$(pair_sum) && "$bx" $first > out 2> err && in_turn=$(pair_sum)
+        $start && "$bx" $first > out 2> err && only_first=$(trio_sum) && "$bx" $second > out 2> err && in_order=$(trio_sum)
+        $start && "$bx" $second > out 2> err && only_second=$(trio_sum) && "$bx" $first > out 2> err && in_turn=$(trio_sum)
     } || wrong=1
     for n in $(seq 1 "$tries"); do
         $start
@@ -432,7 +521,7 @@ at_once() { # at_once NAME TRIES START FIRST SECOND
         b=$?
         wait $!
         a=$?
-        sum=$(pair_sum)
+        sum=$(trio_sum)
         case "$a$b" in
             00) [ "$sum" = "$in_order" ] || [ "$sum" = "$in_turn" ] || wrong=$((wrong + 1)) ;;
             01) [ "$sum" = "$only_first" ] && [ "$(cat err2)" = "bx: cannot open file" ] || wrong=$((wrong + 1)) ;;
@@ -444,23 +533,25 @@ at_once() { # at_once NAME TRIES START FIRST SECOND
     [ "$wrong" = 0 ] && say 1 "$name" "$tries tries, one refused in $refused" || say 0 "$name" "$wrong of $tries wrong"
 }
 
-no_pair() {
-    rm -f img img.bxj
+none_there() {
+    rm -f img img.bxj img.bxj.redo
 }
 
 letters_alone() {
     cp letters img
-    rm -f img.bxj
+    rm -f img.bxj img.bxj.redo
 }
 
 letters_changed() {
     cp changed img
     cp changed.bxj img.bxj
+    rm -f img.bxj.redo
 }
 
 letters_stopped() {
     cp changed img
     head -c -20 changed.bxj > img.bxj
+    rm -f img.bxj.redo
 }
 
 two_at_once() {
@@ -474,10 +565,10 @@ two_at_once() {
     at_once "two reverts at once" 400 letters_alone "revert -f dump1 img" "revert -f dump2 img"
     at_once "a revert and an undo at once" 200 letters_changed "revert -f dump1 img" "undo img"
     at_once "a revert and a log that recovers, at once" 200 letters_stopped "revert -f dump1 img" "log img"
-    at_once "two dd onto an image that is missing, at once" 200 no_pair "dd if=dump1 of=img" "dd if=dump2 of=img seek=1"
+    at_once "two dd onto an image that is missing, at once" 200 none_there "dd if=dump1 of=img" "dd if=dump2 of=img seek=1"
 }
 
-# A command on the device and the same one on a file of its length: statuses, what is written, bytes and journals are the same.
+# A command on the device and the same one on a file of its length: statuses, what is written, bytes and texts are the same.
 on_both() { # on_both COMMAND .. with DEV and JOURNAL in the place of the names
     local status same=1 command="$*"
     command=${command//DEV/$loop}
@@ -489,7 +580,7 @@ on_both() { # on_both COMMAND .. with DEV and JOURNAL in the place of the names
     # shellcheck disable=SC2086
     "$bx" ${command//JOURNAL/plain.bxj} > out2 2> err2
     [ "$status" = $? ] && [ "$status" = 0 ] && cmp -s out out2 && cmp -s err err2 || same=0
-    cmp -s "$loop" plain.img && cmp -s device.bxj plain.bxj || same=0
+    cmp -s "$loop" plain.img && cmp -s device.bxj plain.bxj && cmp -s device.bxj.redo plain.bxj.redo || same=0
     say "$same" "on a device and on a file: $*"
 }
 
@@ -553,7 +644,7 @@ loop_devices() {
     expect "a device without a journal of its own" same 1 "cannot open file" revert -f dump "$loop"
     expect "a device without one, by a link" same 1 "cannot open file" dd if=dump of=link conv=notrunc
     expect "a device as the journal" same 1 "cannot open file" log -J "$loop" img
-    [ ! -e "$loop.bxj" ] && [ ! -e link.bxj ] && [ "$(sha256sum < "$loop")" = "$first" ] && say 1 "and nothing was made or changed" || say 0 "and nothing was made or changed"
+    [ ! -e "$loop.bxj" ] && [ ! -e link.bxj ] && [ ! -e "$loop.bxj.redo" ] && [ ! -e link.bxj.redo ] && [ "$(sha256sum < "$loop")" = "$first" ] && say 1 "and nothing was made or changed" || say 0 "and nothing was made or changed"
     on_both revert -f dump -J JOURNAL DEV
     on_both revert -p -s 0xfff00 -f digits -J JOURNAL DEV
     on_both dd if=dump of=DEV bs=4k seek=3 conv=notrunc,sync -J JOURNAL
@@ -636,20 +727,20 @@ shimmed() { # shimmed MODE N ARG ..
     timeout 60 env SHIM_MODE="$mode" SHIM_AT="$n" SHIM_COUNT=count LD_PRELOAD="$work/shim.so" "$bx" "$@" > out 2> err < input
 }
 
-# Each memory request of a command on image and journal fails in turn: status 1, and both as before.
+# Each memory request of a command on image, journal and redo file fails in turn: status 1, and all three as before.
 each_request() { # each_request NAME IMAGE JOURNAL ARG ..
     local name=$1 image=$2 journal=$3 n total wrong=0 refused=0 status
     shift 3
     : > input
-    fresh "$image" "$journal"
+    fresh "$image" "$journal" undone
     shimmed a 0 "$@" || wrong=1
     total=$(cat count)
     for n in $(seq 1 "$total"); do
-        fresh "$image" "$journal"
+        fresh "$image" "$journal" undone
         shimmed a "$n" "$@"
         status=$?
         if [ "$status" = 1 ] && [ "$(cat err)" = "bx: out of memory" ] && [ ! -s out ]; then
-            [ "$(cat img img.bxj | sha256sum)" = "$sums" ] || wrong=$((wrong + 1))
+            [ "$(trio_sum)" = "$sums" ] || wrong=$((wrong + 1))
             refused=$((refused + 1))
         elif [ "$status" != 0 ]; then
             wrong=$((wrong + 1))
@@ -658,17 +749,17 @@ each_request() { # each_request NAME IMAGE JOURNAL ARG ..
     [ "$wrong" = 0 ] && [ "$refused" -gt 0 ] && say 1 "each memory request of $name" "$refused of $total refused" || say 0 "each memory request of $name" "$refused of $total refused, $wrong wrong"
 }
 
-# Each read or write of a command on image and journal fails in turn: opening again finds the images before or after it,
-# and undoing all gives the first.
+# Each read or write of a command on image, journal and redo file fails in turn: opening again finds the images before or
+# after it, refuses none of the three, and undoing all gives the first.
 each_call() { # each_call NAME IMAGE JOURNAL FIRST ARG ..
     local name=$1 image=$2 journal=$3 first=$4 n total wrong=0 stopped=0 after status changes
     shift 4
-    fresh "$image" "$journal"
+    fresh "$image" "$journal" undone
     shimmed f 0 "$@" || wrong=1
     after=$(base64 -w 0 < img)
     total=$(cat count)
     for n in $(seq 1 "$total"); do
-        fresh "$image" "$journal"
+        fresh "$image" "$journal" undone
         shimmed f "$n" "$@"
         status=$?
         [ "$status" = 1 ] && stopped=$((stopped + 1))
@@ -685,11 +776,11 @@ each_call() { # each_call NAME IMAGE JOURNAL FIRST ARG ..
     done
     [ "$wrong" = 0 ] && [ "$stopped" -gt 0 ] && say 1 "each read and write of $name" "$stopped of $total stopped it" || say 0 "each read and write of $name" "$stopped of $total stopped it, $wrong wrong"
     wrong=0
-    fresh "$image" "$journal"
+    fresh "$image" "$journal" undone
     shimmed s 0 "$@" || wrong=1
     total=$(cat count)
     for n in $(seq 1 "$total"); do
-        fresh "$image" "$journal"
+        fresh "$image" "$journal" undone
         shimmed s "$n" "$@" && [ "$(base64 -w 0 < img)" = "$after" ] || wrong=$((wrong + 1))
     done
     [ "$wrong" = 0 ] && say 1 "each read and write of $name moves one byte" "$total runs" || say 0 "each read and write of $name moves one byte" "$wrong of $total wrong"
@@ -757,6 +848,7 @@ failing_calls() {
     fi
     : > none
     patched > text
+    unpatched > undone
     printf '2: 7879\n20: 41\n' > dump
     printf '78 7\n9' > plain
     each_request "revert" ABCDEFGH none revert -f dump img
@@ -820,6 +912,7 @@ under_try() { # under_try N ..
 
 bad_dumps
 bad_journals
+bad_redo_files
 two_names
 other_kinds
 held

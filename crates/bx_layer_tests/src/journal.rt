@@ -2,6 +2,7 @@
 mod damage;
 mod failures;
 mod growths;
+mod redo;
 mod rows;
 mod script;
 mod tools;

@@ -1,7 +1,7 @@
 //! dd.
 use crate::files::input;
 use crate::images::{command, open_session};
-use bx_cli::{Command, DdJob, Fault, Reply};
+use bx_cli::{Command, DdJob, Fault, Reply, Texts};
 use bx_dd::{Counts, report};
 use bx_text::{Name, Words};
 use std::alloc::Global;
@@ -11,14 +11,14 @@ use std::rt::Files;
 
 /// Puts what the operands make of the input onto the image, and tells the counts. The input is opened first, and read whole
 /// before the image is written: they may be one file.
-pub fn copy_onto<R>(rt: &R, dd: &DdJob, image: &Name, journal: &Name) -> Result<(), Fault>
+pub fn copy_onto<R>(rt: &R, dd: &DdJob, image: &Name, texts: &Texts) -> Result<(), Fault>
 where
     R: Files<File = File> + Input + Eprint + AllocGlobal,
 {
     let operands = same_words(rt.alloc(), &dd.operands)?;
     match &dd.plan.input {
-        Some(name) => copy_from(rt, operands, image, journal, input(rt, name)?),
-        None => copy_from(rt, operands, image, journal, rt.reader()),
+        Some(name) => copy_from(rt, operands, image, texts, input(rt, name)?),
+        None => copy_from(rt, operands, image, texts, rt.reader()),
     }
 }
 
@@ -36,13 +36,13 @@ fn copy_from<R, I: Read + Drop>(
     rt: &R,
     operands: Words,
     image: &Name,
-    journal: &Name,
+    texts: &Texts,
     input: I,
 ) -> Result<(), Fault>
 where
     R: Files<File = File> + Eprint + AllocGlobal,
 {
-    let mut session = open_session(rt, image, journal, true)?;
+    let mut session = open_session(rt, image, texts, true)?;
     if let Reply::Copied { counts, .. } = command(
         rt,
         &mut session,

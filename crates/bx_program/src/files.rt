@@ -1,5 +1,5 @@
 //! The files that a job names.
-use bx_cli::Fault;
+use bx_cli::{Fault, Texts};
 use bx_text::Name;
 use std::fs::{self, File, Metadata, TryLockError};
 use std::io::{self, ErrorKind};
@@ -16,7 +16,7 @@ pub fn input<R: Files<File = File>>(rt: &R, name: &Name) -> Result<File, Fault> 
 enum Holds {
     /// An image: a regular file or a block device.
     Image,
-    /// A journal, which grows: a regular file.
+    /// A journal or a redo text, which grows: a regular file.
     Text,
 }
 
@@ -127,28 +127,69 @@ fn is_journal_missing(image: &Option<Metadata>, image_name: &str, journal_name: 
     }
 }
 
-/// The image, and then its journal: open, locked, and each a file of its own. Both are looked at before one is opened, and an
-/// image that was made is taken away again where its journal is refused.
+/// An image, its journal and its redo text: open, locked, and each a file of its own.
+#[derive(Drop)]
+pub struct SessionFiles {
+    /// The image.
+    pub image: File,
+    /// Its journal.
+    pub journal: File,
+    /// Its redo text.
+    pub redo: File,
+}
+
+/// Looks at all three before one is opened. What is no file of its kind, or is missing and isn't to be made, is refused here.
+fn look_at_all<R>(rt: &R, image: &Name, texts: &Texts, make: bool) -> Result<(), Fault>
+where
+    R: Files<File = File>,
+{
+    let found = look(rt, image.as_str(), make, Holds::Image)?;
+    if is_journal_missing(&found, image.as_str(), texts.journal.as_str()) {
+        return Err(Fault::OpenFailed);
+    }
+    look(rt, texts.journal.as_str(), make, Holds::Text)?;
+    look(rt, texts.redo.as_str(), true, Holds::Text)?;
+    Ok(())
+}
+
+/// The journal, and then the redo text. A journal that was made is taken away again where the redo text is refused.
+fn open_texts<R>(rt: &R, texts: &Texts, make: bool) -> Result<(File, File), Fault>
+where
+    R: Files<File = File>,
+{
+    let journal = Opened::new(rt, texts.journal.as_str(), make, Holds::Text)?;
+    match Opened::new(rt, texts.redo.as_str(), true, Holds::Text) {
+        Ok(redo) => Ok((journal.file, redo.file)),
+        Err(fault) => {
+            journal.unmake(rt);
+            Err(fault)
+        }
+    }
+}
+
+/// The image, then its journal, then its redo text. `make` says whether an image and a journal that are missing are made; the
+/// redo text always is. All three are looked at before one is opened, and what was made is taken away again where a later one
+/// is refused.
 ///
 /// # Errors
 /// `OpenFailed` where one is missing and isn't to be made, can't be opened, is no regular file (and, for the image, no block
 /// device either), or is locked by another program or under another name, and where a block device has no journal of another
-/// name than `IMAGE.bxj`. No file is then changed, and none is made, but for an empty image behind a link that led to no file,
+/// name than `IMAGE.bxj`. No file is then changed, and none is made, but for an empty one behind a link that led to no file,
 /// or whose place could not be looked at again.
-pub fn pair<R: Files<File = File>>(
+pub fn trio<R: Files<File = File>>(
     rt: &R,
     image: &Name,
-    journal: &Name,
+    texts: &Texts,
     make: bool,
-) -> Result<(File, File), Fault> {
-    let found = look(rt, image.as_str(), make, Holds::Image)?;
-    if is_journal_missing(&found, image.as_str(), journal.as_str()) {
-        return Err(Fault::OpenFailed);
-    }
-    look(rt, journal.as_str(), make, Holds::Text)?;
+) -> Result<SessionFiles, Fault> {
+    look_at_all(rt, image, texts, make)?;
     let image = Opened::new(rt, image.as_str(), make, Holds::Image)?;
-    match Opened::new(rt, journal.as_str(), make, Holds::Text) {
-        Ok(journal) => Ok((image.file, journal.file)),
+    match open_texts(rt, texts, make) {
+        Ok((journal, redo)) => Ok(SessionFiles {
+            image: image.file,
+            journal,
+            redo,
+        }),
         Err(fault) => {
             image.unmake(rt);
             Err(fault)

@@ -2,8 +2,8 @@
 ghost use Rattle.std.specs.Prelude.{◌≡◌, ◌≤◌, ◌^◌, IfOk};
 ghost use Rattle.bx_cli.specs.Command.{IsNear};
 
-use crate::files::pair;
-use bx_cli::{Command, Fault, Reply, log_text, run_all};
+use crate::files::trio;
+use bx_cli::{Command, Fault, Reply, Texts, log_text, run_all};
 use bx_image::{Device, FileImage};
 use bx_journal::{How, Session};
 use bx_store::{FileText, TextStore};
@@ -14,23 +14,25 @@ use std::rt::Files;
 
 type FileSession = Session<FileImage, FileText>;
 
-/// Opens the pair, and says on standard error what was recovered. Both files are locked up to the session's end.
+/// Opens the image and its texts, and says on standard error what was recovered. The files are locked up to the session's end.
 pub fn open_session<R>(
     rt: &R,
     image: &Name,
-    journal: &Name,
+    texts: &Texts,
     make: bool,
 ) -> Result<FileSession, Fault>
 where
     R: Files<File = File> + Eprint + AllocGlobal,
     ensures device { IfOk result (λ s. ⟦<FileImage as Device>⟧.failures s.device ≡ 0) }
     ensures store { IfOk result (λ s. ⟦<FileText as TextStore>⟧.failures s.store ≡ 0) }
+    ensures redo_text { IfOk result (λ s. ⟦<FileText as TextStore>⟧.failures s.redo_text ≡ 0) }
 {
-    let (image, journal) = pair(rt, image, journal, make)?;
-    let opened = Session::open(rt.alloc(), FileImage::new(image), FileText::new(journal));
+    let files = trio(rt, image, texts, make)?;
+    let (image, journal) = (FileImage::new(files.image), FileText::new(files.journal));
+    let opened = Session::open(rt.alloc(), image, journal, FileText::new(files.redo));
     let (session, found) = match opened {
         Ok(opened) => opened,
-        Err((_, _, fault)) => return Err(Fault::from(fault)),
+        Err((_, _, _, fault)) => return Err(Fault::from(fault)),
     };
     match found.how {
         How::Clean => {}
@@ -55,6 +57,7 @@ where
     requires near { IsNear command }
     requires device { ⟦<FileImage as Device>⟧.failures session.old.device ≡ 0 }
     requires store { ⟦<FileText as TextStore>⟧.failures session.old.store ≡ 0 }
+    requires redo_text { ⟦<FileText as TextStore>⟧.failures session.old.redo_text ≡ 0 }
 {
     let mut list = Vec::new(rt.alloc());
     list.push(command).map_err(|_| Fault::NoMemory)?;

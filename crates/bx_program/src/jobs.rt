@@ -5,8 +5,8 @@ use crate::images::{command, log, open_session};
 use crate::streams::Held;
 use crate::tally::Tally;
 use bx_cli::{
-    Command, DdJob, Done, Fault, HexdumpJob, Job, OdJob, Reply, RevertJob, StringsJob, XxdJob,
-    plan_words, run_dump,
+    Command, DdJob, Done, Fault, HexdumpJob, Job, OdJob, Reply, RevertJob, StringsJob, Texts,
+    XxdJob, plan_words, run_dump,
 };
 use bx_dd::Counts;
 use bx_text::{Bytes, Name, Source, Words, dec_field, emit, emit_after};
@@ -83,9 +83,9 @@ where
         Job::Undo {
             count,
             image,
-            journal,
-        } => undo(rt, *count, image, journal, out)?,
-        Job::Log { image, journal } => show_log(rt, image, journal, out)?,
+            texts,
+        } => undo(rt, *count, image, texts, out)?,
+        Job::Log { image, texts } => show_log(rt, image, texts, out)?,
     }
     Ok(None)
 }
@@ -95,9 +95,9 @@ fn copy<R, W: Write>(rt: &R, job: &Job, dd: &DdJob, out: &mut W) -> Result<Optio
 where
     R: Files<File = File> + Input + Eprint + AllocGlobal,
 {
-    match (&dd.plan.output, &dd.journal) {
-        (Some(image), Some(journal)) => {
-            copy_onto(rt, dd, image, journal)?;
+    match (&dd.plan.output, &dd.texts) {
+        (Some(image), Some(texts)) => {
+            copy_onto(rt, dd, image, texts)?;
             Ok(None)
         }
         _ => dump_file(rt, job, &dd.plan.input, out),
@@ -134,7 +134,7 @@ where
             offset: job.at,
         }
     };
-    let mut session = open_session(rt, &job.image, &job.journal, true)?;
+    let mut session = open_session(rt, &job.image, &job.texts, true)?;
     command(rt, &mut session, asked)?;
     Ok(())
 }
@@ -149,14 +149,14 @@ fn undo<R, W: Write>(
     rt: &R,
     count: u32,
     image: &Name,
-    journal: &Name,
+    texts: &Texts,
     out: &mut W,
 ) -> Result<(), Fault>
 where
     R: Files<File = File> + Eprint + AllocGlobal,
 {
     let asked: Command = Command::Undo { k: count };
-    let mut session = open_session(rt, image, journal, false)?;
+    let mut session = open_session(rt, image, texts, false)?;
     match command(rt, &mut session, asked)? {
         Reply::Undone { left } => show_number(out, left),
         _ => Ok(()),
@@ -164,11 +164,11 @@ where
 }
 
 /// Shows the changes that stand.
-fn show_log<R, W: Write>(rt: &R, image: &Name, journal: &Name, out: &mut W) -> Result<(), Fault>
+fn show_log<R, W: Write>(rt: &R, image: &Name, texts: &Texts, out: &mut W) -> Result<(), Fault>
 where
     R: Files<File = File> + Eprint + AllocGlobal,
 {
-    let mut session = open_session(rt, image, journal, false)?;
+    let mut session = open_session(rt, image, texts, false)?;
     show(out, log(rt, &mut session)?.as_str())
 }
 

@@ -8,5 +8,5 @@ mod jobs;
 mod streams;
 mod tally;
 
-pub use files::pair;
+pub use files::{SessionFiles, trio};
 pub use jobs::{perform, run};

@@ -1,4 +1,4 @@
-//! What opening a pair is to answer, by a slow reading of the journal's format.
+//! What opening is to answer, by a slow reading of the format of journals and redo texts.
 use crate::model::put;
 use bx_journal::How;
 use std::alloc::{AllocError, Global};
@@ -18,11 +18,25 @@ struct Saved {
     bytes: Vec<u8>,
 }
 
-/// The length before a change, and what was saved, in the order of the lines.
+/// The length before a change, and what was saved, in the order of the lines; where it begins, and whether it is of the second
+/// form.
 #[derive(Drop)]
 struct Entry {
     len: u64,
     saved: Vec<Saved>,
+    line: u64,
+    second: bool,
+}
+
+impl Entry {
+    fn new(alloc: Global) -> Self {
+        Entry {
+            len: 0,
+            saved: Vec::new(alloc),
+            line: 0,
+            second: false,
+        }
+    }
 }
 
 #[derive(Clone, Copy, PartialEq, Eq)]
@@ -32,14 +46,16 @@ enum Stage {
     Ending,
 }
 
-/// What was read so far. `told` is the length that the last finished entry tells, `open` the entry that is not finished.
+/// What was read so far. `told` is the length that the last finished entry tells, `open` the entry that is not finished, `line`
+/// the number of the next line, `kept` the bytes up to the end of the last finished entry.
 #[derive(Drop)]
 struct Reading {
     finished: Vec<Entry>,
     told: Option<u64>,
     stage: Stage,
-    second: bool,
     open: Entry,
+    line: u64,
+    kept: usize,
 }
 
 /// What opening answers.
@@ -205,11 +221,9 @@ impl Reading {
             finished: Vec::new(alloc),
             told: None,
             stage: Stage::Between,
-            second: false,
-            open: Entry {
-                len: 0,
-                saved: Vec::new(alloc),
-            },
+            open: Entry::new(alloc),
+            line: 1,
+            kept: 0,
         }
     }
 
@@ -232,11 +246,12 @@ impl Reading {
                 continue;
             };
             if may_begin(self.told, len) {
-                self.second = second;
                 self.stage = Stage::Saving;
                 self.open = Entry {
                     len,
                     saved: Vec::new(alloc),
+                    line: self.line,
+                    second,
                 };
                 return Ok(true);
             }
@@ -261,12 +276,12 @@ impl Reading {
 
     /// Takes the line that ends an entry.
     fn end(&mut self, alloc: Global, line: &[u8]) -> Result<bool, AllocError> {
-        let head = end_head(alloc, self.second, self.number())?;
+        let head = end_head(alloc, self.open.second, self.number())?;
         let Some(digits) = line.strip_prefix(head.as_bytes()) else {
             return Ok(false);
         };
         let mut told = None;
-        if self.second {
+        if self.open.second {
             told = number(digits, 16);
             if told.unwrap_or(u64::MAX) > MOST_LEN {
                 return Ok(false);
@@ -274,11 +289,7 @@ impl Reading {
         } else if !digits.is_empty() {
             return Ok(false);
         }
-        let none = Entry {
-            len: 0,
-            saved: Vec::new(alloc),
-        };
-        let entry = std::mem::replace(&mut self.open, none);
+        let entry = std::mem::replace(&mut self.open, Entry::new(alloc));
         self.finished.push(entry)?;
         self.told = told;
         self.stage = Stage::Between;
@@ -336,14 +347,14 @@ impl Reading {
     }
 
     fn is_front_of_end(&self, alloc: Global, rest: &[u8]) -> Result<bool, AllocError> {
-        let head = end_head(alloc, self.second, self.number())?;
+        let head = end_head(alloc, self.open.second, self.number())?;
         if head.as_bytes().starts_with(rest) {
             return Ok(true);
         }
         let Some(digits) = rest.strip_prefix(head.as_bytes()) else {
             return Ok(false);
         };
-        if !self.second || digits.len() > 16 {
+        if !self.open.second || digits.len() > 16 {
             return Ok(false);
         }
         let mut least = digits.to_vec(alloc)?;
@@ -402,7 +413,6 @@ fn verdict_of(
     reading: &Reading,
     image: &[u8],
     rest: &[u8],
-    kept: usize,
 ) -> Result<Verdict, AllocError> {
     let changes = reading.finished.len();
     let (how, bytes) = match reading.stage {
@@ -424,17 +434,18 @@ fn verdict_of(
         how,
         changes: changes.min(MOST_ENTRIES) as u32,
         image: bytes,
-        kept,
+        kept: reading.kept,
         first,
     })
 }
 
-/// What opening a pair is to answer.
-pub fn judge(alloc: Global, image: &[u8], text: &[u8]) -> Result<Verdict, AllocError> {
-    let mut reading = Reading::new(alloc);
-    let mut line = 1u64;
+/// Whether all of a text reads; else the reading ends at the damaged line. Answers what stands behind the last newline too.
+fn read<'a>(
+    alloc: Global,
+    reading: &mut Reading,
+    text: &'a [u8],
+) -> Result<(bool, &'a [u8]), AllocError> {
     let mut done = 0usize;
-    let mut kept = 0usize;
     let mut rest = text;
     for part in text.split(|b| *b == b'\n') {
         rest = part;
@@ -443,15 +454,88 @@ pub fn judge(alloc: Global, image: &[u8], text: &[u8]) -> Result<Verdict, AllocE
             break;
         }
         if !reading.take(alloc, part)? {
-            return Ok(Verdict::Damaged { line });
+            return Ok((false, rest));
         }
         if reading.stage == Stage::Between {
-            kept = done;
+            reading.kept = done;
         }
-        line = line.saturating_add(1);
+        reading.line = reading.line.saturating_add(1);
     }
-    if !reading.ends_with(alloc, rest)? {
-        return Ok(Verdict::Damaged { line });
+    Ok((reading.ends_with(alloc, rest)?, rest))
+}
+
+/// What opening is to answer of an image and a journal.
+pub fn judge(alloc: Global, image: &[u8], text: &[u8]) -> Result<Verdict, AllocError> {
+    let mut reading = Reading::new(alloc);
+    let (reads, rest) = read(alloc, &mut reading, text)?;
+    if !reads {
+        return Ok(Verdict::Damaged { line: reading.line });
     }
-    verdict_of(alloc, &reading, image, rest, kept)
+    verdict_of(alloc, &reading, image, rest)
+}
+
+/// What opening is to answer of a redo text beside finished entries: refused at a line, or so many undone images.
+#[derive(Clone, Copy, Debug, PartialEq, Eq)]
+pub enum RedoVerdict {
+    Damaged { line: u64 },
+    Undone { count: u32 },
+}
+
+/// Where a text that reads to its end has a tail behind its finished entries, which begins at this line.
+fn tail_line(reading: &Reading, rest: &[u8]) -> Option<u64> {
+    match reading.stage {
+        Stage::Between if rest.is_empty() => None,
+        Stage::Between => Some(reading.line),
+        Stage::Saving | Stage::Ending => Some(reading.open.line),
+    }
+}
+
+/// The first line of the first entry that is of the first form.
+fn first_form_line(entries: &[Entry]) -> Option<u64> {
+    let entry = entries.iter().find(|e| !e.second)?;
+    Some(entry.line)
+}
+
+/// The first line of the first entry that is one too many beside so many changes.
+fn excess_line(entries: &[Entry], changes: u32) -> Option<u64> {
+    let most = MOST_ENTRIES.saturating_sub(changes as usize);
+    Some(entries.get(most)?.line)
+}
+
+/// The last line, where it tells of an image of another length.
+fn off_line(reading: &Reading, image: &[u8]) -> Option<u64> {
+    match reading.told {
+        Some(expected) if expected != image.len() as u64 => Some(reading.line.saturating_sub(1)),
+        _ => None,
+    }
+}
+
+/// The line at which a redo text is refused, of the causes in their order.
+fn refused_line(reading: &Reading, image: &[u8], rest: &[u8], changes: u32) -> Option<u64> {
+    let entries = reading.finished.as_slice();
+    tail_line(reading, rest)
+        .or(first_form_line(entries))
+        .or(excess_line(entries, changes))
+        .or(off_line(reading, image))
+}
+
+/// What opening is to answer of a redo text, where image and journal are in order and the journal has so many finished entries.
+pub fn judge_redo(
+    alloc: Global,
+    image: &[u8],
+    redo: &[u8],
+    changes: u32,
+) -> Result<RedoVerdict, AllocError> {
+    let mut reading = Reading::new(alloc);
+    let (reads, rest) = read(alloc, &mut reading, redo)?;
+    if !reads {
+        return Ok(RedoVerdict::Damaged { line: reading.line });
+    }
+    match refused_line(&reading, image, rest, changes) {
+        Some(line) => Ok(RedoVerdict::Damaged { line }),
+        None => {
+            let count = reading.finished.len().min(MOST_ENTRIES) as u32;
+            Ok(RedoVerdict::Undone { count })
+        }
+    }
 }

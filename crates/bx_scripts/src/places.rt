@@ -2,31 +2,51 @@
 use bx_cli::Fault;
 use bx_image::{Device, FileImage, MemImage, NoMemory, PagedImage};
 use bx_store::{FileText, MemText, TextStore};
-use std::alloc::Global;
+use std::alloc::{AllocError, Global};
 use std::fs::{self, File};
 use std::test::Fail;
 
-/// Where pairs of an image and a journal's text stand.
-pub trait Place<D, T> {
-    /// A pair that holds these bytes.
-    fn pair(&self, alloc: Global, image: &[u8], text: &[u8]) -> Result<(D, T), Fail>;
+/// An image, its journal and its redo text.
+pub type Trio<D, T> = (D, T, T);
 
-    /// The same pair, found again.
-    fn again(&self, image: D, text: T) -> Result<(D, T), Fail>;
+/// Where an image, a journal and a redo text stand.
+pub trait Place<D, T> {
+    /// Three that hold these bytes.
+    fn trio(
+        &self,
+        alloc: Global,
+        image: &[u8],
+        text: &[u8],
+        redo: &[u8],
+    ) -> Result<Trio<D, T>, Fail>;
+
+    /// The same three, found again.
+    fn again(&self, trio: Trio<D, T>) -> Result<Trio<D, T>, Fail>;
 }
 
-/// Both in memory.
+fn text_in_memory(alloc: Global, text: &[u8]) -> Result<MemText, AllocError> {
+    Ok(MemText::from_vec(text.to_vec(alloc)?))
+}
+
+/// All in memory.
 #[derive(Drop)]
 pub struct Memory;
 
 impl Place<MemImage, MemText> for Memory {
-    fn pair(&self, alloc: Global, image: &[u8], text: &[u8]) -> Result<(MemImage, MemText), Fail> {
+    fn trio(
+        &self,
+        alloc: Global,
+        image: &[u8],
+        text: &[u8],
+        redo: &[u8],
+    ) -> Result<Trio<MemImage, MemText>, Fail> {
         let image = MemImage::from_vec(image.to_vec(alloc)?);
-        Ok((image, MemText::from_vec(text.to_vec(alloc)?)))
+        let text = text_in_memory(alloc, text)?;
+        Ok((image, text, text_in_memory(alloc, redo)?))
     }
 
-    fn again(&self, image: MemImage, text: MemText) -> Result<(MemImage, MemText), Fail> {
-        Ok((image, text))
+    fn again(&self, trio: Trio<MemImage, MemText>) -> Result<Trio<MemImage, MemText>, Fail> {
+        Ok(trio)
     }
 }
 
@@ -42,27 +62,30 @@ fn paged(alloc: Global, bytes: &[u8]) -> Result<PagedImage, NoMemory> {
 }
 
 impl Place<PagedImage, MemText> for Pages {
-    fn pair(
+    fn trio(
         &self,
         alloc: Global,
         image: &[u8],
         text: &[u8],
-    ) -> Result<(PagedImage, MemText), Fail> {
+        redo: &[u8],
+    ) -> Result<Trio<PagedImage, MemText>, Fail> {
         let image = paged(alloc, image)?;
-        Ok((image, MemText::from_vec(text.to_vec(alloc)?)))
+        let text = text_in_memory(alloc, text)?;
+        Ok((image, text, text_in_memory(alloc, redo)?))
     }
 
-    fn again(&self, image: PagedImage, text: MemText) -> Result<(PagedImage, MemText), Fail> {
-        Ok((image, text))
+    fn again(&self, trio: Trio<PagedImage, MemText>) -> Result<Trio<PagedImage, MemText>, Fail> {
+        Ok(trio)
     }
 }
 
-/// Both in files of these names, which are opened anew each time.
+/// All in files of these names, which are opened anew each time.
 #[derive(Drop)]
 pub struct Files<'a> {
     pub rt: &'a HostRuntime,
     pub image: &'a str,
     pub text: &'a str,
+    pub redo: &'a str,
 }
 
 impl Files<'_> {
@@ -70,24 +93,36 @@ impl Files<'_> {
         Ok(File::options().read(true).write(true).open(self.rt, name)?)
     }
 
+    fn open_all(&self) -> Result<Trio<FileImage, FileText>, Fail> {
+        let image = FileImage::new(self.open(self.image)?);
+        let text = FileText::new(self.open(self.text)?);
+        Ok((image, text, FileText::new(self.open(self.redo)?)))
+    }
+
     /// Takes the files away.
     pub fn clear(&self) -> Result<(), Fail> {
         fs::remove_file(self.rt, self.image)?;
         fs::remove_file(self.rt, self.text)?;
+        fs::remove_file(self.rt, self.redo)?;
         Ok(())
     }
 }
 
 impl Place<FileImage, FileText> for Files<'_> {
-    fn pair(&self, _: Global, image: &[u8], text: &[u8]) -> Result<(FileImage, FileText), Fail> {
+    fn trio(
+        &self,
+        _: Global,
+        image: &[u8],
+        text: &[u8],
+        redo: &[u8],
+    ) -> Result<Trio<FileImage, FileText>, Fail> {
         fs::write(self.rt, self.image, image)?;
         fs::write(self.rt, self.text, text)?;
-        let image = FileImage::new(self.open(self.image)?);
-        Ok((image, FileText::new(self.open(self.text)?)))
+        fs::write(self.rt, self.redo, redo)?;
+        self.open_all()
     }
 
-    fn again(&self, _: FileImage, _: FileText) -> Result<(FileImage, FileText), Fail> {
-        let image = FileImage::new(self.open(self.image)?);
-        Ok((image, FileText::new(self.open(self.text)?)))
+    fn again(&self, _: Trio<FileImage, FileText>) -> Result<Trio<FileImage, FileText>, Fail> {
+        self.open_all()
     }
 }

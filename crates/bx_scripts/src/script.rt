@@ -1,8 +1,8 @@
-//! Scripts of commands with their replies, run on any pair of devices.
+//! Scripts of commands with their replies, run on any three devices.
 ghost use Rattle.std.specs.Prelude.{All, IfOk};
 ghost use Rattle.bx_cli.specs.Command.{IsNear};
 
-use crate::places::Place;
+use crate::places::{Place, Trio};
 use crate::session::{Ask, SliceCommand, command, opened, text_bytes};
 use bx_cli::{Fault, Reply};
 use bx_image::Device;
@@ -11,26 +11,41 @@ use bx_store::TextStore;
 use std::alloc::{AllocError, Global};
 use std::test::Fail;
 
-/// A command, its reply, and the image that it leaves; the journal's text too, where it is told.
+/// A command, its reply, and the image that it leaves; the journal and the redo text too, where they are told.
 #[derive(Clone, Copy)]
 pub struct Row<'a> {
     pub ask: Ask<'a>,
     pub reply: Reply,
     pub image: &'a [u8],
     pub text: Option<&'a str>,
+    pub redo: Option<&'a str>,
 }
 
-/// An image, and commands on it in order.
+/// The bytes of a journal and of a redo text.
+#[derive(Drop)]
+pub struct Texts {
+    pub journal: Vec<u8>,
+    pub redo: Vec<u8>,
+}
+
+/// An image without changes and its redo text, and commands on them in order.
 #[derive(Drop)]
 pub struct Script<'a> {
     pub first: &'a [u8],
+    pub redo: &'a str,
     pub rows: Vec<Row<'a>>,
 }
 
 impl<'a> Script<'a> {
     pub fn new(alloc: Global, first: &'a [u8]) -> Self {
+        Script::with_redo(alloc, first, "")
+    }
+
+    /// A script that starts with this redo text.
+    pub fn with_redo(alloc: Global, first: &'a [u8], redo: &'a str) -> Self {
         Script {
             first,
+            redo,
             rows: Vec::new(alloc),
         }
     }
@@ -42,11 +57,12 @@ impl<'a> Script<'a> {
             reply,
             image,
             text: None,
+            redo: None,
         })?;
         Ok(())
     }
 
-    /// One more command, with the text that it leaves.
+    /// One more command, with the journal that it leaves.
     pub fn then_text(
         &mut self,
         ask: Ask<'a>,
@@ -59,6 +75,25 @@ impl<'a> Script<'a> {
             reply,
             image,
             text: Some(text),
+            redo: None,
+        })?;
+        Ok(())
+    }
+
+    /// One more command, with the redo text that it leaves.
+    pub fn then_redo(
+        &mut self,
+        ask: Ask<'a>,
+        reply: Reply,
+        image: &'a [u8],
+        redo: &'a str,
+    ) -> Result<(), AllocError> {
+        self.rows.push(Row {
+            ask,
+            reply,
+            image,
+            text: None,
+            redo: Some(redo),
         })?;
         Ok(())
     }
@@ -77,43 +112,53 @@ pub fn commands<'a>(alloc: Global, rows: &[Row<'a>]) -> Result<Vec<SliceCommand<
     Ok(list)
 }
 
-/// Opens a pair that was closed.
+/// Opens a session that was closed.
 pub fn open_again<D: Device + Drop, T: TextStore + Drop, P: Place<D, T>>(
     alloc: Global,
     place: &P,
-    device: D,
-    store: T,
+    trio: Trio<D, T>,
 ) -> Result<(Session<D, T>, Recovered), Fail> {
-    let (device, store) = place.again(device, store)?;
-    Ok(opened(alloc, device, store)?)
+    Ok(opened(alloc, place.again(trio)?)?)
 }
 
-/// The text that a session has.
-pub fn text_of<D: Device + Drop, T: TextStore + Drop, P: Place<D, T>>(
+/// The journal and the redo text that a session has.
+pub fn texts_of<D: Device + Drop, T: TextStore + Drop, P: Place<D, T>>(
     alloc: Global,
     place: &P,
     session: Session<D, T>,
-) -> Result<(Session<D, T>, Vec<u8>), Fail> {
-    let (device, mut store) = session.close();
-    let text = text_bytes(alloc, &mut store)?;
-    Ok((open_again(alloc, place, device, store)?.0, text))
+) -> Result<(Session<D, T>, Texts), Fail> {
+    let (device, mut store, mut redo_text) = session.close();
+    let journal = text_bytes(alloc, &mut store)?;
+    let redo = text_bytes(alloc, &mut redo_text)?;
+    let trio = (device, store, redo_text);
+    Ok((open_again(alloc, place, trio)?.0, Texts { journal, redo }))
 }
 
-/// A session on an image, with no journal.
+/// A session on a script's image, with no journal.
 pub fn started<D: Device + Drop, T: TextStore + Drop, P: Place<D, T>>(
     alloc: Global,
     place: &P,
-    image: &[u8],
+    script: &Script<'_>,
 ) -> Result<Session<D, T>, Fail> {
-    let (device, store) = place.pair(alloc, image, b"")?;
-    Ok(opened(alloc, device, store)?.0)
+    let trio = place.trio(alloc, script.first, b"", script.redo.as_bytes())?;
+    Ok(opened(alloc, trio)?.0)
 }
 
-/// The text that a row leaves, where it is known. A refusal leaves the text.
+/// The journal that a row leaves, where it is known. A refusal leaves the journal.
 pub fn text_behind<'a>(row: &Row<'a>, before: &'a [u8]) -> Option<&'a [u8]> {
     match (row.reply, row.text) {
         (_, Some(text)) => Some(text.as_bytes()),
         (Reply::Refused(_), None) => Some(before),
+        (_, None) => None,
+    }
+}
+
+/// The redo text that a row leaves, where it is known. A refusal leaves it, and a change empties it.
+pub fn redo_behind<'a>(row: &Row<'a>, before: &'a [u8]) -> Option<&'a [u8]> {
+    match (row.reply, row.redo) {
+        (_, Some(text)) => Some(text.as_bytes()),
+        (Reply::Refused(_), None) => Some(before),
+        (Reply::Changed { .. } | Reply::Copied { .. }, None) => Some(b""),
         (_, None) => None,
     }
 }

@@ -9,6 +9,18 @@ use std::alloc::{AllocError, Global};
 pub const PATCHED: &str =
     "change2 00000001 0000000000000008\n00000002: 4344                                     CD\nsave 00000001\ndone2 00000001 0000000000000008\n";
 
+/// The redo text of the same patch, once it is taken back.
+pub const UNDONE_PATCH: &str =
+    "change2 00000001 0000000000000008\n00000002: 7879                                     xy\nsave 00000001\ndone2 00000001 0000000000000008\n";
+
+/// The redo text of the second and third of three patches of one byte at 0, once they are taken back from `c` to `a`.
+pub const UNDONE_TWO: &str =
+    "change2 00000001 0000000000000001\n00000000: 63                                       c\nsave 00000001\ndone2 00000001 0000000000000001\nchange2 00000002 0000000000000001\n00000000: 62                                       b\nsave 00000002\ndone2 00000002 0000000000000001\n";
+
+/// The redo text of a byte at 5 of `AB`, once it is taken back.
+pub const UNDONE_GAP: &str =
+    "change2 00000001 0000000000000006\n00000002: 0000 005a                                ...Z\nsave 00000001\ndone2 00000001 0000000000000002\n";
+
 /// The journal of two pieces at 2 and 3 of `ABCDEFGH`.
 pub const OVERLAPPED: &str =
     "change2 00000001 0000000000000008\n00000002: 4344 45                                  CDE\nsave 00000001\ndone2 00000001 0000000000000008\n";
@@ -67,6 +79,16 @@ pub fn patch_and_undo(alloc: Global) -> Made {
     Ok(script)
 }
 
+/// The same patch, where it was made before and taken back.
+pub fn patch_over_redo(alloc: Global) -> Made {
+    let mut script = Script::with_redo(alloc, b"ABCDEFGH", UNDONE_PATCH);
+    script.then_redo(Ask::Undo(0), undone(0), b"ABCDEFGH", UNDONE_PATCH)?;
+    let dump = Ask::Revert("00000002: 7879\n");
+    script.then_redo(dump, changed(1), b"ABxyEFGH", "")?;
+    script.then_redo(Ask::Undo(1), undone(0), b"ABCDEFGH", "")?;
+    Ok(script)
+}
+
 pub fn overlapping_lines(alloc: Global) -> Made {
     let mut script = Script::new(alloc, b"ABCDEFGH");
     let dump = Ask::Revert("00000002: 7879\n00000003: 7a7a\n");
@@ -117,6 +139,20 @@ pub fn bad_second_line(alloc: Global) -> Made {
     let dump = Ask::Revert("00000000: 41\n00000001: 6g\n");
     let bad_pair = Reply::Refused(Fault::BadPair { line: 2 });
     script.then_text(dump, bad_pair, b"xyz", "")?;
+    Ok(script)
+}
+
+/// What is refused leaves the redo text, an undo of nothing too; a change empties it.
+pub fn refusals_keep_redo(alloc: Global) -> Made {
+    let first = b"ABCDEFGH";
+    let mut script = Script::with_redo(alloc, first, UNDONE_PATCH);
+    let odd = Reply::Refused(Fault::OddDigits { line: 1 });
+    script.then(Ask::Plain("414", 0), odd, first)?;
+    let too_large = Reply::Refused(Fault::TooLarge);
+    script.then(Ask::Revert("ffffffffffff: 41"), too_large, first)?;
+    script.then(Ask::Undo(1), too_few(0), first)?;
+    script.then_redo(Ask::Undo(0), undone(0), first, UNDONE_PATCH)?;
+    script.then(Ask::Revert("0: 5a"), changed(1), b"ZBCDEFGH")?;
     Ok(script)
 }
 
@@ -203,6 +239,7 @@ type Scripts = Vec<Script<'static>>;
 fn dumps(alloc: Global) -> Result<Scripts, AllocError> {
     let mut scripts = Vec::new(alloc);
     scripts.push(patch_and_undo(alloc)?)?;
+    scripts.push(patch_over_redo(alloc)?)?;
     scripts.push(overlapping_lines(alloc)?)?;
     scripts.push(gap_and_undo(alloc)?)?;
     scripts.push(three_patches_reopened(alloc)?)?;
@@ -217,6 +254,7 @@ fn with_others(alloc: Global, scripts: Scripts) -> Result<Scripts, AllocError> {
     let mut scripts = scripts;
     scripts.push(bad_second_line(alloc)?)?;
     scripts.push(image_limit(alloc)?)?;
+    scripts.push(refusals_keep_redo(alloc)?)?;
     scripts.push(refusals(alloc)?)?;
     scripts.push(plain_hex(alloc)?)?;
     scripts.push(run_of_twenty(alloc)?)?;
@@ -264,6 +302,7 @@ pub fn cut_and_grown(alloc: Global) -> Made {
 fn failing_dumps(alloc: Global) -> Result<Scripts, AllocError> {
     let mut scripts = Vec::new(alloc);
     scripts.push(patch_and_undo(alloc)?)?;
+    scripts.push(patch_over_redo(alloc)?)?;
     scripts.push(overlapping_lines(alloc)?)?;
     scripts.push(gap_and_undo(alloc)?)?;
     scripts.push(three_patches_reopened(alloc)?)?;

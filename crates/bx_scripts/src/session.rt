@@ -1,7 +1,8 @@
-//! Sessions on any pair of devices, and commands on them.
+//! Sessions on any three devices, and commands on them.
 ghost use Rattle.std.specs.Prelude.{All, IfOk};
 ghost use Rattle.bx_cli.specs.Command.{IsNear};
 
+use crate::places::Trio;
 use bx_cli::{Command, Fault, Reply, run_all};
 use bx_image::{Change, Device};
 use bx_journal::{LogRow, Recovered, Session};
@@ -72,33 +73,37 @@ pub fn command<'a, A: Allocator + Clone>(
     }
 }
 
-/// Opens a pair, or hands it back.
+/// Opens a session over three devices, or hands them back.
 pub fn open<D: Device, T: TextStore, A: Allocator + Clone>(
     alloc: A,
-    device: D,
-    store: T,
-) -> Result<(Session<D, T, A>, Recovered), (D, T, Fault)> {
+    trio: Trio<D, T>,
+) -> Result<(Session<D, T, A>, Recovered), (D, T, T, Fault)> {
+    let (device, store, redo_text) = trio;
     if device.faults() > MANY {
-        return Err((device, store, Fault::DeviceFailed));
+        return Err((device, store, redo_text, Fault::DeviceFailed));
     }
     if store.faults() > MANY {
-        return Err((device, store, Fault::DeviceFailed));
+        return Err((device, store, redo_text, Fault::DeviceFailed));
     }
-    match Session::open(alloc, device, store) {
+    if redo_text.faults() > MANY {
+        return Err((device, store, redo_text, Fault::DeviceFailed));
+    }
+    match Session::open(alloc, device, store, redo_text) {
         Ok(found) => Ok(found),
-        Err((device, store, fault)) => Err((device, store, Fault::from(fault))),
+        Err((device, store, redo_text, fault)) => {
+            Err((device, store, redo_text, Fault::from(fault)))
+        }
     }
 }
 
-/// Opens a pair; a refusal gives both devices up.
+/// Opens a session over three devices; a refusal gives them up.
 pub fn opened<D: Device + Drop, T: TextStore + Drop>(
     alloc: Global,
-    device: D,
-    store: T,
+    trio: Trio<D, T>,
 ) -> Result<(Session<D, T>, Recovered), Fault> {
-    match open(alloc, device, store) {
+    match open(alloc, trio) {
         Ok(found) => Ok(found),
-        Err((_, _, fault)) => Err(fault),
+        Err((_, _, _, fault)) => Err(fault),
     }
 }
 

@@ -207,20 +207,27 @@ fn assert_trickled(
 #[test]
 fn slow_and_broken_inputs(rt: HostRuntime) -> Result<(), Fail> {
     let alloc = rt.alloc();
-    let (image, text) = Memory.pair(alloc, b"01234567", b"")?;
-    let (mut session, _) = opened(alloc, image, text)?;
+    let trio = Memory.trio(alloc, b"01234567", b"", b"")?;
+    let (mut session, _) = opened(alloc, trio)?;
     let failed = Reply::Refused(Fault::ReadFailed);
     for (interruptions, fails_after) in [(1000, 100), (0, 0), (0, 3), (0, 5)] {
         let input = trickling(b"abcde", interruptions, fails_after);
         assert_trickled(&rt, alloc, &mut session, "ibs=2", input, failed)?;
     }
-    let mut session = reopened(&rt, alloc, &Memory, session, b"01234567", Some(b""))?;
+    let mut session = reopened(
+        &rt,
+        alloc,
+        &Memory,
+        session,
+        b"01234567",
+        (Some(b""), Some(b"")),
+    )?;
     // Four bytes are enough for the first two blocks.
     let input = trickling(b"abcde", 999, 4);
     let line = "bs=2 skip=1 count=1 seek=1 conv=notrunc";
     let block = copied(1, [1, 0, 1, 0], 0);
     assert_trickled(&rt, alloc, &mut session, line, input, block)?;
-    let _session = reopened(&rt, alloc, &Memory, session, b"01cd4567", None)?;
+    let _session = reopened(&rt, alloc, &Memory, session, b"01cd4567", (None, Some(b"")))?;
     Ok(())
 }
 

@@ -1,20 +1,25 @@
-//! Devices that fail at each of their calls: what is left is opened again, and has the stack that recovery promises.
+//! Devices that fail at each of their calls: what is left is opened again, and has the stack that recovery promises, and the
+//! undone images that were there, or none.
 use crate::asserts::{assert_bytes, assert_reply};
 use bx_cli::{Fault, Reply};
-use bx_image::{Device, FuseImage, MemImage, Part};
-use bx_journal::Session;
+use bx_image::{FuseImage, MemImage, Part};
+use bx_journal::{How, Recovered, Session};
+use bx_scripts::judge::{RedoVerdict, judge_redo};
 use bx_scripts::model::Images;
-use bx_scripts::places::{Memory, Place};
+use bx_scripts::places::{Memory, Place, Trio};
 use bx_scripts::script::{Row, Script};
 use bx_scripts::scripts::failing;
 use bx_scripts::session::{Ask, ask_for, open, opened};
-use bx_store::{FuseText, MemText, TextStore};
+use bx_store::{FuseText, MemText};
 use std::alloc::{AllocError, Global};
 use std::process::Abort;
 use std::test::Fail;
 
 /// No run makes so many calls.
 const MOST_CALLS: u64 = 200;
+
+/// No run leaves so much that openings are stopped on.
+const MOST_STOPS: u32 = 100_000;
 
 /// What a run came to.
 #[derive(Clone, Copy, PartialEq, Eq)]
@@ -27,29 +32,142 @@ enum Course {
     Stopped,
 }
 
-/// The stacks that a run may leave: those of the images with at least so many changes.
+/// The undone images that stand: their text, and how many they are.
+#[derive(Clone, Copy, PartialEq, Eq)]
+struct Undone<'a> {
+    text: &'a [u8],
+    count: u32,
+}
+
+const NOTHING: Undone<'static> = Undone {
+    text: b"",
+    count: 0,
+};
+
+/// The stacks that a run may leave: those of the images with at least so many changes. Where as many as `before` stand and
+/// nothing was recovered, these images are undone, else none.
 #[derive(Drop)]
-struct Standing {
+struct Standing<'a> {
     images: Images,
     least: u32,
     course: Course,
+    before: u32,
+    undone: Undone<'a>,
 }
 
-/// A pair that a run left, and the stacks that it may stand for.
+impl<'a> Standing<'a> {
+    /// What stands before the first command of a script.
+    fn new(alloc: Global, script: &Script<'a>) -> Result<Self, AllocError> {
+        let text = script.redo.as_bytes();
+        let count = match judge_redo(alloc, script.first, text, 0)? {
+            RedoVerdict::Undone { count } => count,
+            RedoVerdict::Damaged { .. } => u32::MAX,
+        };
+        Ok(Standing {
+            images: Images::new(alloc, script.first)?,
+            least: 0,
+            course: Course::Whole,
+            before: 0,
+            undone: Undone { text, count },
+        })
+    }
+
+    /// The undone images that opening is to find.
+    fn undone_for(&self, found: Recovered) -> Undone<'a> {
+        if found.how == How::Clean && found.changes == self.before {
+            self.undone
+        } else {
+            NOTHING
+        }
+    }
+
+    /// All changes of the images stand.
+    fn settle(&mut self) {
+        self.least = self.images.changes();
+        if self.before != self.least {
+            self.before = self.least;
+            self.undone = NOTHING;
+        }
+    }
+}
+
+/// An image, its journal and its redo text.
+type Bytes<'a> = (&'a [u8], &'a [u8], &'a [u8]);
+
+type MemTrio = Trio<MemImage, MemText>;
+
+fn bytes_of(trio: &MemTrio) -> Bytes<'_> {
+    (trio.0.as_slice(), trio.1.as_slice(), trio.2.as_slice())
+}
+
+/// Devices that a run left, and what they may stand for.
 #[derive(Drop)]
-struct Left<D, T> {
-    device: D,
-    store: T,
-    standing: Standing,
+struct Left<'a> {
+    trio: MemTrio,
+    standing: Standing<'a>,
 }
 
-/// Which calls fail.
+/// The device of which calls fail.
+#[derive(Clone, Copy, PartialEq, Eq)]
+enum Target {
+    Image,
+    Journal,
+    Redo,
+}
+
+/// Which of its calls fail: those that write, once or from then on, or those that read.
 #[derive(Clone, Copy)]
-enum Fused {
-    Image(u64, Part, bool),
-    Text(u64, Part, bool),
-    ImageReads(u64),
-    TextReads(u64),
+enum Calls {
+    Writes(Part, bool),
+    Reads,
+}
+
+/// The calls that fail behind so many others.
+#[derive(Clone, Copy)]
+struct Fused {
+    target: Target,
+    calls: Calls,
+    pass: u64,
+}
+
+type FusedTrio = Trio<FuseImage<MemImage>, FuseText<MemText>>;
+
+fn fused_image(image: MemImage, fused: Fused) -> FuseImage<MemImage> {
+    match (fused.target, fused.calls) {
+        (Target::Image, Calls::Writes(part, once)) => FuseImage::new(image, fused.pass, part, once),
+        (Target::Image, Calls::Reads) => FuseImage::on_reads(image, fused.pass),
+        _ => FuseImage::on_reads(image, u64::MAX),
+    }
+}
+
+/// The text of a target, of which calls fail where it is that of the fuse.
+fn fused_text(text: MemText, target: Target, fused: Fused) -> FuseText<MemText> {
+    if fused.target != target {
+        return FuseText::on_reads(text, u64::MAX);
+    }
+    match fused.calls {
+        Calls::Writes(part, once) => FuseText::new(text, fused.pass, part, once),
+        Calls::Reads => FuseText::on_reads(text, fused.pass),
+    }
+}
+
+/// Devices of which one fails.
+fn fused_trio(trio: MemTrio, fused: Fused) -> FusedTrio {
+    let (image, text, redo_text) = trio;
+    (
+        fused_image(image, fused),
+        fused_text(text, Target::Journal, fused),
+        fused_text(redo_text, Target::Redo, fused),
+    )
+}
+
+fn unfused(trio: FusedTrio) -> MemTrio {
+    let (image, text, redo_text) = trio;
+    (
+        image.into_inner(),
+        text.into_inner(),
+        redo_text.into_inner(),
+    )
 }
 
 /// A row that nothing stopped.
@@ -98,7 +216,7 @@ fn follow_refused(rt: &impl Abort, images: &mut Images, reply: Reply) {
 fn follow(
     rt: &impl Abort,
     alloc: Global,
-    standing: &mut Standing,
+    standing: &mut Standing<'_>,
     row: &Row<'_>,
     reply: Reply,
 ) -> Result<(), Fail> {
@@ -119,144 +237,64 @@ fn follow(
         }
         _ => follow_whole(rt, alloc, &mut standing.images, row, reply)?,
     }
-    standing.least = standing.images.changes();
+    standing.settle();
     Ok(())
 }
 
+type FusedSession = Session<FuseImage<MemImage>, FuseText<MemText>>;
+
 /// Runs the commands on a session, and closes it.
-fn run_rows<D: Device + Drop, T: TextStore + Drop>(
+fn run_rows<'a>(
     rt: &impl Abort,
     alloc: Global,
-    session: Session<D, T>,
-    standing: Standing,
-    rows: &[Row<'_>],
-) -> Result<Left<D, T>, Fail> {
+    session: FusedSession,
+    standing: Standing<'a>,
+    rows: &[Row<'a>],
+) -> Result<Left<'a>, Fail> {
     let mut session = session;
     let mut standing = standing;
     for row in rows {
         let reply = ask_for(alloc, &mut session, row.ask)?;
         follow(rt, alloc, &mut standing, row, reply)?;
     }
-    let (device, store) = session.close();
-    Ok(Left {
-        device,
-        store,
-        standing,
-    })
+    let trio = unfused(session.close());
+    Ok(Left { trio, standing })
 }
 
-/// Opens a pair, and runs the commands on it.
-fn run_on<D: Device + Drop, T: TextStore + Drop>(
+/// Runs a script on devices of which one fails.
+fn run_fused<'a>(
     rt: &impl Abort,
     alloc: Global,
-    device: D,
-    store: T,
-    script: &Script<'_>,
-) -> Result<Left<D, T>, Fail> {
-    let mut standing = Standing {
-        images: Images::new(alloc, script.first)?,
-        least: 0,
-        course: Course::Whole,
-    };
-    match open(alloc, device, store) {
+    script: &Script<'a>,
+    fused: Fused,
+) -> Result<Left<'a>, Fail> {
+    let mut standing = Standing::new(alloc, script)?;
+    let trio = Memory.trio(alloc, script.first, b"", script.redo.as_bytes())?;
+    match open(alloc, fused_trio(trio, fused)) {
         Ok((session, _)) => run_rows(rt, alloc, session, standing, script.rows.as_slice()),
-        Err((device, store, fault)) => {
+        Err((device, store, redo_text, fault)) => {
             assert!(rt; fault == Fault::DeviceFailed);
             standing.course = Course::Refused;
-            Ok(Left {
-                device,
-                store,
-                standing,
-            })
-        }
-    }
-}
-
-fn from_image<T>(left: Left<FuseImage<MemImage>, T>) -> Left<MemImage, T> {
-    let Left {
-        device,
-        store,
-        standing,
-    } = left;
-    Left {
-        device: device.into_inner(),
-        store,
-        standing,
-    }
-}
-
-fn from_text<D>(left: Left<D, FuseText<MemText>>) -> Left<D, MemText> {
-    let Left {
-        device,
-        store,
-        standing,
-    } = left;
-    Left {
-        device,
-        store: store.into_inner(),
-        standing,
-    }
-}
-
-fn run_fused_image(
-    rt: &impl Abort,
-    alloc: Global,
-    script: &Script<'_>,
-    image: FuseImage<MemImage>,
-) -> Result<Left<MemImage, MemText>, Fail> {
-    let left = run_on(rt, alloc, image, MemText::new(alloc), script)?;
-    Ok(from_image(left))
-}
-
-fn run_fused_text(
-    rt: &impl Abort,
-    alloc: Global,
-    script: &Script<'_>,
-    image: MemImage,
-    text: FuseText<MemText>,
-) -> Result<Left<MemImage, MemText>, Fail> {
-    let left = run_on(rt, alloc, image, text, script)?;
-    Ok(from_text(left))
-}
-
-/// Runs a script on a pair of which one device fails.
-fn run_fused(
-    rt: &impl Abort,
-    alloc: Global,
-    script: &Script<'_>,
-    fused: Fused,
-) -> Result<Left<MemImage, MemText>, Fail> {
-    let image = MemImage::from_vec(script.first.to_vec(alloc)?);
-    let text = MemText::new(alloc);
-    match fused {
-        Fused::Image(pass, part, once) => {
-            run_fused_image(rt, alloc, script, FuseImage::new(image, pass, part, once))
-        }
-        Fused::Text(pass, part, once) => {
-            let text = FuseText::new(text, pass, part, once);
-            run_fused_text(rt, alloc, script, image, text)
-        }
-        Fused::ImageReads(pass) => {
-            run_fused_image(rt, alloc, script, FuseImage::on_reads(image, pass))
-        }
-        Fused::TextReads(pass) => {
-            run_fused_text(rt, alloc, script, image, FuseText::on_reads(text, pass))
+            let trio = unfused((device, store, redo_text));
+            Ok(Left { trio, standing })
         }
     }
 }
 
 type MemSession = Session<MemImage, MemText>;
 
-/// Closes the session and opens the pair again: it has the newest image, and each change.
+/// Closes the session and opens it again: it has the newest image, each change, and this redo text.
 fn again(
     rt: &impl Abort,
     alloc: Global,
     session: MemSession,
     images: &Images,
+    redo: &[u8],
 ) -> Result<MemSession, Fail> {
-    let (device, store) = session.close();
-    assert_bytes(rt, device.as_slice(), images.top());
-    let (session, found) = opened(alloc, device, store)?;
+    let trio = session.close();
+    assert_bytes(rt, trio.0.as_slice(), images.top());
+    assert_bytes(rt, trio.2.as_slice(), redo);
+    let (session, found) = opened(alloc, trio)?;
     assert!(rt; found.changes == images.changes());
     Ok(session)
 }
@@ -275,279 +313,307 @@ fn assert_undone(
     assert_reply(rt, alloc, session, Ask::Undo(1), Reply::Undone { left })
 }
 
-/// Opens a session's pair again, and takes the newest change back.
-fn step_back(
-    rt: &impl Abort,
-    alloc: Global,
-    session: MemSession,
-    images: &mut Images,
-) -> Result<MemSession, Fail> {
-    let mut session = again(rt, alloc, session, images)?;
-    assert_undone(rt, alloc, &mut session, images)?;
-    Ok(session)
-}
-
-/// Takes the changes back one by one: each image is that of the list.
+/// Takes the changes back one by one: each image is that of the list. The first has this redo text, and the others none.
 fn assert_stack(
     rt: &impl Abort,
     alloc: Global,
     session: MemSession,
     images: &mut Images,
+    redo: &[u8],
 ) -> Result<(), Fail> {
-    let mut session = session;
-    for _ in 0..images.changes().saturating_add(1) {
-        session = step_back(rt, alloc, session, images)?;
+    let mut session = again(rt, alloc, session, images, redo)?;
+    for _ in 0..images.changes() {
+        assert_undone(rt, alloc, &mut session, images)?;
+        session = again(rt, alloc, session, images, b"")?;
     }
-    let (_, store) = session.close();
+    let (_, store, _) = session.close();
     assert!(rt; store.as_slice().is_empty());
     Ok(())
 }
 
-/// Opens a pair as it was left: it stands for one of the stacks. Tells how many changes it has.
-fn assert_recovers(
+/// What opening is to find.
+#[derive(Clone, Copy)]
+struct Expected<'a> {
+    changes: u32,
+    undone: Undone<'a>,
+}
+
+/// A session that was opened has this stack of the images, and these undone ones.
+fn assert_found(
     rt: &impl Abort,
     alloc: Global,
-    pair: (&[u8], &[u8]),
+    opened: (MemSession, Recovered),
     images: &Images,
-    least: u32,
-) -> Result<u32, Fail> {
-    let (device, store) = Memory.pair(alloc, pair.0, pair.1)?;
-    let (session, found) = opened(alloc, device, store)?;
+    expected: Expected<'_>,
+) -> Result<(), Fail> {
+    let (session, found) = opened;
     let mut stack = images.all(alloc)?;
-    assert!(rt; least <= found.changes && found.changes <= stack.changes());
-    let _ = stack.undo(stack.changes().saturating_sub(found.changes));
-    assert!(rt; stack.changes() == found.changes);
-    assert_stack(rt, alloc, session, &mut stack)?;
-    Ok(found.changes)
+    let _ = stack.undo(stack.changes().saturating_sub(expected.changes));
+    assert!(rt; found.changes == expected.changes && stack.changes() == found.changes);
+    assert!(rt; found.undone == expected.undone.count);
+    assert_stack(rt, alloc, session, &mut stack, expected.undone.text)
 }
 
-/// The kinds of failing devices: the first of them for opening, and all for a run.
-const OPENING_KINDS: u32 = 8;
-
-const KINDS: u32 = 14;
-
-/// The device that fails behind so many calls.
-fn fuse_of(kind: u32, pass: u64) -> Fused {
-    match kind {
-        0 => Fused::Image(pass, Part::Nothing, false),
-        1 => Fused::Image(pass, Part::Half, false),
-        2 => Fused::Image(pass, Part::All, false),
-        3 => Fused::Text(pass, Part::Nothing, false),
-        4 => Fused::Text(pass, Part::Half, false),
-        5 => Fused::Text(pass, Part::All, false),
-        6 => Fused::ImageReads(pass),
-        7 => Fused::TextReads(pass),
-        8 => Fused::Image(pass, Part::Nothing, true),
-        9 => Fused::Image(pass, Part::Half, true),
-        10 => Fused::Image(pass, Part::All, true),
-        11 => Fused::Text(pass, Part::Nothing, true),
-        12 => Fused::Text(pass, Part::Half, true),
-        _ => Fused::Text(pass, Part::All, true),
-    }
-}
-
-/// A pair that an opening left, and whether a call failed.
-#[derive(Drop)]
-struct Found<D, T> {
-    device: D,
-    store: T,
-    stopped: bool,
-}
-
-fn try_open<D: Device + Drop, T: TextStore + Drop>(
+/// Opens what was left: it stands for one of the stacks. Answers what was found.
+fn assert_recovers<'a>(
     rt: &impl Abort,
     alloc: Global,
-    device: D,
-    store: T,
-) -> Found<D, T> {
-    match open(alloc, device, store) {
-        Ok((session, _)) => {
-            let (device, store) = session.close();
-            Found {
-                device,
-                store,
-                stopped: false,
-            }
-        }
-        Err((device, store, fault)) => {
-            assert!(rt; fault == Fault::Interrupted || fault == Fault::DeviceFailed);
-            Found {
-                device,
-                store,
-                stopped: true,
-            }
-        }
-    }
+    left: &Left<'a>,
+) -> Result<Expected<'a>, Fail> {
+    let bytes = bytes_of(&left.trio);
+    let (session, found) = opened(alloc, Memory.trio(alloc, bytes.0, bytes.1, bytes.2)?)?;
+    assert!(rt; left.standing.least <= found.changes);
+    let expected = Expected {
+        changes: found.changes,
+        undone: left.standing.undone_for(found),
+    };
+    let images = &left.standing.images;
+    assert_found(rt, alloc, (session, found), images, expected)?;
+    Ok(expected)
 }
 
-fn open_fused_image(
-    rt: &impl Abort,
-    alloc: Global,
-    image: FuseImage<MemImage>,
-    text: MemText,
-) -> Found<MemImage, MemText> {
-    let Found {
-        device,
-        store,
-        stopped,
-    } = try_open(rt, alloc, image, text);
-    Found {
-        device: device.into_inner(),
-        store,
-        stopped,
-    }
-}
+/// The ways in which a device fails in a run.
+const WAYS: [Calls; 7] = [
+    Calls::Writes(Part::Nothing, false),
+    Calls::Writes(Part::Half, false),
+    Calls::Writes(Part::All, false),
+    Calls::Writes(Part::Nothing, true),
+    Calls::Writes(Part::Half, true),
+    Calls::Writes(Part::All, true),
+    Calls::Reads,
+];
 
-fn open_fused_text(
-    rt: &impl Abort,
-    alloc: Global,
-    image: MemImage,
-    text: FuseText<MemText>,
-) -> Found<MemImage, MemText> {
-    let Found {
-        device,
-        store,
-        stopped,
-    } = try_open(rt, alloc, image, text);
-    Found {
-        device,
-        store: store.into_inner(),
-        stopped,
-    }
-}
+/// The devices that fail while they are opened, in each of the ways that last.
+const OPENINGS: [(Target, Calls); 12] = [
+    (Target::Image, Calls::Writes(Part::Nothing, false)),
+    (Target::Image, Calls::Writes(Part::Half, false)),
+    (Target::Image, Calls::Writes(Part::All, false)),
+    (Target::Image, Calls::Reads),
+    (Target::Journal, Calls::Writes(Part::Nothing, false)),
+    (Target::Journal, Calls::Writes(Part::Half, false)),
+    (Target::Journal, Calls::Writes(Part::All, false)),
+    (Target::Journal, Calls::Reads),
+    (Target::Redo, Calls::Writes(Part::Nothing, false)),
+    (Target::Redo, Calls::Writes(Part::Half, false)),
+    (Target::Redo, Calls::Writes(Part::All, false)),
+    (Target::Redo, Calls::Reads),
+];
 
-/// Opens a pair of which one device fails.
+/// Opens devices of which one fails, and closes the session. Tells whether opening was stopped.
 fn open_fused(
     rt: &impl Abort,
     alloc: Global,
-    pair: (&[u8], &[u8]),
+    bytes: Bytes<'_>,
     fused: Fused,
-) -> Result<Found<MemImage, MemText>, Fail> {
-    let (image, text) = Memory.pair(alloc, pair.0, pair.1)?;
-    Ok(open_with(rt, alloc, image, text, fused))
-}
-
-fn open_with(
-    rt: &impl Abort,
-    alloc: Global,
-    image: MemImage,
-    text: MemText,
-    fused: Fused,
-) -> Found<MemImage, MemText> {
-    match fused {
-        Fused::Image(pass, part, once) => {
-            open_fused_image(rt, alloc, FuseImage::new(image, pass, part, once), text)
-        }
-        Fused::Text(pass, part, once) => {
-            open_fused_text(rt, alloc, image, FuseText::new(text, pass, part, once))
-        }
-        Fused::ImageReads(pass) => {
-            open_fused_image(rt, alloc, FuseImage::on_reads(image, pass), text)
-        }
-        Fused::TextReads(pass) => {
-            open_fused_text(rt, alloc, image, FuseText::on_reads(text, pass))
+) -> Result<(MemTrio, bool), Fail> {
+    let trio = Memory.trio(alloc, bytes.0, bytes.1, bytes.2)?;
+    match open(alloc, fused_trio(trio, fused)) {
+        Ok((session, _)) => Ok((unfused(session.close()), false)),
+        Err((device, store, redo_text, fault)) => {
+            assert!(rt; fault == Fault::Interrupted || fault == Fault::DeviceFailed);
+            Ok((unfused((device, store, redo_text)), true))
         }
     }
 }
 
-/// Stops the opening of a pair at one call: the stack that opening finds stays. Answers what is left, if it was stopped.
+/// Stops an opening at one call: what opening finds stays. Answers what is left, if it was stopped.
 fn stopped_opening(
     rt: &impl Abort,
     alloc: Global,
-    pair: (&[u8], &[u8]),
+    bytes: Bytes<'_>,
     images: &Images,
-    changes: u32,
+    expected: Expected<'_>,
     fused: Fused,
-) -> Result<Option<Found<MemImage, MemText>>, Fail> {
-    let found = open_fused(rt, alloc, pair, fused)?;
-    if !found.stopped {
+) -> Result<Option<MemTrio>, Fail> {
+    let (trio, stopped) = open_fused(rt, alloc, bytes, fused)?;
+    if !stopped {
         return Ok(None);
     }
-    let left = (found.device.as_slice(), found.store.as_slice());
-    let found_changes = assert_recovers(rt, alloc, left, images, 0)?;
-    assert!(rt; found_changes == changes);
-    Ok(Some(found))
+    let left = bytes_of(&trio);
+    let found = opened(alloc, Memory.trio(alloc, left.0, left.1, left.2)?)?;
+    assert_found(rt, alloc, found, images, expected)?;
+    Ok(Some(trio))
 }
 
-/// Stops the opening of a pair at each call, and then that of what is left. Tells how often it was stopped.
+/// Stops an opening at each call of a device, and adds what each leaves to the list. Tells how often it was stopped.
+fn stop_at_each(
+    rt: &impl Abort,
+    alloc: Global,
+    bytes: Bytes<'_>,
+    images: &Images,
+    expected: Expected<'_>,
+    way: (Target, Calls),
+    list: &mut Vec<MemTrio>,
+) -> Result<u32, Fail> {
+    let mut stops = 0u32;
+    let (target, calls) = way;
+    for pass in 0..MOST_CALLS {
+        let fused = Fused {
+            target,
+            calls,
+            pass,
+        };
+        let Some(trio) = stopped_opening(rt, alloc, bytes, images, expected, fused)? else {
+            return Ok(stops);
+        };
+        list.push(trio)?;
+        stops = stops.saturating_add(1);
+    }
+    Err(Fault::DeviceFailed.into())
+}
+
+/// The same for each device and each way.
+fn stop_in_each_way(
+    rt: &impl Abort,
+    alloc: Global,
+    bytes: Bytes<'_>,
+    images: &Images,
+    expected: Expected<'_>,
+    list: &mut Vec<MemTrio>,
+) -> Result<u32, Fail> {
+    let mut stops = 0u32;
+    for way in OPENINGS {
+        let more = stop_at_each(rt, alloc, bytes, images, expected, way, list)?;
+        stops = stops.saturating_add(more);
+    }
+    Ok(stops)
+}
+
+fn is_seen(seen: &[MemTrio], bytes: Bytes<'_>) -> bool {
+    for trio in seen {
+        let (image, journal, redo) = bytes_of(trio);
+        if image == bytes.0 && journal == bytes.1 && redo == bytes.2 {
+            return true;
+        }
+    }
+    false
+}
+
+/// Stops the opening of what a run left, then that of what is left each time, and so on: each once. Tells how often openings
+/// were stopped.
 fn assert_openings(
     rt: &impl Abort,
     alloc: Global,
-    pair: (&[u8], &[u8]),
-    images: &Images,
-    changes: u32,
+    left: Left<'_>,
+    expected: Expected<'_>,
+    seen: &mut Vec<MemTrio>,
 ) -> Result<u32, Fail> {
+    let Left { trio, standing } = left;
     let mut stops = 0u32;
-    for kind in 0..OPENING_KINDS {
-        for pass in 0..MOST_CALLS {
-            let fused = fuse_of(kind, pass);
-            let Some(found) = stopped_opening(rt, alloc, pair, images, changes, fused)? else {
-                break;
-            };
-            let left = (found.device.as_slice(), found.store.as_slice());
-            let more = assert_once_more(rt, alloc, left, images, changes)?;
-            stops = stops.saturating_add(more).saturating_add(1);
+    let mut list = Vec::new(alloc);
+    list.push(trio)?;
+    for _ in 0..MOST_STOPS {
+        let Some(trio) = list.pop() else {
+            return Ok(stops);
+        };
+        let bytes = bytes_of(&trio);
+        if !is_seen(seen.as_slice(), bytes) {
+            let images = &standing.images;
+            let more = stop_in_each_way(rt, alloc, bytes, images, expected, &mut list)?;
+            stops = stops.saturating_add(more);
+            seen.push(trio)?;
         }
     }
-    Ok(stops)
+    Err(Fault::DeviceFailed.into())
 }
 
-/// The same for a pair whose opening was stopped before.
-fn assert_once_more(
+/// How often runs were stopped, and how often openings of what they left.
+#[derive(Clone, Copy)]
+struct Stops {
+    runs: u32,
+    openings: u32,
+}
+
+/// Stops a script at each call of one device, until a run is whole.
+fn assert_stops(
     rt: &impl Abort,
     alloc: Global,
-    pair: (&[u8], &[u8]),
-    images: &Images,
-    changes: u32,
-) -> Result<u32, Fail> {
-    let mut stops = 0u32;
-    for kind in 0..OPENING_KINDS {
-        for pass in 0..MOST_CALLS {
-            let fused = fuse_of(kind, pass);
-            if stopped_opening(rt, alloc, pair, images, changes, fused)?.is_none() {
-                break;
-            }
-            stops = stops.saturating_add(1);
+    script: &Script<'_>,
+    way: (Target, Calls),
+    seen: &mut Vec<MemTrio>,
+) -> Result<Stops, Fail> {
+    let mut runs = 0u32;
+    let mut openings = 0u32;
+    let (target, calls) = way;
+    for pass in 0..MOST_CALLS {
+        let fused = Fused {
+            target,
+            calls,
+            pass,
+        };
+        let left = run_fused(rt, alloc, script, fused)?;
+        let expected = assert_recovers(rt, alloc, &left)?;
+        if left.standing.course == Course::Whole {
+            return Ok(Stops { runs, openings });
         }
+        let more = assert_openings(rt, alloc, left, expected, seen)?;
+        openings = openings.saturating_add(more);
+        runs = runs.saturating_add(1);
     }
-    Ok(stops)
+    Err(Fault::DeviceFailed.into())
 }
 
-/// Stops a script at each call of each device. Tells how often it was stopped, and how often its openings were.
-fn assert_stops(rt: &impl Abort, alloc: Global, script: &Script<'_>) -> Result<(u32, u32), Fail> {
-    let mut stops = 0u32;
+/// Stops a script at each call of one device, in each way.
+fn assert_script(
+    rt: &impl Abort,
+    alloc: Global,
+    script: &Script<'_>,
+    target: Target,
+) -> Result<Stops, Fail> {
+    let mut runs = 0u32;
     let mut openings = 0u32;
-    for kind in 0..KINDS {
-        let mut course = Course::Stopped;
-        for pass in 0..MOST_CALLS {
-            let left = run_fused(rt, alloc, script, fuse_of(kind, pass))?;
-            let pair = (left.device.as_slice(), left.store.as_slice());
-            let images = &left.standing.images;
-            let changes = assert_recovers(rt, alloc, pair, images, left.standing.least)?;
-            course = left.standing.course;
-            if course == Course::Whole {
-                break;
-            }
-            stops = stops.saturating_add(1);
-            let more = assert_openings(rt, alloc, pair, images, changes)?;
-            openings = openings.saturating_add(more);
-        }
-        assert!(rt; course == Course::Whole);
+    let mut seen = Vec::new(alloc);
+    for calls in WAYS {
+        let more = assert_stops(rt, alloc, script, (target, calls), &mut seen)?;
+        runs = runs.saturating_add(more.runs);
+        openings = openings.saturating_add(more.openings);
     }
-    Ok((stops, openings))
+    assert!(rt; runs > 0);
+    Ok(Stops { runs, openings })
+}
+
+/// Stops all scripts at each call of one device: at least so many runs and openings.
+fn assert_device(
+    rt: &(impl Abort + Print + Alloc),
+    alloc: Global,
+    target: Target,
+    least: Stops,
+) -> Result<(), Fail> {
+    let mut runs = 0u32;
+    let mut openings = 0u32;
+    for script in failing(alloc)?.as_slice() {
+        let more = assert_script(rt, alloc, script, target)?;
+        runs = runs.saturating_add(more.runs);
+        openings = openings.saturating_add(more.openings);
+    }
+    println!(rt; "{runs} runs and {openings} openings stopped")?;
+    assert!(rt; runs >= least.runs && openings >= least.openings);
+    Ok(())
 }
 
 #[test]
-fn runs_stopped_at_each_call(rt: HostRuntime) -> Result<(), Fail> {
-    let mut stops = 0u32;
-    let mut openings = 0u32;
-    for script in failing(rt.alloc())?.as_slice() {
-        let (more, opened) = assert_stops(&rt, rt.alloc(), script)?;
-        assert!(rt; more > 0);
-        stops = stops.saturating_add(more);
-        openings = openings.saturating_add(opened);
-    }
-    println!(rt; "{stops} runs and {openings} openings stopped")?;
-    assert!(rt; stops > 100 && openings > 1000);
-    Ok(())
+fn runs_stopped_at_calls_of_the_image(rt: HostRuntime) -> Result<(), Fail> {
+    let least = Stops {
+        runs: 100,
+        openings: 100,
+    };
+    assert_device(&rt, rt.alloc(), Target::Image, least)
+}
+
+#[test]
+fn runs_stopped_at_calls_of_the_journal(rt: HostRuntime) -> Result<(), Fail> {
+    let least = Stops {
+        runs: 100,
+        openings: 100,
+    };
+    assert_device(&rt, rt.alloc(), Target::Journal, least)
+}
+
+#[test]
+fn runs_stopped_at_calls_of_the_redo_text(rt: HostRuntime) -> Result<(), Fail> {
+    let least = Stops {
+        runs: 100,
+        openings: 100,
+    };
+    assert_device(&rt, rt.alloc(), Target::Redo, least)
 }

@@ -1,6 +1,6 @@
 //! Calls below the session, with each growth refused in turn; and a heap that takes memory back.
 use crate::asserts::assert_bytes;
-use crate::memory::{BumpSession, open_pair, pair};
+use crate::memory::{BumpSession, open_trio, trio};
 use bumpalo::Bump;
 use bx_cli::{Fault, Reply, run_all};
 use bx_image::MemImage;
@@ -8,7 +8,7 @@ use bx_journal::{Session, SessionFault};
 use bx_ration::{ALIGN, arena, squeeze, used};
 use bx_read::{read_dump, read_plain};
 use bx_scripts::model::Images;
-use bx_scripts::scripts::PATCHED;
+use bx_scripts::scripts::{PATCHED, UNDONE_PATCH};
 use bx_scripts::session::{Ask, command, open, words};
 use bx_store::MemText;
 use bx_text::Source;
@@ -94,7 +94,8 @@ fn growths_of_readers(rt: HostRuntime) -> Result<(), Fail> {
 }
 
 fn open_in(bump: &Bump) -> Result<BumpSession<'_>, Fault> {
-    open_pair(bump, pair(bump, b"ABxyEFGH", PATCHED.as_bytes())?)
+    let texts = (PATCHED.as_bytes(), UNDONE_PATCH.as_bytes());
+    open_trio(bump, trio(bump, b"ABxyEFGH", texts)?)
 }
 
 /// Lists the changes: whether there is one row. It may be refused where memory is short.
@@ -127,9 +128,10 @@ fn list<'a>(rt: &impl Abort, bump: &'a Bump, bytes: usize) -> Result<(bool, usiz
     let mut session = open_in(bump)?;
     let listed = list_in(rt, bump, &mut session, bytes)?;
     assert!(rt; has_one_row(rt, &mut session, false));
-    let (image, text) = session.close();
+    let (image, text, redo_text) = session.close();
     assert_bytes(rt, image.as_slice(), b"ABxyEFGH");
     assert_bytes(rt, text.as_slice(), PATCHED.as_bytes());
+    assert_bytes(rt, redo_text.as_slice(), UNDONE_PATCH.as_bytes());
     Ok(listed)
 }
 
@@ -269,12 +271,13 @@ fn three_in<'a>(
 ) -> Result<Outcome, Fail> {
     let mut images = Images::new(alloc, b"ABCDEFGH")?;
     let image = MemImage::from_vec(b"ABCDEFGH".to_vec(alloc)?);
-    let Ok((mut session, _)) = open(heap, image, MemText::new(alloc)) else {
+    let trio = (image, MemText::new(alloc), MemText::new(alloc));
+    let Ok((mut session, _)) = open(heap, trio) else {
         return Ok(Outcome::Nothing);
     };
     let found = follow_three(rt, alloc, heap, &mut session, &mut images, large)?;
     assert!(rt; session.changes() == images.changes());
-    let (device, _) = session.close();
+    let (device, _, _) = session.close();
     assert!(rt; device.as_slice() == images.top());
     Ok(found)
 }

@@ -12,14 +12,15 @@ use std::test::Fail;
 fn write_and_undo(rt: &impl Abort, alloc: Global, digits: &str) -> Result<(), Fail> {
     let zeros = vec![in alloc; 0u8; 600]?;
     let image = MemImage::from_vec(zeros.as_slice().to_vec(alloc)?);
-    let (mut session, _) = opened(alloc, image, MemText::new(alloc))?;
+    let (mut session, _) = opened(alloc, (image, MemText::new(alloc), MemText::new(alloc)))?;
     let changed = Reply::Changed { number: 1 };
     assert_reply(rt, alloc, &mut session, Ask::Plain(digits, 0), changed)?;
     let undone = Reply::Undone { left: 0 };
     assert_reply(rt, alloc, &mut session, Ask::Undo(1), undone)?;
-    let (device, store) = session.close();
+    let (device, store, redo_text) = session.close();
     assert!(rt; device.as_slice() == zeros.as_slice());
     assert!(rt; store.as_slice().is_empty());
+    assert!(rt; redo_text.as_slice().is_empty());
     Ok(())
 }
 

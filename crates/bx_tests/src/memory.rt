@@ -2,10 +2,11 @@
 use bumpalo::Bump;
 use bx_cli::{Fault, Reply, run_all};
 use bx_image::MemImage;
-use bx_journal::{How, Session, SessionFault};
+use bx_journal::{How, Recovered, Session, SessionFault};
 use bx_ration::{ALIGN, arena, squeeze, used};
+use bx_scripts::places::Trio;
 use bx_scripts::replies::copied;
-use bx_scripts::scripts::{OVERLAPPED, PATCHED};
+use bx_scripts::scripts::{OVERLAPPED, PATCHED, UNDONE_PATCH, UNDONE_TWO};
 use bx_scripts::session::{Ask, command};
 use bx_store::MemText;
 use std::alloc::{AllocError, Global};
@@ -15,19 +16,26 @@ use std::test::Fail;
 /// No call takes so many bytes.
 const MOST_BYTES: usize = 20_000;
 
-pub type Left<'a> = (MemImage<&'a Bump>, MemText<&'a Bump>);
+pub type Left<'a> = Trio<MemImage<&'a Bump>, MemText<&'a Bump>>;
 
-/// A session whose image, text and rows stand in an arena.
+/// A session whose image, texts and rows stand in an arena.
 pub type BumpSession<'a> = Session<MemImage<&'a Bump>, MemText<&'a Bump>, &'a Bump>;
 
-/// A pair, and one command on it.
+/// An image, its journal and its redo text, and one command on them.
 #[derive(Clone, Copy)]
 struct Case<'a> {
     image: &'a [u8],
     text: &'a str,
+    redo: &'a str,
     ask: Ask<'a>,
     reply: Reply,
     left: &'a [u8],
+}
+
+impl<'a> Case<'a> {
+    fn texts(&self) -> (&'a [u8], &'a [u8]) {
+        (self.text.as_bytes(), self.redo.as_bytes())
+    }
 }
 
 /// What was refused.
@@ -75,16 +83,21 @@ impl Count {
     }
 }
 
-pub fn pair<'a>(bump: &'a Bump, image: &[u8], text: &[u8]) -> Result<Left<'a>, AllocError> {
+pub fn trio<'a>(
+    bump: &'a Bump,
+    image: &[u8],
+    texts: (&[u8], &[u8]),
+) -> Result<Left<'a>, AllocError> {
     let image = MemImage::from_vec(image.to_vec(bump)?);
-    Ok((image, MemText::from_vec(text.to_vec(bump)?)))
+    let text = MemText::from_vec(texts.0.to_vec(bump)?);
+    Ok((image, text, MemText::from_vec(texts.1.to_vec(bump)?)))
 }
 
-pub fn open_pair<'a>(bump: &'a Bump, left: Left<'a>) -> Result<BumpSession<'a>, Fault> {
-    let (device, store) = left;
-    match Session::open(bump, device, store) {
+pub fn open_trio<'a>(bump: &'a Bump, left: Left<'a>) -> Result<BumpSession<'a>, Fault> {
+    let (device, store, redo_text) = left;
+    match Session::open(bump, device, store, redo_text) {
         Ok((session, _)) => Ok(session),
-        Err((_, _, fault)) => Err(Fault::from(fault)),
+        Err((_, _, _, fault)) => Err(Fault::from(fault)),
     }
 }
 
@@ -105,6 +118,13 @@ fn run_case<'a>(
     }
 }
 
+/// These bytes are left.
+fn assert_left(rt: &impl Abort, left: &Left<'_>, image: &[u8], texts: (&[u8], &[u8])) {
+    assert!(rt; left.0.as_slice() == image);
+    assert!(rt; left.1.as_slice() == texts.0);
+    assert!(rt; left.2.as_slice() == texts.1);
+}
+
 /// Runs the command with so many bytes, and where that is too little again with enough.
 fn refuse<'a>(
     rt: &impl Abort,
@@ -112,7 +132,7 @@ fn refuse<'a>(
     case: &Case<'_>,
     bytes: usize,
 ) -> Result<(Refusal, usize), Fail> {
-    let mut session = open_pair(bump, pair(bump, case.image, case.text.as_bytes())?)?;
+    let mut session = open_trio(bump, trio(bump, case.image, case.texts())?)?;
     let changes = session.changes();
     let reply = run_case(bump, &mut session, case, Some(bytes))?;
     let taken = used(bump, bytes);
@@ -122,16 +142,15 @@ fn refuse<'a>(
         Some(Reply::Refused(Fault::NoMemory)) => Refusal::Reply,
         Some(reply) => {
             assert_eq!(rt; reply, case.reply);
-            let (device, _) = session.close();
+            let (device, _, _) = session.close();
             assert!(rt; device.as_slice() == case.left);
             return Ok((Refusal::None, taken));
         }
     };
     assert_eq!(rt; session.changes(), changes);
-    let (device, store) = session.close();
-    assert!(rt; device.as_slice() == case.image);
-    assert!(rt; store.as_slice() == case.text.as_bytes());
-    run_again(rt, bump, (device, store), case)?;
+    let left = session.close();
+    assert_left(rt, &left, case.image, case.texts());
+    run_again(rt, bump, left, case)?;
     Ok((refusal, taken))
 }
 
@@ -142,10 +161,10 @@ fn run_again<'a>(
     left: Left<'a>,
     case: &Case<'_>,
 ) -> Result<(), Fail> {
-    let mut session = open_pair(bump, left)?;
+    let mut session = open_trio(bump, left)?;
     let reply = run_case(bump, &mut session, case, None)?;
     assert_eq!(rt; reply, Some(case.reply));
-    let (device, _) = session.close();
+    let (device, _, _) = session.close();
     assert!(rt; device.as_slice() == case.left);
     Ok(())
 }
@@ -183,6 +202,7 @@ fn growths_of_a_dump(rt: HostRuntime) -> Result<(), Fail> {
     let patch = Case {
         image: b"ABCDEFGH",
         text: "",
+        redo: "",
         ask: Ask::Revert("00000002: 7879\n00000003: 7a7a\n00000020: 41\n"),
         reply: Reply::Changed { number: 1 },
         left: b"ABxzzFGH\0\0\0\0\0\0\0\0\0\0\0\0\0\0\0\0\0\0\0\0\0\0\0\0A",
@@ -191,6 +211,7 @@ fn growths_of_a_dump(rt: HostRuntime) -> Result<(), Fail> {
     let second = Case {
         image: b"ABxyEFGH",
         text: PATCHED,
+        redo: UNDONE_PATCH,
         ask: Ask::Revert(""),
         reply: Reply::Changed { number: 2 },
         left: b"ABxyEFGH",
@@ -203,6 +224,7 @@ fn growths_of_plain_hex(rt: HostRuntime) -> Result<(), Fail> {
     let plain = Case {
         image: b"ABCD",
         text: "",
+        redo: "",
         ask: Ask::Plain("78 7\n9", 1),
         reply: Reply::Changed { number: 1 },
         left: b"AxyD",
@@ -215,6 +237,7 @@ fn growths_of_dd(rt: HostRuntime) -> Result<(), Fail> {
     let dd = Case {
         image: b"0123456789",
         text: "",
+        redo: "",
         ask: Ask::Dd("ibs=3 obs=4 seek=1 conv=ucase,sync", b"wxyz"),
         reply: copied(1, [1, 1, 1, 1], 0),
         left: b"0123WXYZ\0\0",
@@ -227,6 +250,7 @@ fn growths_of_an_undo(rt: HostRuntime) -> Result<(), Fail> {
     let undo = Case {
         image: b"ABxzzFGH",
         text: OVERLAPPED,
+        redo: "",
         ask: Ask::Undo(1),
         reply: Reply::Undone { left: 0 },
         left: b"ABCDEFGH",
@@ -236,6 +260,7 @@ fn growths_of_an_undo(rt: HostRuntime) -> Result<(), Fail> {
     let cut = Case {
         image: b"A",
         text: "change 00000001 00000040\n00000030: 4142\nsave 00000001\ndone 00000001\n",
+        redo: "",
         ask: Ask::Undo(1),
         reply: Reply::Undone { left: 0 },
         left: b"A\0\0\0\0\0\0\0\0\0\0\0\0\0\0\0\0\0\0\0\0\0\0\0\0\0\0\0\0\0\0\0\0\0\0\0\0\0\0\0\0\0\0\0\0\0\0\0AB\0\0\0\0\0\0\0\0\0\0\0\0\0\0",
@@ -243,44 +268,49 @@ fn growths_of_an_undo(rt: HostRuntime) -> Result<(), Fail> {
     sweep_command(&rt, rt.alloc(), &cut, 4)
 }
 
-/// Opens a pair with so many bytes, and where that is too little again with enough.
-fn refuse_opening<'a>(
-    rt: &impl Abort,
-    bump: &'a Bump,
-    text: &[u8],
-    bytes: usize,
-) -> Result<(How, Refusal, usize), Fail> {
-    let (device, store) = pair(bump, b"A", text)?;
-    squeeze(bump, bytes)?;
-    let opened = Session::open(bump, device, store);
-    let taken = used(bump, bytes);
-    bump.set_allocation_limit(None);
-    match opened {
-        Ok((_, found)) => Ok((found.how, Refusal::None, taken)),
-        Err((device, store, fault)) => {
-            assert_eq!(rt; fault, SessionFault::NoMemory);
-            assert!(rt; device.as_slice() == b"A".as_slice());
-            assert!(rt; store.as_slice() == text);
-            match Session::open(bump, device, store) {
-                Ok((_, found)) => Ok((found.how, Refusal::Reply, taken)),
-                Err(_) => Err(Fault::NoMemory.into()),
-            }
-        }
+/// Opens a session and closes it, and tells what was found.
+fn open_once<'a>(bump: &'a Bump, left: Left<'a>) -> (Left<'a>, Result<Recovered, SessionFault>) {
+    let (device, store, redo_text) = left;
+    match Session::open(bump, device, store, redo_text) {
+        Ok((session, found)) => (session.close(), Ok(found)),
+        Err((device, store, redo_text, fault)) => ((device, store, redo_text), Err(fault)),
     }
 }
 
+/// Opens a session on `A` with so many bytes, and where that is too little again with enough.
+fn refuse_opening<'a>(
+    rt: &impl Abort,
+    bump: &'a Bump,
+    texts: (&[u8], &[u8]),
+    bytes: usize,
+) -> Result<(Result<Recovered, SessionFault>, Refusal, usize), Fail> {
+    let left = trio(bump, b"A", texts)?;
+    squeeze(bump, bytes)?;
+    let (left, found) = open_once(bump, left);
+    let taken = used(bump, bytes);
+    bump.set_allocation_limit(None);
+    if found != Err(SessionFault::NoMemory) {
+        return Ok((found, Refusal::None, taken));
+    }
+    assert_left(rt, &left, b"A", texts);
+    let (_, found) = open_once(bump, left);
+    Ok((found, Refusal::Reply, taken))
+}
+
+/// Refuses each growth of opening in turn: at least so many. With enough memory it answers this.
 fn sweep_opening(
     rt: &(impl Abort + Print + Alloc),
     alloc: Global,
-    text: &str,
-    how: How,
+    texts: (&str, &str),
+    wanted: Result<Recovered, SessionFault>,
     least: u32,
 ) -> Result<(), Fail> {
     let mut count = Count::new();
     for bytes in 0..MOST_BYTES {
         let bump = arena(alloc)?;
-        let (found, refusal, taken) = refuse_opening(rt, &bump, text.as_bytes(), bytes)?;
-        assert_eq!(rt; found, how);
+        let texts = (texts.0.as_bytes(), texts.1.as_bytes());
+        let (found, refusal, taken) = refuse_opening(rt, &bump, texts, bytes)?;
+        assert!(rt; found == wanted);
         if refusal == Refusal::None {
             let replies = count.replies;
             println!(rt; "growths refused: {replies} of opening")?;
@@ -292,14 +322,44 @@ fn sweep_opening(
     Err(Fault::NoMemory.into())
 }
 
+fn found(how: How, changes: u32, undone: u32) -> Result<Recovered, SessionFault> {
+    Ok(Recovered {
+        how,
+        changes,
+        undone,
+    })
+}
+
+/// A journal of one change in the first form, which tells no length behind it.
+const DONE: &str = "change 00000001 00000040\n00000030: 4142\nsave 00000001\ndone 00000001\n";
+
+const FOREIGN: &str =
+    "a text that is neither a journal nor a redo text, and long enough to have room of its own\n";
+
 #[test]
 fn growths_of_opening(rt: HostRuntime) -> Result<(), Fail> {
-    let front = "change 00000001 00000040\n00000030: 4142\n";
-    sweep_opening(&rt, rt.alloc(), front, How::Dropped, 2)?;
-    let whole = "change 00000001 00000040\n00000030: 4142\nsave 00000001\n";
+    let front = ("change 00000001 00000040\n00000030: 4142\n", "");
+    sweep_opening(&rt, rt.alloc(), front, found(How::Dropped, 0, 0), 2)?;
+    let whole = (
+        "change 00000001 00000040\n00000030: 4142\nsave 00000001\n",
+        UNDONE_TWO,
+    );
     let number = 1;
-    sweep_opening(&rt, rt.alloc(), whole, How::Restored { number }, 2)?;
-    let done = "change 00000001 00000040\n00000030: 4142\nsave 00000001\ndone 00000001\n";
+    let restored = found(How::Restored { number }, 0, 0);
+    sweep_opening(&rt, rt.alloc(), whole, restored, 2)?;
     // Finished entries are counted, and only the text is held.
-    sweep_opening(&rt, rt.alloc(), done, How::Clean, 1)
+    sweep_opening(&rt, rt.alloc(), (DONE, ""), found(How::Clean, 1, 0), 1)
+}
+
+// A redo text that is in order is only held; one that isn't is read entry by entry.
+#[test]
+fn growths_of_opening_with_a_redo_text(rt: HostRuntime) -> Result<(), Fail> {
+    let in_order = (DONE, UNDONE_TWO);
+    sweep_opening(&rt, rt.alloc(), in_order, found(How::Clean, 1, 2), 2)?;
+    let first = Err(SessionFault::RedoDamaged { line: 1 });
+    sweep_opening(&rt, rt.alloc(), (DONE, DONE), first, 4)?;
+    sweep_opening(&rt, rt.alloc(), (DONE, FOREIGN), first, 3)?;
+    // The length is compared without memory.
+    let last = Err(SessionFault::RedoDamaged { line: 4 });
+    sweep_opening(&rt, rt.alloc(), (DONE, UNDONE_PATCH), last, 2)
 }

@@ -1,11 +1,12 @@
-//! Scripts run on any pair of devices.
+//! Scripts run on any three devices.
 use crate::asserts::{assert_bytes, assert_reply, assert_same};
 use bx_cli::Reply;
 use bx_image::Device;
-use bx_journal::{How, Session};
-use bx_scripts::places::Place;
+use bx_journal::{How, Recovered, Session};
+use bx_scripts::places::{Place, Trio};
 use bx_scripts::script::{
-    Row, Script, commands, image_behind, open_again, started, text_behind, text_of,
+    Row, Script, Texts, commands, image_behind, open_again, redo_behind, started, text_behind,
+    texts_of,
 };
 use bx_scripts::session::{image_bytes, run, text_bytes};
 use bx_store::TextStore;
@@ -24,7 +25,7 @@ fn assert_image<D: Device>(
     Ok(())
 }
 
-/// A journal has this text, where it is told.
+/// A journal or a redo text has this text, where it is told.
 fn assert_text<T: TextStore>(
     rt: &impl Abort,
     alloc: Global,
@@ -37,52 +38,69 @@ fn assert_text<T: TextStore>(
     Ok(())
 }
 
-/// Opens a pair that was closed: it is found as it was.
+/// The journal and the redo text that are to be left, where they are known.
+pub type Known<'a> = (Option<&'a [u8]>, Option<&'a [u8]>);
+
+/// Opens what was closed: it is found as it was.
 fn open_clean<D: Device + Drop, T: TextStore + Drop, P: Place<D, T>>(
     rt: &impl Abort,
     alloc: Global,
     place: &P,
-    device: D,
-    store: T,
+    trio: Trio<D, T>,
     changes: u32,
+    undone: u32,
 ) -> Result<Session<D, T>, Fail> {
-    let (session, found) = open_again(alloc, place, device, store)?;
-    assert!(rt; found.how == How::Clean && found.changes == changes);
+    let (session, found) = open_again(alloc, place, trio)?;
+    let clean = Recovered {
+        how: How::Clean,
+        changes,
+        undone,
+    };
+    assert!(rt; found == clean);
     Ok(session)
 }
 
-/// Closes a session, compares what it leaves, and opens the pair again: it is found as it was.
+/// Closes a session, compares what it leaves, and opens it again: it is found as it was.
 pub fn reopened<D: Device + Drop, T: TextStore + Drop, P: Place<D, T>>(
     rt: &impl Abort,
     alloc: Global,
     place: &P,
     session: Session<D, T>,
     image: &[u8],
-    text: Option<&[u8]>,
+    texts: Known<'_>,
 ) -> Result<Session<D, T>, Fail> {
-    let changes = session.changes();
-    let (mut device, mut store) = session.close();
+    let (changes, undone) = (session.changes(), session.undone());
+    let (mut device, mut store, mut redo_text) = session.close();
     assert_image(rt, alloc, &mut device, image)?;
-    assert_text(rt, alloc, &mut store, text)?;
-    open_clean(rt, alloc, place, device, store, changes)
+    assert_text(rt, alloc, &mut store, texts.0)?;
+    assert_text(rt, alloc, &mut redo_text, texts.1)?;
+    open_clean(
+        rt,
+        alloc,
+        place,
+        (device, store, redo_text),
+        changes,
+        undone,
+    )
 }
 
-/// Runs the command of a row, and opens the pair anew.
+/// Runs the command of a row, and opens all anew.
 fn play_row<D: Device + Drop, T: TextStore + Drop, P: Place<D, T>>(
     rt: &impl Abort,
     alloc: Global,
     place: &P,
     session: Session<D, T>,
     row: &Row<'_>,
-    before: &[u8],
+    before: &Texts,
 ) -> Result<Session<D, T>, Fail> {
     let mut session = session;
     assert_reply(rt, alloc, &mut session, row.ask, row.reply)?;
-    let text = text_behind(row, before);
-    reopened(rt, alloc, place, session, row.image, text)
+    let text = text_behind(row, before.journal.as_slice());
+    let redo = redo_behind(row, before.redo.as_slice());
+    reopened(rt, alloc, place, session, row.image, (text, redo))
 }
 
-/// The same, with the text that was there before.
+/// The same, with the texts that were there before.
 fn play_on<D: Device + Drop, T: TextStore + Drop, P: Place<D, T>>(
     rt: &impl Abort,
     alloc: Global,
@@ -90,18 +108,18 @@ fn play_on<D: Device + Drop, T: TextStore + Drop, P: Place<D, T>>(
     session: Session<D, T>,
     row: &Row<'_>,
 ) -> Result<Session<D, T>, Fail> {
-    let (session, before) = text_of(alloc, place, session)?;
-    play_row(rt, alloc, place, session, row, before.as_slice())
+    let (session, before) = texts_of(alloc, place, session)?;
+    play_row(rt, alloc, place, session, row, &before)
 }
 
-/// Runs a script, and opens the pair anew behind each command. A refusal leaves the text.
+/// Runs a script, and opens all anew behind each command. A refusal leaves the texts.
 pub fn play<D: Device + Drop, T: TextStore + Drop, P: Place<D, T>>(
     rt: &impl Abort,
     alloc: Global,
     place: &P,
     script: &Script<'_>,
 ) -> Result<(), Fail> {
-    let mut session = started(alloc, place, script.first)?;
+    let mut session = started(alloc, place, script)?;
     for row in script.rows.as_slice() {
         session = play_on(rt, alloc, place, session, row)?;
     }
@@ -128,7 +146,7 @@ fn run_part<D: Device, T: TextStore>(
     Ok(())
 }
 
-/// Runs a script as two lists, with the pair opened anew between them.
+/// Runs a script as two lists, with all opened anew between them.
 fn play_parts<D: Device + Drop, T: TextStore + Drop, P: Place<D, T>>(
     rt: &impl Abort,
     alloc: Global,
@@ -136,19 +154,19 @@ fn play_parts<D: Device + Drop, T: TextStore + Drop, P: Place<D, T>>(
     script: &Script<'_>,
     count: usize,
 ) -> Result<(), Fail> {
-    let mut session = started(alloc, place, script.first)?;
+    let mut session = started(alloc, place, script)?;
     let rows = script.rows.as_slice();
     let (front, back) = rows.split_at(count.min(rows.len()));
     let mut image = script.first;
     for part in [front, back] {
         run_part(rt, alloc, &mut session, part)?;
         image = image_behind(part, image);
-        session = reopened(rt, alloc, place, session, image, None)?;
+        session = reopened(rt, alloc, place, session, image, (None, None))?;
     }
     Ok(())
 }
 
-/// Runs a script with the pair opened anew behind each command, behind any one of them, and at its end alone.
+/// Runs a script with all opened anew behind each command, behind any one of them, and at its end alone.
 pub fn play_all<D: Device + Drop, T: TextStore + Drop, P: Place<D, T>>(
     rt: &impl Abort,
     alloc: Global,

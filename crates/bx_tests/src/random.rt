@@ -149,9 +149,16 @@ fn unwind<D: Device + Drop, T: TextStore + Drop, P: Place<D, T>>(
         let left = images.changes();
         let undone = Reply::Undone { left };
         assert_reply(rt, alloc, &mut session, Ask::Undo(1), undone)?;
-        session = reopened(rt, alloc, place, session, images.top(), None)?;
+        session = reopened(rt, alloc, place, session, images.top(), (None, None))?;
     }
-    let _session = reopened(rt, alloc, place, session, images.top(), Some(b""))?;
+    let _session = reopened(
+        rt,
+        alloc,
+        place,
+        session,
+        images.top(),
+        (Some(b""), Some(b"")),
+    )?;
     Ok(())
 }
 
@@ -163,14 +170,13 @@ fn run_long<D: Device + Drop, T: TextStore + Drop, P: Place<D, T>>(
 ) -> Result<(), Fail> {
     let mut dice = Dice::new(seed);
     let first = dice.bytes(alloc, 40)?;
-    let (device, store) = place.pair(alloc, first.as_slice(), b"")?;
-    let (mut session, _) = opened(alloc, device, store)?;
+    let (mut session, _) = opened(alloc, place.trio(alloc, first.as_slice(), b"", b"")?)?;
     let mut images = Images::new(alloc, first.as_slice())?;
     for _ in 0..COMMANDS {
         one(rt, alloc, &mut dice, &mut images, &mut session)?;
         assert_eq!(rt; session.changes(), images.changes());
         if dice.roll(3) == 0 {
-            session = reopened(rt, alloc, place, session, images.top(), None)?;
+            session = reopened(rt, alloc, place, session, images.top(), (None, None))?;
         }
     }
     unwind(rt, alloc, place, session, &mut images)
@@ -198,6 +204,7 @@ fn random_run_in_files(rt: HostRuntime) -> Result<(), Fail> {
         rt: &rt,
         image: "bx_tests_random.img",
         text: "bx_tests_random.bxj",
+        redo: "bx_tests_random.bxj.redo",
     };
     for seed in 31..34u64 {
         run_long(&rt, rt.alloc(), &files, seed)?;

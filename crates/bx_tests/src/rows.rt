@@ -4,7 +4,7 @@ use crate::play::{play, play_all};
 use bx_cli::{Done, Reply, log_text, plan_words, run_dump};
 use bx_image::{Device, MemImage};
 use bx_journal::{How, LogRow};
-use bx_scripts::places::{Files, Memory, Pages, Place};
+use bx_scripts::places::{Files, Memory, Pages, Place, Trio};
 use bx_scripts::script::Script;
 use bx_scripts::scripts::{self, PATCHED, all};
 use bx_scripts::session::{Ask, log, opened, words};
@@ -40,6 +40,7 @@ fn rows_in_files(rt: HostRuntime) -> Result<(), Fail> {
         rt: &rt,
         image: "bx_tests_rows.img",
         text: "bx_tests_rows.bxj",
+        redo: "bx_tests_rows.bxj.redo",
     };
     play_each(&rt, rt.alloc(), &files)?;
     files.clear()
@@ -87,8 +88,8 @@ fn log_of<D: Device + Drop, T: TextStore + Drop, P: Place<D, T>>(
     place: &P,
     logged: &Logged,
 ) -> Result<(), Fail> {
-    let (device, store) = place.pair(alloc, logged.image.as_bytes(), b"")?;
-    let (mut session, _) = opened(alloc, device, store)?;
+    let trio = place.trio(alloc, logged.image.as_bytes(), b"", b"")?;
+    let (mut session, _) = opened(alloc, trio)?;
     let dump = Ask::Revert(logged.dump);
     let changed = Reply::Changed { number: 1 };
     assert_reply(rt, alloc, &mut session, dump, changed)?;
@@ -129,6 +130,7 @@ fn logs(rt: HostRuntime) -> Result<(), Fail> {
         rt: &rt,
         image: "bx_tests_log.img",
         text: "bx_tests_log.bxj",
+        redo: "bx_tests_log.bxj.redo",
     };
     log_each(&rt, rt.alloc(), &files)?;
     files.clear()
@@ -181,12 +183,12 @@ fn shown(rt: &impl Abort, alloc: Global, bytes: &[u8]) -> Result<Vec<u8>, Fail> 
 #[test]
 fn patched_image_shown(rt: HostRuntime) -> Result<(), Fail> {
     let alloc = rt.alloc();
-    let pair = Memory.pair(alloc, b"ABCDEFGH", b"")?;
+    let trio = Memory.trio(alloc, b"ABCDEFGH", b"", b"")?;
     let changed = Reply::Changed { number: 1 };
-    let (image, _) = asked(
+    let (image, _, _) = asked(
         &rt,
         alloc,
-        pair,
+        trio,
         0,
         Ask::Revert("00000002: 7879\n"),
         changed,
@@ -197,17 +199,16 @@ fn patched_image_shown(rt: HostRuntime) -> Result<(), Fail> {
     Ok(())
 }
 
-/// Opens a pair, which has so many changes and nothing behind them, and asks for one thing. Answers the pair that is left.
+/// Opens a session, which has so many changes and nothing behind them, and asks for one thing. Answers what is left.
 fn asked(
     rt: &impl Abort,
     alloc: Global,
-    pair: (MemImage, MemText),
+    trio: Trio<MemImage, MemText>,
     changes: u32,
     ask: Ask<'_>,
     expected: Reply,
-) -> Result<(MemImage, MemText), Fail> {
-    let (image, text) = pair;
-    let (mut session, found) = opened(alloc, image, text)?;
+) -> Result<Trio<MemImage, MemText>, Fail> {
+    let (mut session, found) = opened(alloc, trio)?;
     assert!(rt; found.how == How::Clean && found.changes == changes);
     assert_reply(rt, alloc, &mut session, ask, expected)?;
     Ok(session.close())
@@ -220,12 +221,12 @@ fn old_journal_under_new_entry(rt: HostRuntime) -> Result<(), Fail> {
         b"change 00000001 00000008\n00000002: 4344                                     CD\nsave 00000001\ndone 00000001\n";
     let alloc = rt.alloc();
     assert!(rt; old.len() == 107 && PATCHED.len() == 134);
-    let pair = Memory.pair(alloc, b"ABxyEFGH", old)?;
+    let trio = Memory.trio(alloc, b"ABxyEFGH", old, b"")?;
     let changed = Reply::Changed { number: 2 };
-    let pair = asked(&rt, alloc, pair, 1, Ask::Revert("0: 5a"), changed)?;
-    assert!(rt; pair.1.as_slice().len() == 240);
+    let trio = asked(&rt, alloc, trio, 1, Ask::Revert("0: 5a"), changed)?;
+    assert!(rt; trio.1.as_slice().len() == 240);
     let undone = Reply::Undone { left: 0 };
-    let (image, text) = asked(&rt, alloc, pair, 2, Ask::Undo(2), undone)?;
+    let (image, text, _) = asked(&rt, alloc, trio, 2, Ask::Undo(2), undone)?;
     assert!(rt; image.as_slice() == b"ABCDEFGH".as_slice());
     assert!(rt; text.as_slice().is_empty());
     Ok(())

@@ -1,10 +1,12 @@
 //! Texts that are cut off or changed: opening answers what the slow judge answers.
 use bx_cli::Fault;
 use bx_image::MemImage;
-use bx_journal::Recovered;
-use bx_scripts::judge::{Verdict, judge};
-use bx_scripts::places::{Memory, Place};
-use bx_scripts::scripts::{EMPTY, OVERLAPPED, PATCHED, THREE};
+use bx_journal::{How, Recovered};
+use bx_scripts::judge::{RedoVerdict, Verdict, judge, judge_redo};
+use bx_scripts::places::{Memory, Place, Trio};
+use bx_scripts::scripts::{
+    EMPTY, FIRST_PATCH, OVERLAPPED, PATCHED, THREE, UNDONE_GAP, UNDONE_PATCH, UNDONE_TWO,
+};
 use bx_scripts::session::{Ask, ask_for, open, opened};
 use bx_store::MemText;
 use std::alloc::{AllocError, Global};
@@ -37,16 +39,33 @@ fn first_form(alloc: Global, text: &str) -> Result<String, AllocError> {
 fn unwinds(
     rt: &impl Abort,
     alloc: Global,
-    pair: (MemImage, MemText),
+    trio: Trio<MemImage, MemText>,
     changes: u32,
     first: &[u8],
 ) -> Result<bool, Fail> {
-    let (device, store) = pair;
-    let (mut session, _) = opened(alloc, device, store)?;
+    let (mut session, _) = opened(alloc, trio)?;
     let _ = ask_for(alloc, &mut session, Ask::Undo(changes))?;
-    let (device, store) = session.close();
+    let (device, store, _) = session.close();
     assert!(rt; device.as_slice() == first);
     Ok(store.as_slice().is_empty())
+}
+
+/// An image, its journal and its redo text.
+type Bytes<'a> = (&'a [u8], &'a [u8], &'a [u8]);
+
+/// Whether the redo text was to be found so, and is left so: as it was where the journal was finished entries alone, else empty.
+fn agrees_on_redo(
+    alloc: Global,
+    found: Recovered,
+    left: &[u8],
+    bytes: Bytes<'_>,
+) -> Result<bool, AllocError> {
+    if found.how != How::Clean {
+        return Ok(found.undone == 0 && left.is_empty());
+    }
+    let count = found.undone;
+    let verdict = judge_redo(alloc, bytes.0, bytes.2, found.changes)?;
+    Ok(verdict == RedoVerdict::Undone { count } && left == bytes.2)
 }
 
 /// What is left agrees with what the judge said, and what undoing all leaves.
@@ -54,8 +73,8 @@ fn agrees(
     rt: &impl Abort,
     alloc: Global,
     found: Recovered,
-    pair: (MemImage, MemText),
-    text: &[u8],
+    trio: Trio<MemImage, MemText>,
+    bytes: Bytes<'_>,
     verdict: &Verdict,
 ) -> Result<bool, Fail> {
     let Verdict::Opened {
@@ -69,28 +88,70 @@ fn agrees(
         return Ok(false);
     };
     assert!(rt; found.how == *how && found.changes == *changes);
-    assert!(rt; pair.0.as_slice() == image.as_slice());
-    let left = pair.1.as_slice();
-    assert!(rt; left.len() == *kept && text.starts_with(left));
+    assert!(rt; trio.0.as_slice() == image.as_slice());
+    let left = trio.1.as_slice();
+    assert!(rt; left.len() == *kept && bytes.1.starts_with(left));
+    assert!(rt; agrees_on_redo(alloc, found, trio.2.as_slice(), bytes)?);
     match first {
-        Some(first) => unwinds(rt, alloc, pair, *changes, first.as_slice()),
+        Some(first) => unwinds(rt, alloc, trio, *changes, first.as_slice()),
         None => Ok(true),
     }
 }
 
-/// Whether opening is to be refused so.
-fn is_refused(verdict: &Verdict, fault: Fault) -> bool {
-    match verdict {
-        Verdict::Damaged { line } => fault == Fault::Damaged { line: *line },
-        Verdict::LengthDiffers { expected } => {
-            let expected = *expected;
-            fault == Fault::LengthDiffers { expected }
-        }
-        Verdict::Opened { .. } => false,
+/// Whether opening is to be refused so, for the redo text beside so many changes.
+fn is_refused_for_redo(
+    alloc: Global,
+    bytes: Bytes<'_>,
+    changes: u32,
+    fault: Fault,
+) -> Result<bool, AllocError> {
+    match judge_redo(alloc, bytes.0, bytes.2, changes)? {
+        RedoVerdict::Damaged { line } => Ok(fault == Fault::RedoDamaged { line }),
+        RedoVerdict::Undone { .. } => Ok(false),
     }
 }
 
-/// Opening answers what the judge answers; where it refuses, nothing changes.
+/// Whether opening is to be refused so.
+fn is_refused(
+    alloc: Global,
+    bytes: Bytes<'_>,
+    verdict: &Verdict,
+    fault: Fault,
+) -> Result<bool, AllocError> {
+    match verdict {
+        Verdict::Damaged { line } => Ok(fault == Fault::Damaged { line: *line }),
+        Verdict::LengthDiffers { expected } => {
+            let expected = *expected;
+            Ok(fault == Fault::LengthDiffers { expected })
+        }
+        Verdict::Opened { how, changes, .. } => {
+            Ok(*how == How::Clean && is_refused_for_redo(alloc, bytes, *changes, fault)?)
+        }
+    }
+}
+
+/// Opening answers what the judges answer; where it refuses, nothing changes.
+fn assert_all_judged(
+    rt: &impl Abort,
+    alloc: Global,
+    bytes: Bytes<'_>,
+    what: usize,
+) -> Result<(), Fail> {
+    let verdict = judge(alloc, bytes.0, bytes.1)?;
+    let right = match open(alloc, Memory.trio(alloc, bytes.0, bytes.1, bytes.2)?) {
+        Ok((session, found)) => agrees(rt, alloc, found, session.close(), bytes, &verdict)?,
+        Err((device, store, redo_text, fault)) => {
+            assert!(rt; device.as_slice() == bytes.0);
+            assert!(rt; store.as_slice() == bytes.1);
+            assert!(rt; redo_text.as_slice() == bytes.2);
+            is_refused(alloc, bytes, &verdict, fault)?
+        }
+    };
+    assert!(rt; right, "at {what}");
+    Ok(())
+}
+
+/// The same with nothing undone.
 fn assert_judged(
     rt: &impl Abort,
     alloc: Global,
@@ -98,18 +159,7 @@ fn assert_judged(
     text: &[u8],
     what: usize,
 ) -> Result<(), Fail> {
-    let verdict = judge(alloc, image, text)?;
-    let (device, store) = Memory.pair(alloc, image, text)?;
-    let right = match open(alloc, device, store) {
-        Ok((session, found)) => agrees(rt, alloc, found, session.close(), text, &verdict)?,
-        Err((device, store, fault)) => {
-            assert!(rt; device.as_slice() == image);
-            assert!(rt; store.as_slice() == text);
-            is_refused(&verdict, fault)
-        }
-    };
-    assert!(rt; right, "at {what}");
-    Ok(())
+    assert_all_judged(rt, alloc, (image, text, b""), what)
 }
 
 /// Each front of the text, over each of the images.
@@ -190,4 +240,108 @@ fn each_byte_of_the_first_form(rt: HostRuntime) -> Result<(), Fail> {
     let first = first_form(rt.alloc(), PATCHED)?;
     assert_eq!(rt; first.len(), 107);
     assert_changes(&rt, rt.alloc(), b"ABxyEFGH", first.as_bytes())
+}
+
+/// Each front of a redo text, over each of the images, beside a journal.
+fn assert_redo_fronts(
+    rt: &impl Abort,
+    alloc: Global,
+    images: &[&[u8]],
+    journal: &str,
+    redo: &[u8],
+) -> Result<(), Fail> {
+    for n in 0..redo.len() + 1 {
+        let (front, _) = redo.split_at(n);
+        for image in images {
+            assert_all_judged(rt, alloc, (image, journal.as_bytes(), front), n)?;
+        }
+    }
+    Ok(())
+}
+
+/// The same for the redo text in the first form too.
+fn assert_redo_forms(
+    rt: &impl Abort,
+    alloc: Global,
+    images: &[&[u8]],
+    journal: &str,
+    redo: &str,
+) -> Result<(), Fail> {
+    assert_redo_fronts(rt, alloc, images, journal, redo.as_bytes())?;
+    let first = first_form(alloc, redo)?;
+    assert_redo_fronts(rt, alloc, images, journal, first.as_bytes())
+}
+
+#[test]
+fn fronts_of_a_redo_text(rt: HostRuntime) -> Result<(), Fail> {
+    let images: [&[u8]; 2] = [b"ABCDEFGH", b"ABCDEFG"];
+    assert_redo_forms(&rt, rt.alloc(), &images, "", UNDONE_PATCH)?;
+    assert_redo_forms(&rt, rt.alloc(), &images, PATCHED, UNDONE_PATCH)?;
+    let images: [&[u8]; 3] = [b"AB", b"AB\0\0\0Z", b"ABC"];
+    assert_redo_forms(&rt, rt.alloc(), &images, "", UNDONE_GAP)
+}
+
+#[test]
+fn fronts_of_two_in_a_redo_text(rt: HostRuntime) -> Result<(), Fail> {
+    let images: [&[u8]; 3] = [b"a", b"c", b"ab"];
+    for journal in ["", FIRST_PATCH] {
+        assert_redo_forms(&rt, rt.alloc(), &images, journal, UNDONE_TWO)?;
+    }
+    Ok(())
+}
+
+/// Beside a journal that is not finished, each front of a redo text is emptied.
+#[test]
+fn fronts_beside_an_unfinished_journal(rt: HostRuntime) -> Result<(), Fail> {
+    let images: [&[u8]; 2] = [b"ABCDEFGH", b"ABxDEFGH"];
+    for count in [20, 102] {
+        let (journal, _) = PATCHED.split_at(count);
+        assert_redo_forms(&rt, rt.alloc(), &images, journal, UNDONE_PATCH)?;
+    }
+    Ok(())
+}
+
+/// The redo text with one byte made another.
+fn with_byte(alloc: Global, redo: &[u8], i: usize, byte: u8) -> Result<Vec<u8>, AllocError> {
+    let mut changed = redo.to_vec(alloc)?;
+    if let Some(place) = changed.get_mut(i) {
+        *place = byte;
+    }
+    Ok(changed)
+}
+
+/// The redo text with a byte made each other byte.
+fn assert_redo_byte(
+    rt: &impl Abort,
+    alloc: Global,
+    image: &[u8],
+    redo: &[u8],
+    i: usize,
+) -> Result<(), Fail> {
+    for byte in 0..=255u8 {
+        let changed = with_byte(alloc, redo, i, byte)?;
+        assert_all_judged(rt, alloc, (image, b"", changed.as_slice()), i)?;
+    }
+    Ok(())
+}
+
+#[test]
+fn each_byte_of_a_redo_text(rt: HostRuntime) -> Result<(), Fail> {
+    let redo = UNDONE_GAP.as_bytes();
+    for i in 0..redo.len() {
+        assert_redo_byte(&rt, rt.alloc(), b"AB", redo, i)?;
+    }
+    Ok(())
+}
+
+/// Each byte made its neighbour, in a redo text of two entries beside a journal.
+#[test]
+fn bytes_of_two_in_a_redo_text(rt: HostRuntime) -> Result<(), Fail> {
+    let alloc = rt.alloc();
+    for (i, byte) in UNDONE_TWO.as_bytes().iter().enumerate() {
+        let changed = with_byte(alloc, UNDONE_TWO.as_bytes(), i, byte.wrapping_add(1))?;
+        let bytes: Bytes<'_> = (b"a", FIRST_PATCH.as_bytes(), changed.as_slice());
+        assert_all_judged(&rt, alloc, bytes, i)?;
+    }
+    Ok(())
 }

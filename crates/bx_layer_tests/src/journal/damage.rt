@@ -33,7 +33,11 @@ fn assert_recovers<R>(
 where
     R: Files<File = File> + AllocGlobal + Abort,
 {
-    let found = Ok(Recovered { how, changes: 0 });
+    let found = Ok(Recovered {
+        how,
+        changes: 0,
+        undone: 0,
+    });
     let name = "assert_recovers";
     assert_run(rt, name, (bytes, journal), found, &[], (image, b""))
 }

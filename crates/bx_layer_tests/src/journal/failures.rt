@@ -1,6 +1,9 @@
 //! Devices that fail on purpose.
-use crate::journal::script::{Pair, Step, assert_pair, clean, on_memory, pair_of, sit, writes};
-use crate::journal::tools::{PATCHED, image, text};
+use crate::journal::script::{
+    Held, Step, assert_held, assert_pair, clean, clean_with, held_of, on_memory, pair_of, sit,
+    writes,
+};
+use crate::journal::tools::{PATCHED, UNDONE, image, text};
 use bx_image::{FuseImage, MemImage, Part};
 use bx_journal::{How, Recovered, SessionFault};
 use bx_store::{FuseText, MemText};
@@ -12,18 +15,53 @@ const INTERRUPTED: Result<u32, SessionFault> = Err(SessionFault::Interrupted);
 
 const FAILED: Result<u32, SessionFault> = Err(SessionFault::DeviceFailed);
 
-/// The pair that a session leaves whose image fails.
+/// What a session leaves whose image fails.
 fn with_image(
     alloc: Global,
     rt: &impl Abort,
     image: FuseImage<MemImage>,
+    journal: &[u8],
+    redo: &[u8],
+    found: Result<Recovered, SessionFault>,
     steps: &[Step<'_>],
-) -> Result<Pair, Fail> {
-    let (image, text) = sit(alloc, rt, image, MemText::new(alloc), clean(0), steps)?;
-    Ok(pair_of(alloc, image.into_inner().as_slice(), text.as_slice())?)
+) -> Result<Held, Fail> {
+    let trio = (image, text(alloc, journal)?, text(alloc, redo)?);
+    let (image, text, redo_text) = sit(alloc, rt, trio, found, steps)?;
+    let image = image.into_inner();
+    Ok(held_of(
+        alloc,
+        image.as_slice(),
+        text.as_slice(),
+        redo_text.as_slice(),
+    )?)
 }
 
-/// The pair that a session leaves whose text fails.
+/// What a session leaves whose journal or redo text may fail.
+fn with_texts(
+    alloc: Global,
+    rt: &impl Abort,
+    bytes: &[u8],
+    texts: (FuseText<MemText>, FuseText<MemText>),
+    found: Result<Recovered, SessionFault>,
+    steps: &[Step<'_>],
+) -> Result<Held, Fail> {
+    let trio = (image(alloc, bytes)?, texts.0, texts.1);
+    let (image, text, redo_text) = sit(alloc, rt, trio, found, steps)?;
+    let (text, redo_text) = (text.into_inner(), redo_text.into_inner());
+    Ok(held_of(
+        alloc,
+        image.as_slice(),
+        text.as_slice(),
+        redo_text.as_slice(),
+    )?)
+}
+
+/// A text that never fails.
+fn sure(alloc: Global, bytes: &[u8]) -> Result<FuseText<MemText>, AllocError> {
+    Ok(FuseText::new(text(alloc, bytes)?, u64::MAX, Part::Nothing, false))
+}
+
+/// What a session leaves whose journal fails, with nothing undone.
 fn with_text(
     alloc: Global,
     rt: &impl Abort,
@@ -31,27 +69,32 @@ fn with_text(
     text: FuseText<MemText>,
     found: Result<Recovered, SessionFault>,
     steps: &[Step<'_>],
-) -> Result<Pair, Fail> {
-    let (image, text) = sit(alloc, rt, image(alloc, bytes)?, text, found, steps)?;
-    Ok(pair_of(alloc, image.as_slice(), text.into_inner().as_slice())?)
+) -> Result<Held, Fail> {
+    let texts = (text, sure(alloc, b"")?);
+    with_texts(alloc, rt, bytes, texts, found, steps)
 }
 
-/// What opening leaves of a pair, which it finds so.
+/// What opening leaves, which finds it so.
 fn reopened(
     alloc: Global,
     rt: &impl Abort,
-    left: &Pair,
+    left: &Held,
     how: How,
     changes: u32,
-) -> Result<Pair, Fail> {
-    on_memory(alloc, rt, left, Ok(Recovered { how, changes }), &[])
+) -> Result<Held, Fail> {
+    let found = Recovered {
+        how,
+        changes,
+        undone: 0,
+    };
+    on_memory(alloc, rt, left, Ok(found), &[])
 }
 
-/// Opening finds the pair so, and leaves these bytes.
+/// Opening finds it so, with nothing undone, and leaves these bytes.
 fn assert_found(
     alloc: Global,
     rt: &impl Abort,
-    left: &Pair,
+    left: &Held,
     found: (How, u32),
     end: (&[u8], &[u8]),
 ) -> Result<(), Fail> {
@@ -73,14 +116,14 @@ fn failed_apply(rt: HostRuntime) -> Result<(), Fail> {
         count: 0,
         answer: Err(SessionFault::Broken),
     };
-    let left = with_image(alloc, &rt, fused, &[write, undo])?;
+    let left = with_image(alloc, &rt, fused, b"", b"", clean(0), &[write, undo])?;
     assert!(rt; left.image.as_slice() == b"ABxDEFGH".as_slice());
     let restored = (How::Restored { number: 1 }, 0);
     assert_found(alloc, &rt, &left, restored, (b"ABCDEFGH", b""))
 }
 
 // An undo whose first cut of the text fails.
-fn cut_fails(alloc: Global, rt: &impl Abort, part: Part) -> Result<Pair, Fail> {
+fn cut_fails(alloc: Global, rt: &impl Abort, part: Part) -> Result<Held, Fail> {
     let fused = FuseText::new(text(alloc, PATCHED)?, 0, part, false);
     let undo = Step::Undo {
         count: 1,
@@ -102,7 +145,7 @@ fn failed_cut(rt: HostRuntime) -> Result<(), Fail> {
 }
 
 // Three patches, and then an undo of two that stops at a cut of the text.
-fn stopped(alloc: Global, rt: &impl Abort, pass: u64) -> Result<Pair, Fail> {
+fn stopped(alloc: Global, rt: &impl Abort, pass: u64) -> Result<Held, Fail> {
     let patches = [writes(0, b"a", 1), writes(0, b"b", 2), writes(0, b"c", 3)];
     let start = pair_of(alloc, b"A", b"")?;
     let three = on_memory(alloc, rt, &start, clean(0), &patches)?;
@@ -142,7 +185,7 @@ fn filled(alloc: Global, byte: u8, len: usize) -> Result<Vec<u8>, AllocError> {
 }
 
 // A change of which the text gets one page.
-fn one_page(alloc: Global, rt: &impl Abort, before: &Pair, bytes: &[u8]) -> Result<Pair, Fail> {
+fn one_page(alloc: Global, rt: &impl Abort, before: &Held, bytes: &[u8]) -> Result<Held, Fail> {
     let text = text(alloc, before.journal.as_slice())?;
     let fused = FuseText::new(text, 1, Part::Nothing, false);
     let write = Step::Write {
@@ -169,7 +212,7 @@ fn assert_between(rt: &impl Abort, before: &[u8], left: &[u8], whole: &[u8]) {
 }
 
 // An image of zeros after its first change.
-fn changed_once(alloc: Global, rt: &impl Abort) -> Result<Pair, Fail> {
+fn changed_once(alloc: Global, rt: &impl Abort) -> Result<Held, Fail> {
     let zeros = filled(alloc, 0, 131_072)?;
     let start = pair_of(alloc, zeros.as_slice(), b"")?;
     on_memory(alloc, rt, &start, clean(0), &[writes(1, b"a", 1)])
@@ -198,7 +241,10 @@ fn stopped_between_pages(rt: HostRuntime) -> Result<(), Fail> {
 #[test]
 fn reads_fail_first(rt: HostRuntime) -> Result<(), Fail> {
     image_read_fails(rt.alloc(), &rt)?;
-    text_read_fails(rt.alloc(), &rt)
+    text_read_fails(rt.alloc(), &rt)?;
+    redo_read_fails(rt.alloc(), &rt)?;
+    length_read_fails(rt.alloc(), &rt, 0)?;
+    length_read_fails(rt.alloc(), &rt, 1)
 }
 
 fn image_read_fails(alloc: Global, rt: &impl Abort) -> Result<(), Fail> {
@@ -208,7 +254,8 @@ fn image_read_fails(alloc: Global, rt: &impl Abort) -> Result<(), Fail> {
         bytes: b"xy",
         answer: FAILED,
     };
-    let left = with_image(alloc, rt, fused, &[write, Step::List { rows: 0 }])?;
+    let steps = [write, Step::List { rows: 0 }];
+    let left = with_image(alloc, rt, fused, b"", b"", clean(0), &steps)?;
     assert_pair(rt, &left, b"ABCDEFGH", b"");
     Ok(())
 }
@@ -218,5 +265,64 @@ fn text_read_fails(alloc: Global, rt: &impl Abort) -> Result<(), Fail> {
     let refused = Err(SessionFault::DeviceFailed);
     let left = with_text(alloc, rt, b"ABxyEFGH", fused, refused, &[])?;
     assert_pair(rt, &left, b"ABxyEFGH", PATCHED);
+    Ok(())
+}
+
+// The redo text is read where the journal is finished entries alone, also where its length is another.
+fn redo_read_fails(alloc: Global, rt: &impl Abort) -> Result<(), Fail> {
+    let refused = Err(SessionFault::DeviceFailed);
+    for bytes in [b"ABxyEFGH".as_slice(), b"ABxyEFG".as_slice()] {
+        let fused = FuseText::on_reads(text(alloc, UNDONE)?, 0);
+        let texts = (sure(alloc, PATCHED)?, fused);
+        let left = with_texts(alloc, rt, bytes, texts, refused, &[])?;
+        assert_held(rt, &left, bytes, PATCHED, UNDONE);
+    }
+    Ok(())
+}
+
+// The image's length is asked for the journal, and once more for the redo text.
+fn length_read_fails(alloc: Global, rt: &impl Abort, pass: u64) -> Result<(), Fail> {
+    let fused = FuseImage::on_reads(image(alloc, b"ABxyEFGH")?, pass);
+    let refused = Err(SessionFault::DeviceFailed);
+    let left = with_image(alloc, rt, fused, PATCHED, UNDONE, refused, &[])?;
+    assert_held(rt, &left, b"ABxyEFGH", PATCHED, UNDONE);
+    Ok(())
+}
+
+// A change that stops where it empties the redo text: opening takes it back, and nothing is undone any more.
+fn emptying_fails(alloc: Global, rt: &impl Abort, part: Part) -> Result<(), Fail> {
+    let fused = FuseText::new(text(alloc, UNDONE)?, 0, part, false);
+    let write = Step::Write {
+        at: 2,
+        bytes: b"xy",
+        answer: INTERRUPTED,
+    };
+    let texts = (sure(alloc, b"")?, fused);
+    let left = with_texts(alloc, rt, b"ABCDEFGH", texts, clean_with(0, 1), &[write])?;
+    assert!(rt; left.image.as_slice() == b"ABCDEFGH".as_slice());
+    assert!(rt; left.journal.len() == 102);
+    let restored = (How::Restored { number: 1 }, 0);
+    assert_found(alloc, rt, &left, restored, (b"ABCDEFGH", b""))
+}
+
+// An opening that stops where it empties the redo text: it has changed neither image nor journal.
+fn recovery_stops(alloc: Global, rt: &impl Abort, part: Part) -> Result<(), Fail> {
+    let (stopped, _) = PATCHED.split_at(102);
+    let fused = FuseText::new(text(alloc, UNDONE)?, 0, part, false);
+    let texts = (sure(alloc, stopped)?, fused);
+    let refused = Err(SessionFault::Interrupted);
+    let left = with_texts(alloc, rt, b"ABxyEFGH", texts, refused, &[])?;
+    assert!(rt; left.image.as_slice() == b"ABxyEFGH".as_slice());
+    assert!(rt; left.journal.as_slice() == stopped);
+    let restored = (How::Restored { number: 1 }, 0);
+    assert_found(alloc, rt, &left, restored, (b"ABCDEFGH", b""))
+}
+
+#[test]
+fn failed_emptying(rt: HostRuntime) -> Result<(), Fail> {
+    for part in [Part::Nothing, Part::Half, Part::All] {
+        emptying_fails(rt.alloc(), &rt, part)?;
+        recovery_stops(rt.alloc(), &rt, part)?;
+    }
     Ok(())
 }

@@ -1,6 +1,6 @@
 //! Each growth of a session's calls refused in turn.
-use crate::journal::script::{Pair, clean, on_memory, pair_of, writes};
-use crate::journal::tools::{PATCHED, open, pair};
+use crate::journal::script::{Held, clean, on_memory, pair_of, writes};
+use crate::journal::tools::{PATCHED, UNDONE, open, trio};
 use crate::shared::assert_bytes;
 use bumpalo::Bump;
 use bx_image::{Change, MemImage};
@@ -44,20 +44,20 @@ fn is_no_memory(fault: SessionFault) -> bool {
 // The image behind the change of `PATCHED`.
 const CHANGED: &[u8] = b"ABxyEFGH";
 
-// A refusal gave both devices back as they were.
-fn assert_handed_back(rt: &impl Abort, device: &MemImage, store: &MemText) {
+// A refusal gave the devices back as they were.
+fn assert_handed_back(rt: &impl Abort, device: &MemImage, store: &MemText, redo_text: &MemText) {
     assert_bytes(rt, device.as_slice(), CHANGED);
     assert_bytes(rt, store.as_slice(), PATCHED);
+    assert_bytes(rt, redo_text.as_slice(), UNDONE);
 }
 
 // Opens with memory for some of it.
 fn opening<'a>(rt: &impl Abort, alloc: Global, bump: &'a Bump) -> Result<Option<Arena<'a>>, Fail> {
-    let (device, store) = pair(alloc, CHANGED, PATCHED)?;
-    match open(bump, device, store) {
+    match open(bump, trio(alloc, CHANGED, PATCHED, UNDONE)?) {
         Ok((session, _)) => Ok(Some(session)),
-        Err((device, store, fault)) => {
+        Err((device, store, redo_text, fault)) => {
             assert!(rt; is_no_memory(fault));
-            assert_handed_back(rt, &device, &store);
+            assert_handed_back(rt, &device, &store, &redo_text);
             Ok(None)
         }
     }
@@ -156,18 +156,20 @@ fn growths_refused_in_turn(rt: HostRuntime) -> Result<(), Fail> {
     Ok(())
 }
 
-// The image before the one change of the test below, and no journal.
+// The image before the one change of the test below, and no texts.
 fn assert_first(rt: &impl Abort, session: Arena<'_>) {
-    let (device, store) = session.close();
+    let (device, store, redo_text) = session.close();
     assert_bytes(rt, device.as_slice(), &[b'A'; 160]);
     assert_bytes(rt, store.as_slice(), b"");
+    assert_bytes(rt, redo_text.as_slice(), b"");
 }
 
 // Opens a pair of one change and undoes that, with so much memory. Tells whether undoing was refused.
-fn undoing_one(rt: &impl Abort, alloc: Global, bytes: usize, changed: &Pair) -> Result<bool, Fail> {
+fn undoing_one(rt: &impl Abort, alloc: Global, bytes: usize, changed: &Held) -> Result<bool, Fail> {
     let bump = ration(alloc, bytes)?;
-    let (device, store) = pair(alloc, changed.image.as_slice(), changed.journal.as_slice())?;
-    let Ok((mut session, _)) = open(&bump, device, store) else {
+    let image = changed.image.as_slice();
+    let Ok((mut session, _)) = open(&bump, trio(alloc, image, changed.journal.as_slice(), b"")?)
+    else {
         return Ok(false);
     };
     let refused = undoing(rt, &bump, &mut session, 1)?;

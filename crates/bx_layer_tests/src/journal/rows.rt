@@ -1,6 +1,8 @@
 //! Changes, undoing and opening, over memory and over files.
 use crate::journal::script::{Step, assert_pair, assert_run, clean, on_both, pair_of, writes};
-use crate::journal::tools::{PATCHED, PATCHED_FIRST, nothing, open, over, text};
+use crate::journal::tools::{
+    PATCHED, PATCHED_FIRST, UNDONE, entries_of_nothing, nothing, open, over, text,
+};
 use crate::shared::assert_bytes;
 use bumpalo::Bump;
 use bx_image::MemImage;
@@ -139,12 +141,14 @@ fn assert_no_memory<'a>(
 ) -> Result<(), Fail> {
     let device = MemImage::from_vec(bytes.to_vec(bump)?);
     let store = text(rt.alloc(), journal)?;
-    let Err((device, store, fault)) = open(rt.alloc(), device, store) else {
+    let redo_text = text(rt.alloc(), UNDONE)?;
+    let Err((device, store, redo_text, fault)) = open(rt.alloc(), (device, store, redo_text)) else {
         return Err(SessionFault::Broken.into());
     };
     assert!(rt; fault == SessionFault::NoMemory);
     assert_bytes(rt, device.as_slice(), bytes);
     assert_bytes(rt, store.as_slice(), journal);
+    assert_bytes(rt, redo_text.as_slice(), UNDONE);
     Ok(())
 }
 
@@ -158,17 +162,14 @@ fn old_form_beyond_memory(rt: HostRuntime) -> Result<(), Fail> {
 #[test]
 fn full_journal(rt: HostRuntime) -> Result<(), Fail> {
     let alloc = rt.alloc();
-    let mut journal = Vec::new(alloc);
-    for n in 1..65_536u32 {
-        let entry = format!(in alloc; "change {n:08x} 00000000\nsave {n:08x}\ndone {n:08x}\n")?;
-        journal.extend_from_slice(entry.as_bytes())?;
-    }
+    let journal = entries_of_nothing(alloc, 65_535)?;
     let (mut session, found) = over(alloc, b"", &journal)?;
     assert_eq!(rt; Ok(found), clean(65_535));
     let refused = session.perform(&nothing(alloc));
     assert_eq!(rt; refused, Err(SessionFault::JournalFull));
-    let (device, store) = session.close();
+    let (device, store, redo_text) = session.close();
     assert!(rt; device.as_slice().is_empty());
     assert!(rt; store.as_slice() == journal.as_slice());
+    assert!(rt; redo_text.as_slice().is_empty());
     Ok(())
 }

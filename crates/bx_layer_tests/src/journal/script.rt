@@ -1,5 +1,5 @@
 //! Sessions that run over memory and over files alike.
-use crate::journal::tools::{image, open, text, write};
+use crate::journal::tools::{Trio, open, trio, write};
 use bx_image::{Device, FileImage};
 use bx_journal::{How, Recovered, Session, SessionFault};
 use bx_store::{FileText, TextStore};
@@ -36,31 +36,54 @@ pub fn writes(at: u64, bytes: &[u8], number: u32) -> Step<'_> {
     }
 }
 
-/// The bytes of an image and of its journal.
+/// The bytes of an image, of its journal and of its redo text.
 #[derive(Drop)]
-pub struct Pair {
+pub struct Held {
     pub image: Vec<u8>,
     pub journal: Vec<u8>,
+    pub redo: Vec<u8>,
 }
 
-pub fn pair_of(alloc: Global, image: &[u8], journal: &[u8]) -> Result<Pair, AllocError> {
-    Ok(Pair {
+pub fn held_of(
+    alloc: Global,
+    image: &[u8],
+    journal: &[u8],
+    redo: &[u8],
+) -> Result<Held, AllocError> {
+    Ok(Held {
         image: image.to_vec(alloc)?,
         journal: journal.to_vec(alloc)?,
+        redo: redo.to_vec(alloc)?,
     })
 }
 
-/// Opening that finds so many finished changes and nothing behind them.
-pub fn clean(changes: u32) -> Result<Recovered, SessionFault> {
+/// Image and journal, with nothing undone.
+pub fn pair_of(alloc: Global, image: &[u8], journal: &[u8]) -> Result<Held, AllocError> {
+    held_of(alloc, image, journal, b"")
+}
+
+/// Opening that finds so many finished changes, so many undone ones, and nothing behind them.
+pub fn clean_with(changes: u32, undone: u32) -> Result<Recovered, SessionFault> {
     Ok(Recovered {
         how: How::Clean,
         changes,
+        undone,
     })
 }
 
-pub fn assert_pair(rt: &impl Abort, pair: &Pair, image: &[u8], journal: &[u8]) {
-    assert!(rt; pair.image.as_slice() == image);
-    assert!(rt; pair.journal.as_slice() == journal);
+/// The same, where none is undone.
+pub fn clean(changes: u32) -> Result<Recovered, SessionFault> {
+    clean_with(changes, 0)
+}
+
+pub fn assert_held(rt: &impl Abort, held: &Held, image: &[u8], journal: &[u8], redo: &[u8]) {
+    assert!(rt; held.image.as_slice() == image);
+    assert!(rt; held.journal.as_slice() == journal);
+    assert!(rt; held.redo.as_slice() == redo);
+}
+
+pub fn assert_pair(rt: &impl Abort, held: &Held, image: &[u8], journal: &[u8]) {
+    assert_held(rt, held, image, journal, b"");
 }
 
 /// Makes a call, and tells whether it answers as it has to.
@@ -84,16 +107,15 @@ fn is_right<D: Device, T: TextStore>(
     }
 }
 
-/// Opens the pair and makes the calls.
+/// Opens a session and makes the calls.
 pub fn sit<D: Device + Drop, T: TextStore + Drop>(
     alloc: Global,
     rt: &impl Abort,
-    device: D,
-    store: T,
+    trio: Trio<D, T>,
     found: Result<Recovered, SessionFault>,
     steps: &[Step<'_>],
-) -> Result<(D, T), Fail> {
-    match open(alloc, device, store) {
+) -> Result<Trio<D, T>, Fail> {
+    match open(alloc, trio) {
         Ok((mut session, recovered)) => {
             assert!(rt; Ok(recovered) == found);
             for (i, step) in steps.iter().enumerate() {
@@ -101,9 +123,9 @@ pub fn sit<D: Device + Drop, T: TextStore + Drop>(
             }
             Ok(session.close())
         }
-        Err((device, store, fault)) => {
+        Err((device, store, redo_text, fault)) => {
             assert!(rt; Err(fault) == found);
-            Ok((device, store))
+            Ok((device, store, redo_text))
         }
     }
 }
@@ -112,66 +134,113 @@ fn file<R: Files<File = File>>(rt: &R, name: &str) -> Result<File, Fail> {
     Ok(File::options().read(true).write(true).open(rt, name)?)
 }
 
-/// The session over two files, which are made new and removed.
+/// The names of the files of a test.
+#[derive(Drop)]
+struct Names {
+    image: String,
+    journal: String,
+    redo: String,
+}
+
+fn files_of(alloc: Global, name: &str) -> Result<Names, AllocError> {
+    Ok(Names {
+        image: format!(in alloc; "{name}.img")?,
+        journal: format!(in alloc; "{name}.bxj")?,
+        redo: format!(in alloc; "{name}.bxj.redo")?,
+    })
+}
+
+/// Makes the files new.
+fn make<R>(rt: &R, names: &Names, start: &Held) -> Result<Trio<FileImage, FileText>, Fail>
+where
+    R: Files<File = File>,
+{
+    fs::write(rt, names.image.as_str(), start.image.as_slice())?;
+    fs::write(rt, names.journal.as_str(), start.journal.as_slice())?;
+    fs::write(rt, names.redo.as_str(), start.redo.as_slice())?;
+    let device = FileImage::new(file(rt, names.image.as_str())?);
+    let store = FileText::new(file(rt, names.journal.as_str())?);
+    let redo_text = FileText::new(file(rt, names.redo.as_str())?);
+    Ok((device, store, redo_text))
+}
+
+/// What the files hold, which are removed.
+fn take<R: Files<File = File> + AllocGlobal>(rt: &R, names: &Names) -> Result<Held, Fail> {
+    let left = Held {
+        image: fs::read(rt, names.image.as_str())?,
+        journal: fs::read(rt, names.journal.as_str())?,
+        redo: fs::read(rt, names.redo.as_str())?,
+    };
+    fs::remove_file(rt, names.image.as_str())?;
+    fs::remove_file(rt, names.journal.as_str())?;
+    fs::remove_file(rt, names.redo.as_str())?;
+    Ok(left)
+}
+
+/// The session over files, which are made new and removed.
 fn on_files<R>(
     rt: &R,
     name: &str,
-    start: &Pair,
+    start: &Held,
     found: Result<Recovered, SessionFault>,
     steps: &[Step<'_>],
-) -> Result<Pair, Fail>
+) -> Result<Held, Fail>
 where
     R: Files<File = File> + AllocGlobal + Abort,
 {
-    let alloc = rt.alloc();
-    let image = format!(in alloc; "{name}.img")?;
-    let journal = format!(in alloc; "{name}.bxj")?;
-    fs::write(rt, image.as_str(), start.image.as_slice())?;
-    fs::write(rt, journal.as_str(), start.journal.as_slice())?;
-    let device = FileImage::new(file(rt, image.as_str())?);
-    let store = FileText::new(file(rt, journal.as_str())?);
-    let (_device, _store) = sit(alloc, rt, device, store, found, steps)?;
-    let left = Pair {
-        image: fs::read(rt, image.as_str())?,
-        journal: fs::read(rt, journal.as_str())?,
-    };
-    fs::remove_file(rt, image.as_str())?;
-    fs::remove_file(rt, journal.as_str())?;
-    Ok(left)
+    let names = files_of(rt.alloc(), name)?;
+    let trio = make(rt, &names, start)?;
+    let _closed = sit(rt.alloc(), rt, trio, found, steps)?;
+    take(rt, &names)
 }
 
 /// The session over memory.
 pub fn on_memory(
     alloc: Global,
     rt: &impl Abort,
-    start: &Pair,
+    start: &Held,
     found: Result<Recovered, SessionFault>,
     steps: &[Step<'_>],
-) -> Result<Pair, Fail> {
-    let device = image(alloc, start.image.as_slice())?;
-    let store = text(alloc, start.journal.as_slice())?;
-    let (device, store) = sit(alloc, rt, device, store, found, steps)?;
-    Ok(pair_of(alloc, device.as_slice(), store.as_slice())?)
+) -> Result<Held, Fail> {
+    let trio = trio(
+        alloc,
+        start.image.as_slice(),
+        start.journal.as_slice(),
+        start.redo.as_slice(),
+    )?;
+    let (device, store, redo_text) = sit(alloc, rt, trio, found, steps)?;
+    Ok(held_of(
+        alloc,
+        device.as_slice(),
+        store.as_slice(),
+        redo_text.as_slice(),
+    )?)
 }
 
-/// The session over both, and the pair that both leave. The files bear the name.
+/// The session over both, and what both leave. The files bear the name.
 pub fn on_both<R>(
     rt: &R,
     name: &str,
-    start: &Pair,
+    start: &Held,
     found: Result<Recovered, SessionFault>,
     steps: &[Step<'_>],
-) -> Result<Pair, Fail>
+) -> Result<Held, Fail>
 where
     R: Files<File = File> + AllocGlobal + Abort,
 {
     let left = on_memory(rt.alloc(), rt, start, found, steps)?;
     let other = on_files(rt, name, start, found, steps)?;
-    assert_pair(rt, &other, left.image.as_slice(), left.journal.as_slice());
+    assert_held(
+        rt,
+        &other,
+        left.image.as_slice(),
+        left.journal.as_slice(),
+        left.redo.as_slice(),
+    );
     Ok(left)
 }
 
-/// The session over both, from these bytes to those.
+/// The session over both, from these bytes to those, with nothing undone.
 pub fn assert_run<R>(
     rt: &R,
     name: &str,

@@ -17,6 +17,10 @@ pub const PATCHED: &[u8] =
 pub const PATCHED_FIRST: &[u8] =
     b"change 00000001 00000008\n00000002: 4344                                     CD\nsave 00000001\ndone 00000001\n";
 
+/// The redo text of the same patch, once it is taken back.
+pub const UNDONE: &[u8] =
+    b"change2 00000001 0000000000000008\n00000002: 7879                                     xy\nsave 00000001\ndone2 00000001 0000000000000008\n";
+
 /// A change of one write.
 pub fn write(alloc: Global, at: u64, bytes: &[u8]) -> Result<Change, AllocError> {
     let bytes = Bytes::from_vec(bytes.to_vec(alloc)?);
@@ -36,6 +40,16 @@ pub fn nothing(alloc: Global) -> Change {
     }
 }
 
+/// A journal in the first form of so many changes of nothing on the empty image.
+pub fn entries_of_nothing(alloc: Global, count: u32) -> Result<Vec<u8>, AllocError> {
+    let mut journal = Vec::new(alloc);
+    for n in 1..=count {
+        let entry = format!(in alloc; "change {n:08x} 00000000\nsave {n:08x}\ndone {n:08x}\n")?;
+        journal.extend_from_slice(entry.as_bytes())?;
+    }
+    Ok(journal)
+}
+
 pub fn image(alloc: Global, bytes: &[u8]) -> Result<MemImage, AllocError> {
     Ok(MemImage::from_vec(bytes.to_vec(alloc)?))
 }
@@ -44,40 +58,47 @@ pub fn text(alloc: Global, bytes: &[u8]) -> Result<MemText, AllocError> {
     Ok(MemText::from_vec(bytes.to_vec(alloc)?))
 }
 
-/// Image and journal of these bytes.
-pub fn pair(
+/// An image, its journal and its redo text.
+pub type Trio<D, T> = (D, T, T);
+
+/// Three of these bytes.
+pub fn trio(
     alloc: Global,
     bytes: &[u8],
     journal: &[u8],
-) -> Result<(MemImage, MemText), AllocError> {
+    redo: &[u8],
+) -> Result<Trio<MemImage, MemText>, AllocError> {
     let device = image(alloc, bytes)?;
-    Ok((device, text(alloc, journal)?))
+    let store = text(alloc, journal)?;
+    Ok((device, store, text(alloc, redo)?))
 }
 
-/// Opens a pair, or hands it back.
+/// Opens a session over three devices, or hands them back.
 pub fn open<D: Device, T: TextStore, A: Allocator + Clone>(
     alloc: A,
-    device: D,
-    store: T,
-) -> Result<(Session<D, T, A>, Recovered), (D, T, SessionFault)> {
+    trio: Trio<D, T>,
+) -> Result<(Session<D, T, A>, Recovered), (D, T, T, SessionFault)> {
+    let (device, store, redo_text) = trio;
     if device.faults() > MANY {
-        return Err((device, store, SessionFault::DeviceFailed));
+        return Err((device, store, redo_text, SessionFault::DeviceFailed));
     }
     if store.faults() > MANY {
-        return Err((device, store, SessionFault::DeviceFailed));
+        return Err((device, store, redo_text, SessionFault::DeviceFailed));
     }
-    Session::open(alloc, device, store)
+    if redo_text.faults() > MANY {
+        return Err((device, store, redo_text, SessionFault::DeviceFailed));
+    }
+    Session::open(alloc, device, store, redo_text)
 }
 
-/// A session over these bytes in memory; a refusal gives the devices up.
+/// A session over these bytes in memory, with nothing undone; a refusal gives the devices up.
 pub fn over(
     alloc: Global,
     bytes: &[u8],
     journal: &[u8],
 ) -> Result<(Session<MemImage, MemText>, Recovered), Fail> {
-    let (device, store) = pair(alloc, bytes, journal)?;
-    match open(alloc, device, store) {
+    match open(alloc, trio(alloc, bytes, journal, b"")?) {
         Ok(found) => Ok(found),
-        Err((_, _, fault)) => Err(fault.into()),
+        Err((_, _, _, fault)) => Err(fault.into()),
     }
 }

@@ -85,7 +85,7 @@ fn fault_texts_of_operands(rt: HostRuntime) {
     assert_shown(&rt, rt.alloc(), &OPERAND);
 }
 
-static SESSION: [(Fault, u8, &str); 10] = [
+static SESSION: [(Fault, u8, &str); 12] = [
     (Fault::TooLarge, 30, "image too large"),
     (Fault::DeviceFailed, 31, "device failed"),
     (Fault::Damaged { line: 5 }, 40, "journal line 5 is damaged"),
@@ -98,6 +98,12 @@ static SESSION: [(Fault, u8, &str); 10] = [
         45,
         "image should have 8 bytes",
     ),
+    (
+        Fault::NothingToRedo { have: 3 },
+        46,
+        "only 3 changes to redo",
+    ),
+    (Fault::RedoDamaged { line: 5 }, 47, "redo line 5 is damaged"),
     (Fault::Usage, 50, "bad arguments"),
     (Fault::OpenFailed, 51, "cannot open file"),
 ];

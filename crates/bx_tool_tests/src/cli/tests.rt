@@ -81,17 +81,21 @@ fn usage_faults(rt: HostRuntime) {
     assert_number(&rt, rt.alloc(), &USAGE, 50);
 }
 
-static USAGE_OF_CHANGES: [&str; 13] = [
+static USAGE_OF_CHANGES: [&str; 17] = [
     "undo",
     "undo -k 65536 i",
     "undo -k 0x1 i",
     "undo -J i -J j i",
+    "undo -J i i.redo",
     "log",
     "log -k 1 i",
     "revert",
+    "log i.bxj.redo -J i.bxj",
     "revert -J i i",
+    "revert -J i i.redo",
     "revert -s 1k i",
     "dd -J i of=i",
+    "dd -J i of=i.redo",
     "dd -k 1",
     "dd -J",
     "dd -J a -J b of=c",
@@ -102,7 +106,7 @@ fn usage_faults_of_changes(rt: HostRuntime) {
     assert_number(&rt, rt.alloc(), &USAGE_OF_CHANGES, 50);
 }
 
-static ACCEPTED: [&str; 17] = [
+static ACCEPTED: [&str; 18] = [
     "xxd",
     "xxd -c8 f",
     "xxd -pu f",
@@ -116,6 +120,7 @@ static ACCEPTED: [&str; 17] = [
     "undo -k 65535 i",
     "undo -k 0 i",
     "log -J j i",
+    "log i.redo",
     "dd",
     "dd -J j",
     "dd if=a -J j of=b bs=1k",
@@ -147,11 +152,15 @@ fn assert_fault(rt: &impl Abort, alloc: Global, rows: &[(&str, Fault)]) {
     }
 }
 
-static OPERANDS: [(&str, Fault); 11] = [
+static OPERANDS: [(&str, Fault); 12] = [
     ("dd foo=1", Fault::UnknownOperand { place: 1 }),
     ("dd foo", Fault::UnknownOperand { place: 1 }),
     ("dd of=", Fault::UnknownOperand { place: 1 }),
     ("dd -J i of=i foo=1", Fault::UnknownOperand { place: 2 }),
+    (
+        "dd -J i of=i.redo foo=1",
+        Fault::UnknownOperand { place: 2 },
+    ),
     ("dd ibs=1q", Fault::BadNumber { place: 1 }),
     ("dd ibs=1kB", Fault::BadNumber { place: 1 }),
     ("dd ibs=16777217", Fault::NumberTooLarge { place: 1 }),
@@ -161,7 +170,7 @@ static OPERANDS: [(&str, Fault); 11] = [
     ("dd bs=1 bs=2", Fault::Repeated { place: 2 }),
 ];
 
-// The operands come before the journal's name, and each fault has its place.
+// The operands come before the names of the texts, and each fault has its place.
 #[test]
 fn operand_faults(rt: HostRuntime) {
     assert_fault(&rt, rt.alloc(), &OPERANDS);

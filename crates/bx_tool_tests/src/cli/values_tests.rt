@@ -1,9 +1,21 @@
 //! What words give in jobs that open an image, and in numbers and names of dumps.
 use crate::cli::jobs::{is_named, plan};
-use bx_cli::{Job, XxdLook};
+use bx_cli::{Job, Texts, XxdLook};
 use bx_dump::Kind;
 use std::alloc::Global;
 use std::process::Abort;
+
+// The journal of this name, and the redo file beside it.
+fn are_texts(texts: &Texts, name: &str) -> bool {
+    texts.journal.as_str() == name && texts.redo.as_str().strip_prefix(name) == Some(".redo")
+}
+
+fn has_texts(texts: &Option<Texts>, name: &str) -> bool {
+    match texts {
+        Some(texts) => are_texts(texts, name),
+        None => false,
+    }
+}
 
 fn is_revert(job: &Job) -> bool {
     match job {
@@ -12,7 +24,7 @@ fn is_revert(job: &Job) -> bool {
                 && revert.at == 16
                 && is_named(&revert.dump, "d")
                 && revert.image.as_str() == "i"
-                && revert.journal.as_str() == "i.bxj"
+                && are_texts(&revert.texts, "i.bxj")
         }
         _ => false,
     }
@@ -25,7 +37,7 @@ fn is_plain_revert(job: &Job) -> bool {
                 && revert.at == 0
                 && revert.dump.is_none()
                 && revert.image.as_str() == "i"
-                && revert.journal.as_str() == "j"
+                && are_texts(&revert.texts, "j")
         }
         _ => false,
     }
@@ -37,15 +49,15 @@ fn is_undo(job: &Job, wanted: u32, name: &str) -> bool {
         Job::Undo {
             count,
             image,
-            journal,
-        } => *count == wanted && image.as_str() == "i" && journal.as_str() == name,
+            texts,
+        } => *count == wanted && image.as_str() == "i" && are_texts(texts, name),
         _ => false,
     }
 }
 
 fn is_log(job: &Job, name: &str) -> bool {
     match job {
-        Job::Log { image, journal } => image.as_str() == "i" && journal.as_str() == name,
+        Job::Log { image, texts } => image.as_str() == "i" && are_texts(texts, name),
         _ => false,
     }
 }
@@ -53,7 +65,7 @@ fn is_log(job: &Job, name: &str) -> bool {
 // dd to a stream.
 fn is_stream(job: &Job) -> bool {
     match job {
-        Job::Dd(dd) => dd.plan.ibs == 6144 && dd.journal.is_none() && job.is_dump(),
+        Job::Dd(dd) => dd.plan.ibs == 6144 && dd.texts.is_none() && job.is_dump(),
         _ => false,
     }
 }
@@ -61,7 +73,7 @@ fn is_stream(job: &Job) -> bool {
 // dd onto an image.
 fn is_onto(job: &Job) -> bool {
     match job {
-        Job::Dd(dd) => is_named(&dd.journal, "b.bxj") && !job.is_dump(),
+        Job::Dd(dd) => has_texts(&dd.texts, "b.bxj") && !job.is_dump(),
         _ => false,
     }
 }
@@ -72,7 +84,7 @@ fn is_copy(job: &Job) -> bool {
         Job::Dd(dd) => {
             is_named(&dd.plan.input, "a")
                 && is_named(&dd.plan.output, "b")
-                && is_named(&dd.journal, "j")
+                && has_texts(&dd.texts, "j")
                 && dd.operands.len() == 2
                 && dd.operands.get(0) == Some("if=a")
                 && dd.operands.get(1) == Some("of=b")
