@@ -4,6 +4,7 @@ ghost use Rattle.bx_dump.specs.Hexdump.{canon_columns, canon_place, canon_line, 
 ghost use Rattle.bx_dump.specs.Pages.{WritesPart, WritesFrontOf, part_of};
 
 use crate::folded::{FoldedPages, Form};
+use crate::hex_lanes::put_canon_sixteen;
 use crate::pages::dump_part;
 use bx_text::{
     IoFault, ShortText, blank, emit_after, hex_digit, hex_field, push_text, put_address, put_text,
@@ -38,7 +39,7 @@ fn put_full_canon(line: &mut [u8], at: u32, bytes: &[u8; 16])
     let (text, end) = rest.split_at_mut(16);
     put_address(address, at);
     gap.copy_from_slice(b"  ");
-    put_canon(columns, bytes);
+    put_canon_sixteen(columns, bytes);
     bar.copy_from_slice(b"|");
     put_text(text, bytes);
     end.copy_from_slice(b"|\n");

@@ -10,6 +10,7 @@ mod od_bytes;
 mod od_decimal;
 mod od_digits;
 mod od_dump;
+mod od_hexadecimal;
 mod od_lines;
 mod od_octal;
 mod od_options;
