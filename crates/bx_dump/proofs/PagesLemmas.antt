@@ -272,7 +272,7 @@ module _ (text other : List ℕ → List ℕ) (skip : ℕ) (limit : Option ℕ) 
         asked = asked_at_end limit skip (length d.input) r1 d.ends;
         within = omega (arith, ap length e, length-append (text d.input) last, stop.2, d.long);
         appended = rw front (Appends-trans w0 w1 w2 (text d.input) (take stop.0 last) d.appended stop.3);
-        cause = (omega (arith, stop.1), omega (arith, ap length e, length-append (text d.input) last, stop.2, d.long), d.few);
+        cause = (omega (arith, stop.1), omega (arith, ap length e, length-append (text d.input) last, stop.2, d.long), omega (arith, d.few));
       }
   stop_then before NoMemory stop = absurd stop
   stop_then before ReadFailed stop = absurd stop
