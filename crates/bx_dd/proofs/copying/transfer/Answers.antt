@@ -15,8 +15,10 @@ returns-in_err-convert-2-clause-err g c =
     let p = err_from_is_err_and c.from_residual-in_err-convert-2.result c.from_residual-in_err-convert-2.ensures.1 in
     let first = c.in_ok-skip_blocks.ensures.read in
     let room : length first.0 ≤ 2 ^ 40 = omega (arith, first.2, c.in_ok-skip_blocks.ensures.limit, c.new-meter.ensures.limit, c.new-meter.ensures.taken, c.skip_blocks.new.meter.within) in
-    let now = omega (arith, first.2, c.in_ok-skip_blocks.ensures.limit, c.new-meter.ensures.limit, c.new-meter.ensures.taken) in
-    rw (p.1, p.2) (has_stopped _ _ _ _ _ (stopped_more _ _ _ first.0 (2 ^ 40) _ _ _ _ first.1.consumed now room (omega arith) c.in_err-convert-2.ensures.stopped))
+    let less = c.unwrap_or-count.result * length c.as_mut_slice-2.result.now in
+    let left = c.skip_blocks.new.meter.limit - c.skip_blocks.new.meter.taken in
+    let now : left ≡ 2 ^ 40 - length first.0 = omega (arith, first.2, c.in_ok-skip_blocks.ensures.limit, c.new-meter.ensures.limit, c.new-meter.ensures.taken) in
+    rw (p.1, p.2) (has_stopped (length first.0 + less) _ _ _ _ (stopped_more _ _ _ first.0 (2 ^ 40) left less (length first.0 + less) _ first.1.consumed now room (omega arith) c.in_err-convert-2.ensures.stopped))
 
 pub returns-in_err-convert-2-clause-within : goal.returns-in_err-convert-2-clause-within
 returns-in_err-convert-2-clause-within g c =
