@@ -119,7 +119,7 @@ pub fn hexdump_c<R: Read, W: Write>(
 ) -> Result<u64, IoFault>
     requires skip { o.now.skip ≤ 2 ^ 62 }
     ensures ok { IfOk result (λ n. (written : ℕ) × WritesPart (λ input. hexdump_text o.now.all o.now.skip (part_of o.now.skip o.now.limit input)) o.now.skip o.now.limit (R.remaining r.old) (R.remaining r.new) (W.contents w.old) (W.contents w.new) n written) }
-    ensures err { IfErr result (WritesFrontOf (λ input. hexdump_text o.now.all o.now.skip (part_of o.now.skip o.now.limit input)) 0 0 (R.remaining r.old) (R.remaining r.new) (W.contents w.old) (W.contents w.new)) }
+    ensures err { IfErr result (WritesFrontOf (λ input. hexdump_text o.now.all o.now.skip (part_of o.now.skip o.now.limit input)) o.now.skip o.now.limit 0 0 (R.remaining r.old) (R.remaining r.new) (W.contents w.old) (W.contents w.new)) }
 {
     let mut pages = FoldedPages::new(CanonLines, o.all, o.skip);
     let lines = match dump_part(r, w, &mut pages, o.skip, o.limit, 0) {

@@ -1,4 +1,5 @@
 //! Dumps: worked cases, readers and writers that fail.
+mod flush_tests;
 mod od_tests;
 mod printable_tests;
 mod xxd_tests;
