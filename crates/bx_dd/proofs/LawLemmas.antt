@@ -45,7 +45,9 @@ swapped_at (a ∷ []) (suc i) inside = absurd (omega arith)
 swapped_at (a ∷ b ∷ rest) zero inside =
     let e : nat_lt 1 (suc (suc (length rest))) ≡ true = grind (arith, nat_tests) in
     rw e refl
-swapped_at (a ∷ b ∷ rest) (suc zero) inside = refl
+swapped_at (a ∷ b ∷ rest) (suc zero) inside =
+    let e : nat_lt 0 (suc (suc (length rest))) ≡ true = grind (arith, nat_tests) in
+    rw e refl
 swapped_at (a ∷ b ∷ rest) (suc (suc k)) inside =
     rw (place_on (length rest) k) (swapped_at rest k (omega arith))
 
@@ -75,13 +77,14 @@ at_once before words word fault is = record {
   faulty = rw (append-nil before) is;
 }
 
+found_is : (before words : List (List ℕ)) (word : List ℕ) (found : Option DdFault) → operand_fault before word ≡ found →
+    IsFirstOf (first_fault (before ++ word ∷ []) words) (before ++ word ∷ []) words → IsFirstOf (option_or found (first_fault (before ++ word ∷ []) words)) before (word ∷ words)
+found_is before words word None is later = one_more before words word (first_fault (before ++ word ∷ []) words) is later
+found_is before words word (Some fault) is later = at_once before words word fault is
+
 first_is : (before words : List (List ℕ)) → IsFirstOf (first_fault before words) before words
 first_is before [] = tt
-first_is before (word ∷ words) = step (operand_fault before word) refl
-  where
-    step : (found : Option DdFault) → operand_fault before word ≡ found → IsFirstOf (option_or found (first_fault (before ++ word ∷ []) words)) before (word ∷ words)
-    step None is = one_more before words word (first_fault (before ++ word ∷ []) words) is (first_is (before ++ word ∷ []) words)
-    step (Some fault) is = at_once before words word fault is
+first_is before (word ∷ words) = found_is before words word (operand_fault before word) refl (first_is (before ++ word ∷ []) words)
 
 pub first_fault_is_first : FirstFaultIsFirst
 first_fault_is_first words = first_is [] words
