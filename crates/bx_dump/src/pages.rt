@@ -11,8 +11,8 @@ pub const LIMIT: u64 = 1 << 40;
 /// The most bytes of an input that are put at once.
 pub const BLOCK: usize = 16384;
 
-/// How many bytes of text there is room for.
-pub const PAGE: usize = 98304;
+/// How many bytes of text there is room for: 128 for each line of 16 bytes.
+pub const PAGE: usize = 131072;
 
 /// What turns the bytes of an input into text, a block at a time.
 pub trait Pages {
