@@ -46,6 +46,7 @@ tour: all
 # The options of bx beside those of its help, man page, completions and README.md.
 check-docs: all
 	scripts/check-options.py --bx ./bx
+	scripts/believe.py
 
 # The real tools beside bx, on random inputs and options.
 compare: all

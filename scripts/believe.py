@@ -1,9 +1,9 @@
 #!/usr/bin/env python3
-"""Which definitions the public contracts rest on, how long they are, and whether docs/BELIEVE.md lists them.
+"""Which definitions the public contracts rest on, and whether docs/BELIEVE.md lists them.
 
 A public contract is a clause of an exported function, method, trait or type of the crates below. The names in its clauses
-are followed through specs/: what is met is what a reader has to believe. A definition of specs/ that no public contract
-needs belongs into specs/inner/.
+are followed through specs/: what is met is what a reader has to believe. The page's headings give the order; below each, this
+script writes the definitions of that file with the sentence that stands above them in specs/.
 """
 import argparse
 import pathlib
@@ -16,8 +16,8 @@ HEAD = re.compile(r"^(?:(?:abbrev|unfoldable|pub) )*(record |data )?([A-Za-z_][\
 
 
 class Definition:
-    def __init__(self, crate, file, name, lines):
-        self.crate, self.file, self.name, self.lines = crate, file, name, lines
+    def __init__(self, crate, file, name, lines, sentence):
+        self.crate, self.file, self.name, self.lines, self.sentence = crate, file, name, lines, sentence
 
     @property
     def place(self):
@@ -36,22 +36,24 @@ def imports_of(text):
 
 
 def parts_of(text):
-    """the definitions of a specs file, each with its lines (no comments, no imports, no blank lines)"""
-    parts, name, lines = [], None, []
+    """the definitions of a specs file: name, lines (no comments, no imports, no blank lines), and the comment above"""
+    parts, comment, begun = [], [], False
     for line in text.split("\n"):
-        bare = line.split("--")[0].rstrip() if line.lstrip().startswith("--") else line.rstrip()
-        if not bare or bare.startswith("use ") or bare.startswith("pub use ") or bare.startswith("pub mod "):
+        bare = line.rstrip()
+        if bare.startswith("--"):
+            comment.append(bare[2:].strip())
+            continue
+        if not bare:
+            comment = []
+        if not bare or bare.startswith(("use ", "pub use ", "pub mod ")) or bare.lstrip().startswith("--"):
             continue
         head = HEAD.match(bare)
-        starts = head and not bare[0].isspace() and (":" in bare or head.group(1))
-        declares = starts and (bare.startswith(("abbrev ", "unfoldable ", "pub ", "record ", "data ")) or re.match(r"^[\w'-]+ :", bare))
-        if declares:
-            if name:
-                parts.append((name, lines))
-            name, lines = head.group(2), []
-        lines.append(bare)
-    if name:
-        parts.append((name, lines))
+        declares = bare.startswith(("abbrev ", "unfoldable ", "pub ", "record ", "data ")) or re.match(r"^[\w'-]+ :", bare)
+        if head and not bare[0].isspace() and declares:
+            parts.append((head.group(2), [], " ".join(comment)))
+            comment = []
+        if parts:
+            parts[-1][1].append(bare)
     return parts
 
 
@@ -63,8 +65,8 @@ def read_specs(root):
             file = str(path.relative_to(folder))[: -len(".antt")].replace("/", ".")
             text = path.read_text()
             imports[(crate, file)] = imports_of(text)
-            for name, lines in parts_of(text):
-                definitions[(crate, file, name)] = Definition(crate, file, name, lines)
+            for name, lines, sentence in parts_of(text):
+                definitions[(crate, file, name)] = Definition(crate, file, name, lines, sentence)
     return definitions, imports
 
 
@@ -158,20 +160,34 @@ def closure(definitions, imports, named):
     return seen
 
 
-def listed_in(page):
-    """the definitions that the page lists: a line with `crate/File` and names in backticks behind it"""
-    listed = set()
-    for line in page.read_text().split("\n"):
-        place = re.match(r"- `(\w+)/([\w.]+)`:(.*)", line)
-        if place:
-            for name in re.findall(r"`([\w'-]+)`", place.group(3)):
-                listed.add((place.group(1), place.group(2), name))
-    return listed
+def listed(definitions):
+    """the items of the page for the definitions of one file"""
+    return [f"- `{d.name}`: {d.sentence}" if d.sentence else f"- `{d.name}`" for d in definitions]
+
+
+def filled(page, needed):
+    """the page with the items below its headings as they are to be, and the files that it has no heading for"""
+    by_place = {}
+    for definition in needed.values():
+        by_place.setdefault(definition.place, []).append(definition)
+    lines, skipping = [], False
+    for line in page.split("\n"):
+        head = re.match(r"### `([\w/.]+)`", line)
+        if head:
+            lines += [line, "", *listed(by_place.pop(head.group(1), [])), ""]
+            skipping = True
+        elif not skipping or line and not line.startswith("- "):
+            skipping = False
+            lines.append(line)
+    while lines and not lines[-1]:
+        lines.pop()
+    return "\n".join(lines) + "\n", sorted(by_place)
 
 
 def main():
-    parser = argparse.ArgumentParser(description=__doc__)
+    parser = argparse.ArgumentParser(description=__doc__, formatter_class=argparse.RawDescriptionHelpFormatter)
     parser.add_argument("--root", type=pathlib.Path, default=pathlib.Path(__file__).resolve().parent.parent)
+    parser.add_argument("--write", action="store_true", help="writes the items below the page's headings")
     parser.add_argument("--files", action="store_true", help="the lines of each file")
     parser.add_argument("--unneeded", action="store_true", help="what no public contract needs")
     args = parser.parse_args()
@@ -179,20 +195,30 @@ def main():
     named = set()
     for crate in CRATES:
         named |= public_names(args.root, crate)
-    needed = closure(definitions, imports, named)
-    lines = sum(len(d.lines) for d in needed.values())
-    rest = {key: d for key, d in definitions.items() if key not in needed}
-    print(f"{lines} lines in {len(needed)} definitions are needed by public contracts; {sum(len(d.lines) for d in rest.values())} in {len(rest)} aren't")
+    met = closure(definitions, imports, named)
+    needed = {key: d for key, d in definitions.items() if key in met}
+    rest = {key: d for key, d in definitions.items() if key not in met}
+    size = lambda some: sum(len(d.lines) for d in some)
+    print(f"{size(needed.values())} lines in {len(needed)} definitions are needed by public contracts, {size(rest.values())} in {len(rest)} aren't")
     if args.files:
         places = {}
-        for d in needed.values():
-            places.setdefault(d.place, []).append(d)
+        for definition in needed.values():
+            places.setdefault(definition.place, []).append(definition)
         for place in sorted(places):
-            print(f"{sum(len(d.lines) for d in places[place]):5} {place}: {' '.join(d.name for d in places[place])}")
+            print(f"{size(places[place]):5} {place}: {' '.join(d.name for d in places[place])}")
     if args.unneeded:
-        for key in sorted(rest):
-            print("unneeded:", "/".join(key), len(rest[key].lines))
-    return 0
+        for (crate, file, name), definition in sorted(rest.items()):
+            print(f"unneeded: {crate}/{file} {name} {len(definition.lines)}")
+    page = args.root / "docs" / "BELIEVE.md"
+    text, missing = filled(page.read_text(), needed)
+    bad = [f"no heading for {place}" for place in missing]
+    bad += [f"no sentence above {d.place} {d.name}" for d in needed.values() if not d.sentence]
+    if args.write:
+        page.write_text(text)
+    elif text != page.read_text():
+        bad.append("docs/BELIEVE.md isn't what scripts/believe.py --write makes")
+    print("\n".join(bad) if bad else "docs/BELIEVE.md lists them all")
+    return 1 if bad else 0
 
 
 if __name__ == "__main__":
