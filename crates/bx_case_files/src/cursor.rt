@@ -6,10 +6,11 @@ use crate::values::{number, push_words, text};
 use bx_text::Words;
 use std::alloc::Global;
 
-/// The lines that are left, and the number of the last one that was taken.
+/// All lines, how many were taken, and the number of the last one that was.
 #[derive(Drop)]
 pub struct Cursor<'a> {
-    rest: &'a [Entry<'a>],
+    entries: &'a [Entry<'a>],
+    taken: usize,
     line: u64,
 }
 
@@ -17,7 +18,8 @@ impl<'a> Cursor<'a> {
     /// Before the first line.
     pub fn new(entries: &'a [Entry<'a>]) -> Self {
         Cursor {
-            rest: entries,
+            entries,
+            taken: 0,
             line: 0,
         }
     }
@@ -29,7 +31,7 @@ impl<'a> Cursor<'a> {
 
     /// The number of the next line, or of the last one where none is left.
     pub fn next_line(&self) -> u64 {
-        match self.rest.first() {
+        match self.entries.get(self.taken) {
             Some(entry) => entry.line,
             None => self.line,
         }
@@ -37,12 +39,12 @@ impl<'a> Cursor<'a> {
 
     /// The word of the next line.
     pub fn word(&self) -> Option<&'a [u8]> {
-        Some(self.rest.first()?.word)
+        Some(self.entries.get(self.taken)?.word)
     }
 
     /// How many lines are left.
     pub fn len(&self) -> usize {
-        self.rest.len()
+        self.entries.len().saturating_sub(self.taken)
     }
 
     /// The trouble at the last line that was taken.
@@ -57,13 +59,13 @@ impl<'a> Cursor<'a> {
 
     /// Takes the next line, if it has this word.
     fn take(&mut self, word: &[u8]) -> Option<Entry<'a>> {
-        let (first, rest) = self.rest.split_first()?;
-        if first.word != word {
+        let entry = *self.entries.get(self.taken)?;
+        if entry.word != word {
             return None;
         }
-        self.rest = rest;
-        self.line = first.line;
-        Some(*first)
+        self.taken = self.taken.saturating_add(1);
+        self.line = entry.line;
+        Some(entry)
     }
 
     /// The value of the next line, if it has this word. It isn't empty.
@@ -128,7 +130,7 @@ impl<'a> Cursor<'a> {
         push_parts(alloc, &mut bytes, self.line, value)?;
         let first = self.trouble(Trouble::MissingValue);
         let mut empty = value.is_empty();
-        for _ in 0..self.rest.len() {
+        for _ in 0..self.len() {
             if !self.push_more(alloc, &mut bytes)? {
                 break;
             }
