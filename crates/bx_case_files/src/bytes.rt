@@ -4,7 +4,7 @@ use crate::quoted::{digit, pair, push_quoted};
 use std::alloc::Global;
 
 /// The most times that a part is written.
-const MOST_TIMES: u32 = 1_000_000;
+const MOST_TIMES: u32 = 100_000_000;
 
 /// How many times a part is written, and the part.
 fn times_of(line: u64, rest: &[u8]) -> Result<(u32, &[u8]), CaseFault> {

@@ -1,6 +1,7 @@
 //! The fields of jobs, as a case file names them.
 use crate::outcome::{Wrong, differs, same_text};
 use bx_cli::{DdJob, HexdumpJob, Job, OdJob, RevertJob, StringsJob, XxdJob, XxdLook};
+use bx_dd::{Letters, Plan, Shape};
 use bx_dump::{Address, Kind, NumForm, Size};
 use bx_text::{Name, Words};
 use std::alloc::{AllocError, Global};
@@ -149,10 +150,28 @@ fn joined(alloc: Global, words: &Words) -> Field {
 fn dd_field(alloc: Global, job: &DdJob, name: &str) -> Field {
     match name {
         "ibs" => number(alloc, job.plan.ibs),
+        "obs" => number(alloc, job.plan.obs),
+        "cbs" => number(alloc, job.plan.cbs),
+        "skip" => number(alloc, job.plan.skip),
+        "seek" => number(alloc, job.plan.seek),
+        "count" => limit(alloc, job.plan.count),
         "input" => file(alloc, &job.plan.input),
         "output" => file(alloc, &job.plan.output),
         "journal" => file(alloc, &job.journal),
         "operands" => joined(alloc, &job.operands),
+        _ => conversion(alloc, &job.plan, name),
+    }
+}
+
+fn conversion(alloc: Global, plan: &Plan, name: &str) -> Field {
+    match name {
+        "swab" => flag(alloc, plan.swab),
+        "sync" => flag(alloc, plan.sync),
+        "notrunc" => flag(alloc, plan.notrunc),
+        "lcase" => flag(alloc, plan.letters == Letters::Lower),
+        "ucase" => flag(alloc, plan.letters == Letters::Upper),
+        "block" => flag(alloc, plan.shape == Shape::Block),
+        "unblock" => flag(alloc, plan.shape == Shape::Unblock),
         _ => Ok(None),
     }
 }

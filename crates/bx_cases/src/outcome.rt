@@ -2,6 +2,7 @@
 use bx_cli::Fault;
 use std::alloc::{AllocError, AllocFailed, Global};
 use std::fmt::Write;
+use std::io;
 
 /// The most bytes that are shown of a text.
 const MOST_SHOWN: usize = 200;
@@ -20,6 +21,8 @@ pub struct Difference {
 pub enum Wrong {
     /// A growth was refused.
     NoMemory,
+    /// A file or a device can't be used, or a case asks for what can't be played.
+    Unknown,
     /// Something differs from what the case tells.
     Differs(Difference),
 }
@@ -33,6 +36,12 @@ impl From<AllocError> for Wrong {
 impl<T: Drop> From<AllocFailed<T>> for Wrong {
     fn from(_: AllocFailed<T>) -> Self {
         Wrong::NoMemory
+    }
+}
+
+impl From<io::Error> for Wrong {
+    fn from(_: io::Error) -> Self {
+        Wrong::Unknown
     }
 }
 

@@ -60,11 +60,18 @@ pub struct Input<'a> {
     rest: &'a [u8],
     each: usize,
     pub turn: Turn,
+    /// How many bytes it gave.
+    pub given: usize,
 }
 
 impl<'a> Input<'a> {
     pub const fn new(rest: &'a [u8], each: usize, turn: Turn) -> Self {
-        Input { rest, each, turn }
+        Input {
+            rest,
+            each,
+            turn,
+            given: 0,
+        }
     }
 }
 
@@ -84,6 +91,7 @@ impl Read for Input<'_> {
         let (now, later) = self.rest.split_at(count);
         buf[..count].copy_from_slice(now);
         self.rest = later;
+        self.given = self.given.saturating_add(count);
         Ok(count)
     }
 }

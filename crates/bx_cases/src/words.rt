@@ -11,12 +11,14 @@ use bx_dd::{Counts, report};
 use std::alloc::Global;
 
 /// The ways in which a case of words is played.
-pub static SWEEPS: [&str; 9] = [
+pub static SWEEPS: [&str; 11] = [
     "planned",
     "run whole",
     "bytes one by one",
     "reads interrupted",
     "reads failing",
+    "reads of half",
+    "reads that end",
     "writes interrupted",
     "writes failing",
     "writes of nothing",
@@ -39,9 +41,11 @@ pub fn play_words(alloc: Global, case: &WordsCase, sweep: usize) -> Result<u32, 
         2 => whole(alloc, case, 1),
         3 => each_read(alloc, case, Act::Interrupt),
         4 => each_read(alloc, case, Act::Fail),
-        5 => each_write(alloc, case, Act::Interrupt),
-        6 => each_write(alloc, case, Act::Fail),
-        7 => each_write(alloc, case, Act::Nothing),
+        5 => each_read(alloc, case, Act::Half),
+        6 => each_read(alloc, case, Act::Nothing),
+        7 => each_write(alloc, case, Act::Interrupt),
+        8 => each_write(alloc, case, Act::Fail),
+        9 => each_write(alloc, case, Act::Nothing),
         _ => each_write(alloc, case, Act::Half),
     }
 }
@@ -207,7 +211,8 @@ fn each_call(alloc: Global, case: &WordsCase, act: Act, reads: bool) -> Result<u
         Ok(None) => return Ok(0),
         Err(wrong) => return Err(at(0, wrong)),
     };
-    for call in 0..MOST_CALLS {
+    let mut call = 0u32;
+    for plays in 0..MOST_CALLS {
         match one_call(
             alloc,
             case,
@@ -216,12 +221,17 @@ fn each_call(alloc: Global, case: &WordsCase, act: Act, reads: bool) -> Result<u
             Turn::new(act, call),
             reads,
         ) {
-            Ok(true) => {}
-            Ok(false) => return Ok(call),
+            Ok(true) => call = next_call(call),
+            Ok(false) => return Ok(plays),
             Err(wrong) => return Err(at(call, wrong)),
         }
     }
     Ok(MOST_CALLS)
+}
+
+/// The call that is played behind this one: the next, and behind many a later one.
+fn next_call(call: u32) -> u32 {
+    call.saturating_add(1).saturating_add(call / 16)
 }
 
 /// Something happens at one read or write. Tells whether the call came.
@@ -247,16 +257,33 @@ fn one_call(
     let output = to.taken.as_slice();
     match turn.act {
         Act::Interrupt | Act::Half => right(alloc, case, done, output)?,
+        Act::Nothing if reads => {
+            let (front, _) = input.split_at(from.given.min(input.len()));
+            ended(alloc, job, front, done, output)?;
+        }
+        Act::Fail if reads => stopped(alloc, case, done, Fault::ReadFailed, output)?,
         Act::Fail | Act::Nothing => {
-            let wanted = if reads {
-                Fault::ReadFailed
-            } else {
-                Fault::WriteFailed {
-                    written: output.len() as u64,
-                }
-            };
-            stopped(alloc, case, done, wanted, output)?;
+            let written = output.len() as u64;
+            stopped(alloc, case, done, Fault::WriteFailed { written }, output)?
         }
     }
     Ok(true)
+}
+
+/// What a run came to whose input ended early: what comes of that front of the input.
+fn ended(
+    alloc: Global,
+    job: &Job,
+    front: &[u8],
+    done: Result<Done, Fault>,
+    output: &[u8],
+) -> Result<(), Wrong> {
+    let mut from = Input::new(front, EACH_READ, Turn::never());
+    let mut to = Output::new(alloc, EACH_WRITE, Turn::never());
+    let wanted = run_dump(alloc, job, &mut from, &mut to);
+    same_bytes(alloc, "output of a front", to.taken.as_slice(), output)?;
+    if wanted == done {
+        return Ok(());
+    }
+    Err(differs(alloc, "answer of a front", "that of the front alone", "another"))
 }
