@@ -31,9 +31,7 @@ pub fn same_refusal(alloc: Global, wanted: &Found, fault: Fault) -> Result<(), W
     let text = fault_text(alloc, fault)?;
     match wanted {
         Found::Refused(wanted) if wanted.as_str() == text.as_str() => Ok(()),
-        Found::Refused(wanted) => {
-            Err(differs(alloc, "opening", wanted.as_str(), text.as_str()))
-        }
+        Found::Refused(wanted) => { Err(differs(alloc, "opening", wanted.as_str(), text.as_str())) }
         Found::Opened(opening) => {
             let wanted = opening_text(alloc, *opening)?;
             Err(differs(alloc, "opening", wanted.as_str(), text.as_str()))

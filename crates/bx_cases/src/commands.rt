@@ -187,7 +187,12 @@ fn looked<D: Device + Drop, T: TextStore + Drop, P: Place<D, T>>(
     let Standing { session, held } = again(alloc, place, session)?;
     same_bytes(alloc, "image", row.image.as_slice(), held.image.as_slice())?;
     if let Some(journal) = &row.journal {
-        same_bytes(alloc, "journal", journal.as_slice(), held.journal.as_slice())?;
+        same_bytes(
+            alloc,
+            "journal",
+            journal.as_slice(),
+            held.journal.as_slice(),
+        )?;
     }
     Ok(session)
 }

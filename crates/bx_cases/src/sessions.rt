@@ -59,10 +59,7 @@ pub type MemDevices<A = Global> = Devices<MemImage<A>, MemText<A>>;
 pub type MemSession<A = Global> = Session<MemImage<A>, MemText<A>, A>;
 
 /// Devices in memory of `alloc` that hold this.
-pub fn in_memory<A: Allocator + Clone>(
-    alloc: A,
-    texts: Texts<'_>,
-) -> Result<MemDevices<A>, Wrong> {
+pub fn in_memory<A: Allocator + Clone>(alloc: A, texts: Texts<'_>) -> Result<MemDevices<A>, Wrong> {
     let image = MemImage::from_vec(texts.image.to_vec(alloc.clone()?)?);
     let journal = MemText::from_vec(texts.journal.to_vec(alloc)?);
     Ok(Devices { image, journal })
@@ -237,10 +234,7 @@ fn change_of<A: Allocator + Clone>(
 }
 
 /// The command that a case tells, in memory of `alloc`; none where it is no command.
-fn command_of<A: Allocator + Clone>(
-    alloc: A,
-    ask: &Ask,
-) -> Result<Option<Command<&[u8], A>>, Wrong>
+fn command_of<A: Allocator + Clone>(alloc: A, ask: &Ask) -> Result<Option<Command<&[u8], A>>, Wrong>
     ensures { IfOk result (λ o. IfSome o IsNear) }
 {
     match ask {

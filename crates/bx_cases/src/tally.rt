@@ -56,7 +56,9 @@ impl<'a> Tally<'a> {
         let call = failure.call;
         let _ = match &failure.wrong {
             Wrong::NoMemory => println!(rt; "{file}:{line}: {name}: {sweep} {call}: out of memory"),
-            Wrong::Unknown => println!(rt; "{file}:{line}: {name}: {sweep} {call}: can't be played"),
+            Wrong::Unknown => println!(rt;
+                "{file}:{line}: {name}: {sweep} {call}: can't be played"
+            ),
             Wrong::Differs(it) => {
                 let what = it.what;
                 let wanted = it.wanted.as_str();

@@ -285,5 +285,10 @@ fn ended(
     if wanted == done {
         return Ok(());
     }
-    Err(differs(alloc, "answer of a front", "that of the front alone", "another"))
+    Err(differs(
+        alloc,
+        "answer of a front",
+        "that of the front alone",
+        "another",
+    ))
 }
