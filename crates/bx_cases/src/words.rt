@@ -28,10 +28,12 @@ pub static SWEEPS: [&str; 11] = [
 /// No play makes so many calls.
 const MOST_CALLS: u32 = 100_000;
 
-/// The most bytes that a reader gives, and that a writer takes, in one call.
+/// The most bytes that a reader gives, and that a writer takes, in one call; of long ones more, so that the calls stay few.
 const EACH_READ: usize = 50;
 
 const EACH_WRITE: usize = 61;
+
+const FEW_CALLS: usize = 400;
 
 /// Plays a case in one way. Tells how often.
 pub fn play_words(alloc: Global, case: &WordsCase, sweep: usize) -> Result<u32, Failure> {
@@ -229,6 +231,11 @@ fn each_call(alloc: Global, case: &WordsCase, act: Act, reads: bool) -> Result<u
     Ok(MOST_CALLS)
 }
 
+/// How many bytes of so many go through in one call.
+fn each_of(len: usize, least: usize) -> usize {
+    least.max(len / FEW_CALLS)
+}
+
 /// The call that is played behind this one: the next, and behind many a later one.
 fn next_call(call: u32) -> u32 {
     call.saturating_add(1).saturating_add(call / 16)
@@ -248,8 +255,8 @@ fn one_call(
     } else {
         (Turn::never(), turn)
     };
-    let mut from = Input::new(input, EACH_READ, reading);
-    let mut to = Output::new(alloc, EACH_WRITE, writing);
+    let mut from = Input::new(input, each_of(input.len(), EACH_READ), reading);
+    let mut to = Output::new(alloc, each_of(case.output.len(), EACH_WRITE), writing);
     let done = run_dump(alloc, job, &mut from, &mut to);
     if !(from.turn.is_over && to.turn.is_over) {
         return Ok(false);
@@ -278,8 +285,8 @@ fn ended(
     done: Result<Done, Fault>,
     output: &[u8],
 ) -> Result<(), Wrong> {
-    let mut from = Input::new(front, EACH_READ, Turn::never());
-    let mut to = Output::new(alloc, EACH_WRITE, Turn::never());
+    let mut from = Input::new(front, usize::MAX, Turn::never());
+    let mut to = Output::new(alloc, usize::MAX, Turn::never());
     let wanted = run_dump(alloc, job, &mut from, &mut to);
     same_bytes(alloc, "output of a front", to.taken.as_slice(), output)?;
     if wanted == done {
