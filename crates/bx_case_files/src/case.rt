@@ -17,8 +17,8 @@ pub struct Records {
 /// What opening a pair finds.
 #[derive(Clone, Copy, Debug, PartialEq, Eq)]
 pub enum Opening {
-    /// So many changes, and nothing behind them.
-    Clean { changes: u32 },
+    /// So many changes, and nothing behind them; so many that were undone can be made again.
+    Clean { changes: u32, undone: u32 },
     /// An unfinished change behind so many, of which the image has nothing.
     Dropped { changes: u32 },
     /// An unfinished change of this number behind so many, which was taken back.

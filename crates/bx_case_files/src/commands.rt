@@ -250,7 +250,10 @@ pub fn commands_case(alloc: Global, cursor: &mut Cursor<'_>) -> Result<CommandsC
     let redo = some_bytes(alloc, cursor, "redo-text")?;
     let opening = match opening_of(cursor)? {
         Some(opening) => opening,
-        None => Opening::Clean { changes: 0 },
+        None => Opening::Clean {
+            changes: 0,
+            undone: 0,
+        },
     };
     let rows = rows(alloc, cursor, image.as_slice())?;
     Ok(CommandsCase {

@@ -100,13 +100,20 @@ pub fn records(value: &[u8]) -> Option<Records> {
     })
 }
 
-/// What an opening finds, as `clean 2`, `dropped 2` or `restored 3 2`.
+/// What a clean opening finds: changes, and where there is a second number undone ones.
+fn clean(value: &[u8]) -> Option<Opening> {
+    let (changes, undone) = split_space(value);
+    Some(Opening::Clean {
+        changes: small(changes)?,
+        undone: small(undone.unwrap_or(b"0"))?,
+    })
+}
+
+/// What an opening finds, as `clean 2`, `clean 2 1`, `dropped 2` or `restored 3 2`.
 pub fn opening(value: &[u8]) -> Option<Opening> {
     let (word, rest) = split_space(value);
     match word {
-        b"clean" => Some(Opening::Clean {
-            changes: small(rest?)?,
-        }),
+        b"clean" => clean(rest?),
         b"dropped" => Some(Opening::Dropped {
             changes: small(rest?)?,
         }),

@@ -1,9 +1,12 @@
 //! The case files of a folder.
+use crate::places::clear;
 use crate::reading::{self, play_reading};
+use crate::sweeps::{SWEEPS, play_commands};
 use crate::tally::{Failure, Tally};
+use crate::texts::{self, play_text};
 use crate::words::{self, play_words};
 use bx_case_files::{Case, CaseFile, Test, read_cases};
-use std::alloc::{AllocError, Global};
+use std::alloc::AllocError;
 use std::{fs, io};
 
 /// What a name ends with that is a case file's.
@@ -79,13 +82,13 @@ fn read_file(rt: &HostRuntime, folder: &str, name: &str) -> Option<CaseFile> {
 /// The sweeps of the kind that the first case has.
 fn sweeps(file: &CaseFile) -> &'static [&'static str] {
     match file.cases.first() {
-        Some(
-            Case {
-                test: Test::Reading(_),
-                ..
-            },
-        ) => &reading::SWEEPS,
-        _ => &words::SWEEPS,
+        Some(case) => match &case.test {
+            Test::Words(_) => &words::SWEEPS,
+            Test::Reading(_) => &reading::SWEEPS,
+            Test::Commands(_) => &SWEEPS,
+            Test::Text(_) => &texts::SWEEPS,
+        },
+        None => &[],
     }
 }
 
@@ -99,6 +102,7 @@ fn play_cases(rt: &HostRuntime, name: &str, file: &CaseFile) -> Result<bool, All
             tally.failed = tally.failed.saturating_add(1);
         }
     }
+    clear(rt);
     tally.tell_counts(rt);
     Ok(tally.failed == 0)
 }
@@ -107,7 +111,7 @@ fn play_cases(rt: &HostRuntime, name: &str, file: &CaseFile) -> Result<bool, All
 fn play_case(rt: &HostRuntime, case: &Case, tally: &mut Tally<'_>) -> bool {
     let mut right = true;
     for (sweep, name) in tally.sweeps.iter().enumerate() {
-        match play(rt.alloc(), &case.test, sweep) {
+        match play(rt, &case.test, sweep) {
             Ok(plays) => tally.add(sweep, plays),
             Err(failure) => {
                 tally.tell(rt, case, name, &failure);
@@ -119,10 +123,11 @@ fn play_case(rt: &HostRuntime, case: &Case, tally: &mut Tally<'_>) -> bool {
 }
 
 /// Plays a case in one way. Tells how often.
-fn play(alloc: Global, test: &Test, sweep: usize) -> Result<u32, Failure> {
+fn play(rt: &HostRuntime, test: &Test, sweep: usize) -> Result<u32, Failure> {
     match test {
-        Test::Words(case) => play_words(alloc, case, sweep),
-        Test::Reading(case) => play_reading(alloc, case),
-        Test::Commands(_) | Test::Text(_) => Ok(0),
+        Test::Words(case) => play_words(rt.alloc(), case, sweep),
+        Test::Reading(case) => play_reading(rt.alloc(), case),
+        Test::Commands(case) => play_commands(rt, case, sweep),
+        Test::Text(case) => play_text(rt, case, sweep),
     }
 }

@@ -1,6 +1,6 @@
 //! The fields of jobs, as a case file names them.
 use crate::outcome::{Wrong, differs, same_text};
-use bx_cli::{DdJob, HexdumpJob, Job, OdJob, RevertJob, StringsJob, XxdJob, XxdLook};
+use bx_cli::{DdJob, HexdumpJob, Job, OdJob, RevertJob, StringsJob, Texts, XxdJob, XxdLook};
 use bx_dd::{Letters, Plan, Shape};
 use bx_dump::{Address, Kind, NumForm, Size};
 use bx_text::{Name, Words};
@@ -157,7 +157,10 @@ fn dd_field(alloc: Global, job: &DdJob, name: &str) -> Field {
         "count" => limit(alloc, job.plan.count),
         "input" => file(alloc, &job.plan.input),
         "output" => file(alloc, &job.plan.output),
-        "journal" => file(alloc, &job.journal),
+        "journal" | "redo" => match &job.texts {
+            Some(texts) => text_name(alloc, texts, name),
+            None => text(alloc, "none"),
+        },
         "operands" => joined(alloc, &job.operands),
         _ => conversion(alloc, &job.plan, name),
     }
@@ -182,15 +185,23 @@ fn revert_field(alloc: Global, job: &RevertJob, name: &str) -> Field {
         "plain" => flag(alloc, job.plain),
         "at" => number(alloc, job.at),
         "image" => text(alloc, job.image.as_str()),
-        "journal" => text(alloc, job.journal.as_str()),
+        "journal" | "redo" => text_name(alloc, &job.texts, name),
         _ => Ok(None),
     }
 }
 
-fn pair_field(alloc: Global, image: &Name, journal: &Name, name: &str) -> Field {
+/// The name of a text beside an image.
+fn text_name(alloc: Global, texts: &Texts, name: &str) -> Field {
+    match name {
+        "journal" => text(alloc, texts.journal.as_str()),
+        _ => text(alloc, texts.redo.as_str()),
+    }
+}
+
+fn image_field(alloc: Global, image: &Name, texts: &Texts, name: &str) -> Field {
     match name {
         "image" => text(alloc, image.as_str()),
-        "journal" => text(alloc, journal.as_str()),
+        "journal" | "redo" => text_name(alloc, texts, name),
         _ => Ok(None),
     }
 }
@@ -205,8 +216,8 @@ fn field_of(alloc: Global, job: &Job, name: &str) -> Field {
         Job::Dd(job) => dd_field(alloc, job, name),
         Job::Revert(job) => revert_field(alloc, job, name),
         Job::Undo { count, .. } if name == "count" => number(alloc, *count as u64),
-        Job::Undo { image, journal, .. } => pair_field(alloc, image, journal, name),
-        Job::Log { image, journal } => pair_field(alloc, image, journal, name),
+        Job::Undo { image, texts, .. } => image_field(alloc, image, texts, name),
+        Job::Log { image, texts } => image_field(alloc, image, texts, name),
         Job::Help { .. } => Ok(None),
     }
 }
