@@ -2,7 +2,7 @@
 use crate::answers::{changes_of, refused, same_opening, same_reply};
 use crate::outcome::{Wrong, same_bytes};
 use crate::places::Place;
-use crate::sessions::{Devices, Held, Texts, ask_for, close, contents, log_of, open, standing};
+use crate::sessions::{Devices, Held, Texts, ask_for, close, contents, found_again, log_of, open};
 use bx_case_files::{Answer, Ask, CommandsCase, Opening, Row};
 use bx_image::Device;
 use bx_journal::Session;
@@ -57,7 +57,7 @@ pub fn again<D: Device + Drop, T: TextStore + Drop, P: Place<D, T>>(
     place: &P,
     session: Session<D, T>,
 ) -> Result<Standing<D, T>, Wrong> {
-    let wanted = standing(&session);
+    let wanted = found_again(&session);
     let mut devices = close(session);
     let held = contents(alloc, &mut devices)?;
     let devices = place.again(devices)?;
@@ -127,7 +127,7 @@ pub fn play_row<D: Device + Drop, T: TextStore + Drop, P: Place<D, T>>(
     let mut session = session;
     match (&row.ask, &row.answer) {
         (Ask::Open, Answer::Opened(wanted)) => {
-            same_opening(alloc, *wanted, standing(&session))?;
+            same_opening(alloc, *wanted, found_again(&session))?;
         }
         _ => play_ask(alloc, &mut session, row)?,
     }

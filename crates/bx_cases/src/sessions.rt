@@ -200,7 +200,7 @@ fn opening_of(found: Recovered) -> Opening {
 }
 
 /// How a session would be found, if it were closed and opened again.
-pub fn standing<D: Device, T: TextStore>(session: &Session<D, T>) -> Opening {
+pub fn found_again<D: Device, T: TextStore>(session: &Session<D, T>) -> Opening {
     Opening::Clean {
         changes: session.changes(),
         undone: session.undone(),

@@ -4,8 +4,8 @@ use crate::commands::{Standing, again, begun, first_texts};
 use crate::outcome::{Wrong, differs, same_bytes, same_text};
 use crate::places::Memory;
 use crate::sessions::{
-    DEVICES, Fused, FusedDevices, Held, MemSession, Texts, ask_for, close, held_fused, in_fused,
-    in_memory, open, standing,
+    DEVICES, Fused, FusedDevices, Held, MemSession, Texts, ask_for, close, found_again, held_fused,
+    in_fused, in_memory, open,
 };
 use crate::tally::{Failure, at};
 use bx_case_files::{Answer, Ask, CommandsCase, Opening, Row};
@@ -270,7 +270,7 @@ fn stands_for(alloc: Global, session: MemSession, expected: Expected<'_>) -> Res
         changes: expected.stack.len().saturating_sub(1).min(65_535) as u32,
         undone: expected.undone.count,
     };
-    same_opening(alloc, wanted, standing(&session))?;
+    same_opening(alloc, wanted, found_again(&session))?;
     let mut session = session;
     let mut undone = expected.undone.text;
     for image in expected.stack.iter().rev() {
