@@ -72,7 +72,7 @@ pub fn in_memory<A: Allocator + Clone>(alloc: A, texts: Texts<'_>) -> Result<Mem
 }
 
 /// What devices in memory hold.
-pub fn held<A: Allocator>(alloc: Global, devices: &MemDevices<A>) -> Result<Held, Wrong> {
+pub fn held_of<A: Allocator>(alloc: Global, devices: &MemDevices<A>) -> Result<Held, Wrong> {
     Ok(Held {
         image: devices.image.as_slice().to_vec(alloc)?,
         journal: devices.journal.as_slice().to_vec(alloc)?,
@@ -143,7 +143,7 @@ pub fn held_fused(alloc: Global, devices: FusedDevices) -> Result<Held, Wrong> {
     let image = image.into_inner();
     let journal = journal.into_inner();
     let redo = redo.into_inner();
-    held(
+    held_of(
         alloc,
         &Devices {
             image,

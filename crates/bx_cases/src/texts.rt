@@ -4,7 +4,7 @@ use crate::growths::{found_so, opening_growths};
 use crate::judged::{changed_bytes, fronts};
 use crate::outcome::{Wrong, same_bytes};
 use crate::places::{Files, Memory, Pages, Place};
-use crate::sessions::{Held, Texts, contents, held, in_memory, open};
+use crate::sessions::{Held, Texts, contents, held_of, in_memory, open};
 use crate::stops::{Expected, Undone, openings, stack_of, unwound};
 use crate::tally::{Failure, at};
 use bx_case_files::{Opening, TextCase};
@@ -142,6 +142,6 @@ fn stopped(alloc: Global, case: &TextCase) -> Result<u32, Wrong> {
         stack: stack.as_slice(),
         undone,
     };
-    let left = held(alloc, &in_memory(alloc, texts_of(case))?)?;
+    let left = held_of(alloc, &in_memory(alloc, texts_of(case))?)?;
     openings(alloc, left, expected, &mut Vec::new(alloc))
 }
