@@ -4,7 +4,7 @@ man = $(DESTDIR)$(PREFIX)/share/man/man1
 bash = $(DESTDIR)$(PREFIX)/share/bash-completion/completions
 fish = $(DESTDIR)$(PREFIX)/share/fish/vendor_completions.d
 zsh = $(DESTDIR)$(PREFIX)/share/zsh/$(if $(filter /usr,$(PREFIX)),vendor-completions,site-functions)
-.PHONY: all look test install uninstall package tour check-docs compare hostile bench clean
+.PHONY: all look test install uninstall package tour check-docs compare record hostile bench clean
 
 all: bx
 
@@ -51,6 +51,10 @@ check-docs: all
 # The real tools beside bx, on random inputs and options.
 compare: all
 	scripts/compare.py --bx ./bx
+
+# The files of crates/bx_cases/data that hold what the real tools do, written again.
+record:
+	scripts/record-cases.py
 
 # Bad texts, full devices, closed pipes and streams, what is no file, two programs at once, loop devices (as root), and each
 # memory request, read and write failing in turn.
