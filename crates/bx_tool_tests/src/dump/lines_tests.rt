@@ -1,4 +1,6 @@
 //! Full lines of od and hexdump -C, beside lines that are written value by value.
+ghost use Rattle.std.specs.Prelude.{◌≤◌, ◌<◌, length};
+
 use crate::expected::assert_bytes;
 use bx_dump::{Address, HexdumpOptions, Kind, NumForm, OdOptions, Size, hexdump_c, od};
 use std::io::Write;
@@ -57,8 +59,17 @@ fn write_od_line(out: &mut Vec<u8>, form: NumForm, size: Size, at: usize, bytes:
     let _ = out.write(b"\n");
 }
 
-/// Checks od's text of some bytes.
-fn expect_od<R: Abort + AllocGlobal>(rt: &R, form: NumForm, size: Size, bytes: &[u8]) {
+/// Checks od's text of the first n bytes, where `wanted` has their whole lines, and puts in what stands behind those.
+fn expect_od<R: Abort + AllocGlobal>(
+    rt: &R,
+    wanted: &mut Vec<u8>,
+    form: NumForm,
+    size: Size,
+    bytes: &[u8],
+    whole: usize,
+)
+    requires { whole ≤ length bytes.now }
+{
     let options = OdOptions {
         address: Address::Octal,
         kind: Kind::Number { form, size },
@@ -66,14 +77,13 @@ fn expect_od<R: Abort + AllocGlobal>(rt: &R, form: NumForm, size: Size, bytes: &
         limit: None,
         all: false,
     };
+    if whole < bytes.len() {
+        write_od_line(wanted, form, size, whole, &bytes[whole..]);
+    }
+    let _ = write!(wanted, "{:07o}\n", bytes.len());
     let mut found = Vec::new(rt.alloc());
     let mut from = bytes;
     let _ = od(&mut from, &mut found, &options);
-    let mut wanted = Vec::new(rt.alloc());
-    for (k, line) in bytes.chunks(16).enumerate() {
-        write_od_line(&mut wanted, form, size, k.wrapping_mul(16), line);
-    }
-    let _ = write!(wanted, "{:07o}\n", bytes.len());
     assert_bytes(rt, found.as_slice(), wanted.as_slice());
 }
 
@@ -100,41 +110,64 @@ fn write_shown(out: &mut Vec<u8>, bytes: &[u8]) {
     let _ = out.write(b"|\n");
 }
 
-/// Checks the text of hexdump -C of some bytes.
-fn expect_hexdump<R: Abort + AllocGlobal>(rt: &R, bytes: &[u8]) {
+/// Writes a line of hexdump -C.
+fn write_hexdump_line(out: &mut Vec<u8>, at: usize, bytes: &[u8]) {
+    let _ = write!(out, "{at:08x}  ");
+    write_columns(out, bytes);
+    write_shown(out, bytes);
+}
+
+/// Checks the text of hexdump -C of the first n bytes, where `wanted` has their whole lines, and puts in what stands behind
+/// those.
+fn expect_hexdump<R: Abort + AllocGlobal>(rt: &R, wanted: &mut Vec<u8>, bytes: &[u8], whole: usize)
+    requires { whole ≤ length bytes.now }
+{
     let options = HexdumpOptions {
         skip: 0,
         limit: None,
         all: false,
     };
-    let mut found = Vec::new(rt.alloc());
-    let mut from = bytes;
-    let _ = hexdump_c(&mut from, &mut found, &options);
-    let mut wanted = Vec::new(rt.alloc());
-    for (k, line) in bytes.chunks(16).enumerate() {
-        let _ = write!(wanted, "{:08x}  ", k.wrapping_mul(16));
-        write_columns(&mut wanted, line);
-        write_shown(&mut wanted, line);
+    if whole < bytes.len() {
+        write_hexdump_line(wanted, whole, &bytes[whole..]);
     }
     if !bytes.is_empty() {
         let _ = write!(wanted, "{:08x}\n", bytes.len());
     }
+    let mut found = Vec::new(rt.alloc());
+    let mut from = bytes;
+    let _ = hexdump_c(&mut from, &mut found, &options);
     assert_bytes(rt, found.as_slice(), wanted.as_slice());
 }
 
 #[test]
 fn hexdump_lines_of_every_length(rt: HostRuntime) {
     let bytes = input();
+    let mut wanted = Vec::new(rt.alloc());
+    let mut lines = 0;
     for n in 0..601usize {
-        expect_hexdump(&rt, &bytes[..n]);
+        let whole = n / 16 * 16;
+        wanted.truncate(lines);
+        if n > 0 && n == whole {
+            write_hexdump_line(&mut wanted, n - 16, &bytes[n - 16..n]);
+            lines = wanted.len();
+        }
+        expect_hexdump(&rt, &mut wanted, &bytes[..n], whole);
     }
 }
 
 /// Checks each length in one form.
 fn expect_od_lengths<R: Abort + AllocGlobal>(rt: &R, form: NumForm, size: Size) {
     let bytes = input();
+    let mut wanted = Vec::new(rt.alloc());
+    let mut lines = 0;
     for n in 0..601usize {
-        expect_od(rt, form, size, &bytes[..n]);
+        let whole = n / 16 * 16;
+        wanted.truncate(lines);
+        if n > 0 && n == whole {
+            write_od_line(&mut wanted, form, size, n - 16, &bytes[n - 16..n]);
+            lines = wanted.len();
+        }
+        expect_od(rt, &mut wanted, form, size, &bytes[..n], whole);
     }
 }
 
