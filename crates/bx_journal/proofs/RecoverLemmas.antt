@@ -83,3 +83,7 @@ counts_among (RedoDamaged line) a b a_new b_new d t u d_new t_new u_new h one sa
 -- a redo text that is refused, under other names
 pub refused_at : (redo text x y : List ℕ) (changes line : ℕ) → redo ≡ text → x ≡ y → IsRefusedAt redo x changes line → IsRefusedAt text y changes line
 refused_at redo text x y changes line same image refused = subst (λ t. IsRefusedAt t y changes line) same (subst (λ z. IsRefusedAt redo z changes line) image refused)
+
+-- one more failed call of two devices is one more of three
+pub one_more_beside : (d t u d_new t_new u_new : ℕ) → u_new ≡ u → OneMore d t d_new t_new → OneMoreOfThree d t u d_new t_new u_new
+one_more_beside d t u d_new t_new u_new same one = omega (arith, same, one)

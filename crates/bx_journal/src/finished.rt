@@ -1,5 +1,5 @@
 //! Opening beside a journal of finished entries alone: the redo text is read and judged.
-ghost use Rattle.std.specs.Prelude.{◌≡◌, ◌↔◌, ◌+◌, ◌<◌, ◌≤◌, List, ℕ, length, OnOk, IfOk, IfErr, MatchResult};
+ghost use Rattle.std.specs.Prelude.{◌≡◌, ◌↔◌, ◌⊎◌, ◌+◌, ◌<◌, ◌≤◌, List, ℕ, length, OnOk, IfOk, IfErr, MatchResult};
 ghost use Rattle.bx_journal.specs.Judging.{RefusesRedo};
 ghost use Rattle.bx_journal.specs.Opening.{FaultCounts, RefusesLength};
 ghost use Rattle.bx_journal.specs.Recovery.{FinishedFault, HasOtherLength, HasToldLength, HasUndoneCount};
@@ -13,6 +13,25 @@ use crate::{How, Recovered, SessionFault};
 use bx_image::Device;
 use bx_store::TextStore;
 use std::alloc::Allocator;
+
+/// All of the redo text. It changes nothing.
+fn read_redo<T: TextStore, A: Allocator + Clone>(
+    alloc: &A,
+    redo_text: &mut T,
+) -> Result<Vec<u8, A>, SessionFault>
+    requires { T.failures redo_text.old < u64.MAX }
+    ensures bytes { T.honest redo_text.old → IfOk result (λ bytes. bytes.items ≡ T.text redo_text.old) }
+    ensures fault { IfErr result (λ e. (e ≡ SessionFault.NoMemory) ⊎ (e ≡ SessionFault.DeviceFailed)) }
+    ensures text { T.honest redo_text.old → T.text redo_text.new ≡ T.text redo_text.old }
+    ensures honesty { T.honest redo_text.new ↔ T.honest redo_text.old }
+    ensures no_failure { OnOk result (T.failures redo_text.new ≡ T.failures redo_text.old) }
+    ensures counts { IfErr result (λ e. FaultCounts e 0 (T.failures redo_text.old) 0 (T.failures redo_text.new)) }
+{
+    match redo_text.read_all(alloc.clone()?) {
+        Ok(bytes) => Ok(bytes),
+        Err(fault) => Err(of_text(fault)),
+    }
+}
 
 /// Compares the image's length with the one that the last finished entry tells, and judges the redo text. Nothing is
 /// changed.
@@ -41,9 +60,9 @@ pub fn open_finished<D: Device, T: TextStore, A: Allocator + Clone>(
     ensures no_failure { OnOk result ((D.failures device.new ≡ D.failures device.old) × (T.failures redo_text.new ≡ T.failures redo_text.old)) }
     ensures counts { IfErr result (λ e. FaultCounts e (D.failures device.old) (T.failures redo_text.old) (D.failures device.new) (T.failures redo_text.new)) }
 {
-    let bytes = match redo_text.read_all(alloc.clone()?) {
+    let bytes = match read_redo(alloc, redo_text) {
         Ok(bytes) => bytes,
-        Err(fault) => return Err(of_text(fault)),
+        Err(fault) => return Err(fault),
     };
     if let Err(fault) = check_length(device, found.told) {
         return Err(fault);

@@ -4,7 +4,7 @@ ghost use Rattle.bx_journal.specs.Calls.{AfterFault, Differs, OpenFault};
 ghost use Rattle.bx_journal.specs.Images.{Images};
 ghost use Rattle.bx_journal.specs.Journal.{HasRead};
 ghost use Rattle.bx_journal.specs.Judging.{RefusesRedo};
-ghost use Rattle.bx_journal.specs.Opening.{FaultCounts, OneMoreOfThree, ThreeCounts, HasRoomFor, IsOpened, LookFault, RefusesLength, RefusesText};
+ghost use Rattle.bx_journal.specs.Opening.{FaultCounts, OneMore, OneMoreOfThree, ThreeCounts, HasRoomFor, IsOpened, LookFault, RefusesLength, RefusesText};
 ghost use Rattle.bx_journal.specs.Parsed.{entries_of, reading_of, stage_of};
 ghost use Rattle.bx_journal.specs.Phase.{IsAtRest};
 ghost use Rattle.bx_journal.specs.Recovery.{HasUndoneCount, IsUnfinishedIn, KeepsUndone, OpenKind, RecoverFault};
@@ -69,16 +69,14 @@ fn prepare<D: Device, A: Allocator>(
     }
 }
 
-/// Empties the redo text, cuts off what is unfinished, and takes its change back where its save line stands.
-fn finish<D: Device, T: TextStore, A: Allocator>(
+/// Cuts off what is unfinished, and takes its change back where its save line stands.
+fn cut_unfinished<D: Device, T: TextStore, A: Allocator>(
     device: &mut D,
     store: &mut T,
-    redo_text: &mut T,
     journal: JournalRead<A>,
 ) -> Result<Recovered, DeviceFailed>
     requires device_countable { D.failures device.old < u64.MAX }
     requires store_countable { T.failures store.old < u64.MAX }
-    requires redo_countable { T.failures redo_text.old < u64.MAX }
     requires read { IsUnfinishedIn (T.honest store.old) (T.text store.old) journal }
     requires room { HasRoomFor journal.stage (D.room device.old) }
     ensures opened { D.honest device.old → T.honest store.old → HaveLengths (entries_of journal.entries.items) (image_at (stage_of journal.stage) (D.image device.old))
@@ -89,15 +87,11 @@ fn finish<D: Device, T: TextStore, A: Allocator>(
     ensures keeps_err { D.honest device.old → T.honest store.old → (stack : List (List ℕ)) → Recovers (T.text store.old) (D.image device.old) stack
         → OnErr result (Recovers (T.text store.new) (D.image device.new) stack) }
     ensures changes { IfOk result (λ o. o.changes ≡ length journal.entries.items) }
-    ensures emptied { T.honest redo_text.old → OnOk result (T.text redo_text.new ≡ []) }
-    ensures emptied_first { T.honest redo_text.old → OnErr result ((store.new ≡ store.old) ⊎ (T.text redo_text.new ≡ [])) }
     ensures device_honesty { D.honest device.new ↔ D.honest device.old }
     ensures store_honesty { T.honest store.new ↔ T.honest store.old }
-    ensures redo_honesty { T.honest redo_text.new ↔ T.honest redo_text.old }
-    ensures no_failure { OnOk result ((D.failures device.new ≡ D.failures device.old) × (T.failures store.new ≡ T.failures store.old) × (T.failures redo_text.new ≡ T.failures redo_text.old)) }
-    ensures failure { OnErr result (OneMoreOfThree (D.failures device.old) (T.failures store.old) (T.failures redo_text.old) (D.failures device.new) (T.failures store.new) (T.failures redo_text.new)) }
+    ensures no_failure { OnOk result ((D.failures device.new ≡ D.failures device.old) × (T.failures store.new ≡ T.failures store.old)) }
+    ensures failure { OnErr result (OneMore (D.failures device.old) (T.failures store.old) (D.failures device.new) (T.failures store.new)) }
 {
-    cut_redo(redo_text, 0)?;
     let JournalRead {
         entries,
         stage,
@@ -132,6 +126,39 @@ fn finish<D: Device, T: TextStore, A: Allocator>(
             })
         }
     }
+}
+
+/// Empties the redo text, and then takes back what is unfinished. So a journal of finished entries alone has no redo
+/// text that isn't its own.
+fn finish<D: Device, T: TextStore, A: Allocator>(
+    device: &mut D,
+    store: &mut T,
+    redo_text: &mut T,
+    journal: JournalRead<A>,
+) -> Result<Recovered, DeviceFailed>
+    requires device_countable { D.failures device.old < u64.MAX }
+    requires store_countable { T.failures store.old < u64.MAX }
+    requires redo_countable { T.failures redo_text.old < u64.MAX }
+    requires read { IsUnfinishedIn (T.honest store.old) (T.text store.old) journal }
+    requires room { HasRoomFor journal.stage (D.room device.old) }
+    ensures opened { D.honest device.old → T.honest store.old → HaveLengths (entries_of journal.entries.items) (image_at (stage_of journal.stage) (D.image device.old))
+        → IfOk result (λ o. IsOpened (T.text store.old) (D.image device.old) (reading_of journal.entries.items journal.stage) (T.text store.new) (D.image device.new) o.how o.changes) }
+    ensures unclean { IfOk result (λ o. (o.how ≡ How.Clean → ⊥) × (o.undone ≡ 0)) }
+    ensures keeps { D.honest device.old → T.honest store.old → (stack : List (List ℕ)) → Recovers (T.text store.old) (D.image device.old) stack
+        → OnOk result (IsAtRest (T.text store.new) (D.image device.new) stack) }
+    ensures keeps_err { D.honest device.old → T.honest store.old → (stack : List (List ℕ)) → Recovers (T.text store.old) (D.image device.old) stack
+        → OnErr result (Recovers (T.text store.new) (D.image device.new) stack) }
+    ensures changes { IfOk result (λ o. o.changes ≡ length journal.entries.items) }
+    ensures emptied { T.honest redo_text.old → OnOk result (T.text redo_text.new ≡ []) }
+    ensures emptied_first { T.honest redo_text.old → OnErr result ((store.new ≡ store.old) ⊎ (T.text redo_text.new ≡ [])) }
+    ensures device_honesty { D.honest device.new ↔ D.honest device.old }
+    ensures store_honesty { T.honest store.new ↔ T.honest store.old }
+    ensures redo_honesty { T.honest redo_text.new ↔ T.honest redo_text.old }
+    ensures no_failure { OnOk result ((D.failures device.new ≡ D.failures device.old) × (T.failures store.new ≡ T.failures store.old) × (T.failures redo_text.new ≡ T.failures redo_text.old)) }
+    ensures failure { OnErr result (OneMoreOfThree (D.failures device.old) (T.failures store.old) (T.failures redo_text.old) (D.failures device.new) (T.failures store.new) (T.failures redo_text.new)) }
+{
+    cut_redo(redo_text, 0)?;
+    cut_unfinished(device, store, journal)
 }
 
 /// Takes back what is unfinished in a journal that was read.

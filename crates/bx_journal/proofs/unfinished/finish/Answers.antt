@@ -1,60 +1,18 @@
-use Rattle.std.proofs.Common.{refl, arith, Result, Ok, Err}
-use Rattle.std.specs.Prelude.{OnErr}
-use Rattle.bx_journal.specs.declared.reader.StageRead.TheVariants.{Between as BetweenRead}
-use Rattle.bx_journal.specs.Text.{Between}
-use Rattle.bx_journal.proofs.TailLemmas.{tail_at, ending_within}
-use Rattle.bx_journal.proofs.RecoverLemmas.{ending_begins}
-use Rattle.bx_journal.proofs.OpenLemmas.{opened_dropped, opened_saving, opened_ending}
+use Rattle.std.proofs.Common.{rules, arith, inr}
+use Rattle.std.proofs.lemmas.Grind.{common_steps}
+use Rattle.std.proofs.lemmas.Result.{on_err_weaker, on_ok_weaker}
+use Rattle.bx_journal.proofs.RecoverLemmas.{one_more_beside}
+use Rattle.bx_journal.proofs.TallyLemmas.{err_always, ok_always}
 use Rattle.bx_journal.proofs.unfinished.finish.Goals as goal
 
-always_err : {T E P : Type 0} (r : Result T E) → P → OnErr r P
-always_err (Ok x) p = tt
-always_err (Err e) p = p
+pub returns-clause-emptied : goal.returns-clause-emptied
+returns-clause-emptied g c rh = ok_always c.cut_unfinished.result (grind (arith, common_steps))
 
-pub returns-in-Between-clause-opened : goal.returns-in-Between-clause-opened
-returns-in-Between-clause-opened g c dh th lengths =
-    opened_dropped (g.T.TextStore.text c.args.store.now) c.requires.read.text (g.D.Device.image c.args.device.now) (g.T.TextStore.text c.drop_tail.new.store) c.args.journal c.len-changes.result
-    c.requires.read.read c.in-Between.is (c.requires.read.is th) (c.requires.read.unfinished c.in-Between.is) lengths (c.in_ok-drop_tail-in-Between.ensures.text th) (omega arith)
+pub returns-clause-emptied_first : goal.returns-clause-emptied_first
+returns-clause-emptied_first g c rh = err_always c.cut_unfinished.result (inr (grind (arith, common_steps)))
 
-pub returns-in-Between-clause-keeps : goal.returns-in-Between-clause-keeps
-returns-in-Between-clause-keeps g c dh th stack rec =
-    let t = tail_at (g.T.TextStore.text c.args.store.now) c.requires.read.text (g.D.Device.image c.args.device.now) stack c.args.journal BetweenRead c.requires.read.read c.in-Between.is (c.requires.read.is th) rec in
-    c.in_ok-drop_tail-in-Between.ensures.ok th (g.D.Device.image c.args.device.now) stack _ Between t refl
+pub returns-clause-no_failure : goal.returns-clause-no_failure
+returns-clause-no_failure g c = on_ok_weaker c.cut_unfinished.result (λ h. (h.0, h.1, search rules)) c.cut_unfinished.ensures.no_failure
 
-pub returns-in-Saving-clause-opened : goal.returns-in-Saving-clause-opened
-returns-in-Saving-clause-opened g c dh th lengths =
-    opened_saving (g.T.TextStore.text c.args.store.now) c.requires.read.text (g.D.Device.image c.args.device.now) (g.T.TextStore.text c.drop_tail-in-Saving.new.store) c.args.journal c.len-changes.result
-    _ _ _ _ c.requires.read.read c.in-Saving.is (c.requires.read.is th) lengths (c.in_ok-drop_tail-in-Saving.ensures.text th) (omega arith)
-
-pub returns-in-Saving-clause-keeps : goal.returns-in-Saving-clause-keeps
-returns-in-Saving-clause-keeps g c dh th stack rec =
-    let t = tail_at (g.T.TextStore.text c.args.store.now) c.requires.read.text (g.D.Device.image c.args.device.now) stack c.args.journal _ c.requires.read.read c.in-Saving.is (c.requires.read.is th) rec in
-    c.in_ok-drop_tail-in-Saving.ensures.ok th (g.D.Device.image c.args.device.now) stack _ _ t refl
-
-pub take_back-requires-clause-within : goal.take_back-requires-clause-within
-take_back-requires-clause-within g c = ending_within c.requires.read.text c.args.journal _ _ _ _ c.requires.read.read c.in-Ending.is
-
-pub returns-clause-opened : goal.returns-clause-opened
-returns-clause-opened g c dh th lengths =
-    opened_ending (g.T.TextStore.text c.args.store.now) c.requires.read.text (g.D.Device.image c.args.device.now) (g.T.TextStore.text c.take_back.new.store) (g.D.Device.image c.take_back.new.device) c.args.journal c.len-changes.result
-    _ _ _ _ c.requires.read.read c.in-Ending.is (c.requires.read.is th) lengths (c.in_ok-take_back-in-Ending.ensures.image dh) (c.in_ok-take_back-in-Ending.ensures.text th) (omega arith)
-
-pub returns-clause-keeps : goal.returns-clause-keeps
-returns-clause-keeps g c dh th stack rec =
-    let t = tail_at (g.T.TextStore.text c.args.store.now) c.requires.read.text (g.D.Device.image c.args.device.now) stack c.args.journal _ c.requires.read.read c.in-Ending.is (c.requires.read.is th) rec in
-    c.in_ok-take_back-in-Ending.ensures.ok dh th stack _ _ t
-
-pub returns-in_err-take_back-in-Ending-clause-keeps_err : goal.returns-in_err-take_back-in-Ending-clause-keeps_err
-returns-in_err-take_back-in-Ending-clause-keeps_err g c dh th stack rec =
-    let t = tail_at (g.T.TextStore.text c.args.store.now) c.requires.read.text (g.D.Device.image c.args.device.now) stack c.args.journal _ c.requires.read.read c.in-Ending.is (c.requires.read.is th) rec in
-    always_err c.from_residual-in_err-take_back-in-Ending.result (c.in_err-take_back-in-Ending.ensures.fault dh th stack _ _ t)
-
-pub returns-in_err-drop_tail-in-Between-clause-keeps_err :
-    goal.returns-in_err-drop_tail-in-Between-clause-keeps_err
-returns-in_err-drop_tail-in-Between-clause-keeps_err g c dh th stack rec =
-    let t = tail_at (g.T.TextStore.text c.args.store.now) c.requires.read.text (g.D.Device.image c.args.device.now) stack c.args.journal BetweenRead c.requires.read.read c.in-Between.is (c.requires.read.is th) rec in
-    always_err c.from_residual-in_err-drop_tail-in-Between.result (c.in_err-drop_tail-in-Between.ensures.fault th (g.D.Device.image c.args.device.now) stack _ Between t refl)
-
-pub take_back-requires-clause-within_text : goal.take_back-requires-clause-within_text
-take_back-requires-clause-within_text g c th =
-    ending_begins (g.T.TextStore.text c.args.store.now) c.requires.read.text c.args.journal _ _ _ _ c.requires.read.read c.in-Ending.is (c.requires.read.is th)
+pub returns-clause-failure : goal.returns-clause-failure
+returns-clause-failure g c = on_err_weaker c.cut_unfinished.result (one_more_beside _ _ _ _ _ _ (search rules)) c.cut_unfinished.ensures.failure

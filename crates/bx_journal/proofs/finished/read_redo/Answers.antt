@@ -1,0 +1,8 @@
+use Rattle.std.proofs.Common.{rules}
+use Rattle.bx_journal.proofs.finished.read_redo.Goals as goal
+
+pub returns-in-Ok-clause-text : goal.returns-in-Ok-clause-text
+returns-in-Ok-clause-text g c = search rules
+
+pub returns-in-Ok-clause-no_failure : goal.returns-in-Ok-clause-no_failure
+returns-in-Ok-clause-no_failure g c = search rules
