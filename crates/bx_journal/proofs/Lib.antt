@@ -57,6 +57,7 @@ pub mod TakenLemmas
 pub mod LoopLemmas
 pub mod RedoLoop
 pub mod StandingLoop
+pub mod AloneLemmas
 pub mod RecoverLemmas
 pub mod Refused
 pub mod JudgeLemmas

@@ -1,6 +1,5 @@
 -- What is found in a journal's text: finished entries alone, or something unfinished.
-use Rattle.std.proofs.Common.{◌≡◌, ℕ, suc, ◌≤◌, List, [], ◌∷◌, length, drop, refl, ap, sym, ◌∙◌, subst, arith, Option, Some, None, Result, Ok, Err, length-drop}
-use Rattle.std.specs.Prelude.{IfOk, IfErr, IfSome, OnOk, OnErr}
+use Rattle.std.proofs.Common.{◌≡◌, ℕ, ◌≤◌, List, length, refl, ap, sym, ◌∙◌, subst, arith, Option, length-drop}
 use Rattle.bx_image.specs.declared.record.Saved.{Saved}
 use Rattle.bx_journal.specs.declared.version.Version.{Version}
 use Rattle.bx_journal.specs.declared.journal.JournalRead.{JournalRead}
@@ -14,7 +13,7 @@ use Rattle.bx_journal.specs.Parsed.{entries_of, stage_of, reading_of, told_by}
 use Rattle.bx_journal.specs.Recovery.{RecoverFault}
 use Rattle.bx_journal.specs.Redo.{IsClean, IsRefusedAt}
 use Rattle.bx_journal.specs.Tally.{IsCounted}
-use Rattle.bx_journal.specs.Text.{Entry, Stage, Between, Saving, Ending, Reading, Reads, split}
+use Rattle.bx_journal.specs.Text.{Entry, Between, Reading, Reads}
 use Rattle.bx_journal.proofs.OpenLemmas.{read_once}
 use Rattle.bx_journal.proofs.ReadLemmas.{length-entries_of}
 use Rattle.bx_journal.proofs.TailLemmas.{begins_at, begin_mark}

@@ -9,7 +9,7 @@ use Rattle.bx_journal.specs.declared.calls.How.TheVariants.{Clean}
 use Rattle.bx_journal.specs.declared.fault.SessionFault.{SessionFault}
 use Rattle.bx_journal.specs.Kept.{Kept}
 use Rattle.bx_journal.specs.Line.{after_in}
-use Rattle.bx_journal.specs.Text.{Entry, Stage, Between, Saving, Ending, Reading, Reads, split, start, next, next_at, after_lines, IsRest}
+use Rattle.bx_journal.specs.Text.{Entry, Stage, Between, Saving, Ending, Reading, Reads, split, start, next_at, after_lines, IsRest}
 use Rattle.bx_journal.specs.Parsed.{told_by}
 use Rattle.bx_journal.specs.Plain.{HasNoNewline}
 use Rattle.bx_journal.specs.Stack.{HaveLengths, IsSound, Recovers, image_at, recovered, stack_of}

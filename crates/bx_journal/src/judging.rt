@@ -2,6 +2,7 @@
 ghost use Rattle.std.specs.Prelude.{◌≡◌, ◌↔◌, ◌⊎◌, ◌+◌, ◌<◌, ◌≤◌, List, ℕ, suc, length, take, Some, OnOk, IfOk, IfErr, IfSome, IfNone, MatchResult};
 ghost use Rattle.bx_journal.specs.Journal.{HasRead};
 ghost use Rattle.bx_journal.specs.Judging.{AllTold, IsBeyondAt, IsFit, IsRedoCounted, IsUnfitAt, IsUnfitFrom, IsUntoldAt, JudgeFault, RedoTextFault, RefusesRedo, redo_fault};
+ghost use Rattle.bx_journal.specs.Recovery.{HasUndoneCount};
 ghost use Rattle.bx_journal.specs.Redo.{IsRedoOf, IsRefusedAt};
 ghost use Rattle.bx_journal.specs.Opening.{FaultCounts};
 ghost use Rattle.bx_journal.specs.Parsed.{entries_of};
@@ -176,7 +177,7 @@ pub fn judge_redo<D: Device, A: Allocator + Clone>(
 ) -> Result<u32, SessionFault>
     requires countable { D.failures device.old < u64.MAX }
     requires few { changes ≤ 65535 }
-    ensures undone { D.honest device.old → IfOk result (λ n. (undone : List (List ℕ)) × IsRedoOf text.now (D.image device.old) changes undone × (n ≡ length undone)) }
+    ensures undone { D.honest device.old → IfOk result (HasUndoneCount text.now (D.image device.old) changes) }
     ensures sum { IfOk result (λ n. changes + n ≤ 65535) }
     ensures fault { IfErr result (JudgeFault (D.honest device.old) text.now (D.image device.old) changes) }
     ensures unfit { D.honest device.old → (line : ℕ) → IsRefusedAt text.now (D.image device.old) changes line → MatchResult result (λ _. ⊥) (RefusesRedo line) }

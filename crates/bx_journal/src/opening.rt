@@ -10,7 +10,10 @@ use bx_store::TextStore;
 use std::alloc::Allocator;
 
 impl<D: Device, T: TextStore, A: Allocator + Clone> Session<D, T, A> {
-    ghost use Rattle.bx_journal.specs.Session.{IsReady};
+    ghost use Rattle.bx_journal.specs.Images.{Images as Pictures};
+    ghost use Rattle.bx_journal.specs.Judging.{RefusesRedo};
+    ghost use Rattle.bx_journal.specs.Redo.{Finds, RefusesRedoAt, found_undone};
+    ghost use Rattle.bx_journal.specs.Session.{HasUndone, IsReady};
     ghost use Rattle.bx_journal.specs.Standing.{IsStanding};
     ghost use Rattle.bx_journal.specs.Calls.{AfterFault, Differs, OpenFault};
     ghost use Rattle.bx_journal.specs.Opening.{ThreeCounts, IsOpened, RefusesLength, RefusesText};
@@ -64,6 +67,26 @@ impl<D: Device, T: TextStore, A: Allocator + Clone> Session<D, T, A> {
         // Beside a finished journal the redo text stays, and stands for the undone images. What is unfinished empties it.
         ensures clean_redo { T.honest redo_text → IfOk result (λ o. o.1.how ≡ How.Clean → T.text o.0.redo_text ≡ T.text redo_text) }
         ensures emptied { T.honest redo_text → IfOk result (λ o. (o.1.how ≡ How.Clean → ⊥) → (T.text o.0.redo_text ≡ []) × (o.1.undone ≡ 0)) }
+        ensures undone { D.honest device → T.honest store → T.honest redo_text
+            → IfOk result (λ o. (undone : List (List ℕ)) × HasUndone D.image T.text o.0 undone) }
+
+        // A redo text is refused exactly where it isn't one of the image and of as many changes, and then at the one line.
+        ensures redo_refused { D.honest device → T.honest store → T.honest redo_text → IfErr result (λ e. (line : ℕ)
+            → e.3 ≡ SessionFault.RedoDamaged line → RefusesRedoAt (T.text store) (D.image device) (T.text redo_text) line) }
+        ensures redo_unfit { D.honest device → T.honest store → T.honest redo_text → (line : ℕ)
+            → RefusesRedoAt (T.text store) (D.image device) (T.text redo_text) line → MatchResult result (λ _. ⊥) (λ e. RefusesRedo line e.3) }
+
+        // From what an interruption left the undone images are kept, or given up where something is unfinished.
+        ensures keeps_undone { D.honest device → T.honest store → T.honest redo_text → (s : Pictures)
+            → Finds (T.text store) (D.image device) (T.text redo_text) s
+            → IfOk result (λ o. HasUndone D.image T.text o.0 (found_undone o.1.how s.undone)) }
+        ensures finds_err { D.honest device → T.honest store → T.honest redo_text → (s : Pictures)
+            → Finds (T.text store) (D.image device) (T.text redo_text) s
+            → IfErr result (λ e. AfterFault e.3 (Finds (T.text e.1) (D.image e.0) (T.text e.2) (record { stack = s.stack; undone = [] }))
+            (Finds (T.text e.1) (D.image e.0) (T.text e.2) s)) }
+        ensures redo_kept { D.honest device → T.honest store → T.honest redo_text → (s : Pictures)
+            → Finds (T.text store) (D.image device) (T.text redo_text) s
+            → IfErr result (λ e. (line : ℕ) → e.3 ≡ SessionFault.RedoDamaged line → ⊥) }
         ensures redo_same { T.honest redo_text → IfErr result (λ e. AfterFault e.3 (Unit {0}) (T.text e.2 ≡ T.text redo_text)) }
         ensures honesty { IfOk result (λ o. (D.honest o.0.device ↔ D.honest device) × (T.honest o.0.store ↔ T.honest store) × (T.honest o.0.redo_text ↔ T.honest redo_text)) }
         ensures honesty_err { IfErr result (λ e. (D.honest e.0 ↔ D.honest device) × (T.honest e.1 ↔ T.honest store) × (T.honest e.2 ↔ T.honest redo_text)) }

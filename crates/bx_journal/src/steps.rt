@@ -143,4 +143,3 @@ pub fn write_entry<D: Device, T: TextStore, A: Allocator>(
     change_with(device, redo_text, change, part)?;
     append_end(store, end)
 }
-

@@ -1,5 +1,5 @@
 //! Taking entries back: the newest, or some of them one after another.
-ghost use Rattle.std.specs.Prelude.{◌≡◌, ◌↔◌, ◌⊎◌, ◌+◌, ◌<◌, ◌≤◌, ◌==◌, [], ◌∷◌, List, ℕ, length, take, map, if◌then◌else◌, IfOk, OnOk, OnErr, is_err};
+ghost use Rattle.std.specs.Prelude.{◌≡◌, ◌↔◌, ◌⊎◌, ◌+◌, ◌<◌, ◌≤◌, [], ◌∷◌, List, ℕ, length, take, map, IfOk, OnOk, OnErr, is_err};
 ghost use Rattle.bx_image.specs.Change.{AllWithin, restore};
 ghost use Rattle.bx_image.specs.Device.{GoesOn};
 ghost use Rattle.bx_journal.specs.Kept.{run_of, kept_of};
@@ -110,8 +110,10 @@ pub fn undo_entries<D: Device, T: TextStore, A: Allocator>(
     ensures fault { D.honest device.old → T.honest store.old → (stack : List (List ℕ)) → IsAtRest (T.text store.old) (D.image device.old) stack
         → OnErr result ((j : ℕ) × (j ≤ k) × Recovers (T.text store.new) (D.image device.new) (drop j stack)) }
     ensures none { k ≡ 0 → (device.new ≡ device.old) × (redo_text.new ≡ redo_text.old) }
+    ensures none_undone { k ≡ 0 → IfOk result (λ n. n ≡ undone) }
     ensures emptied { T.honest redo_text.old → 1 ≤ k → OnOk result (T.text redo_text.new ≡ []) }
-    ensures undone { IfOk result (λ n. n ≡ (if k == 0 then undone else 0)) }
+    ensures cleared { 1 ≤ k → IfOk result (λ n. n ≡ 0) }
+    ensures at_most { IfOk result (λ n. n ≤ undone) }
     ensures finds { D.honest device.old → T.honest store.old → T.honest redo_text.old → (s : Pictures) → AreAtRest (T.text store.old) (D.image device.old) (T.text redo_text.old) s
         → OnErr result ((i : ℕ) × (i ≤ k) × Finds (T.text store.new) (D.image device.new) (T.text redo_text.new) (undo_alone i s)) }
     ensures device_honesty { D.honest device.new ↔ D.honest device.old }

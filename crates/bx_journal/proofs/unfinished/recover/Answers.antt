@@ -78,7 +78,7 @@ returns-in-Unfinished-clause-keeps_undone g c dh th rh s finds =
 
 store_text : {S T E : Type 0} → (Q : Type 0) (text : S → List ℕ) (o : Result T E) (new mid old : S) → text mid ≡ text old → OnErr o ((new ≡ mid) ⊎ Q) → OnErr o ((text new ≡ text old) ⊎ Q)
 store_text Q text (Ok v) new mid old same h = tt
-store_text Q text (Err e) new mid old same h = elim h [ | inl is ↦ inl (ap text is ∙ same) | inr q ↦ inr q ]
+store_text Q text (Err e) new mid old same h = elim h [ inl is ↦ inl (ap text is ∙ same) | inr q ↦ inr q ]
 
 pub returns-in-Unfinished-clause-finds_err : goal.returns-in-Unfinished-clause-finds_err
 returns-in-Unfinished-clause-finds_err g c dh th rh s finds =

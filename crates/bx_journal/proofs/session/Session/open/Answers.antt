@@ -16,3 +16,13 @@ returns-in-Ok-clause-keeps g c dh th stack rec =
 pub returns-in-Err-clause-lengths_kept : goal.returns-in-Err-clause-lengths_kept
 returns-in-Err-clause-lengths_kept g c dh th stack rec n is =
     recovers_same (g.T.TextStore.text c.args.store) (g.D.Device.image c.args.device) stack c.in-Err.fault n rec (c.in-Err.ensures.faults dh th rec.reading rec.reads) is
+
+pub returns-in-Ok-clause-undone : goal.returns-in-Ok-clause-undone
+returns-in-Ok-clause-undone g c dh th rh =
+    let found = c.in-Ok.ensures.undone dh th rh in
+    (found.0, record { redo = found.1; counted = found.2 })
+
+pub returns-in-Ok-clause-keeps_undone : goal.returns-in-Ok-clause-keeps_undone
+returns-in-Ok-clause-keeps_undone g c dh th rh s finds =
+    let found = c.in-Ok.ensures.keeps_undone dh th rh s finds in
+    record { redo = found.0; counted = found.1 }

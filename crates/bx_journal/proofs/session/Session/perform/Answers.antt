@@ -1,11 +1,15 @@
-use Rattle.std.proofs.Common.{◌≡◌, ℕ, suc, ◌+◌, List, ◌∷◌, ◌++◌, length, refl, ap, sym, ◌∙◌, subst, arith, append_assoc}
+use Rattle.std.proofs.Common.{◌≡◌, ◌⊎◌, ◌≤◌, ℕ, suc, ◌+◌, List, [], ◌∷◌, ◌++◌, length, refl, ap, sym, ◌∙◌, subst, arith, append_assoc}
 use Rattle.bx_image.specs.declared.change.TheConstants.{MAX_LEN}
 use Rattle.bx_journal.specs.Kept.{kept_of}
 use Rattle.bx_image.specs.Change.{effect, saved, IsAsGood, Fits}
 use Rattle.bx_journal.specs.Entry.{head_text, end_text}
-use Rattle.bx_journal.specs.Machine.{top}
+use Rattle.bx_journal.specs.Machine.{changes_of, top}
 use Rattle.bx_journal.specs.Phase.{IsAtRest, RecoversEither}
+use Rattle.bx_journal.specs.Images.{change_to}
+use Rattle.bx_journal.specs.Redo.{Finds, IsRedoOf}
 use Rattle.bx_journal.specs.Stack.{StandsFor}
+use Rattle.bx_journal.proofs.RedoText.{empty_is_redo}
+use Rattle.bx_journal.proofs.TurnLemmas.{change_stops}
 use Rattle.bx_journal.proofs.Performed.{performs, top_of_stands}
 use Rattle.bx_journal.specs.Step.{WritesEntry}
 use Rattle.bx_journal.proofs.Ready.{IsPrepared, writes_entry, top_of_rest}
@@ -122,3 +126,35 @@ returns-clause-fault g c =
     let b = (goal.at.returns-clause-fault g c).After-write_entry in
     subst (λ z. RecoversEither (g.T.TextStore.text c.write_entry.new.store) (g.D.Device.image c.write_entry.new.device) stack (z ∷ stack)) (pushed g b dh stack ready.rest)
     (c.in-Err.ensures.fault (device_honest g b dh) (store_honest g b th) stack (writes g b dh th stack ready.rest ready.count)))
+
+pub returns-in-Ok-clause-undone : goal.returns-in-Ok-clause-undone
+returns-in-Ok-clause-undone g c =
+    rw (← c.self.view_is) (λ rh.
+    let none : g.T.TextStore.text c.write_entry.new.redo_text ≡ [] = c.in-Ok.ensures.redo rh in
+    let y : List ℕ = g.D.Device.image c.write_entry.new.device in
+    record {
+      redo = subst (λ t. IsRedoOf t y (c.self.inside.count + 1) []) (sym none) (empty_is_redo y (c.self.inside.count + 1) (omega arith));
+      counted = refl;
+    })
+
+pub returns-clause-finds : goal.returns-clause-finds
+unfolding x
+returns-clause-finds g c =
+    rw (← c.self.view_is) (λ dh th rh s ready undone.
+    let b = (goal.at.returns-clause-finds g c).After-write_entry in
+    let stack : List (List ℕ) = s.stack in
+    let redo : List ℕ = g.T.TextStore.text c.self.inside.redo_text in
+    let text : List ℕ = g.T.TextStore.text c.prepare_change.new.store in
+    let x : List ℕ = g.D.Device.image c.prepare_change.new.device in
+    let new : List ℕ = g.T.TextStore.text c.write_entry.new.store in
+    let x_new : List ℕ = g.D.Device.image c.write_entry.new.device in
+    let redo_new : List ℕ = g.T.TextStore.text c.write_entry.new.redo_text in
+    let rest : IsAtRest text x stack =
+    subst (λ t. IsAtRest t x stack) (sym (text_same g b th)) (subst (λ z. IsAtRest (g.T.TextStore.text c.self.inside.store) z stack) (sym (image_same g b dh)) ready.rest) in
+    let counted : c.self.inside.count ≡ changes_of stack = omega (arith, ready.count) in
+    let kept : IsRedoOf redo x (changes_of stack) s.undone =
+    subst (λ n. IsRedoOf redo x n s.undone) counted (subst (λ z. IsRedoOf redo z c.self.inside.count s.undone) (sym (image_same g b dh)) undone.redo) in
+    let few : length stack ≤ 65535 = omega (arith, ready.count) in
+    let found = change_stops text x redo new x_new redo_new (effect c.args.change.now x) s (record { rest = rest; undone = kept }) few
+    (c.in-Err.ensures.left (device_honest g b dh) (store_honest g b th) rh stack (writes g b dh th stack ready.rest ready.count)) in
+    subst (λ y. Finds new x_new redo_new s ⊎ Finds new x_new redo_new (change_to y s)) (pushed g b dh stack ready.rest) found)

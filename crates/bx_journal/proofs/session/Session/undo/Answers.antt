@@ -1,7 +1,10 @@
 use Rattle.std.proofs.Common.{◌≡◌, ℕ, suc, Some, List, length, drop, refl, ap, sym, ◌∙◌, subst, arith, length-drop}
 use Rattle.std.proofs.lemmas.Grind.{common_steps}
 use Rattle.bx_journal.specs.declared.fault.SessionFault.TheVariants.{Damaged}
+use Rattle.bx_journal.specs.Machine.{changes_of}
 use Rattle.bx_journal.specs.Phase.{IsAtRest}
+use Rattle.bx_journal.specs.Redo.{IsRedoOf}
+use Rattle.bx_journal.proofs.AloneLemmas.{alone_keeps}
 use Rattle.bx_journal.specs.Parsed.{entries_of}
 use Rattle.bx_journal.specs.Stack.{StandsFor}
 use Rattle.bx_journal.specs.Text.{Entry, Between, Reading}
@@ -102,3 +105,30 @@ returns-clause-fault g c =
     let rest : IsAtRest (g.T.TextStore.text c.make_room.new.store) (g.D.Device.image c.make_room.new.device) stack =
     subst (λ t. IsAtRest t (g.D.Device.image c.make_room.new.device) stack) (sym text) (subst (λ x. IsAtRest (g.T.TextStore.text c.self.inside.store) x stack) (sym image) ready.rest) in
     c.in-Err.ensures.fault (c.make_room.ensures.device_honesty.1 dh) (c.make_room.ensures.store_honesty.1 (c.read_again.ensures.honesty.1 th)) stack rest)
+
+pub returns-in-Ok-clause-undone : goal.returns-in-Ok-clause-undone
+returns-in-Ok-clause-undone g c =
+    rw (← c.self.view_is) (λ dh th rh s standing has.
+    let x : List ℕ = g.D.Device.image c.self.inside.device in
+    let y : List ℕ = g.D.Device.image c.undo_entries.new.device in
+    let redo : List ℕ = g.T.TextStore.text c.self.inside.redo_text in
+    let redo_new : List ℕ = g.T.TextStore.text c.undo_entries.new.redo_text in
+    let image : g.D.Device.image c.make_room.new.device ≡ x = c.make_room.ensures.image dh in
+    let same : c.args.k ≡ 0 → (y ≡ x) × (redo_new ≡ redo) =
+    λ none. let both = c.in-Ok.ensures.none none in (ap g.D.Device.image both.0 ∙ image, ap g.T.TextStore.text both.1) in
+    let kept = alone_keeps redo x redo_new y s c.args.k c.self.inside.count c.count_left-self-inside.result c.self.inside.undone c.in-Ok.undone c.count_left-self-inside.ensures has.redo has.counted same (c.in-Ok.ensures.emptied rh) c.in-Ok.ensures.none_undone c.in-Ok.ensures.cleared in
+    record { redo = kept.0; counted = kept.1 })
+
+pub returns-clause-finds : goal.returns-clause-finds
+returns-clause-finds g c =
+    rw (← c.self.view_is) (λ dh th rh s ready has.
+    let x : List ℕ = g.D.Device.image c.make_room.new.device in
+    let redo : List ℕ = g.T.TextStore.text c.self.inside.redo_text in
+    let image : x ≡ g.D.Device.image c.self.inside.device = c.make_room.ensures.image dh in
+    let text : g.T.TextStore.text c.make_room.new.store ≡ g.T.TextStore.text c.self.inside.store = c.make_room.ensures.text (c.read_again.ensures.honesty.1 th) ∙ c.read_again.ensures.text th in
+    let rest : IsAtRest (g.T.TextStore.text c.make_room.new.store) x s.stack =
+    subst (λ t. IsAtRest t x s.stack) (sym text) (subst (λ z. IsAtRest (g.T.TextStore.text c.self.inside.store) z s.stack) (sym image) ready.rest) in
+    let counted : c.self.inside.count ≡ changes_of s.stack = omega (arith, ready.count) in
+    let kept : IsRedoOf redo x (changes_of s.stack) s.undone =
+    subst (λ n. IsRedoOf redo x n s.undone) counted (subst (λ z. IsRedoOf redo z c.self.inside.count s.undone) (sym image) has.redo) in
+    c.in-Err.ensures.finds (c.make_room.ensures.device_honesty.1 dh) (c.make_room.ensures.store_honesty.1 (c.read_again.ensures.honesty.1 th)) rh s (record { rest = rest; undone = kept }))
