@@ -1,5 +1,5 @@
 -- Commands that are refused before the session is called, and commands that the session answers, obey their steps.
-use Rattle.std.proofs.Common.{◌≡◌, ◌↔◌, ◌≤◌, ◌<◌, ◌+◌, ℕ, true, false, Option, Some, None, Result, Ok, Err, List, ◌∷◌, drop, length, refl, ap, subst, arith}
+use Rattle.std.proofs.Common.{◌≡◌, ◌↔◌, ◌≤◌, ◌<◌, ℕ, true, false, Option, Ok, Err, List, ◌∷◌, drop, length, refl, ap, subst, arith}
 use Rattle.std.specs.Result.{IsErrOf}
 use Rattle.bx_dd.specs.declared.counts.Counts.{Counts}
 use Rattle.bx_dd.specs.declared.fault.DdFault.{DdFault}
@@ -18,7 +18,6 @@ use Rattle.bx_journal.specs.declared.fault.SessionFault.{SessionFault}
 use Rattle.bx_journal.specs.declared.fault.SessionFault.TheVariants.{Damaged, TooFew, TooLarge, JournalFull, Interrupted, Broken}
 use Rattle.bx_read.specs.declared.fault.ReadFault.{ReadFault}
 use Rattle.bx_read.specs.declared.fault.ReadFault.TheVariants as read
-use Rattle.bx_cli.specs.declared.changes.DdChange.{DdChange}
 use Rattle.bx_cli.specs.declared.command.Reply.{Reply}
 use Rattle.bx_cli.specs.declared.command.Reply.TheVariants.{Refused, Undone}
 use Rattle.bx_cli.specs.declared.fault.Fault.{Fault}
