@@ -1,5 +1,5 @@
 //! Sessions: the one place that knows how many devices they have, how these are made, and how they are opened.
-ghost use Rattle.std.specs.Prelude.{◌≡◌, ◌<◌, IfOk, IfSome, false};
+ghost use Rattle.std.specs.Prelude.{IfOk, IfSome};
 ghost use Rattle.bx_cli.specs.Command.{IsNear};
 
 use crate::outcome::{Wrong, differs, fault_text};
@@ -153,11 +153,14 @@ pub fn held_fused(alloc: Global, devices: FusedDevices) -> Result<Held, Wrong> {
     )
 }
 
-/// Whether any of them failed too often.
-fn is_worn<D: Device, T: TextStore>(devices: &Devices<D, T>) -> bool
-    ensures { result ≡ false → (D.failures devices.now.image < u64.MAX) × (T.failures devices.now.journal < u64.MAX) × (T.failures devices.now.redo < u64.MAX) }
-{
-    devices.image.faults() > MANY || devices.journal.faults() > MANY || devices.redo.faults() > MANY
+/// Devices, and the fault for which they are handed back.
+fn handed_back<D, T>(image: D, journal: T, redo: T, fault: Fault) -> (Devices<D, T>, Fault) {
+    let devices = Devices {
+        image,
+        journal,
+        redo,
+    };
+    (devices, fault)
 }
 
 /// Opens a session, or hands the devices back.
@@ -165,24 +168,25 @@ pub fn open<D: Device, T: TextStore, A: Allocator + Clone>(
     alloc: A,
     devices: Devices<D, T>,
 ) -> Result<(Session<D, T, A>, Opening), (Devices<D, T>, Fault)> {
-    if is_worn(&devices) {
-        return Err((devices, Fault::DeviceFailed));
-    }
     let Devices {
         image,
         journal,
         redo,
     } = devices;
+    if image.faults() > MANY {
+        return Err(handed_back(image, journal, redo, Fault::DeviceFailed));
+    }
+    if journal.faults() > MANY {
+        return Err(handed_back(image, journal, redo, Fault::DeviceFailed));
+    }
+    if redo.faults() > MANY {
+        return Err(handed_back(image, journal, redo, Fault::DeviceFailed));
+    }
     match Session::open(alloc, image, journal, redo) {
         Ok((session, found)) => Ok((session, opening_of(found))),
-        Err((image, journal, redo, fault)) => Err((
-            Devices {
-                image,
-                journal,
-                redo,
-            },
-            Fault::from(fault),
-        )),
+        Err((image, journal, redo, fault)) => {
+            Err(handed_back(image, journal, redo, Fault::from(fault)))
+        }
     }
 }
 

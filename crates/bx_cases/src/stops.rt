@@ -396,13 +396,14 @@ fn first_of(alloc: Global, case: &CommandsCase) -> Result<First, Wrong> {
 }
 
 /// One run of a case on devices of which one fails, and what it leaves opened again. Tells how often it was stopped: never
-/// where no call failed, and else once; where there is a list of what was seen, also how often its openings were.
+/// where no call failed, and else once; with openings also how often these were.
 fn one_stop(
     alloc: Global,
     case: &CommandsCase,
     first: &First,
     fused: Fused,
-    seen: Option<&mut Vec<Held>>,
+    with_openings: bool,
+    seen: &mut Vec<Held>,
 ) -> Result<u32, Wrong> {
     let stack = stack_of(alloc, first.images.as_slice())?;
     let changes = stack.len().saturating_sub(1);
@@ -422,10 +423,10 @@ fn one_stop(
     if follower.course == Course::Whole {
         return Ok(0);
     }
-    match seen {
-        Some(seen) => Ok(openings(alloc, left, expected, seen)?.saturating_add(1)),
-        None => Ok(1),
+    if with_openings {
+        return Ok(openings(alloc, left, expected, seen)?.saturating_add(1));
     }
+    Ok(1)
 }
 
 /// Stops a case at each call of each device, and with openings also the opening of what is left. Tells how often.
@@ -438,8 +439,8 @@ pub fn play_stops(alloc: Global, case: &CommandsCase, with_openings: bool) -> Re
     let mut stops = 0u32;
     for kind in 0..KINDS {
         for pass in 0..MOST_CALLS {
-            let seen = with_openings.then_some(&mut seen);
-            match one_stop(alloc, case, &first, fused(kind, pass), seen) {
+            let fused = fused(kind, pass);
+            match one_stop(alloc, case, &first, fused, with_openings, &mut seen) {
                 Ok(0) => break,
                 Ok(more) => stops = stops.saturating_add(more),
                 Err(wrong) => return Err(at(kind * 100_000 + pass as u32, wrong)),

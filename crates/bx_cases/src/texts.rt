@@ -143,5 +143,6 @@ fn stopped(alloc: Global, case: &TextCase) -> Result<u32, Wrong> {
         undone,
     };
     let left = held_of(alloc, &in_memory(alloc, texts_of(case))?)?;
-    openings(alloc, left, expected, &mut Vec::new(alloc))
+    let mut seen = Vec::new(alloc);
+    openings(alloc, left, expected, &mut seen)
 }
