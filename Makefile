@@ -1,17 +1,23 @@
-# make: builds ./bx (its proof comes first) · make test: proves and tests everything
+# make: builds ./bx (its proof comes first) · make look: a first look, unproved · make test: proves and tests everything
 PREFIX ?= /usr/local
 man = $(DESTDIR)$(PREFIX)/share/man/man1
 bash = $(DESTDIR)$(PREFIX)/share/bash-completion/completions
 fish = $(DESTDIR)$(PREFIX)/share/fish/vendor_completions.d
 zsh = $(DESTDIR)$(PREFIX)/share/zsh/$(if $(filter /usr,$(PREFIX)),vendor-completions,site-functions)
-.PHONY: all test install uninstall tour check-docs compare hostile bench clean
+.PHONY: all look test install uninstall package tour check-docs compare record hostile bench clean
 
 all: bx
 
 bx: FORCE
+	scripts/prove.sh
 	cd crates/bx && rt run -- --help > /dev/null
 	cp crates/bx/out/bx bx
 FORCE:
+
+# The program as it runs before any proof, on this README.
+look:
+	@echo 'bx, not proved: what it would do, after a minute or two of compiling'
+	cd crates/bx && rt try --data README.md=../../README.md -- xxd -l 64 README.md
 
 test:
 	rt ci
@@ -26,19 +32,29 @@ install: all
 uninstall:
 	rm -f $(DESTDIR)$(PREFIX)/bin/bx $(man)/bx.1 $(bash)/bx $(zsh)/_bx $(fish)/bx.fish
 
+# A Debian package, in the folder package.
+package: all
+	scripts/package.sh bx package
+
 # What follows is run by hand and is no part of the gate.
 
-# The commands of README.md, and what they write.
+# The commands of README.md and of the recipes, and what they write.
 tour: all
 	scripts/tour.py --bx ./bx
+	scripts/tour.py --bx ./bx docs/RECIPES.md
 
 # The options of bx beside those of its help, man page, completions and README.md.
 check-docs: all
 	scripts/check-options.py --bx ./bx
+	scripts/believe.py
 
 # The real tools beside bx, on random inputs and options.
 compare: all
 	scripts/compare.py --bx ./bx
+
+# The files of crates/bx_cases/data that hold what the real tools do, written again.
+record:
+	scripts/record-cases.py
 
 # Bad texts, full devices, closed pipes and streams, what is no file, two programs at once, loop devices (as root), and each
 # memory request, read and write failing in turn.
@@ -49,4 +65,4 @@ bench: all
 	bench/run.sh
 
 clean:
-	rm -rf bx bench/out crates/*/out
+	rm -rf bx package bench/out crates/*/out

@@ -1,5 +1,5 @@
 -- What dd makes of an input, from what its parts answer.
-use Rattle.std.proofs.Common.{◌≡◌, ◌^◌, inl, inr, ℕ, Option, None, Some, Result, Ok, Err, IfOk, IfErr, List, [], refl, sym, subst}
+use Rattle.std.proofs.Common.{◌≡◌, ◌^◌, ◌∙◌, inl, inr, ℕ, Option, None, Some, Result, Ok, Err, IfOk, IfErr, List, [], refl, sym, subst, arith}
 use Rattle.std.specs.Prelude.{IfSome, IsOkUnless}
 use Rattle.bx_text.proofs.KnownLemmas.{Consumes-nil}
 use Rattle.bx_dd.specs.declared.fault.DdFault.{DdFault}
@@ -14,7 +14,7 @@ use Rattle.bx_cli.specs.declared.changes.DdChange.{DdChange}
 
 -- want of memory before anything was read
 pub stops_at_once : (fault : Option DdFault) (old : Option (List ℕ)) (e : DdFault) → e ≡ NoMemory → StopsCopy fault old old e
-stops_at_once None old e is = stopped_memory old old [] (2 ^ 40) e (Consumes-nil old) is
+stops_at_once None old e is = stopped_memory old old [] (2 ^ 40) e (Consumes-nil old) (omega arith) is
 stops_at_once (Some fault) old e is = (inr is, refl)
 
 -- the operands were refused

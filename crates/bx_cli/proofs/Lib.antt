@@ -2,6 +2,7 @@ pub mod Moves
 pub mod Steps
 pub mod Runs
 pub mod Unfailed
+pub mod GivesBack
 pub mod Stands
 pub mod Refusals
 pub mod Obeys

@@ -78,7 +78,7 @@ step_up {A = A} remaining old (RevertPlain text at) reply after unfailed step = 
 step_up remaining old (Dd operands input) reply after unfailed step = dd_up old step.1.0 reply after unfailed step.1.1.1
 step_up remaining old (Undo k) reply after unfailed step = undo_up old k step.0 after (told reply (undone step.0) step.1 unfailed) step.2
 
-all_tail : {X : Type 0} (P : X → Type 0) (x : X) (xs : List X) → All P (x ∷ xs) → All P xs
+pub all_tail : {X : Type 0} (P : X → Type 0) (x : X) (xs : List X) → All P (x ∷ xs) → All P xs
 all_tail P x xs all k d within = all (suc k) d (omega arith)
 
 abbrev Ends : {R A : Type 0} → (R → Option (List ℕ)) → List (List ℕ) → List (Command R A) → List Reply → Standing → Type 0

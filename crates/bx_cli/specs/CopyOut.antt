@@ -6,7 +6,7 @@ use Rattle.bx_text.specs.Writing.{WritesFront}
 use Rattle.bx_dd.specs.declared.counts.Counts.{Counts}
 use Rattle.bx_dd.specs.declared.fault.DdFault.{DdFault}
 use Rattle.bx_dd.specs.declared.plan.Plan.{Plan}
-use Rattle.bx_dd.specs.Transfer.{HasStopped, IsReadOut, IsWithin, counts_by, output_of}
+use Rattle.bx_dd.specs.Transfer.{HasStopped, IsReadOut, IsWithin, ReadsWithin, counts_by, output_of}
 use Rattle.bx_cli.specs.declared.fault.Fault.{Fault}
 use Rattle.bx_cli.specs.declared.fault.Fault.TheVariants.{SeekWithoutOutput}
 use Rattle.bx_cli.specs.Fault.{of_dd, of_io}
@@ -23,10 +23,10 @@ abbrev pub CopiesOut : {A : Type 0} → Plan A → Option (List ℕ) → Option 
 CopiesOut plan r0 r1 w0 w1 counts =
     (plan.seek ≡ 0) × ((input : List ℕ) × ReadsOut plan r0 r1 input × Appends w0 w1 (output_of plan input) × (counts ≡ counts_by plan input))
 
--- Why it stopped: the plan seeks, and nothing was read or written; the input had a fault, and nothing was written; or a
--- front alone was written
+-- Why it stopped: the plan seeks, and nothing was read or written; the input had a fault, no more of it was read than skip
+-- and count ask for, and nothing was written; or a front alone was written
 abbrev pub StopsOut : {A : Type 0} → Plan A → Option (List ℕ) → Option (List ℕ) → Option (List ℕ) → Option (List ℕ) → Fault → Type 0
 StopsOut plan r0 r1 w0 w1 e =
     ((0 < plan.seek) × (e ≡ SeekWithoutOutput) × (r1 ≡ r0) × (w1 ≡ w0))
-    ⊎ ((plan.seek ≡ 0) × (w1 ≡ w0) × ((f : DdFault) × (e ≡ of_dd f) × HasStopped r0 r1 (2 ^ 40) f))
+    ⊎ ((plan.seek ≡ 0) × (w1 ≡ w0) × ReadsWithin plan r0 r1 × ((f : DdFault) × (e ≡ of_dd f) × HasStopped r0 r1 (2 ^ 40) f))
     ⊎ ((plan.seek ≡ 0) × ((input : List ℕ) × ReadsOut plan r0 r1 input × ((f : IoFault) × (e ≡ of_io f) × WritesFront 0 w0 w1 (output_of plan input) f)))

@@ -71,11 +71,11 @@ StopsDd (Some image) plan r0 r1 w0 w1 e = IsNoDump r0 r1 w0 w1 e
 
 -- what a fault leaves: a front of the text of what was read was written
 abbrev pub StopsJob : Job → Option (List ℕ) → Option (List ℕ) → Option (List ℕ) → Option (List ℕ) → Fault → Type 0
-StopsJob (Xxd job) r0 r1 w0 w1 e = Stops (λ f. (o : XxdOptions) × AreOptionsOf job o × WritesFrontOf (xxd_text o) 0 0 r0 r1 w0 w1 f) e
+StopsJob (Xxd job) r0 r1 w0 w1 e = Stops (λ f. (o : XxdOptions) × AreOptionsOf job o × WritesFrontOf (xxd_text o) o.seek o.limit 0 0 r0 r1 w0 w1 f) e
 StopsJob (Hexdump job) r0 r1 w0 w1 e =
-    Stops (WritesFrontOf (λ input. hexdump_text job.all job.skip (part_of job.skip job.limit input)) 0 0 r0 r1 w0 w1) e
+    Stops (WritesFrontOf (λ input. hexdump_text job.all job.skip (part_of job.skip job.limit input)) job.skip job.limit 0 0 r0 r1 w0 w1) e
 StopsJob (Od job) r0 r1 w0 w1 e =
-    Stops (StopsOd (λ input. od_text job.address job.kind job.all job.skip (part_of job.skip job.limit input)) job.skip r0 r1 w0 w1) e
+    Stops (StopsOd (λ input. od_text job.address job.kind job.all job.skip (part_of job.skip job.limit input)) job.skip job.limit r0 r1 w0 w1) e
 StopsJob (Strings job) r0 r1 w0 w1 e = Stops (DumpsFront (strings_text job.least job.offsets) r0 r1 w0 w1) e
 StopsJob (Dd job) r0 r1 w0 w1 e = StopsDd job.plan.output job.plan r0 r1 w0 w1 e
 StopsJob (Revert job) r0 r1 w0 w1 e = IsNoDump r0 r1 w0 w1 e

@@ -1,9 +1,12 @@
 -- Laws of runs.
-use Rattle.std.specs.Prelude.{◌≡◌, ℕ, List, ◌++◌, Option, All}
+use Rattle.std.specs.Prelude.{◌≡◌, ℕ, List, ◌++◌, length, Option, All}
+use Rattle.bx_journal.specs.Machine.{changes_of}
 use Rattle.bx_cli.specs.declared.command.Command.{Command}
+use Rattle.bx_cli.specs.declared.command.Command.TheVariants.{Undo}
 use Rattle.bx_cli.specs.declared.command.Reply.{Reply}
+use Rattle.bx_cli.specs.declared.command.Reply.TheVariants.{Changed, Copied, Undone, Refused}
 use Rattle.bx_cli.specs.Standing.{Standing}
-use Rattle.bx_cli.specs.Run.{CommandRun, StackRun, Unfailed}
+use Rattle.bx_cli.specs.Run.{CommandRun, StackRun, StackStep, Unfailed}
 
 -- the runs of two lists, one from where the other ends, are a run of both
 abbrev pub RunsJoin : (R A : Type 0) → (R → Option (List ℕ)) → Type 0
@@ -15,3 +18,17 @@ abbrev pub UnfailedRuns : (R A : Type 0) → (R → Option (List ℕ)) → Type 
 UnfailedRuns R A remaining = (start : List (List ℕ)) (after : Standing) (list : List (Command R A)) (replies : List Reply)
     → CommandRun remaining (Standing.Up start) list replies after → All Unfailed replies
     → (top : List (List ℕ)) × (after ≡ Standing.Up top) × StackRun remaining start list replies top
+
+-- the reply says that a change was made
+abbrev pub IsMade : Reply → Type 0
+IsMade (Changed n) = Unit {0}
+IsMade (Copied n counts) = Unit {0}
+IsMade (Undone left) = ⊥
+IsMade (Refused e) = ⊥
+
+-- behind changes that were all made, an undo of as many that is made leads back to the first stack, so to its image
+abbrev pub UndoGivesBack : (R A : Type 0) → (R → Option (List ℕ)) → Type 0
+UndoGivesBack R A remaining = (start changed after : List (List ℕ)) (list : List (Command R A)) (replies : List Reply) (left : ℕ)
+    → StackRun remaining start list replies changed → All IsMade replies
+    → StackStep {R = R} {A = A} remaining changed (Undo (length list)) (Undone left) after
+    → (after ≡ start) × (left ≡ changes_of start)

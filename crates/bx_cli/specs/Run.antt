@@ -31,6 +31,7 @@ abbrev pub changed : Option Counts → Result ℕ SessionFault → Reply
 changed counts (Ok n) = made_reply counts n
 changed counts (Err e) = Refused (of_session e)
 
+-- the reply to an undo
 abbrev pub undone : Result ℕ SessionFault → Reply
 undone (Ok n) = Undone n
 undone (Err e) = Refused (of_session e)
@@ -39,6 +40,7 @@ undone (Err e) = Refused (of_session e)
 abbrev pub ChangeStep : {A : Type 0} → Standing → Change A → Option Counts → Reply → Standing → Type 0
 ChangeStep before c counts reply after = (r : Result ℕ SessionFault) × (reply ≡ changed counts r) × PerformFrom before c r after
 
+-- an undo, and the reply to it
 abbrev pub UndoesStep : Standing → ℕ → Reply → Standing → Type 0
 UndoesStep before k reply after = (r : Result ℕ SessionFault) × (reply ≡ undone r) × UndoFrom before k r after
 
@@ -97,6 +99,7 @@ Unfailed p = HasFailed p → ⊥
 abbrev pub StackStep : {R A : Type 0} → (R → Option (List ℕ)) → List (List ℕ) → Command R A → Reply → List (List ℕ) → Type 0
 StackStep remaining before c reply after = CommandStep remaining (Standing.Up before) c reply (Standing.Up after) × Unfailed reply
 
+-- a list of commands from stack to stack: one reply each, in order; it goes on after a refusal
 abbrev pub StackRun : {R A : Type 0} → (R → Option (List ℕ)) → List (List ℕ) → List (Command R A) → List Reply → List (List ℕ) → Type 0
 StackRun remaining before [] [] after = after ≡ before
 StackRun remaining before [] (p ∷ replies) after = ⊥

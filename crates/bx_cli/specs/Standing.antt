@@ -14,6 +14,7 @@ pub data Standing : Type 0 where
   Up : List (List ℕ) → Standing
   Down : List (List ℕ) → Standing
 
+-- the session goes on and its pair is at rest for the stack, or it is broken and opening finds the stack
 abbrev pub StandsAt : {D T : Type 0} → (D → List ℕ) → (T → List ℕ) → SessionView D T → Standing → Type 0
 StandsAt image text s (Up stack) = IsReady image text s stack
 StandsAt image text s (Down stack) = (s.is_broken ≡ true) × Recovers (text s.store) (image s.device) stack

@@ -94,7 +94,7 @@ fn run_xxd<R: Read, W: Write>(job: &XxdJob, r: &mut R, w: &mut W) -> Result<u64,
     ensures ok { IfOk result (λ n. (o : XxdOptions) × AreOptionsOf job.now o
         × ((written : ℕ) × WritesPart (xxd_text o) o.seek o.limit (R.remaining r.old) (R.remaining r.new) (W.contents w.old) (W.contents w.new) n written)) }
     ensures err { IfErr result (λ e. (o : XxdOptions) × AreOptionsOf job.now o
-        × WritesFrontOf (xxd_text o) 0 0 (R.remaining r.old) (R.remaining r.new) (W.contents w.old) (W.contents w.new) e) }
+        × WritesFrontOf (xxd_text o) o.seek o.limit 0 0 (R.remaining r.old) (R.remaining r.new) (W.contents w.old) (W.contents w.new) e) }
 {
     let options = xxd_options(job);
     xxd(r, w, &options)
@@ -102,7 +102,7 @@ fn run_xxd<R: Read, W: Write>(job: &XxdJob, r: &mut R, w: &mut W) -> Result<u64,
 
 /// Writes the lines and the end of `hexdump -C`.
 fn run_hexdump<R: Read, W: Write>(job: &HexdumpJob, r: &mut R, w: &mut W) -> Result<u64, IoFault>
-    ensures err { IfErr result (WritesFrontOf (λ input. hexdump_text job.now.all job.now.skip (part_of job.now.skip job.now.limit input)) 0 0 (R.remaining r.old) (R.remaining r.new) (W.contents w.old) (W.contents w.new)) }
+    ensures err { IfErr result (WritesFrontOf (λ input. hexdump_text job.now.all job.now.skip (part_of job.now.skip job.now.limit input)) job.now.skip job.now.limit 0 0 (R.remaining r.old) (R.remaining r.new) (W.contents w.old) (W.contents w.new)) }
     ensures ok { IfOk result (DumpsHexdump job.now (R.remaining r.old) (R.remaining r.new) (W.contents w.old) (W.contents w.new)) }
 {
     let options = HexdumpOptions {
@@ -115,7 +115,7 @@ fn run_hexdump<R: Read, W: Write>(job: &HexdumpJob, r: &mut R, w: &mut W) -> Res
 
 /// Writes the lines and the end of `od`.
 fn run_od<R: Read, W: Write>(job: &OdJob, r: &mut R, w: &mut W) -> Result<u64, IoFault>
-    ensures err { IfErr result (StopsOd (λ input. od_text job.now.address job.now.kind job.now.all job.now.skip (part_of job.now.skip job.now.limit input)) job.now.skip (R.remaining r.old) (R.remaining r.new) (W.contents w.old) (W.contents w.new)) }
+    ensures err { IfErr result (StopsOd (λ input. od_text job.now.address job.now.kind job.now.all job.now.skip (part_of job.now.skip job.now.limit input)) job.now.skip job.now.limit (R.remaining r.old) (R.remaining r.new) (W.contents w.old) (W.contents w.new)) }
     ensures ok { IfOk result (DumpsOd job.now (R.remaining r.old) (R.remaining r.new) (W.contents w.old) (W.contents w.new)) }
 {
     let options = OdOptions {

@@ -1,9 +1,15 @@
 //! Laws of commands and dumps, over their definitions alone.
-ghost use Rattle.bx_cli.specs.Laws.{RunsJoin, UnfailedRuns};
+ghost use Rattle.bx_cli.specs.Laws.{RunsJoin, UnfailedRuns, UndoGivesBack};
 ghost use Rattle.bx_cli.specs.XxdLaws.{NormalTextReadsBack, NormalTextReverts};
 
 use std::alloc::Allocator;
 use std::io::Read;
+
+/// Undo is exact: behind k changes that were made, one after the other, an undo of k that is made leads back to the stack
+/// of whole images before them, so to the same image, its bytes and its length.
+pub fn undo_gives_back<R: Read, A: Allocator>()
+    ensures { UndoGivesBack R A R.remaining }
+{}
 
 /// The runs of two lists, one from where the other ends, are a run of both: so it does not matter whether the session
 /// is closed and opened again between them.

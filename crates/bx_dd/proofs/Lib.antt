@@ -6,3 +6,4 @@ pub mod OperandsLemmas
 pub mod PlanLemmas
 pub mod WholeLemmas
 mod Rows
+pub mod LawLemmas

@@ -1,5 +1,5 @@
 -- Blocks read one after another.
-use Rattle.std.proofs.Common.{◌≡◌, ℕ, ◌+◌, ◌-◌, ◌*◌, ◌%◌, ◌<◌, ◌≤◌, List, [], ◌++◌, length, take, drop, Option, Some, None, Result, Ok, Err, IfOk, unwrap_or, ◌^◌, ◌∷◌, refl, drop_of_length-le, ◌⊎◌, inl, inr, subst, sym, ap, ◌∙◌, arith}
+use Rattle.std.proofs.Common.{◌≡◌, ℕ, ◌+◌, ◌-◌, ◌*◌, ◌%◌, ◌<◌, ◌≤◌, List, [], ◌++◌, length, take, drop, Option, Some, None, Result, Ok, Err, IfOk, IfSome, unwrap_or, ◌^◌, ◌∷◌, refl, drop_of_length-le, ◌⊎◌, inl, inr, subst, sym, ap, ◌∙◌, arith}
 use Rattle.std.proofs.Math.Nat.{mul-le-mul_left, mul-le-mul_right, mul-mod_left}
 use Rattle.std.proofs.lemmas.List.{length-append, length-take-le, drop-append-le, take_all}
 use Rattle.std.specs.Io.KnownBytes.{Consumes, IsAtEnd}
@@ -8,30 +8,51 @@ use Rattle.bx_text.specs.declared.stream.State.{State}
 use Rattle.bx_text.specs.declared.stream.State.TheVariants.{Open, Ended}
 use Rattle.bx_dd.specs.declared.fault.DdFault.{DdFault}
 use Rattle.bx_dd.specs.declared.fault.DdFault.TheVariants.{NoMemory, ReadFailed, InputTooLong}
-use Rattle.bx_dd.specs.Transfer.{HasRead, HasStopped, IsReadOut, IsStopCause, IsWithin}
+use Rattle.bx_dd.specs.Transfer.{HasRead, HasStopped, StopsWithin, IsReadOut, IsStopCause, IsWithin}
 use Rattle.bx_dd.specs.Output.{selected}
 
-cause_more : (e : DdFault) (room n m : ℕ) → IsStopCause e (room - n) m → IsStopCause e room (n + m)
-cause_more NoMemory room n m h = tt
-cause_more ReadFailed room n m h = tt
-cause_more InputTooLong room n m h = omega arith
-cause_more _ room n m h = h
+cause_more : (e : DdFault) (room n m : ℕ) → n ≤ room → IsStopCause e (room - n) m → IsStopCause e room (n + m)
+cause_more NoMemory room n m few h = omega arith
+cause_more ReadFailed room n m few h = omega arith
+cause_more InputTooLong room n m few h = omega arith
+cause_more _ room n m few h = h
 
 -- bytes were read, and then reading stopped
-pub stopped_more : (a b c : Option (List ℕ)) (input : List ℕ) (room now : ℕ) (e : DdFault) → Consumes a b input → now ≡ room - length input → HasStopped b c now e → HasStopped a c room e
-stopped_more a b c input room now e read is more =
+pub stopped_more : (a b c : Option (List ℕ)) (input : List ℕ) (room now less most : ℕ) (e : DdFault) → Consumes a b input → now ≡ room - length input → length input ≤ room →
+    length input + less ≤ most → StopsWithin less b c now e → StopsWithin most a c room e
+stopped_more a b c input room now less most e read is few all more =
     let P : ℕ → Type 0 = λ n. IsStopCause e n (length more.0) in
     let Q : ℕ → Type 0 = λ n. IsStopCause e room n in (
       input ++ more.0,
       Consumes-trans a b c input more.0 read more.1,
-      subst Q (sym (length-append input more.0)) (cause_more e room (length input) (length more.0) (subst P is more.2)),
+      subst Q (sym (length-append input more.0)) (cause_more e room (length input) (length more.0) few (subst P is more.2)),
+      omega (arith, length-append input more.0, more.3),
     )
 
 -- bytes were read, and then memory was wanted
-pub stopped_memory : (a b : Option (List ℕ)) (input : List ℕ) (room : ℕ) (e : DdFault) → Consumes a b input → e ≡ NoMemory → HasStopped a b room e
-stopped_memory a b input room e read is =
+pub stopped_memory : (a b : Option (List ℕ)) (input : List ℕ) (room : ℕ) (e : DdFault) → Consumes a b input → length input ≤ room → e ≡ NoMemory → HasStopped a b room e
+stopped_memory a b input room e read few is =
     let P : DdFault → Type 0 = λ f. IsStopCause f room (length input) in
-    (input, read, subst P (sym is) tt)
+    (input, read, subst P (sym is) few)
+
+pub within_memory : (a b : Option (List ℕ)) (input : List ℕ) (room most : ℕ) (e : DdFault) → Consumes a b input → length input ≤ room → length input ≤ most → e ≡ NoMemory →
+    StopsWithin most a b room e
+within_memory a b input room most e read few all is =
+    let P : DdFault → Type 0 = λ f. IsStopCause f room (length input) in
+    (input, read, subst P (sym is) few, all)
+
+-- what stops within some bytes stops
+pub has_stopped : (most : ℕ) (a b : Option (List ℕ)) (room : ℕ) (e : DdFault) → StopsWithin most a b room e → HasStopped a b room e
+has_stopped most a b room e stop = (stop.0, stop.1, stop.2)
+
+-- among the blocks to skip, and all of them with those to take
+pub asked_skip : (ibs skip n : ℕ) (count : Option ℕ) → n ≤ skip * ibs → IfSome count (λ k. n ≤ (skip + k) * ibs)
+asked_skip ibs skip n None few = tt
+asked_skip ibs skip n (Some k) few = omega arith
+
+pub asked_all : (ibs skip turns n : ℕ) (count : Option ℕ) → turns ≡ unwrap_or count (2 ^ 64 - 1) → n ≤ skip * ibs + turns * ibs → IfSome count (λ k. n ≤ (skip + k) * ibs)
+asked_all ibs skip turns n None is few = tt
+asked_all ibs skip turns n (Some k) is few = let same : turns * ibs ≡ k * ibs = ap (λ m. m * ibs) is in omega arith
 
 module _ (a b c : Option (List ℕ)) (input buf : List ℕ) (k n count size : ℕ) (fits : n ≤ length buf) (same : length buf ≡ size) (before : length input ≡ k * size) (inside : k < count) where
   pub read_more : Consumes a b input → Consumes b c (take n buf) → Consumes a c (input ++ take n buf)

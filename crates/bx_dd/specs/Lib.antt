@@ -6,3 +6,4 @@ pub mod Transfer
 pub mod Number
 pub mod Operands
 pub mod Parsing
+pub mod Laws

@@ -18,15 +18,19 @@ use Rattle.bx_dd.specs.Number.{number_of}
 
 -- ---- one operand: the name in front of the first `=`, and the value behind it
 
+-- the byte `=`
 abbrev pub is_equals : ℕ → Bool
 is_equals b = b == 61
 
+-- a word with a `=`
 abbrev pub is_operand : List ℕ → Bool
 is_operand word = nat_lt (position_or_len is_equals word) (length word)
 
+-- what stands before the first `=`
 abbrev pub name_of : List ℕ → List ℕ
 name_of word = before_first is_equals word
 
+-- what stands behind it
 abbrev pub value_of : List ℕ → List ℕ
 value_of word = after_first is_equals word
 
@@ -43,6 +47,7 @@ kind_of name =
 abbrev pub parts_of : List ℕ → List (List ℕ)
 parts_of value = slice_split (λ b. b == 44) value
 
+-- the names of conversions
 abbrev pub is_conversion : List ℕ → Bool
 is_conversion part =
     bytes_eq part (codes "block") || bytes_eq part (codes "unblock") || bytes_eq part (codes "lcase") || bytes_eq part (codes "ucase")
@@ -99,9 +104,11 @@ first_fault before (word ∷ words) = option_or (operand_fault before word) (fir
 abbrev pub given : List ℕ → List (List ℕ) → Option (List ℕ)
 given name words = option_map value_of (slice_get words (position_or_len (is_named name) words))
 
+-- the number of an operand that is given and has one
 abbrev pub number_given : List ℕ → List (List ℕ) → Option ℕ
 number_given name words = option_and_then (λ value. result_ok (number_of value)) (given name words)
 
+-- the same, or another number
 abbrev pub number_or : ℕ → List ℕ → List (List ℕ) → ℕ
 number_or other name words = unwrap_or (number_given name words) other
 
@@ -109,9 +116,11 @@ number_or other name words = unwrap_or (number_given name words) other
 abbrev pub block_size : List ℕ → List (List ℕ) → ℕ
 block_size name words = number_or (number_or 512 name words) (codes "bs") words
 
+-- the size of an input block
 abbrev pub ibs_of : List (List ℕ) → ℕ
 ibs_of words = block_size (codes "ibs") words
 
+-- the size of an output block
 abbrev pub obs_of : List (List ℕ) → ℕ
 obs_of words = block_size (codes "obs") words
 
@@ -119,9 +128,11 @@ obs_of words = block_size (codes "obs") words
 abbrev pub converts : List ℕ → List (List ℕ) → Bool
 converts part words = list_any (λ p. bytes_eq p part) (parts_of (unwrap_or (given (codes "conv") words) []))
 
+-- what becomes of letters
 abbrev pub letters_of : List (List ℕ) → Letters
 letters_of words = if converts (codes "ucase") words then Upper else if converts (codes "lcase") words then Lower else Keep
 
+-- what becomes of lines and records
 abbrev pub shape_of : List (List ℕ) → Shape
 shape_of words = if converts (codes "block") words then Block else if converts (codes "unblock") words then Unblock else Flat
 
@@ -131,12 +142,15 @@ place_of name words = position_or_len (is_named name) words + 1
 
 -- ---- faults of operands that each are sound
 
+-- conversions that exclude each other
 abbrev pub is_conflict : List (List ℕ) → Bool
 is_conflict words = (converts (codes "lcase") words && converts (codes "ucase") words) || (converts (codes "block") words && converts (codes "unblock") words)
 
+-- records are asked for, and no size of them is given
 abbrev pub is_cbs_missing : List (List ℕ) → Bool
 is_cbs_missing words = (converts (codes "block") words || converts (codes "unblock") words) && not (is_given (codes "cbs") words)
 
+-- a fault of the operands together: conflict, no size of records, and skip or seek past 2^48 bytes, in this order
 abbrev pub later_fault : List (List ℕ) → Option DdFault
 later_fault words =
     if is_conflict words then Some Conflict else

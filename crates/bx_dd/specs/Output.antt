@@ -55,6 +55,7 @@ records (b ∷ bytes) = if b == 10 then [] ∷ records bytes else onto_first b (
 unfoldable pub fitted : ℕ → List ℕ → List ℕ
 fitted n line = take n (padded 32 n line)
 
+-- the byte that records are filled up with
 abbrev pub is_space : ℕ → Bool
 is_space b = b == 32
 

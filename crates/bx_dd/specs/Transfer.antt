@@ -43,16 +43,24 @@ pub record IsTransfer {A P : Type 0} (plan : Plan P) (old new : Option (List ℕ
   pub bytes : t.bytes ≡ output_of plan input
   pub counts : t.counts ≡ counts_by plan input
 
--- why a transfer stopped after n bytes where there was room for `room` of them
+-- why a transfer stopped after n bytes where there was room for `room` of them: too long is one byte more
 abbrev pub IsStopCause : DdFault → ℕ → ℕ → Type 0
-IsStopCause NoMemory room n = Unit {0}
-IsStopCause ReadFailed room n = Unit {0}
-IsStopCause InputTooLong room n = room < n
+IsStopCause NoMemory room n = n ≤ room
+IsStopCause ReadFailed room n = n ≤ room
+IsStopCause InputTooLong room n = n ≡ room + 1
 IsStopCause _ room n = ⊥
 
 -- some bytes were read before the fault
 abbrev pub HasStopped : Option (List ℕ) → Option (List ℕ) → ℕ → DdFault → Type 0
 HasStopped old new room fault = (bytes : List ℕ) × Consumes old new bytes × IsStopCause fault room (length bytes)
+
+-- the same, and no more than `most` bytes were read
+abbrev pub StopsWithin : ℕ → Option (List ℕ) → Option (List ℕ) → ℕ → DdFault → Type 0
+StopsWithin most old new room fault = (bytes : List ℕ) × Consumes old new bytes × IsStopCause fault room (length bytes) × (length bytes ≤ most)
+
+-- no more was read than the plan's skip and count ask for
+abbrev pub ReadsWithin : {A : Type 0} → Plan A → Option (List ℕ) → Option (List ℕ) → Type 0
+ReadsWithin plan old new = (input : List ℕ) × Consumes old new input × IsWithin plan.ibs plan.skip plan.count input
 
 -- these bytes were read: n blocks, or fewer up to the input's end
 pub record HasRead (old new : Option (List ℕ)) (n size : ℕ) (state : State) (input : List ℕ) : Type 0 where

@@ -1,9 +1,9 @@
 //! Whole inputs, converted.
-ghost use Rattle.std.specs.Prelude.{◌≡◌, ℕ, ◌+◌, ◌-◌, ◌^◌, ◌<◌, ◌≤◌, List, [], length, take, IfOk, IfErr, OnOk, ◌⊎◌};
+ghost use Rattle.std.specs.Prelude.{◌≡◌, ℕ, ◌+◌, ◌-◌, ◌*◌, ◌^◌, ◌<◌, ◌≤◌, List, [], length, take, IfOk, IfErr, OnOk, OnErr, ◌⊎◌};
 ghost use Rattle.std.specs.Io.KnownBytes.{Consumes, IsAtEnd};
 ghost use Rattle.bx_text.specs.Stream.{IsReadCause};
 ghost use Rattle.bx_dd.specs.Standing.{IsAfter};
-ghost use Rattle.bx_dd.specs.Transfer.{HasRead, HasStopped, IsStopCause, IsTransfer};
+ghost use Rattle.bx_dd.specs.Transfer.{HasRead, HasStopped, IsStopCause, IsTransfer, ReadsWithin, StopsWithin};
 
 use crate::convert::Convert;
 use crate::counts::Transfer;
@@ -24,6 +24,7 @@ pub fn transfer<R: Read, A: Allocator + Clone, P: Allocator>(
 ) -> Result<Transfer<A>, DdFault>
     ensures ok { IfOk result (λ t. IsTransfer plan.now (R.remaining r.old) (R.remaining r.new) t) }
     ensures err { IfErr result (λ e. HasStopped (R.remaining r.old) (R.remaining r.new) (2 ^ 40) e) }
+    ensures within { OnErr result (ReadsWithin plan.now (R.remaining r.old) (R.remaining r.new)) }
 {
     let mut block = vec![in alloc.clone()?; 0u8; plan.ibs as usize]?;
     let mut meter = Meter::new(LIMIT);
@@ -36,7 +37,7 @@ pub fn transfer<R: Read, A: Allocator + Clone, P: Allocator>(
 
 /// The fault of reading, as dd's.
 fn fault(error: IoFault) -> DdFault
-    ensures cause { (room n : ℕ) → IsReadCause error room n → IsStopCause result room n }
+    ensures cause { (wanted room n : ℕ) → IsReadCause error wanted room n → IsStopCause result room n }
     ensures long { error ≡ IoFault.InputTooLong → result ≡ DdFault.InputTooLong }
     ensures memory { error ≡ IoFault.NoMemory → result ≡ DdFault.NoMemory }
 {
@@ -57,7 +58,7 @@ fn read_block<R: Read>(meter: &mut Meter, r: &mut R, block: &mut [u8]) -> Result
     ensures ended { IfOk result (λ n. n < length block.new → (meter.new.state ≡ State.Ended) × IsAtEnd (R.remaining r.new)) }
     ensures full { IfOk result (λ n. length block.new ≤ n → meter.new.state ≡ meter.old.state) }
     ensures none_left { meter.old.state ≡ State.Ended → IfOk result (λ n. (n ≡ 0) × (meter.new.state ≡ State.Ended)) }
-    ensures stopped { IfErr result (λ e. HasStopped (R.remaining r.old) (R.remaining r.new) (meter.old.limit - meter.old.taken) e) }
+    ensures stopped { IfErr result (λ e. StopsWithin (length block.old) (R.remaining r.old) (R.remaining r.new) (meter.old.limit - meter.old.taken) e) }
 {
     match meter.fill(r, block) {
         Ok(n) => Ok(n),
@@ -75,7 +76,7 @@ fn skip_blocks<R: Read>(
     requires { meter.old.state ≡ State.Open }
     ensures limit { meter.new.limit ≡ meter.old.limit }
     ensures read { OnOk result ((input : List ℕ) × HasRead (R.remaining r.old) (R.remaining r.new) skip (length block.old) meter.new.state input × (meter.new.taken ≡ meter.old.taken + length input)) }
-    ensures stopped { IfErr result (λ e. HasStopped (R.remaining r.old) (R.remaining r.new) (meter.old.limit - meter.old.taken) e) }
+    ensures stopped { IfErr result (λ e. StopsWithin (skip * length block.old) (R.remaining r.old) (R.remaining r.new) (meter.old.limit - meter.old.taken) e) }
 {
     for _i in 0..skip {
         let n = read_block(meter, r, block)?;
@@ -102,7 +103,7 @@ fn take_blocks<R: Read, A: Allocator>(
     ensures limit { meter.new.limit ≡ meter.old.limit }
     ensures read { IfOk result (λ c. (input : List ℕ) × IsAfter input c × HasRead (R.remaining r.old) (R.remaining r.new) count (length block.old) meter.new.state input × (meter.new.taken ≡ meter.old.taken + length input)) }
     ensures none_left { meter.old.state ≡ State.Ended → IfOk result (λ c. (c.taken ≡ 0) × (meter.new.state ≡ State.Ended)) }
-    ensures stopped { IfErr result (λ e. HasStopped (R.remaining r.old) (R.remaining r.new) (meter.old.limit - meter.old.taken) e) }
+    ensures stopped { IfErr result (λ e. StopsWithin (count * length block.old) (R.remaining r.old) (R.remaining r.new) (meter.old.limit - meter.old.taken) e) }
 {
     let mut convert = convert;
     for _i in 0..count {

@@ -1,6 +1,6 @@
 -- The digits of 16 bytes, and how digits stand in columns, lane by lane.
 use Rattle.std.proofs.Common.{◌≡◌, ℕ, ◌+◌, ◌*◌, ◌/◌, ◌%◌, ◌^◌, ◌<◌, List, [], ◌∷◌, ◌++◌, map, length, get_or, replicate, bit_and, Fits, w8, cond, leb, false, eqb, eqb-true, true, refl, sym, ap, ◌∙◌, subst, arith}
-use Rattle.std.specs.Prelude.{Bool}
+use Rattle.std.specs.Prelude.{Bool, codes}
 use Rattle.std.specs.Fmt.{digit_glyph}
 use Rattle.std.specs.List.{flat_map, range_with_len}
 use Rattle.std.proofs.lemmas.Bool.{agree_below, agree_below_at}
@@ -10,6 +10,7 @@ use Rattle.std.proofs.lemmas.List.{length-map, get_or-map, ext_get_or}
 use lib.Lanes.{zip2, Each1, pick_l, sel_l, top}
 use Rattle.bx_text.specs.Dump.{pair_of, shown_byte}
 use Rattle.bx_dump.specs.Cells.{piece_at}
+use Rattle.bx_dump.specs.Hexdump.{canon_columns}
 use Rattle.bx_dump.proofs.LaneLemmas.{less, under, is_inside, inside_is}
 
 -- the upper and the lower half of each lane
@@ -77,6 +78,21 @@ fours_are cells long =
 pub fours_front : (cells rest : List ℕ) → length cells ≡ 32 → flat_map (piece_at 4 cells) (range_with_len 0 8) ≡ flat_map (piece_at 4 (cells ++ rest)) (range_with_len 0 8)
 fours_front cells rest long =
     subst (λ l. flat_map (piece_at 4 l) (range_with_len 0 8) ≡ flat_map (piece_at 4 (l ++ rest)) (range_with_len 0 8)) (pick_l_whole 0 cells 32 long) refl
+
+-- hexdump's columns: 32 characters of them, and 16; two spaces stand behind them
+abbrev pub canon_front : List ℕ
+canon_front =
+    0 ∷ 1 ∷ 32 ∷ 2 ∷ 3 ∷ 32 ∷ 4 ∷ 5 ∷ 32 ∷ 6 ∷ 7 ∷ 32 ∷ 8 ∷ 9 ∷ 32 ∷ 10 ∷ 11 ∷ 32 ∷ 12 ∷ 13 ∷ 32 ∷ 14 ∷ 15 ∷ 32 ∷ 32 ∷ 16 ∷ 17 ∷ 32 ∷ 18 ∷ 19 ∷ 32 ∷ 20 ∷ []
+
+abbrev pub canon_middle : List ℕ
+canon_middle = 21 ∷ 32 ∷ 22 ∷ 23 ∷ 32 ∷ 24 ∷ 25 ∷ 32 ∷ 26 ∷ 27 ∷ 32 ∷ 28 ∷ 29 ∷ 32 ∷ 30 ∷ 31 ∷ []
+
+-- the columns of the digits of these bytes
+abbrev pub canon_cells : List ℕ → List ℕ
+canon_cells cells = pick_l 0 (cells ++ replicate 32 32) canon_front ++ (pick_l 0 (cells ++ replicate 32 32) canon_middle ++ codes "  ")
+
+pub canon_are : (bytes : List ℕ) → length bytes ≡ 16 → canon_cells (flat_map (pair_of false) bytes) ≡ canon_columns bytes 50
+canon_are bytes long = subst (λ l. canon_cells (flat_map (pair_of false) l) ≡ canon_columns l 50) (pick_l_whole 0 bytes 16 long) refl
 
 -- the lanes that print, and dots
 abbrev pub shown_mask : List ℕ → List ℕ

@@ -9,31 +9,63 @@ use Rattle.bx_text.specs.Stream.{StopsIn, IsReadCause}
 use Rattle.bx_text.specs.Writing.{WritesFront}
 use Rattle.bx_text.proofs.KnownLemmas.{Appends-trans, Consumes-trans, Appends-nil, Consumes-nil}
 use Rattle.bx_dump.specs.Dumped.{IsDumpFault}
+use Rattle.bx_dump.proofs.DumpLemmas.{cause_longer}
 use Rattle.bx_dump.specs.Pages.{WritesPart, WritesRest, WritesFrontOf, Skips, StopsAt, part_of, capped, IsLast, IsEndOf}
 
 -- more bytes were read before the fault
-cause_after : (fault : IoFault) (taken n : ℕ) → taken ≤ 2 ^ 40 → IsReadCause fault (2 ^ 40 - taken) n → IsReadCause fault (2 ^ 40) (taken + n)
-cause_after ReadFailed taken n le p = tt
-cause_after InputTooLong taken n le p = omega arith
-cause_after NoMemory taken n le p = absurd p
-cause_after (WriteFailed m) taken n le p = absurd p
-cause_after SkipPastEnd taken n le p = absurd p
+cause_after : (fault : IoFault) (less wanted taken n : ℕ) → taken ≤ 2 ^ 40 → taken + less ≤ wanted → IsReadCause fault less (2 ^ 40 - taken) n →
+    IsReadCause fault wanted (2 ^ 40) (taken + n)
+cause_after ReadFailed less wanted taken n le most p = (omega (arith, p.0), omega (arith, p.1))
+cause_after InputTooLong less wanted taken n le most p = (omega (arith, p.0), omega (arith, p.1))
+cause_after NoMemory less wanted taken n le most p = absurd p
+cause_after (WriteFailed m) less wanted taken n le most p = absurd p
+cause_after SkipPastEnd less wanted taken n le most p = absurd p
+
+-- no more was read than was asked for
+read_within : (fault : IoFault) (wanted room n : ℕ) → IsReadCause fault wanted room n → n ≤ wanted
+read_within ReadFailed wanted room n p = omega (arith, p.0)
+read_within InputTooLong wanted room n p = omega (arith, p.0, p.1)
+read_within NoMemory wanted room n p = absurd p
+read_within (WriteFailed m) wanted room n p = absurd p
+read_within SkipPastEnd wanted room n p = absurd p
 
 -- why a read stopped is why a dump did
-dump_cause : (fault : IoFault) (n written : ℕ) → IsReadCause fault (2 ^ 40) n → IsDumpFault fault n written
-dump_cause ReadFailed n written p = tt
-dump_cause InputTooLong n written p = p
-dump_cause NoMemory n written p = absurd p
-dump_cause (WriteFailed m) n written p = absurd p
-dump_cause SkipPastEnd n written p = absurd p
+dump_cause : (fault : IoFault) (wanted n written size : ℕ) → IsReadCause fault wanted (2 ^ 40) n → IsDumpFault fault n written size
+dump_cause ReadFailed wanted n written size p = p.1
+dump_cause InputTooLong wanted n written size p = p.1
+dump_cause NoMemory wanted n written size p = absurd p
+dump_cause (WriteFailed m) wanted n written size p = absurd p
+dump_cause SkipPastEnd wanted n written size p = absurd p
 
-pub stops_after : (r0 r1 r2 : Option (List ℕ)) (input : List ℕ) (taken : ℕ) (fault : IoFault) → length input ≡ taken → taken ≤ 2 ^ 40 → Consumes r0 r1 input →
-    StopsIn r1 r2 (2 ^ 40 - taken) fault → StopsAt (2 ^ 40) r0 r2 fault
-stops_after r0 r1 r2 input taken fault len few reads stop =
+-- fewer are within the limit too
+pub within_along : (limit : Option ℕ) (m n : ℕ) → n ≤ m → IfSome limit (λ most. m ≤ most) → IfSome limit (λ most. n ≤ most)
+within_along None m n e p = tt
+within_along (Some most) m n e p = omega arith
+
+-- behind bytes that are skipped
+asked_behind : (limit : Option ℕ) (skip m n : ℕ) → n ≤ skip + m → IfSome limit (λ most. m ≤ most) → IfSome limit (λ most. n ≤ skip + most)
+asked_behind None skip m n e p = tt
+asked_behind (Some most) skip m n e p = omega arith
+
+asked_after : (limit : Option ℕ) (skip m n : ℕ) → n ≤ skip + m → IfSome limit (λ most. m ≤ 0 + most) → IfSome limit (λ most. n ≤ skip + most)
+asked_after None skip m n e p = tt
+asked_after (Some most) skip m n e p = omega arith
+
+asked_among : (limit : Option ℕ) (skip n : ℕ) → n ≤ skip → IfSome limit (λ most. n ≤ skip + most)
+asked_among None skip n e = tt
+asked_among (Some most) skip n e = omega arith
+
+asked_at_end : (limit : Option ℕ) (skip n : ℕ) (r : Option (List ℕ)) → IsEndOf skip limit n r → IfSome limit (λ most. n ≤ skip + most)
+asked_at_end None skip n r p = tt
+asked_at_end (Some most) skip n r p = p.0
+
+pub stops_after : (r0 r1 r2 : Option (List ℕ)) (input : List ℕ) (less wanted taken : ℕ) (fault : IoFault) → length input ≡ taken → taken ≤ 2 ^ 40 → taken + less ≤ wanted →
+    Consumes r0 r1 input → StopsIn r1 r2 less (2 ^ 40 - taken) fault → StopsAt wanted (2 ^ 40) r0 r2 fault
+stops_after r0 r1 r2 input less wanted taken fault len few most reads stop =
     let all : length (input ++ stop.0) ≡ taken + length stop.0 = omega (arith, length-append input stop.0) in record {
       input = input ++ stop.0;
       consumed = Consumes-trans r0 r1 r2 input stop.0 reads stop.1;
-      cause = rw all (cause_after fault taken (length stop.0) few stop.2);
+      cause = rw all (cause_after fault less wanted taken (length stop.0) few most stop.2);
     }
 
 -- the bytes so far, and more of what follows
@@ -48,11 +80,11 @@ capped_all None xs within = refl
 capped_all (Some most) xs within = take_all most xs within
 
 -- the reader stopped
-pub rest_read_stop : (text : List ℕ → List ℕ) (limit : Option ℕ) (before : ℕ) (r0 r1 r2 w0 w1 : Option (List ℕ)) (input : List ℕ) (from taken : ℕ) (fault : IoFault) →
-    from + length input ≡ taken → taken ≤ 2 ^ 40 → IfSome limit (λ most. length input ≤ most) → ((more : List ℕ) → (rest : List ℕ) × (text (input ++ more) ≡ text input ++ rest)) →
-    Consumes r0 r1 input → Appends w0 w1 (text input) → StopsIn r1 r2 (2 ^ 40 - taken) fault → WritesFrontOf (λ xs. text (capped limit xs)) from before r0 r2 w0 w1 fault
-rest_read_stop text limit before r0 r1 r2 w0 w1 input from taken fault len few within goes reads writes stop =
-    let cut = capped_more limit input stop.0 within in
+pub rest_read_stop : (text : List ℕ → List ℕ) (limit : Option ℕ) (before : ℕ) (r0 r1 r2 w0 w1 : Option (List ℕ)) (input : List ℕ) (from taken less : ℕ) (fault : IoFault) →
+    from + length input ≡ taken → taken ≤ 2 ^ 40 → IfSome limit (λ most. length input + less ≤ most) → ((more : List ℕ) → (rest : List ℕ) × (text (input ++ more) ≡ text input ++ rest)) →
+    Consumes r0 r1 input → Appends w0 w1 (text input) → StopsIn r1 r2 less (2 ^ 40 - taken) fault → WritesFrontOf (λ xs. text (capped limit xs)) 0 limit from before r0 r2 w0 w1 fault
+rest_read_stop text limit before r0 r1 r2 w0 w1 input from taken less fault len few within goes reads writes stop =
+    let cut = capped_more limit input stop.0 (within_along limit (length input + less) (length input) (omega arith) within) in
     let more = goes cut.0 in
     let is : text (capped limit (input ++ stop.0)) ≡ text input ++ more.0 = ap text cut.1 ∙ more.1 in
     let front : take (length (text input)) (text (capped limit (input ++ stop.0))) ≡ text input =
@@ -61,35 +93,33 @@ rest_read_stop text limit before r0 r1 r2 w0 w1 input from taken fault len few w
       input = input ++ stop.0;
       written = length (text input);
       consumed = Consumes-trans r0 r1 r2 input stop.0 reads stop.1;
+      asked = asked_behind limit 0 (length input + less) (length (input ++ stop.0))
+          (omega (arith, length-append input stop.0, read_within fault less (2 ^ 40 - taken) (length stop.0) stop.2)) within;
       within = omega (arith, ap length is, length-append (text input) more.0);
       appended = rw front writes;
-      cause = rw all (dump_cause fault (taken + length stop.0) (before + length (text input)) (cause_after fault taken (length stop.0) few stop.2));
+      cause = rw all (dump_cause fault (taken + less) (taken + length stop.0) (before + length (text input)) _ (cause_after fault less (taken + less) taken (length stop.0) few (omega arith) stop.2));
     }
 
 -- the writer stopped
 pub rest_write_stop : (text : List ℕ → List ℕ) (limit : Option ℕ) (from before : ℕ) (r0 r1 w0 w1 w2 : Option (List ℕ)) (old input page : List ℕ) (written : ℕ) (fault : IoFault) →
-    Consumes r0 r1 input → IfSome limit (λ most. length input ≤ most) → Appends w0 w1 old → length old ≡ written → text input ≡ old ++ page → WritesFront (before + written) w1 w2 page fault →
-    WritesFrontOf (λ xs. text (capped limit xs)) from before r0 r1 w0 w2 fault
-rest_write_stop text limit from before r0 r1 w0 w1 w2 old input page written (WriteFailed n) reads within writes len is stop =
+    Consumes r0 r1 input → from + length input ≤ 2 ^ 40 → IfSome limit (λ most. length input ≤ most) → Appends w0 w1 old → length old ≡ written → text input ≡ old ++ page →
+    WritesFront (before + written) w1 w2 page fault → WritesFrontOf (λ xs. text (capped limit xs)) 0 limit from before r0 r1 w0 w2 fault
+rest_write_stop text limit from before r0 r1 w0 w1 w2 old input page written (WriteFailed n) reads few within writes len is stop =
     let same : text (capped limit input) ≡ old ++ page = ap text (capped_all limit input within) ∙ is in
     let front : take (written + stop.0) (text (capped limit input)) ≡ old ++ take stop.0 page =
     rw (same, ← len) (take-append-add old page stop.0) in record {
       input = input;
       written = written + stop.0;
       consumed = reads;
+      asked = asked_behind limit 0 (length input) (length input) (omega arith) within;
       within = omega (arith, ap length same, length-append old page, stop.2);
       appended = rw front (Appends-trans w0 w1 w2 old (take stop.0 page) writes stop.3);
-      cause = let e : n ≡ before + (written + stop.0) = omega (arith, stop.1) in e;
+      cause = (omega (arith, stop.1), omega (arith, ap length same, length-append old page, stop.2), few);
     }
-rest_write_stop text limit from before r0 r1 w0 w1 w2 old input page written NoMemory reads within writes len is stop = absurd stop
-rest_write_stop text limit from before r0 r1 w0 w1 w2 old input page written ReadFailed reads within writes len is stop = absurd stop
-rest_write_stop text limit from before r0 r1 w0 w1 w2 old input page written InputTooLong reads within writes len is stop = absurd stop
-rest_write_stop text limit from before r0 r1 w0 w1 w2 old input page written SkipPastEnd reads within writes len is stop = absurd stop
-
--- fewer are within the limit too
-pub within_along : (limit : Option ℕ) (m n : ℕ) → n ≤ m → IfSome limit (λ most. m ≤ most) → IfSome limit (λ most. n ≤ most)
-within_along None m n e p = tt
-within_along (Some most) m n e p = omega arith
+rest_write_stop text limit from before r0 r1 w0 w1 w2 old input page written NoMemory reads few within writes len is stop = absurd stop
+rest_write_stop text limit from before r0 r1 w0 w1 w2 old input page written ReadFailed reads few within writes len is stop = absurd stop
+rest_write_stop text limit from before r0 r1 w0 w1 w2 old input page written InputTooLong reads few within writes len is stop = absurd stop
+rest_write_stop text limit from before r0 r1 w0 w1 w2 old input page written SkipPastEnd reads few within writes len is stop = absurd stop
 
 -- the end of the input, or of what may be dumped
 pub last_at_end : (limit : Option ℕ) (n : ℕ) (r : Option (List ℕ)) → IfSome limit (λ most. n ≤ most) → IsAtEnd r → IsLast limit n r
@@ -127,7 +157,7 @@ end_short skip n (Some most) r less p = (omega arith, inl p)
 
 -- all was skipped, and the rest dumped
 pub part_whole : (text : List ℕ → List ℕ) (skip : ℕ) (limit : Option ℕ) (r0 r1 r2 w0 w1 : Option (List ℕ)) (read written : ℕ) → Skips true skip r0 r1 →
-    WritesRest text limit r1 r2 w0 w1 read written → WritesPart (λ xs. text (part_of skip limit xs)) skip limit r0 r2 w0 w1 read written
+    WritesRest text skip limit r1 r2 w0 w1 read written → WritesPart (λ xs. text (part_of skip limit xs)) skip limit r0 r2 w0 w1 read written
 part_whole text skip limit r0 r1 r2 w0 w1 read written front rest =
     let len = front.whole refl in
     let within : IfSome limit (λ most. read ≤ most) = last_within limit read r2 rest.ends in
@@ -137,6 +167,7 @@ part_whole text skip limit r0 r1 r2 w0 w1 read written front rest =
       input = front.input ++ rest.input;
       consumed = Consumes-trans r0 r1 r2 front.input rest.input front.consumed rest.consumed;
       ends = end_behind skip read _ limit r2 count rest.ends;
+      few = omega (arith, count, rest.few, rest.dumped);
       dumped = ap length same ∙ rest.dumped;
       appended = rw same rest.appended;
       long = ap length (ap text same) ∙ rest.long;
@@ -151,27 +182,30 @@ part_short text skip limit r0 r1 w empty front =
       input = front.input;
       consumed = front.consumed;
       ends = end_short skip (length front.input) limit r1 short.0 short.1;
+      few = front.few;
       dumped = ap length none;
       appended = rw (none, empty) (Appends-nil w);
       long = ap length (ap text none ∙ empty);
     }
 
 -- a fault among the bytes to skip
-pub front_skip : (text : List ℕ → List ℕ) (before : ℕ) (r0 r1 w : Option (List ℕ)) (fault : IoFault) → StopsAt (2 ^ 40) r0 r1 fault → WritesFrontOf text 0 before r0 r1 w w fault
-front_skip text before r0 r1 w fault stop =
+pub front_skip : (text : List ℕ → List ℕ) (skip : ℕ) (limit : Option ℕ) (before : ℕ) (r0 r1 w : Option (List ℕ)) (fault : IoFault) → StopsAt skip (2 ^ 40) r0 r1 fault →
+    WritesFrontOf text skip limit 0 before r0 r1 w w fault
+front_skip text skip limit before r0 r1 w fault stop =
     let none : take 0 (text stop.input) ≡ [] = refl in
     let zero_more : 0 + length stop.input ≡ length stop.input = omega arith in record {
       input = stop.input;
       written = 0;
       consumed = stop.consumed;
+      asked = asked_among limit skip (length stop.input) (read_within fault skip (2 ^ 40) (length stop.input) stop.cause);
       within = omega arith;
       appended = Appends-nil w;
-      cause = rw zero_more (dump_cause fault (length stop.input) (before + 0) stop.cause);
+      cause = rw zero_more (dump_cause fault skip (length stop.input) (before + 0) _ stop.cause);
     }
 
 -- a fault after them
 pub front_behind : (text : List ℕ → List ℕ) (skip : ℕ) (limit : Option ℕ) (before : ℕ) (r0 r1 r2 w0 w1 : Option (List ℕ)) (fault : IoFault) → Skips true skip r0 r1 →
-    WritesFrontOf (λ xs. text (capped limit xs)) skip before r1 r2 w0 w1 fault → WritesFrontOf (λ xs. text (part_of skip limit xs)) 0 before r0 r2 w0 w1 fault
+    WritesFrontOf (λ xs. text (capped limit xs)) 0 limit skip before r1 r2 w0 w1 fault → WritesFrontOf (λ xs. text (part_of skip limit xs)) skip limit 0 before r0 r2 w0 w1 fault
 front_behind text skip limit before r0 r1 r2 w0 w1 fault front rest =
     let len = front.whole refl in
     let same : text (part_of skip limit (front.input ++ rest.input)) ≡ text (capped limit rest.input) = ap text (part_behind skip limit front.input rest.input len) in
@@ -179,9 +213,10 @@ front_behind text skip limit before r0 r1 r2 w0 w1 fault front rest =
       input = front.input ++ rest.input;
       written = rest.written;
       consumed = Consumes-trans r0 r1 r2 front.input rest.input front.consumed rest.consumed;
+      asked = asked_after limit skip (length rest.input) (length (front.input ++ rest.input)) (omega (arith, count)) rest.asked;
       within = rw same rest.within;
       appended = rw same rest.appended;
-      cause = rw count rest.cause;
+      cause = rw (count, same) rest.cause;
     }
 
 -- where two texts are the same, so are the dumps
@@ -192,21 +227,23 @@ part_along text other skip limit r0 r1 w0 w1 read written same d =
       input = d.input;
       consumed = d.consumed;
       ends = d.ends;
+      few = d.few;
       dumped = d.dumped;
       appended = rw e d.appended;
       long = rw e d.long;
     }
 
-pub front_along : (text other : List ℕ → List ℕ) (from before : ℕ) (r0 r1 w0 w1 : Option (List ℕ)) (fault : IoFault) → ((xs : List ℕ) → text xs ≡ other xs) →
-    WritesFrontOf text from before r0 r1 w0 w1 fault → WritesFrontOf other from before r0 r1 w0 w1 fault
-front_along text other from before r0 r1 w0 w1 fault same d =
+pub front_along : (text other : List ℕ → List ℕ) (skip : ℕ) (limit : Option ℕ) (from before : ℕ) (r0 r1 w0 w1 : Option (List ℕ)) (fault : IoFault) → ((xs : List ℕ) → text xs ≡ other xs) →
+    WritesFrontOf text skip limit from before r0 r1 w0 w1 fault → WritesFrontOf other skip limit from before r0 r1 w0 w1 fault
+front_along text other skip limit from before r0 r1 w0 w1 fault same d =
     let e : other d.input ≡ text d.input = sym (same d.input) in record {
       input = d.input;
       written = d.written;
       consumed = d.consumed;
+      asked = d.asked;
       within = rw e d.within;
       appended = rw e d.appended;
-      cause = d.cause;
+      cause = rw e d.cause;
     }
 
 -- A text behind the dump: `last` where so many bytes were dumped.
@@ -218,12 +255,13 @@ module _ (text other : List ℕ → List ℕ) (skip : ℕ) (limit : Option ℕ) 
         input = d.input;
         consumed = d.consumed;
         ends = d.ends;
+        few = d.few;
         dumped = d.dumped;
         appended = rw e (Appends-trans w0 w1 w2 (text d.input) last d.appended writes);
         long = omega (arith, ap length e, length-append (text d.input) last, d.long);
       }
 
-  pub stop_then : (before : ℕ) (fault : IoFault) → WritesFront (before + written) w1 w2 last fault → WritesFrontOf other 0 before r0 r1 w0 w2 fault
+  pub stop_then : (before : ℕ) (fault : IoFault) → WritesFront (before + written) w1 w2 last fault → WritesFrontOf other skip limit 0 before r0 r1 w0 w2 fault
   stop_then before (WriteFailed n) stop =
       let e = is d.input d.dumped in
       let front : take (written + stop.0) (other d.input) ≡ text d.input ++ take stop.0 last =
@@ -231,9 +269,10 @@ module _ (text other : List ℕ → List ℕ) (skip : ℕ) (limit : Option ℕ) 
         input = d.input;
         written = written + stop.0;
         consumed = d.consumed;
+        asked = asked_at_end limit skip (length d.input) r1 d.ends;
         within = omega (arith, ap length e, length-append (text d.input) last, stop.2, d.long);
         appended = rw front (Appends-trans w0 w1 w2 (text d.input) (take stop.0 last) d.appended stop.3);
-        cause = let same : n ≡ before + (written + stop.0) = omega (arith, stop.1) in same;
+        cause = (omega (arith, stop.1), omega (arith, ap length e, length-append (text d.input) last, stop.2, d.long), omega (arith, d.few));
       }
   stop_then before NoMemory stop = absurd stop
   stop_then before ReadFailed stop = absurd stop
@@ -241,17 +280,18 @@ module _ (text other : List ℕ → List ℕ) (skip : ℕ) (limit : Option ℕ) 
   stop_then before SkipPastEnd stop = absurd stop
 
 -- a front of a text is one of a longer text
-pub front_then : (text other : List ℕ → List ℕ) (from before : ℕ) (r0 r1 w0 w1 : Option (List ℕ)) (fault : IoFault) → ((xs : List ℕ) → (rest : List ℕ) × (other xs ≡ text xs ++ rest)) →
-    WritesFrontOf text from before r0 r1 w0 w1 fault → WritesFrontOf other from before r0 r1 w0 w1 fault
-front_then text other from before r0 r1 w0 w1 fault is d =
+pub front_then : (text other : List ℕ → List ℕ) (skip : ℕ) (limit : Option ℕ) (from before : ℕ) (r0 r1 w0 w1 : Option (List ℕ)) (fault : IoFault) → ((xs : List ℕ) → (rest : List ℕ) × (other xs ≡ text xs ++ rest)) →
+    WritesFrontOf text skip limit from before r0 r1 w0 w1 fault → WritesFrontOf other skip limit from before r0 r1 w0 w1 fault
+front_then text other skip limit from before r0 r1 w0 w1 fault is d =
     let more = is d.input in
     let front : take d.written (other d.input) ≡ take d.written (text d.input) = ap (take d.written) more.1 ∙ take-append-le d.written (text d.input) more.0 d.within in record {
       input = d.input;
       written = d.written;
       consumed = d.consumed;
+      asked = d.asked;
       within = omega (arith, d.within, ap length more.1, length-append (text d.input) more.0);
       appended = rw front d.appended;
-      cause = d.cause;
+      cause = cause_longer fault (from + length d.input) (before + d.written) _ _ (omega (arith, ap length more.1, length-append (text d.input) more.0)) d.cause;
     }
 
 -- a text in front of the dump
@@ -261,37 +301,41 @@ part_after text skip limit r0 r1 w0 w1 w2 read written head writes d = record {
   input = d.input;
   consumed = d.consumed;
   ends = d.ends;
+  few = d.few;
   dumped = d.dumped;
   appended = Appends-trans w0 w1 w2 head (text d.input) writes d.appended;
   long = omega (arith, length-append head (text d.input), d.long);
 }
 
-pub front_after : (text : List ℕ → List ℕ) (r0 r1 w0 w1 w2 : Option (List ℕ)) (from before all : ℕ) (head : List ℕ) (fault : IoFault) → all ≡ before + length head → Appends w0 w1 head →
-    WritesFrontOf text from all r0 r1 w1 w2 fault → WritesFrontOf (λ xs. head ++ text xs) from before r0 r1 w0 w2 fault
-front_after text r0 r1 w0 w1 w2 from before all head fault is writes d =
+pub front_after : (text : List ℕ → List ℕ) (skip : ℕ) (limit : Option ℕ) (r0 r1 w0 w1 w2 : Option (List ℕ)) (from before all : ℕ) (head : List ℕ) (fault : IoFault) → all ≡ before + length head → Appends w0 w1 head →
+    WritesFrontOf text skip limit from all r0 r1 w1 w2 fault → WritesFrontOf (λ xs. head ++ text xs) skip limit from before r0 r1 w0 w2 fault
+front_after text skip limit r0 r1 w0 w1 w2 from before all head fault is writes d =
     let front : take (length head + d.written) (head ++ text d.input) ≡ head ++ take d.written (text d.input) = take-append-add head (text d.input) d.written in
-    let count : all + d.written ≡ before + (length head + d.written) = omega arith in record {
+    let count : all + d.written ≡ before + (length head + d.written) = omega arith in
+    let size : all + length (text d.input) ≡ before + length (head ++ text d.input) = omega (arith, length-append head (text d.input)) in record {
       input = d.input;
       written = length head + d.written;
       consumed = d.consumed;
+      asked = d.asked;
       within = omega (arith, length-append head (text d.input), d.within);
       appended = rw front (Appends-trans w0 w1 w2 head (take d.written (text d.input)) writes d.appended);
-      cause = rw (← count) d.cause;
+      cause = rw (← count, ← size) d.cause;
     }
 
 -- the text in front was not written whole
-pub front_head : (text : List ℕ → List ℕ) (r w0 w1 : Option (List ℕ)) (before : ℕ) (head : List ℕ) (fault : IoFault) → WritesFront before w0 w1 head fault →
-    WritesFrontOf (λ xs. head ++ text xs) 0 before r r w0 w1 fault
-front_head text r w0 w1 before head (WriteFailed n) stop =
+pub front_head : (text : List ℕ → List ℕ) (skip : ℕ) (limit : Option ℕ) (r w0 w1 : Option (List ℕ)) (before : ℕ) (head : List ℕ) (fault : IoFault) → WritesFront before w0 w1 head fault →
+    WritesFrontOf (λ xs. head ++ text xs) skip limit 0 before r r w0 w1 fault
+front_head text skip limit r w0 w1 before head (WriteFailed n) stop =
     let front : take stop.0 (head ++ text []) ≡ take stop.0 head = take-append-le stop.0 head (text []) (omega (arith, stop.2)) in record {
       input = [];
       written = stop.0;
       consumed = Consumes-nil r;
+      asked = asked_among limit skip 0 (omega arith);
       within = omega (arith, length-append head (text []), stop.2);
       appended = rw front stop.3;
-      cause = stop.1;
+      cause = (stop.1, omega (arith, length-append head (text []), stop.2), omega arith);
     }
-front_head text r w0 w1 before head NoMemory stop = absurd stop
-front_head text r w0 w1 before head ReadFailed stop = absurd stop
-front_head text r w0 w1 before head InputTooLong stop = absurd stop
-front_head text r w0 w1 before head SkipPastEnd stop = absurd stop
+front_head text skip limit r w0 w1 before head NoMemory stop = absurd stop
+front_head text skip limit r w0 w1 before head ReadFailed stop = absurd stop
+front_head text skip limit r w0 w1 before head InputTooLong stop = absurd stop
+front_head text skip limit r w0 w1 before head SkipPastEnd stop = absurd stop

@@ -1,5 +1,5 @@
 -- The runs by position are what the scan gives.
-use Rattle.std.proofs.Common.{◌≡◌, ℕ, zero, suc, ◌+◌, ◌-◌, ◌<◌, Bool, true, false, List, [], ◌∷◌, ◌++◌, length, take, refl, sym, ap, ◌∙◌, arith, append_assoc, append-nil, length-append, inl, inr}
+use Rattle.std.proofs.Common.{◌≡◌, ℕ, zero, suc, ◌+◌, ◌-◌, ◌<◌, ◌≤◌, Bool, true, false, List, [], ◌∷◌, ◌++◌, length, take, refl, sym, ap, ◌∙◌, arith, append_assoc, append-nil, length-append, inl, inr}
 use Rattle.std.specs.Prelude.{nat_lt, nat_le, ◌==◌, codes, if◌then◌else◌}
 use Rattle.std.specs.List.{prefix_len}
 use Rattle.std.proofs.lemmas.Bool.{cases_lt, cases_eq, eq-eqb, ne_eqb}
@@ -9,6 +9,7 @@ use Rattle.std.specs.Prelude.{Option}
 use Rattle.std.proofs.lemmas.List.{take-append-le}
 use Rattle.bx_text.specs.declared.fault.IoFault.{IoFault}
 use Rattle.bx_dump.specs.Dumped.{DumpsFront}
+use Rattle.bx_dump.proofs.DumpLemmas.{cause_longer}
 use Rattle.bx_dump.proofs.ScanLemmas.{both}
 use Rattle.bx_dump.specs.declared.od_options.Address.{Address}
 use Rattle.bx_text.specs.Ascii.{is_printable}
@@ -169,4 +170,5 @@ front_known least o r0 r1 w0 w1 fault some d =
     let tail = end_text least (scan_run [] d.0) in
     let is = strings_is least o d.0 some in
     let e : take d.1 (strings_text least o d.0) ≡ take d.1 text = ap (take d.1) is ∙ take-append-le d.1 text tail d.3 in
-    (d.0, d.1, d.2, omega (arith, d.3, ap length is, length-append text tail), rw e d.4, d.5)
+    let more : length text ≤ length (strings_text least o d.0) = omega (arith, ap length is, length-append text tail) in
+    (d.0, d.1, d.2, omega (arith, d.3, more), rw e d.4, cause_longer fault (length d.0) d.1 _ _ more d.5)

@@ -1,6 +1,7 @@
 -- The digits of bytes, and how they stand in groups.
-use Rattle.std.specs.Prelude.{ℕ, ◌+◌, ◌-◌, ◌*◌, ◌/◌, ◌%◌, List, [], ◌∷◌, ◌++◌, length, take, drop, replicate}
+use Rattle.std.specs.Prelude.{ℕ, ◌+◌, ◌-◌, ◌*◌, ◌/◌, ◌%◌, false, List, [], ◌∷◌, ◌++◌, length, take, drop, replicate, reverse}
 use Rattle.std.specs.List.{flat_map, range_with_len}
+use Rattle.bx_text.specs.Dump.{pair_of}
 
 -- a byte as eight binary digits, the highest bit first
 abbrev pub bits_of : ℕ → List ℕ
@@ -15,3 +16,7 @@ piece_at piece cells k = take piece (drop (piece * k) cells) ++ 32 ∷ []
 abbrev pub grouped : ℕ → List ℕ → ℕ → List ℕ
 grouped piece cells width =
     flat_map (piece_at piece cells) (range_with_len 0 (length cells / piece)) ++ (drop (piece * (length cells / piece)) cells ++ replicate (width - (length cells + length cells / piece)) 32)
+
+-- value k of so many bytes each: a space, and the digits of its bytes, the last byte first
+abbrev pub hex_value : ℕ → List ℕ → ℕ → List ℕ
+hex_value size bytes k = 32 ∷ flat_map (pair_of false) (reverse (take size (drop (size * k) bytes)))

@@ -18,6 +18,7 @@ abbrev pub value_of : List ℕ → ℕ
 value_of [] = 0
 value_of (b ∷ bs) = b + 256 * value_of bs
 
+-- how many bytes a value of this size has
 abbrev pub size_of : Size → ℕ
 size_of One = 1
 size_of Two = 2
@@ -75,6 +76,7 @@ field_text (Number form size) bytes = number_text form size (value_of bytes)
 abbrev pub value_text : Kind → ℕ → List ℕ → List ℕ
 value_text kind at bytes = 32 ∷ field_text kind bytes
 
+-- an address in 7 octal, 7 decimal or 6 hexadecimal digits, or more where it needs them
 abbrev pub address_text : Address → ℕ → List ℕ
 address_text Octal at = left_filled 48 7 (digits 8 false at)
 address_text Decimal at = left_filled 48 7 (digits 10 false at)

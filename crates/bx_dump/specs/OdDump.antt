@@ -9,18 +9,19 @@ use Rattle.bx_dump.specs.Pages.{WritesFrontOf, Skips, StopsAt}
 abbrev pub Reaches : ℕ → Option (List ℕ) → Option (List ℕ) → Type 0
 Reaches count r0 r1 = (input : List ℕ) × Consumes r0 r1 input × (count ≤ length input)
 
--- a write fails only where so many bytes were read
-abbrev pub FailsBehind : ℕ → Option (List ℕ) → Option (List ℕ) → IoFault → Type 0
-FailsBehind count r0 r1 (WriteFailed written) = Reaches count r0 r1
-FailsBehind count r0 r1 NoMemory = Unit {0}
-FailsBehind count r0 r1 ReadFailed = Unit {0}
-FailsBehind count r0 r1 InputTooLong = Unit {0}
-FailsBehind count r0 r1 SkipPastEnd = Unit {0}
+-- A write fails only where so many bytes were read; where another fault comes before, nothing was written.
+abbrev pub FailsBehind : ℕ → Option (List ℕ) → Option (List ℕ) → Option (List ℕ) → Option (List ℕ) → IoFault → Type 0
+FailsBehind count r0 r1 w0 w1 (WriteFailed written) = Reaches count r0 r1
+FailsBehind count r0 r1 w0 w1 NoMemory = (w1 ≡ w0) ⊎ Reaches count r0 r1
+FailsBehind count r0 r1 w0 w1 ReadFailed = (w1 ≡ w0) ⊎ Reaches count r0 r1
+FailsBehind count r0 r1 w0 w1 InputTooLong = (w1 ≡ w0) ⊎ Reaches count r0 r1
+FailsBehind count r0 r1 w0 w1 SkipPastEnd = (w1 ≡ w0) ⊎ Reaches count r0 r1
 
 -- the input ended among the bytes to skip, or a read stopped
 abbrev pub StopsShort : ℕ → Option (List ℕ) → Option (List ℕ) → IoFault → Type 0
-StopsShort count r0 r1 fault = (fault ≡ SkipPastEnd) × Skips false count r0 r1 ⊎ StopsAt (2 ^ 40) r0 r1 fault
+StopsShort count r0 r1 fault = (fault ≡ SkipPastEnd) × Skips false count r0 r1 ⊎ StopsAt count (2 ^ 40) r0 r1 fault
 
 -- the input ended among the bytes to skip and nothing was written, or a front of the text was written
-abbrev pub StopsOd : (List ℕ → List ℕ) → ℕ → Option (List ℕ) → Option (List ℕ) → Option (List ℕ) → Option (List ℕ) → IoFault → Type 0
-StopsOd text skip r0 r1 w0 w1 fault = (fault ≡ SkipPastEnd) × Skips false skip r0 r1 × (w1 ≡ w0) ⊎ WritesFrontOf text 0 0 r0 r1 w0 w1 fault
+abbrev pub StopsOd : (List ℕ → List ℕ) → ℕ → Option ℕ → Option (List ℕ) → Option (List ℕ) → Option (List ℕ) → Option (List ℕ) → IoFault → Type 0
+StopsOd text skip limit r0 r1 w0 w1 fault =
+    (fault ≡ SkipPastEnd) × Skips false skip r0 r1 × (w1 ≡ w0) ⊎ WritesFrontOf text skip limit 0 0 r0 r1 w0 w1 fault

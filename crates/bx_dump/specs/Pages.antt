@@ -1,5 +1,5 @@
 -- What a dump of a part of an input reads and writes.
-use Rattle.std.specs.Prelude.{◌≡◌, ℕ, ◌+◌, ◌<◌, ◌≤◌, ◌⊎◌, Bool, true, false, List, length, take, drop, Option, None, Some}
+use Rattle.std.specs.Prelude.{◌≡◌, ℕ, ◌+◌, ◌^◌, ◌<◌, ◌≤◌, ◌⊎◌, Bool, true, false, List, length, take, drop, Option, None, Some, IfSome}
 use Rattle.std.specs.Io.KnownBytes.{Appends, Consumes, IsAtEnd}
 use Rattle.bx_text.specs.declared.fault.IoFault.{IoFault}
 use Rattle.bx_text.specs.Stream.{IsReadCause}
@@ -29,37 +29,42 @@ pub record WritesPart (text : List ℕ → List ℕ) (skip : ℕ) (limit : Optio
   pub input : List ℕ
   pub consumed : Consumes r0 r1 input
   pub ends : IsEndOf skip limit (length input) r1
+  pub few : length input ≤ 2 ^ 40
   pub dumped : length (part_of skip limit input) ≡ read
   pub appended : Appends w0 w1 (text input)
   pub long : length (text input) ≡ written
 
--- The same of what comes after the bytes that are skipped, with the text of the part alone.
-pub record WritesRest (text : List ℕ → List ℕ) (limit : Option ℕ) (r0 r1 w0 w1 : Option (List ℕ)) (read written : ℕ) : Type 0 where
+-- The same of what comes after `from` bytes that are skipped, with the text of the part alone.
+pub record WritesRest (text : List ℕ → List ℕ) (from : ℕ) (limit : Option ℕ) (r0 r1 w0 w1 : Option (List ℕ)) (read written : ℕ) : Type 0 where
   pub input : List ℕ
   pub consumed : Consumes r0 r1 input
   pub ends : IsLast limit read r1
+  pub few : from + length input ≤ 2 ^ 40
   pub dumped : length input ≡ read
   pub appended : Appends w0 w1 (text input)
   pub long : length (text input) ≡ written
 
--- Some input was read after `from` bytes, and a front of its text was written after `before` bytes, which the fault counts too.
-pub record WritesFrontOf (text : List ℕ → List ℕ) (from before : ℕ) (r0 r1 w0 w1 : Option (List ℕ)) (fault : IoFault) : Type 0 where
+-- Some input was read after `from` bytes, no more of it than skip and limit ask for, and a front of its text was written
+-- after `before` bytes, which the fault counts too.
+pub record WritesFrontOf (text : List ℕ → List ℕ) (skip : ℕ) (limit : Option ℕ) (from before : ℕ) (r0 r1 w0 w1 : Option (List ℕ)) (fault : IoFault) : Type 0 where
   pub input : List ℕ
   pub written : ℕ
   pub consumed : Consumes r0 r1 input
+  pub asked : IfSome limit (λ most. length input ≤ skip + most)
   pub within : written ≤ length (text input)
   pub appended : Appends w0 w1 (take written (text input))
-  pub cause : IsDumpFault fault (from + length input) (before + written)
+  pub cause : IsDumpFault fault (from + length input) (before + written) (before + length (text input))
 
 -- Bytes were skipped: all that were asked for, or fewer up to the input's end.
 pub record Skips (all : Bool) (count : ℕ) (r0 r1 : Option (List ℕ)) : Type 0 where
   pub input : List ℕ
   pub consumed : Consumes r0 r1 input
+  pub few : length input ≤ 2 ^ 40
   pub whole : all ≡ true → length input ≡ count
   pub short : all ≡ false → (length input < count) × IsAtEnd r1
 
--- Some bytes were read, and then no more could be.
-pub record StopsAt (room : ℕ) (r0 r1 : Option (List ℕ)) (fault : IoFault) : Type 0 where
+-- Some bytes were read of `wanted` that were asked for, and then no more could be.
+pub record StopsAt (wanted room : ℕ) (r0 r1 : Option (List ℕ)) (fault : IoFault) : Type 0 where
   pub input : List ℕ
   pub consumed : Consumes r0 r1 input
-  pub cause : IsReadCause fault room (length input)
+  pub cause : IsReadCause fault wanted room (length input)

@@ -1,5 +1,5 @@
 -- The text of strings as far as it is known behind each byte. `run` is what stands printable right before place `at`.
-use Rattle.std.specs.Prelude.{◌≡◌, ◌<◌, ◌≤◌, ℕ, ◌+◌, ◌-◌, ◌==◌, Bool, true, false, ◌&&◌, nat_le, nat_lt, if◌then◌else◌, List, [], ◌∷◌, ◌++◌, length, take, slice_index, codes, Option}
+use Rattle.std.specs.Prelude.{◌≡◌, ◌<◌, ◌≤◌, ℕ, ◌+◌, ◌-◌, ◌^◌, ◌==◌, Bool, true, false, ◌&&◌, nat_le, nat_lt, if◌then◌else◌, List, [], ◌∷◌, ◌++◌, length, take, slice_index, codes, Option}
 use Rattle.std.specs.Int.{w64, trailing_zeros}
 use Rattle.std.specs.Io.KnownBytes.{Appends, Consumes, IsAtEnd}
 use Rattle.bx_dump.specs.declared.od_options.Address.{Address}
@@ -79,6 +79,7 @@ cost_of Without = 2
 pub record ScansAll (least : ℕ) (offsets : Address) (count : ℕ) (kept : List ℕ) (r0 r1 w0 w1 : Option (List ℕ)) (read written : ℕ) : Type 0 where
   pub input : List ℕ
   pub long : length input ≡ read
+  pub few : read ≤ 2 ^ 40
   pub consumed : Consumes r0 r1 input
   pub ended : IsAtEnd r1
   pub appended : Appends w0 w1 (scan_text least offsets 0 [] input)

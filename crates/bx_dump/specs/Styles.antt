@@ -10,6 +10,7 @@ use Rattle.bx_dump.specs.declared.xxd_options.XxdStyle.{XxdStyle}
 use Rattle.bx_dump.specs.declared.xxd_options.XxdStyle.TheVariants.{Normal, Plain, Bits, Include}
 use Rattle.bx_dump.specs.declared.xxd_options.XxdOptions.{XxdOptions}
 
+-- a decimal digit
 abbrev pub is_digit : ℕ → Bool
 is_digit b = nat_le 48 b && nat_le b 57
 
@@ -39,6 +40,7 @@ include_items cols (b ∷ bs) = in_lines include_line cols 0 (b ∷ bs) ++ codes
 abbrev pub include_head : List ℕ → List ℕ
 include_head name = codes "unsigned char " ++ c_name name ++ codes "[] = {\n"
 
+-- the end of the array, and its length under the name
 abbrev pub include_tail : List ℕ → ℕ → List ℕ
 include_tail name n = codes "};\nunsigned int " ++ c_name name ++ codes "_len = " ++ (digits 10 false n ++ codes ";\n")
 

@@ -2,11 +2,8 @@
 ghost use Rattle.std.specs.Prelude.{◌≡◌, ℕ, zero, suc, ◌+◌, ◌*◌, ◌/◌, ◌^◌, ◌<◌, ◌≤◌, Bool, true, false, List, [], ◌++◌, length, take, IsTrue, if◌then◌else◌};
 ghost use Rattle.bx_text.specs.Fold.{line_bytes, line_count, line_text, lines_to, folded, show_at, IsTaken};
 
-use crate::pages::Pages;
+use crate::pages::{BLOCK, Pages};
 use bx_text::{Fold, Show};
-
-/// The bytes of whole lines that are put at once, for each of which a page has 128 bytes of room.
-const BLOCK: usize = 12288;
 
 /// The form of a dump's lines.
 pub trait Form {
@@ -132,7 +129,7 @@ impl<F: Form> Pages for FoldedPages<F> {
 
     ghost Seen = { λ p input. (k : ℕ) × (length input ≡ 16 * k) × IsTaken p.all p.fold input k };
 
-    ghost block = { λ _. 12288 };
+    ghost block = { λ _. 16384 };
 
     fn block_len(&self) -> usize {
         BLOCK

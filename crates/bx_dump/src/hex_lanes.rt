@@ -1,9 +1,10 @@
 //! The digits of many bytes at once, and how they stand in columns.
-ghost use Rattle.std.specs.Prelude.{◌≡◌, ℕ, ◌*◌, ◌/◌, ◌%◌, ◌<◌, ◌≤◌, map, length, take, slice_index};
+ghost use Rattle.std.specs.Prelude.{◌≡◌, ℕ, ◌*◌, ◌/◌, ◌%◌, ◌<◌, ◌≤◌, false, List, map, length, take, slice_index};
 ghost use Rattle.std.specs.Fmt.{digit_glyph};
 ghost use Rattle.std.specs.List.{flat_map, range_with_len};
 ghost use Rattle.bx_text.specs.Dump.{pair_of, shown_byte};
 ghost use Rattle.bx_dump.specs.Cells.{piece_at};
+ghost use Rattle.bx_dump.specs.Hexdump.{canon_columns};
 
 use bx_text::put_text;
 use std::simd::prelude::*;
@@ -52,6 +53,45 @@ pub fn put_sixteen(cells: &mut [u8], bytes: &[u8], upper: bool)
         ],
     );
     pairs.copy_to_slice(cells);
+}
+
+/// Puts the digits of 16 bytes in two groups of 8, a space after each byte and one more after each group.
+#[inline(always)]
+pub fn put_canon_sixteen(field: &mut [u8], bytes: &[u8; 16])
+    requires { length field.old ≡ 50 }
+    ensures { field.new ≡ canon_columns bytes.now (length field.old) }
+{
+    let mut cells = [0; 32];
+    put_sixteen(&mut cells, bytes, false);
+    put_canon_cells(field, &cells);
+}
+
+/// Puts the digits of 16 bytes, two cells for each, in hexdump's columns.
+#[inline(always)]
+fn put_canon_cells(field: &mut [u8], cells: &[u8; 32])
+    requires { length field.old ≡ 50 }
+    ensures { (bytes : List ℕ) → length bytes ≡ 16 → cells.now ≡ flat_map (pair_of false) bytes → field.new ≡ canon_columns bytes (length field.old) }
+{
+    let cells = u8x32::from_array(*cells);
+    let space = u8x32::splat(b' ');
+    let front: u8x32 = cells.shuffle(
+        space,
+        [
+            0, 1, 32, 2, 3, 32, 4, 5, 32, 6, 7, 32, 8, 9, 32, 10, 11, 32, 12, 13, 32, 14, 15, 32,
+            32, 16, 17, 32, 18, 19, 32, 20,
+        ],
+    );
+    let middle: u8x16 = cells.shuffle(
+        space,
+        [
+            21, 32, 22, 23, 32, 24, 25, 32, 26, 27, 32, 28, 29, 32, 30, 31,
+        ],
+    );
+    let (first, rest) = field.split_at_mut(32);
+    let (second, last) = rest.split_at_mut(16);
+    front.copy_to_slice(first);
+    middle.copy_to_slice(second);
+    last.copy_from_slice(b"  ");
 }
 
 /// Puts eight pieces of four cells, and a space after each.

@@ -4,6 +4,7 @@ ghost use Rattle.bx_dump.specs.Hexdump.{canon_columns, canon_place, canon_line, 
 ghost use Rattle.bx_dump.specs.Pages.{WritesPart, WritesFrontOf, part_of};
 
 use crate::folded::{FoldedPages, Form};
+use crate::hex_lanes::put_canon_sixteen;
 use crate::pages::dump_part;
 use bx_text::{
     IoFault, ShortText, blank, emit_after, hex_digit, hex_field, push_text, put_address, put_text,
@@ -38,7 +39,7 @@ fn put_full_canon(line: &mut [u8], at: u32, bytes: &[u8; 16])
     let (text, end) = rest.split_at_mut(16);
     put_address(address, at);
     gap.copy_from_slice(b"  ");
-    put_canon(columns, bytes);
+    put_canon_sixteen(columns, bytes);
     bar.copy_from_slice(b"|");
     put_text(text, bytes);
     end.copy_from_slice(b"|\n");
@@ -118,7 +119,7 @@ pub fn hexdump_c<R: Read, W: Write>(
 ) -> Result<u64, IoFault>
     requires skip { o.now.skip ≤ 2 ^ 62 }
     ensures ok { IfOk result (λ n. (written : ℕ) × WritesPart (λ input. hexdump_text o.now.all o.now.skip (part_of o.now.skip o.now.limit input)) o.now.skip o.now.limit (R.remaining r.old) (R.remaining r.new) (W.contents w.old) (W.contents w.new) n written) }
-    ensures err { IfErr result (WritesFrontOf (λ input. hexdump_text o.now.all o.now.skip (part_of o.now.skip o.now.limit input)) 0 0 (R.remaining r.old) (R.remaining r.new) (W.contents w.old) (W.contents w.new)) }
+    ensures err { IfErr result (WritesFrontOf (λ input. hexdump_text o.now.all o.now.skip (part_of o.now.skip o.now.limit input)) o.now.skip o.now.limit 0 0 (R.remaining r.old) (R.remaining r.new) (W.contents w.old) (W.contents w.new)) }
 {
     let mut pages = FoldedPages::new(CanonLines, o.all, o.skip);
     let lines = match dump_part(r, w, &mut pages, o.skip, o.limit, 0) {

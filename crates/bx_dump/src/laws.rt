@@ -1,10 +1,21 @@
 //! What the definitions say, in other words.
 ghost use Rattle.std.specs.Prelude.{ℕ, ◌<◌, List};
 ghost use Rattle.bx_dump.specs.declared.od_options.Address.{Address};
+ghost use Rattle.bx_dump.specs.Laws.{ItemsAreLines, ValueIsSum};
 ghost use Rattle.bx_dump.specs.Runs.{ShowsRuns};
 
 /// Says that the text of `strings` shows the maximal printable runs that are long enough, each of them and no others, by
 /// rising place.
 pub fn shows_maximal_runs()
     ensures { (least : ℕ) (offsets : Address) (x : List ℕ) → 0 < least → ShowsRuns least offsets x }
+{}
+
+/// Says that the value `od` shows for bytes is the sum of each byte times 256 to the power of its place.
+pub fn value_is_sum()
+    ensures { ValueIsSum }
+{}
+
+/// Says that the items of a C array stand on lines of two spaces and `cols` items, of which each but the last ends in a comma.
+pub fn items_are_lines()
+    ensures { ItemsAreLines }
 {}

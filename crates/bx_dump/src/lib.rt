@@ -10,6 +10,7 @@ mod od_bytes;
 mod od_decimal;
 mod od_digits;
 mod od_dump;
+mod od_hexadecimal;
 mod od_lines;
 mod od_octal;
 mod od_options;
@@ -26,7 +27,7 @@ mod xxd_rows;
 mod xxd_tables;
 
 pub use hexdump::{HexdumpOptions, hexdump_c};
-pub use laws::shows_maximal_runs;
+pub use laws::{items_are_lines, shows_maximal_runs, value_is_sum};
 pub use od_dump::od;
 pub use od_options::{Address, Kind, NumForm, OdOptions, Size};
 pub use printable::{StringsOptions, strings};

@@ -4,7 +4,7 @@ ghost use Rattle.std.specs.Fmt.{digits};
 ghost use Rattle.bx_text.specs.Field.{left_filled};
 ghost use Rattle.bx_dump.specs.Od.{size_of, number_width, number_text, signed_text, char_text};
 
-use crate::od_bytes::{signed_of, unsigned_of};
+use crate::od_bytes::{octal_of, signed_of, unsigned_of};
 use crate::od_decimal::{
     put_signed_eight, put_signed_four, put_signed_two, put_unsigned_eight, put_unsigned_four,
     put_unsigned_two,
@@ -182,6 +182,7 @@ pub fn put_number(field: &mut [u8], form: NumForm, size: Size, v: u64)
     match form {
         NumForm::Signed => put_signed(field, size, v),
         NumForm::Octal if size == Size::Two => put_six(field, v as u32),
+        NumForm::Octal if size == Size::One => field.copy_from_slice(&octal_of(v as u8)),
         NumForm::Octal => put_fixed(field, v, 8),
         NumForm::Unsigned => put_unsigned(field, size, v),
         NumForm::Hexadecimal => put_fixed(field, v, 16),

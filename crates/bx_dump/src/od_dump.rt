@@ -22,7 +22,6 @@ fn reach<R: Read>(meter: &mut Meter, r: &mut R, count: u64, block: &mut [u8]) ->
     ensures ok { OnOk result (Skips true count (R.remaining r.old) (R.remaining r.new)) }
     ensures open { OnOk result ((meter.new.state ≡ State.Open) × (meter.new.taken ≡ count)) }
     ensures err { IfErr result (StopsShort count (R.remaining r.old) (R.remaining r.new)) }
-    ensures behind { IfErr result (FailsBehind count (R.remaining r.old) (R.remaining r.new)) }
 {
     match skip(meter, r, count, block) {
         Ok(true) => Ok(()),
@@ -43,8 +42,8 @@ fn dump_lines<R: Read, W: Write>(
     requires open { meter.old.state ≡ State.Open }
     requires limit { meter.old.limit ≡ 2 ^ 40 }
     requires block { length block.old ≡ BLOCK }
-    ensures ok { IfOk result (λ part. WritesRest (folded (od_line o.now.address o.now.kind) o.now.all o.now.skip) o.now.limit (R.remaining r.old) (R.remaining r.new) (W.contents w.old) (W.contents w.new) part.read part.written) }
-    ensures err { IfErr result (WritesFrontOf (λ input. folded (od_line o.now.address o.now.kind) o.now.all o.now.skip (capped o.now.limit input)) meter.old.taken 0 (R.remaining r.old) (R.remaining r.new) (W.contents w.old) (W.contents w.new)) }
+    ensures ok { IfOk result (λ part. WritesRest (folded (od_line o.now.address o.now.kind) o.now.all o.now.skip) meter.old.taken o.now.limit (R.remaining r.old) (R.remaining r.new) (W.contents w.old) (W.contents w.new) part.read part.written) }
+    ensures err { IfErr result (WritesFrontOf (λ input. folded (od_line o.now.address o.now.kind) o.now.all o.now.skip (capped o.now.limit input)) 0 o.now.limit meter.old.taken 0 (R.remaining r.old) (R.remaining r.new) (W.contents w.old) (W.contents w.new)) }
     ensures few { IfOk result (λ part. part.written ≤ 2 ^ 60) }
     ensures count { IfOk result (λ part. part.read ≤ 2 ^ 40) }
 {
@@ -67,8 +66,8 @@ pub fn od<R: Read, W: Write>(r: &mut R, w: &mut W, o: &OdOptions) -> Result<u64,
     requires skip { o.now.skip ≤ 2 ^ 62 }
     ensures ok { IfOk result (λ n. (written : ℕ) × WritesPart (λ input. od_text o.now.address o.now.kind o.now.all o.now.skip (part_of o.now.skip o.now.limit input)) o.now.skip o.now.limit (R.remaining r.old) (R.remaining r.new) (W.contents w.old) (W.contents w.new) n written) }
     ensures reached { OnOk result (Reaches o.now.skip (R.remaining r.old) (R.remaining r.new)) }
-    ensures behind { IfErr result (FailsBehind o.now.skip (R.remaining r.old) (R.remaining r.new)) }
-    ensures err { IfErr result (StopsOd (λ input. od_text o.now.address o.now.kind o.now.all o.now.skip (part_of o.now.skip o.now.limit input)) o.now.skip (R.remaining r.old) (R.remaining r.new) (W.contents w.old) (W.contents w.new)) }
+    ensures behind { IfErr result (FailsBehind o.now.skip (R.remaining r.old) (R.remaining r.new) (W.contents w.old) (W.contents w.new)) }
+    ensures err { IfErr result (StopsOd (λ input. od_text o.now.address o.now.kind o.now.all o.now.skip (part_of o.now.skip o.now.limit input)) o.now.skip o.now.limit (R.remaining r.old) (R.remaining r.new) (W.contents w.old) (W.contents w.new)) }
 {
     let mut meter = Meter::new(LIMIT);
     let mut block = [0; BLOCK];

@@ -5,6 +5,7 @@ ghost use Rattle.bx_dump.specs.Od.{value_of, width_of, field_width, field_text, 
 
 use crate::od_bytes::char_of;
 use crate::od_digits::put_number;
+use crate::od_hexadecimal::put_hexadecimal_line;
 use crate::od_options::{Kind, NumForm, Size};
 
 /// The value of bytes of which the lowest comes first.
@@ -226,48 +227,6 @@ fn put_unsigned_line(text: &mut [u8], size: Size, bytes: &[u8; 16]) -> usize
             text,
             Kind::Number {
                 form: NumForm::Unsigned,
-                size: Size::Eight,
-            },
-            bytes,
-        ),
-    }
-}
-
-/// Puts the numbers of a full line in hexadecimal digits, with a loop of its own for each size.
-fn put_hexadecimal_line(text: &mut [u8], size: Size, bytes: &[u8; 16]) -> usize
-    requires room { 80 ≤ length text.old }
-    ensures most { result ≤ 80 }
-    ensures text { take result text.new ≡ in_lines (value_text (Kind.Number NumForm.Hexadecimal size)) (width_of (Kind.Number NumForm.Hexadecimal size)) 0 bytes.now }
-{
-    match size {
-        Size::One => put_whole(
-            text,
-            Kind::Number {
-                form: NumForm::Hexadecimal,
-                size: Size::One,
-            },
-            bytes,
-        ),
-        Size::Two => put_whole(
-            text,
-            Kind::Number {
-                form: NumForm::Hexadecimal,
-                size: Size::Two,
-            },
-            bytes,
-        ),
-        Size::Four => put_whole(
-            text,
-            Kind::Number {
-                form: NumForm::Hexadecimal,
-                size: Size::Four,
-            },
-            bytes,
-        ),
-        Size::Eight => put_whole(
-            text,
-            Kind::Number {
-                form: NumForm::Hexadecimal,
                 size: Size::Eight,
             },
             bytes,

@@ -11,8 +11,8 @@ pub const LIMIT: u64 = 1 << 40;
 /// The most bytes of an input that are put at once.
 pub const BLOCK: usize = 16384;
 
-/// How many bytes of text there is room for.
-pub const PAGE: usize = 98304;
+/// How many bytes of text there is room for: 128 for each line of 16 bytes.
+pub const PAGE: usize = 131072;
 
 /// What turns the bytes of an input into text, a block at a time.
 pub trait Pages {
@@ -68,7 +68,7 @@ pub fn skip<R: Read>(
     ensures limit { meter.new.limit ≡ 2 ^ 40 }
     ensures ok { IfOk result (λ all. Skips all count (R.remaining r.old) (R.remaining r.new)) }
     ensures open { IfOk result (λ all. all ≡ true → (meter.new.state ≡ State.Open) × (meter.new.taken ≡ count)) }
-    ensures err { IfErr result (StopsAt (2 ^ 40) (R.remaining r.old) (R.remaining r.new)) }
+    ensures err { IfErr result (StopsAt count (2 ^ 40) (R.remaining r.old) (R.remaining r.new)) }
 {
     while meter.taken < count {
         let want = (count - meter.taken).min(block.len() as u64) as usize;
@@ -114,8 +114,8 @@ pub fn dump_pages<R: Read, W: Write, P: Pages>(
     requires page { length page.old ≡ PAGE }
     requires seen { P.Seen pages.old [] }
     requires empty { P.written pages.old [] ≡ [] }
-    ensures ok { IfOk result (λ part. WritesRest (P.written pages.old) limit (R.remaining r.old) (R.remaining r.new) (W.contents w.old) (W.contents w.new) part.read part.written) }
-    ensures err { IfErr result (WritesFrontOf (λ input. P.written pages.old (capped limit input)) meter.old.taken before (R.remaining r.old) (R.remaining r.new) (W.contents w.old) (W.contents w.new)) }
+    ensures ok { IfOk result (λ part. WritesRest (P.written pages.old) meter.old.taken limit (R.remaining r.old) (R.remaining r.new) (W.contents w.old) (W.contents w.new) part.read part.written) }
+    ensures err { IfErr result (WritesFrontOf (λ input. P.written pages.old (capped limit input)) 0 limit meter.old.taken before (R.remaining r.old) (R.remaining r.new) (W.contents w.old) (W.contents w.new)) }
     ensures few { IfOk result (λ part. part.written ≤ 2 ^ 60) }
     ensures count { IfOk result (λ part. part.read ≤ 2 ^ 40) }
 {
@@ -156,7 +156,7 @@ pub fn dump_part<R: Read, W: Write, P: Pages>(
     requires seen { P.Seen pages.old [] }
     requires empty { P.written pages.old [] ≡ [] }
     ensures ok { IfOk result (λ part. WritesPart (λ input. P.written pages.old (part_of from limit input)) from limit (R.remaining r.old) (R.remaining r.new) (W.contents w.old) (W.contents w.new) part.read part.written) }
-    ensures err { IfErr result (WritesFrontOf (λ input. P.written pages.old (part_of from limit input)) 0 before (R.remaining r.old) (R.remaining r.new) (W.contents w.old) (W.contents w.new)) }
+    ensures err { IfErr result (WritesFrontOf (λ input. P.written pages.old (part_of from limit input)) from limit 0 before (R.remaining r.old) (R.remaining r.new) (W.contents w.old) (W.contents w.new)) }
     ensures few { IfOk result (λ part. part.written ≤ 2 ^ 60) }
     ensures count { IfOk result (λ part. part.read ≤ 2 ^ 40) }
 {

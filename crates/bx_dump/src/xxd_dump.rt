@@ -27,7 +27,7 @@ pub fn dump_lines<R: Read, W: Write, F: LineForm + Drop>(
     requires start { start ≤ 2 ^ 63 }
     requires before { before ≤ 2 ^ 63 }
     ensures ok { IfOk result (λ part. WritesPart (λ input. in_lines (F.line form) (F.cols form) start (part_of o.now.seek o.now.limit input)) o.now.seek o.now.limit (R.remaining r.old) (R.remaining r.new) (W.contents w.old) (W.contents w.new) part.read part.written) }
-    ensures err { IfErr result (WritesFrontOf (λ input. in_lines (F.line form) (F.cols form) start (part_of o.now.seek o.now.limit input)) 0 before (R.remaining r.old) (R.remaining r.new) (W.contents w.old) (W.contents w.new)) }
+    ensures err { IfErr result (WritesFrontOf (λ input. in_lines (F.line form) (F.cols form) start (part_of o.now.seek o.now.limit input)) o.now.seek o.now.limit 0 before (R.remaining r.old) (R.remaining r.new) (W.contents w.old) (W.contents w.new)) }
     ensures few { IfOk result (λ part. part.written ≤ 2 ^ 60) }
 {
     let mut lines = Lines::new(form, start);
@@ -63,7 +63,7 @@ fn dump_columns<R: Read, W: Write>(
     requires seek { o.now.seek ≤ 2 ^ 62 }
     requires shift { o.now.shift ≤ 2 ^ 62 }
     ensures ok { IfOk result (λ part. WritesPart (λ input. in_lines (columns_line digits o.now.cols (group_of o.now.cols o.now.group)) o.now.cols (o.now.seek + o.now.shift) (part_of o.now.seek o.now.limit input)) o.now.seek o.now.limit (R.remaining r.old) (R.remaining r.new) (W.contents w.old) (W.contents w.new) part.read part.written) }
-    ensures err { IfErr result (WritesFrontOf (λ input. in_lines (columns_line digits o.now.cols (group_of o.now.cols o.now.group)) o.now.cols (o.now.seek + o.now.shift) (part_of o.now.seek o.now.limit input)) 0 0 (R.remaining r.old) (R.remaining r.new) (W.contents w.old) (W.contents w.new)) }
+    ensures err { IfErr result (WritesFrontOf (λ input. in_lines (columns_line digits o.now.cols (group_of o.now.cols o.now.group)) o.now.cols (o.now.seek + o.now.shift) (part_of o.now.seek o.now.limit input)) o.now.seek o.now.limit 0 0 (R.remaining r.old) (R.remaining r.new) (W.contents w.old) (W.contents w.new)) }
 {
     let group = group_len(o);
     let form = Columns::new(digits, o.cols as usize, group);
@@ -75,7 +75,7 @@ fn dump_plain<R: Read, W: Write>(r: &mut R, w: &mut W, o: &XxdOptions) -> Result
     requires some { 0 < o.now.cols }
     requires few { o.now.cols ≤ 256 }
     ensures ok { IfOk result (λ part. WritesPart (λ input. in_lines (plain_line o.now.upper) o.now.cols 0 (part_of o.now.seek o.now.limit input)) o.now.seek o.now.limit (R.remaining r.old) (R.remaining r.new) (W.contents w.old) (W.contents w.new) part.read part.written) }
-    ensures err { IfErr result (WritesFrontOf (λ input. in_lines (plain_line o.now.upper) o.now.cols 0 (part_of o.now.seek o.now.limit input)) 0 0 (R.remaining r.old) (R.remaining r.new) (W.contents w.old) (W.contents w.new)) }
+    ensures err { IfErr result (WritesFrontOf (λ input. in_lines (plain_line o.now.upper) o.now.cols 0 (part_of o.now.seek o.now.limit input)) o.now.seek o.now.limit 0 0 (R.remaining r.old) (R.remaining r.new) (W.contents w.old) (W.contents w.new)) }
 {
     dump_lines(r, w, Plain::new(o.cols as usize, o.upper), 0, o, 0)
 }
@@ -91,7 +91,7 @@ fn dump_items<R: Read, W: Write>(
     requires few { o.now.cols ≤ 256 }
     requires before { before ≤ 2 ^ 62 + 64 }
     ensures ok { IfOk result (λ part. WritesPart (λ input. include_items o.now.cols (part_of o.now.seek o.now.limit input)) o.now.seek o.now.limit (R.remaining r.old) (R.remaining r.new) (W.contents w.old) (W.contents w.new) part.read part.written) }
-    ensures err { IfErr result (WritesFrontOf (λ input. include_items o.now.cols (part_of o.now.seek o.now.limit input)) 0 before (R.remaining r.old) (R.remaining r.new) (W.contents w.old) (W.contents w.new)) }
+    ensures err { IfErr result (WritesFrontOf (λ input. include_items o.now.cols (part_of o.now.seek o.now.limit input)) o.now.seek o.now.limit 0 before (R.remaining r.old) (R.remaining r.new) (W.contents w.old) (W.contents w.new)) }
     ensures few { IfOk result (λ part. part.written ≤ 2 ^ 60 + 1) }
 {
     let lines = match dump_lines(r, w, Items::new(o.cols as usize), 0, o, before) {
@@ -121,7 +121,7 @@ fn dump_named<R: Read, W: Write>(
     requires few { o.now.cols ≤ 256 }
     requires name { length name.now ≤ 2 ^ 62 }
     ensures ok { IfOk result (λ part. WritesPart (λ input. named_text name.now o.now.cols (part_of o.now.seek o.now.limit input)) o.now.seek o.now.limit (R.remaining r.old) (R.remaining r.new) (W.contents w.old) (W.contents w.new) part.read part.written) }
-    ensures err { IfErr result (WritesFrontOf (λ input. named_text name.now o.now.cols (part_of o.now.seek o.now.limit input)) 0 0 (R.remaining r.old) (R.remaining r.new) (W.contents w.old) (W.contents w.new)) }
+    ensures err { IfErr result (WritesFrontOf (λ input. named_text name.now o.now.cols (part_of o.now.seek o.now.limit input)) o.now.seek o.now.limit 0 0 (R.remaining r.old) (R.remaining r.new) (W.contents w.old) (W.contents w.new)) }
 {
     let before = match emit_head(w, name) {
         Ok(before) => before,
@@ -151,7 +151,7 @@ fn dump_include<R: Read, W: Write>(
     requires few { o.now.cols ≤ 256 }
     requires name { IsCountable (XxdStyle.Include name) }
     ensures ok { IfOk result (λ part. WritesPart (λ input. styled (XxdStyle.Include name.entry) o.now.cols (group_of o.now.cols o.now.group) o.now.upper (o.now.seek + o.now.shift) (part_of o.now.seek o.now.limit input)) o.now.seek o.now.limit (R.remaining r.old) (R.remaining r.new) (W.contents w.old) (W.contents w.new) part.read part.written) }
-    ensures err { IfErr result (WritesFrontOf (λ input. styled (XxdStyle.Include name.entry) o.now.cols (group_of o.now.cols o.now.group) o.now.upper (o.now.seek + o.now.shift) (part_of o.now.seek o.now.limit input)) 0 0 (R.remaining r.old) (R.remaining r.new) (W.contents w.old) (W.contents w.new)) }
+    ensures err { IfErr result (WritesFrontOf (λ input. styled (XxdStyle.Include name.entry) o.now.cols (group_of o.now.cols o.now.group) o.now.upper (o.now.seek + o.now.shift) (part_of o.now.seek o.now.limit input)) o.now.seek o.now.limit 0 0 (R.remaining r.old) (R.remaining r.new) (W.contents w.old) (W.contents w.new)) }
 {
     match name {
         None => dump_items(r, w, o, 0),
@@ -168,7 +168,7 @@ fn dump_styled<R: Read, W: Write>(r: &mut R, w: &mut W, o: &XxdOptions) -> Resul
     requires shift { o.now.shift ≤ 2 ^ 62 }
     requires name { IsCountable o.now.style }
     ensures ok { IfOk result (λ part. WritesPart (xxd_text o.now) o.now.seek o.now.limit (R.remaining r.old) (R.remaining r.new) (W.contents w.old) (W.contents w.new) part.read part.written) }
-    ensures err { IfErr result (WritesFrontOf (xxd_text o.now) 0 0 (R.remaining r.old) (R.remaining r.new) (W.contents w.old) (W.contents w.new)) }
+    ensures err { IfErr result (WritesFrontOf (xxd_text o.now) o.now.seek o.now.limit 0 0 (R.remaining r.old) (R.remaining r.new) (W.contents w.old) (W.contents w.new)) }
 {
     match o.style {
         XxdStyle::Normal => dump_columns(r, w, Digits::Hexadecimal { upper: o.upper }, o),
@@ -192,7 +192,7 @@ pub fn xxd<R: Read, W: Write>(r: &mut R, w: &mut W, o: &XxdOptions) -> Result<u6
     requires shift { o.now.shift ≤ 2 ^ 62 }
     requires name { IsCountable o.now.style }
     ensures ok { IfOk result (λ n. (written : ℕ) × WritesPart (xxd_text o.now) o.now.seek o.now.limit (R.remaining r.old) (R.remaining r.new) (W.contents w.old) (W.contents w.new) n written) }
-    ensures err { IfErr result (WritesFrontOf (xxd_text o.now) 0 0 (R.remaining r.old) (R.remaining r.new) (W.contents w.old) (W.contents w.new)) }
+    ensures err { IfErr result (WritesFrontOf (xxd_text o.now) o.now.seek o.now.limit 0 0 (R.remaining r.old) (R.remaining r.new) (W.contents w.old) (W.contents w.new)) }
 {
     match dump_styled(r, w, o) {
         Ok(part) => Ok(part.read),

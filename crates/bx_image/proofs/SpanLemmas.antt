@@ -12,7 +12,8 @@ use Rattle.std.proofs.lemmas.List.Folds.{list_any-append, list_any_more}
 use Rattle.std.proofs.lemmas.List.Sorted.{list_any-IsPermutation}
 use Rattle.bx_text.specs.declared.pieces.Piece.{Piece}
 use Rattle.bx_image.specs.declared.spans.Span.{Span}
-use Rattle.bx_image.specs.Change.{is_cut_off, is_covered, AllWithin, AreNonEmpty, HaveGaps}
+use Rattle.bx_image.specs.declared.change.Change.{Change}
+use Rattle.bx_image.specs.Change.{touches, is_cut_off, is_covered, AllWithin, AreNonEmpty, HaveGaps}
 use Rattle.bx_image.specs.Spans.{is_between, are_over, with_span, IsWithin, LieWithin, AreApart, StandOver}
 use Rattle.bx_image.proofs.Images.{end_of_le}
 
@@ -203,3 +204,9 @@ AllWithin-StandOver len (s ∷ spans) [] all within = absurd all
 AllWithin-StandOver len (s ∷ spans) (r ∷ runs) all within =
     let first : IsWithin len s = within 0 s (omega arith) in
     (omega (arith, all.1, first.within, end_of_le r.at r.bytes), AllWithin-StandOver len spans runs all.2 (λ k d h. within (suc k) d (omega arith)))
+
+-- ranges over what a base and writes touch are over what their change touches
+pub over_change : {A : Type 0} (c : Change A) (base : Option ℕ) (writes : List (Piece A)) (spans : List Span) (len : ℕ) → c.base ≡ base → c.writes ≡ writes
+    → ((i : ℕ) → are_over spans i ≡ (nat_lt i len && (is_cut_off base i || is_covered writes i))) → (i : ℕ) → are_over spans i ≡ (nat_lt i len && touches c i)
+unfolding touches
+over_change c base writes spans len base_is writes_are over i = rw (base_is, writes_are) (over i)

@@ -1,10 +1,9 @@
 //! The addresses that a change touches, as ranges by rising address.
 ghost use Rattle.std.specs.Prelude.{◌≡◌, ◌<◌, ◌≤◌, ◌+◌, ◌&&◌, ◌||◌, ℕ, List, min, nat_le, nat_lt, length, unwrap_or, IfOk, OnOk};
 ghost use Rattle.std.specs.List.Sorted.{IsPermutation, IsNonDecreasingBy};
-ghost use Rattle.bx_image.specs.Change.{touches};
+ghost use Rattle.bx_image.specs.Change.{is_cut_off, is_covered};
 ghost use Rattle.bx_image.specs.Spans.{are_over, with_span, LieWithin, AreApart};
 
-use crate::Change;
 use bx_text::Piece;
 use std::alloc::{AllocError, Allocator};
 
@@ -15,17 +14,18 @@ pub struct Span {
     pub end: u64,
 }
 
-/// The addresses below `len` that the change touches, as ranges with gaps between them.
+/// The addresses below `len` that a change with this base and these writes touches, as ranges with gaps between them.
 pub fn touched<A: Allocator + Clone>(
     alloc: A,
-    change: &Change<A>,
+    base: Option<u64>,
+    writes: &[Piece<A>],
     len: u64,
 ) -> Result<Vec<Span, A>, AllocError>
-    ensures over { IfOk result (λ spans. (i : ℕ) → are_over spans.items i ≡ (nat_lt i len && touches change.now i)) }
+    ensures over { IfOk result (λ spans. (i : ℕ) → are_over spans.items i ≡ (nat_lt i len && (is_cut_off base i || is_covered writes.now i))) }
     ensures within { IfOk result (λ spans. LieWithin len spans.items) }
     ensures apart { IfOk result (λ spans. AreApart spans.items) }
 {
-    let mut spans = collected(alloc.clone()?, change, len)?;
+    let mut spans = collected(alloc.clone()?, base, writes, len)?;
     sort(&mut spans);
     merged(alloc, spans.as_slice(), len)
 }
@@ -33,15 +33,16 @@ pub fn touched<A: Allocator + Clone>(
 // In the order of the base and the writes.
 fn collected<A: Allocator>(
     alloc: A,
-    change: &Change<A>,
+    base: Option<u64>,
+    writes: &[Piece<A>],
     len: u64,
 ) -> Result<Vec<Span, A>, AllocError>
-    ensures over { IfOk result (λ spans. (i : ℕ) → are_over spans.items i ≡ (nat_lt i len && touches change.now i)) }
+    ensures over { IfOk result (λ spans. (i : ℕ) → are_over spans.items i ≡ (nat_lt i len && (is_cut_off base i || is_covered writes.now i))) }
     ensures within { IfOk result (λ spans. LieWithin len spans.items) }
 {
     let mut spans = Vec::new(alloc);
-    push(&mut spans, cut_start(change.base, len), len)?;
-    for write in change.writes.as_slice() {
+    push(&mut spans, cut_start(base, len), len)?;
+    for write in writes {
         push(&mut spans, write.at, clipped_end(write, len))?;
     }
     Ok(spans)

@@ -24,9 +24,11 @@ head_lines n s = start_line Second n s.len ∷ (map (λ p. dump_line p.at p.byte
 abbrev pub rows_text : List Run → List ℕ
 rows_text ps = joined (map (λ p. dump_line p.at p.bytes) ps)
 
+-- the lines of an entry up to `save`
 abbrev pub head_text : ℕ → Kept → List ℕ
 head_text n s = joined (head_lines n s)
 
+-- the line that ends an entry of the second form, with the length behind the change
 abbrev pub end_text : ℕ → ℕ → List ℕ
 end_text n after = joined (end_line Second n after ∷ [])
 

@@ -11,9 +11,11 @@ Run = Piece (Unit {0})
 abbrev pub Kept : Type 0
 Kept = Saved (Unit {0})
 
+-- a run of a record
 abbrev pub run_of : {A : Type 0} → Piece A → Run
 run_of piece = record { at = piece.at; bytes = piece.bytes }
 
+-- what an entry keeps of a record: its length and runs
 abbrev pub kept_of : {A : Type 0} → Saved A → Kept
 kept_of saved = record { len = saved.len; runs = map run_of saved.runs }
 

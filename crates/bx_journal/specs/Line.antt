@@ -19,9 +19,11 @@ unfoldable pub start_head : Version → ℕ → List ℕ
 start_head First n = codes "change " ++ hex_digits 8 n ++ codes " "
 start_head Second n = codes "change2 " ++ hex_digits 8 n ++ codes " "
 
+-- the line that begins an entry: its number, and the image's length before the change
 unfoldable pub start_line : Version → ℕ → ℕ → List ℕ
 start_line v n len = start_head v n ++ hex_digits (digits_of v) len
 
+-- the line behind the last saved bytes
 unfoldable pub save_line : ℕ → List ℕ
 save_line n = codes "save " ++ hex_digits 8 n
 
@@ -35,6 +37,7 @@ unfoldable pub end_head : Version → ℕ → List ℕ
 end_head First n = codes "done " ++ hex_digits 8 n
 end_head Second n = codes "done2 " ++ hex_digits 8 n ++ codes " "
 
+-- the line that ends an entry; the second form tells the image's length behind the change
 unfoldable pub end_line : Version → ℕ → ℕ → List ℕ
 end_line First n after = end_head First n
 end_line Second n after = end_head Second n ++ hex_digits 16 after
@@ -43,6 +46,7 @@ end_line Second n after = end_head Second n ++ hex_digits 16 after
 abbrev pub behind : List ℕ → List ℕ → Option (List ℕ)
 behind front line = if bytes_eq (take (length front) line) front then Some (drop (length front) line) else None
 
+-- a number that is no more than the limit
 abbrev pub at_most : ℕ → Option ℕ → Option ℕ
 at_most limit n = option_and_then (λ m. if nat_le m limit then Some m else None) n
 

@@ -6,6 +6,7 @@ use Rattle.bx_image.specs.Change.{effect, Fits}
 use Rattle.bx_journal.specs.declared.fault.SessionFault.{SessionFault}
 use Rattle.bx_journal.specs.declared.fault.SessionFault.TheVariants.{NoMemory, TooLarge, DeviceFailed, Damaged, TooFew, JournalFull, Interrupted, Broken, LengthDiffers, NothingToRedo, RedoDamaged}
 
+-- the newest image of a stack
 abbrev pub top : List (List ℕ) → List ℕ
 top [] = []
 top (x ∷ stack) = x
@@ -30,6 +31,7 @@ PerformStep old c (Err (LengthDiffers expected)) new = ⊥
 PerformStep old c (Err (NothingToRedo have)) new = ⊥
 PerformStep old c (Err (RedoDamaged line)) new = ⊥
 
+-- an undo of k: the k newest images are taken off; 41 where there are fewer, and want of memory may take its place
 abbrev pub UndoStep : List (List ℕ) → ℕ → Result ℕ SessionFault → List (List ℕ) → Type 0
 UndoStep old k (Ok left) new = (k ≤ changes_of old) × (left ≡ changes_of old - k) × (new ≡ drop k old)
 UndoStep old k (Err (TooFew have)) new = (changes_of old < k) × (have ≡ changes_of old) × (new ≡ old)

@@ -14,6 +14,7 @@ abbrev pub HaveLengths : List Entry → List ℕ → Type 0
 HaveLengths [] x = Unit {0}
 HaveLengths (e ∷ entries) x = IfSome e.after (λ after. length x ≡ after) × HaveLengths entries (restore e.saved x)
 
+-- each entry restores bytes that are there, from the newest down
 abbrev pub AllCover : List Entry → List ℕ → Type 0
 AllCover [] x = Unit {0}
 AllCover (e ∷ entries) x = Covers e.saved x × AllCover entries (restore e.saved x)
@@ -36,6 +37,7 @@ image_at (Ending v s) x = restore s x
 abbrev pub recovered : Reading → List ℕ → List (List ℕ)
 recovered r x = stack_of r.entries (image_at r.stage x)
 
+-- the entry whose change was under way restores bytes that are there
 abbrev pub CoversAt : Stage → List ℕ → Type 0
 CoversAt Between x = Unit {0}
 CoversAt (Saving v s) x = Unit {0}

@@ -23,9 +23,11 @@ pub record Split : Type 0 where
   pub lines : List (List ℕ)
   pub rest : List ℕ
 
+-- a byte in front of a text that is split
 abbrev pub with_front : ℕ → Split → Split
 with_front b s = elim s.lines [ [] ↦ record { lines = []; rest = b ∷ s.rest } | line ∷ lines ↦ record { lines = (b ∷ line) ∷ lines; rest = s.rest } ]
 
+-- a text in lines, and what stands behind the last newline
 unfoldable pub split : List ℕ → Split
 split [] = record { lines = []; rest = [] }
 split (b ∷ bytes) = if b == 10 then record { lines = [] ∷ (split bytes).lines; rest = (split bytes).rest } else with_front b (split bytes)
@@ -46,6 +48,7 @@ pub record Reading : Type 0 where
   pub entries : List Entry
   pub stage : Stage
 
+-- nothing read yet
 abbrev pub start : Reading
 start = record { entries = []; stage = Between }
 
@@ -54,6 +57,7 @@ abbrev pub may_begin : List Entry → ℕ → Bool
 may_begin [] len = true
 may_begin (e ∷ entries) len = elim e.after [ None ↦ true | Some after ↦ len == after ]
 
+-- a line that begins an entry, with the next number
 abbrev pub begins : List Entry → Version → List ℕ → Option Stage
 begins entries v line = option_and_then
     (λ len. if may_begin entries len then Some (Saving v (record { len = len; runs = [] })) else None)
@@ -72,6 +76,7 @@ next_at entries (Ending v s) line =
     option_map (λ after. record { entries = record { saved = s; after = after } ∷ entries; stage = Between })
     (after_in v (suc (length entries)) line)
 
+-- one line more
 abbrev pub next : Reading → List ℕ → Option Reading
 next r line = next_at r.entries r.stage line
 
@@ -80,6 +85,7 @@ unfoldable pub after_lines : Reading → List (List ℕ) → Option Reading
 after_lines r [] = Some r
 after_lines r (line ∷ lines) = option_and_then (λ q. after_lines q lines) (next r line)
 
+-- a front of a text
 abbrev pub IsPrefix : List ℕ → List ℕ → Type 0
 IsPrefix front text = (rest : List ℕ) × (text ≡ front ++ rest)
 
@@ -87,6 +93,7 @@ IsPrefix front text = (rest : List ℕ) × (text ≡ front ++ rest)
 abbrev pub is_short : List ℕ → Bool
 is_short line = nat_le (length line) 75 && list_all is_printable line
 
+-- the first byte is `s`
 abbrev pub begins_with_s : List ℕ → Bool
 begins_with_s [] = false
 begins_with_s (b ∷ bytes) = b == 115
@@ -104,6 +111,7 @@ pub record Reads (text : List ℕ) (r : Reading) : Type 0 where
   pub lines : after_lines start (split text).lines ≡ Some r
   pub rest : IsRest r.entries r.stage (split text).rest
 
+-- a journal's text that is read without damage
 abbrev pub IsAccepted : List ℕ → Type 0
 IsAccepted text = (r : Reading) × Reads text r
 

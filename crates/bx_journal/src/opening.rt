@@ -12,7 +12,8 @@ use std::alloc::Allocator;
 impl<D: Device, T: TextStore, A: Allocator + Clone> Session<D, T, A> {
     ghost use Rattle.bx_journal.specs.Images.{Images as Pictures};
     ghost use Rattle.bx_journal.specs.Judging.{RefusesRedo};
-    ghost use Rattle.bx_journal.specs.Redo.{Finds, RefusesRedoAt, found_undone};
+    ghost use Rattle.bx_journal.specs.Redo.{Finds, IsClean, RefusesRedoAt, found_undone};
+    ghost use Rattle.bx_journal.specs.Recovery.{OpenKind};
     ghost use Rattle.bx_journal.specs.Session.{HasUndone, IsReady};
     ghost use Rattle.bx_journal.specs.Standing.{IsStanding};
     ghost use Rattle.bx_journal.specs.Calls.{AfterFault, Differs, OpenFault};
@@ -53,6 +54,10 @@ impl<D: Device, T: TextStore, A: Allocator + Clone> Session<D, T, A> {
         ensures faults { D.honest device → T.honest store → (r : Reading) → Reads (T.text store) r → IfErr result (λ e. OpenFault r (D.image device) e.3) }
         ensures differs { D.honest device → T.honest store → (r : Reading) (n : ℕ) → Reads (T.text store) r → Differs r.entries (image_at r.stage (D.image device)) n
             → MatchResult result (λ _. ⊥) (λ e. RefusesLength n e.3) }
+
+        // An interruption comes only where something was unfinished, and no fault of another call comes at all.
+        ensures unfinished { T.honest store → IfErr result (λ e. e.3 ≡ SessionFault.Interrupted → IsClean (T.text store) → ⊥) }
+        ensures kind { IfErr result (λ e. OpenKind e.3) }
 
         // From a sound pair the stack is kept, whatever it answers.
         ensures keeps { D.honest device → T.honest store → (stack : List (List ℕ)) → Recovers (T.text store) (D.image device) stack

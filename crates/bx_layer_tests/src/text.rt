@@ -126,6 +126,15 @@ fn empty_buffer_makes_no_read(rt: HostRuntime) {
     assert_fill(&rt, &mut source, &mut none, Err(IoFault::ReadFailed));
 }
 
+#[test]
+fn full_buffer_looks_no_further(rt: HostRuntime) {
+    let mut three = [0u8; 3];
+    let mut source = Source::new(b"abcd".as_slice(), 3);
+    assert_fill(&rt, &mut source, &mut three, Ok(3));
+    assert!(rt; source.reader.len() == 1);
+    assert_fill(&rt, &mut source, &mut three, Err(IoFault::InputTooLong));
+}
+
 fn interrupted_before(each: u32) -> Source<Interrupted<'static>> {
     let reader = Interrupted {
         bytes: b"abc",

@@ -15,3 +15,4 @@ pub mod LaneLemmas
 pub mod FullLemmas
 pub mod FullLines
 pub mod RowsLemmas
+pub mod FaultLemmas

@@ -9,3 +9,4 @@ pub mod Full
 pub mod Plain
 pub mod Steps
 pub mod Laws
+pub mod FaultTable

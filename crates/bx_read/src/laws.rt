@@ -1,4 +1,5 @@
 //! Laws of the format, over its definitions alone.
+ghost use Rattle.bx_read.specs.FaultTable.{FaultIsOfLine};
 ghost use Rattle.bx_read.specs.Laws.{LineIsUnique, TextIsUnique, PiecesAreFew, DumpLineReadsBack, WrittenLineReadsBack};
 
 /// No line gives two different pairs of an address and bytes.
@@ -9,6 +10,11 @@ pub fn line_is_unique()
 /// No text gives two different lists of pieces.
 pub fn text_is_unique()
     ensures { TextIsUnique }
+{}
+
+/// A line that isn't read has the fault that is answered: that of the first part that isn't as it has to be.
+pub fn fault_is_of_line()
+    ensures { FaultIsOfLine }
 {}
 
 /// The pieces of a text are no more than its lines, and their bytes together no more than half of its bytes.

@@ -1,4 +1,5 @@
-use Rattle.std.proofs.Common.{◌≡◌, ◌*◌, ◌++◌, length, take, arith, ap, ◌∙◌, sym}
+use Rattle.std.proofs.Common.{◌≡◌, ◌+◌, ◌-◌, ◌*◌, ◌≤◌, ◌++◌, length, take, arith, ap, ◌∙◌, sym}
+use Rattle.std.proofs.Math.Nat.{mul-le-mul_right}
 use Rattle.std.proofs.lemmas.List.{length-append, length-take-le}
 use Rattle.std.proofs.lemmas.Result.{err_from_is_err_and}
 use Rattle.bx_text.proofs.KnownLemmas.{Consumes-trans}
@@ -9,7 +10,10 @@ pub returns-in_err-n-clause-stopped : goal.returns-in_err-n-clause-stopped
 returns-in_err-n-clause-stopped g c =
     let p = err_from_is_err_and c.from_residual.result c.from_residual.ensures.1 in
     let read = c.loop-i.invariant.read in
-    rw (p.1, p.2) (stopped_more _ _ _ read.0 _ _ _ read.3 (omega (arith, read.2, c.loop-i.invariant.limit)) c.in_err-n.ensures.stopped)
+    let room : length read.0 ≤ c.args.meter.now.limit - c.args.meter.now.taken = omega (arith, read.2, c.loop-i.invariant.limit, c.loop-i.meter.within) in
+    let turn : (c.loop-i._i + 1) * length c.loop-i.block ≤ c.args.skip * length c.loop-i.block = mul-le-mul_right (length c.loop-i.block) (omega (arith, c.loop-i-test.true)) in
+    let size : c.args.skip * length c.loop-i.block ≡ c.args.skip * length c.args.block.now = ap (λ n. c.args.skip * n) c.loop-i.auto.block in
+    rw (p.1, p.2) (stopped_more _ _ _ read.0 _ _ _ _ _ read.3 (omega (arith, read.2, c.loop-i.invariant.limit)) room (omega (arith, read.1, turn, size)) c.in_err-n.ensures.stopped)
 
 pub returns-then-n-block-clause-read : goal.returns-then-n-block-clause-read
 returns-then-n-block-clause-read g c =

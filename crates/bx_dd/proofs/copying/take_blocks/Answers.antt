@@ -1,16 +1,20 @@
-use Rattle.std.proofs.Common.{◌≡◌, ◌*◌, ◌++◌, length, take, arith, ap, ◌∙◌, sym, inl}
+use Rattle.std.proofs.Common.{◌≡◌, ◌+◌, ◌-◌, ◌*◌, ◌≤◌, ◌++◌, length, take, arith, ap, ◌∙◌, sym, inl}
+use Rattle.std.proofs.Math.Nat.{mul-le-mul_right}
 use Rattle.std.proofs.lemmas.List.{length-append, length-take-le}
 use Rattle.std.proofs.lemmas.Result.{err_from_is_err_and}
 use Rattle.bx_text.proofs.KnownLemmas.{Consumes-trans}
 use Rattle.bx_text.specs.declared.stream.State.TheVariants.{Open, Ended}
-use Rattle.bx_dd.proofs.TransferLemmas.{stopped_more, stopped_memory, read_last, whole_blocks, still_open}
+use Rattle.bx_dd.proofs.TransferLemmas.{stopped_more, within_memory, read_last, whole_blocks, still_open}
 use Rattle.bx_dd.proofs.copying.take_blocks.Goals as goal
 
 pub returns-in_err-n-clause-stopped : goal.returns-in_err-n-clause-stopped
 returns-in_err-n-clause-stopped g c =
     let p = err_from_is_err_and c.from_residual.result c.from_residual.ensures.1 in
     let read = c.loop-i.invariant.read in
-    rw (p.1, p.2) (stopped_more _ _ _ read.0 _ _ _ read.4 (omega (arith, read.3, c.loop-i.invariant.limit)) c.in_err-n.ensures.stopped)
+    let room : length read.0 ≤ c.args.meter.now.limit - c.args.meter.now.taken = omega (arith, read.3, c.loop-i.invariant.limit, c.loop-i.meter.within) in
+    let turn : (c.loop-i._i + 1) * length c.loop-i.block ≤ c.args.count * length c.loop-i.block = mul-le-mul_right (length c.loop-i.block) (omega (arith, c.loop-i-test.true)) in
+    let size : c.args.count * length c.loop-i.block ≡ c.args.count * length c.args.block.now = ap (λ n. c.args.count * n) c.loop-i.auto.block in
+    rw (p.1, p.2) (stopped_more _ _ _ read.0 _ _ _ _ _ read.4 (omega (arith, read.3, c.loop-i.invariant.limit)) room (omega (arith, read.2, turn, size)) c.in_err-n.ensures.stopped)
 
 pub block-requires-clause-whole : goal.block-requires-clause-whole
 block-requires-clause-whole g c =
@@ -22,7 +26,15 @@ pub returns-in_err-convert-clause-stopped : goal.returns-in_err-convert-clause-s
 returns-in_err-convert-clause-stopped g c =
     let p = err_from_is_err_and c.from_residual-in_err-convert.result c.from_residual-in_err-convert.ensures.1 in
     let read = c.loop-i.invariant.read in
-    rw (p.1, p.2) (stopped_memory _ _ (read.0 ++ take c.in_ok-n.n c.read_block.new.block) _ _ (Consumes-trans _ _ _ _ _ read.4 c.in_ok-n.ensures.bytes) c.in_err-convert.ensures.fault)
+    let fill = c.in_ok-n.ensures in
+    let input = read.0 ++ take c.in_ok-n.n c.read_block.new.block in
+    let long : length input ≡ length read.0 + c.in_ok-n.n =
+    omega (arith, length-append read.0 (take c.in_ok-n.n c.read_block.new.block), length-take-le c.in_ok-n.n c.read_block.new.block fill.bound) in
+    let room : length input ≤ c.args.meter.now.limit - c.args.meter.now.taken = omega (arith, long, read.3, fill.taken, fill.limit, c.loop-i.invariant.limit, c.read_block.new.meter.within) in
+    let turn : (c.loop-i._i + 1) * length c.loop-i.block ≤ c.args.count * length c.loop-i.block = mul-le-mul_right (length c.loop-i.block) (omega (arith, c.loop-i-test.true)) in
+    let size : c.args.count * length c.loop-i.block ≡ c.args.count * length c.args.block.now = ap (λ n. c.args.count * n) c.loop-i.auto.block in
+    let all : length input ≤ c.args.count * length c.args.block.now = omega (arith, long, read.2, fill.bound, c.read_block.auto.block, turn, size) in
+    rw (p.1, p.2) (within_memory _ _ input _ _ _ (Consumes-trans _ _ _ _ _ read.4 fill.bytes) room all c.in_err-convert.ensures.fault)
 
 pub returns-then-n-block-clause-read : goal.returns-then-n-block-clause-read
 returns-then-n-block-clause-read g c =

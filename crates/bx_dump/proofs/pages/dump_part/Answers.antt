@@ -5,7 +5,8 @@ use Rattle.bx_dump.proofs.pages.dump_part.Goals as goal
 pub returns-clause-ok : goal.returns-clause-ok
 returns-clause-ok g c =
     let front = rw c.in-Ok-true.field-0-test at c.in-Ok-true.ensures.ok in
-    ok_along c.dump_pages.result _ _ (λ d p. part_whole (g.P.Pages.written c.args.pages.now) c.args.from c.args.limit _ _ _ _ _ d.read d.written front p) c.dump_pages.ensures.ok
+    let rest = rw (c.in-Ok-true.ensures.open c.in-Ok-true.field-0-test).1 at c.dump_pages.ensures.ok in
+    ok_along c.dump_pages.result _ _ (λ d p. part_whole (g.P.Pages.written c.args.pages.now) c.args.from c.args.limit _ _ _ _ _ d.read d.written front p) rest
 
 pub returns-clause-err : goal.returns-clause-err
 returns-clause-err g c =

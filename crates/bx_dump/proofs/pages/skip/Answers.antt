@@ -9,7 +9,9 @@ returns-in-Err-clause-err g c =
     let before = c.loop-meter.invariant in
     let now = before.so_far in
     let stop = rw before.limit at (c.in-Err.ensures.stopped before.open_now) in
-    stops_after _ _ _ now.0 c.loop-meter.meter.taken c.in-Err.fault now.1 (omega (arith, before.limit, c.loop-meter.meter.within)) now.2 stop
+    let room : length (take c.min-want.result c.loop-meter.block) ≡ c.min-want.result = length-take-le c.min-want.result c.loop-meter.block (omega (arith, c.min-want.ensures)) in
+    stops_after _ _ _ now.0 _ c.args.count c.loop-meter.meter.taken c.in-Err.fault now.1 (omega (arith, before.limit, c.loop-meter.meter.within))
+    (omega (arith, room, before.few, c.min-want.ensures)) now.2 stop
 
 pub returns-then-n-want-clause-ok : goal.returns-then-n-want-clause-ok
 returns-then-n-want-clause-ok g c =
@@ -26,6 +28,7 @@ returns-then-n-want-clause-ok g c =
     record {
       input = now.0 ++ chunk;
       consumed = Consumes-trans _ _ _ _ _ now.2 fill.bytes;
+      few = omega (arith, total, fill.taken, fill.limit, before.limit, c.fill.new.self.within);
       whole = λ (e : false ≡ true). absurd (cc e);
       short = λ (e : false ≡ false). (less, fill.end (fill.ended short) before.open_now);
     }

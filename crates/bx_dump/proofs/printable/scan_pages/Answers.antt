@@ -1,4 +1,4 @@
-use Rattle.std.proofs.Common.{◌≡◌, [], ◌<◌, ◌≤◌, ◌++◌, length, take, arith, ap, ◌∙◌, sym, refl}
+use Rattle.std.proofs.Common.{◌≡◌, [], ◌^◌, ◌<◌, ◌≤◌, ◌++◌, length, take, arith, ap, ◌∙◌, sym, refl}
 use Rattle.std.proofs.lemmas.List.{length-append, length-take-le}
 use Rattle.bx_text.proofs.KnownLemmas.{Appends-trans, Consumes-trans, Appends-nil, Consumes-nil}
 use Rattle.bx_dump.specs.Scan.{scan_text, scan_run}
@@ -36,7 +36,7 @@ returns-in-Err-clause-err g c =
     let now = before.so_far in
     let runs = c.args.runs.now in
     let stop = rw before.limit at (c.in-Err.ensures.stopped before.open_now) in
-    read_stop (scan_text runs.least runs.offsets 0 []) _ _ _ _ _ now.0 c.loop-n.meter.taken c.in-Err.fault now.1 (omega (arith, before.limit, c.loop-n.meter.within))
+    read_stop (scan_text runs.least runs.offsets 0 []) _ _ _ _ _ now.0 c.loop-n.meter.taken _ c.in-Err.fault now.1 (omega (arith, before.limit, c.loop-n.meter.within))
     (scan_grows runs.least runs.offsets now.0) now.2 now.3 stop
 
 pub returns-in-Err-emit_after-clause-err : goal.returns-in-Err-emit_after-clause-err
@@ -48,8 +48,11 @@ returns-in-Err-emit_after-clause-err g c =
     let page = take c.put-used.result c.put-used.new.page in
     let put = rw (before.least, before.offsets) at (c.put-used.ensures.text (scan_run [] now.0) now.5) in
     let is = scan_goes runs.least runs.offsets now.0 chunk page c.loop-n.meter.taken now.1 put in
+    let fill = c.in-Ok.ensures in
+    let few : length (now.0 ++ chunk) ≤ 2 ^ 40 =
+    omega (arith, length-append now.0 chunk, length-take-le c.in-Ok.n c.fill.new.buf (omega (arith, fill.bound)), now.1, fill.taken, fill.limit, before.limit, c.fill.new.self.within) in
     write_stop (scan_text runs.least runs.offsets 0 []) _ _ _ _ _ (scan_text runs.least runs.offsets 0 [] now.0) (now.0 ++ chunk) page c.loop-n.written c.in-Err-emit_after.fault
-    (Consumes-trans _ _ _ _ _ now.2 c.in-Ok.ensures.bytes) now.3 now.4 is c.in-Err-emit_after.ensures.err
+    (Consumes-trans _ _ _ _ _ now.2 fill.bytes) few now.3 now.4 is c.in-Err-emit_after.ensures.err
 
 pub returns-then-n-block-clause-ok : goal.returns-then-n-block-clause-ok
 returns-then-n-block-clause-ok g c =
@@ -67,6 +70,7 @@ returns-then-n-block-clause-ok g c =
     record {
       input = now.0 ++ chunk;
       long = omega (arith, length-append now.0 chunk, now.1, fill.taken, fill.bound.1);
+      few = omega (arith, fill.limit, before.limit, c.fill.new.self.within);
       consumed = Consumes-trans _ _ _ _ _ now.2 fill.bytes;
       ended = fill.end (fill.ended short) before.open_now;
       appended = rw is (Appends-trans _ _ _ _ _ now.3 c.in_default.ensures.ok);

@@ -28,7 +28,7 @@ returns-then-runs-clause-ok g c =
     let run = d.run.short short in
     let e = strings_is o.least o.offsets d.input c.requires.some ∙ ap (λ t. scan_text o.least o.offsets 0 [] d.input ++ t) (short_end o.least (scan_run [] d.input) (omega (arith, run.0, short)))
     ∙ append-nil (scan_text o.least o.offsets 0 [] d.input) in
-    (c.in-Ok.done.written, (d.input, d.long, d.consumed, d.ended, rw e d.appended, ap length e ∙ d.size))
+    (c.in-Ok.done.written, (d.input, d.long, d.few, d.consumed, d.ended, rw e d.appended, ap length e ∙ d.size))
 
 pub returns-in-Ok-emit_after-clause-ok : goal.returns-in-Ok-emit_after-clause-ok
 returns-in-Ok-emit_after-clause-ok g c =
@@ -41,6 +41,7 @@ returns-in-Ok-emit_after-clause-ok g c =
       (
         d.input,
         d.long,
+        d.few,
         d.consumed,
         d.ended,
         rw e (Appends-trans _ _ _ _ _ d.appended c.in-Ok-emit_after.ensures.ok),
@@ -56,4 +57,4 @@ returns-in-Err-emit_after-clause-err g c =
     let e : strings_text o.least o.offsets d.input ≡ scan_text o.least o.offsets 0 [] d.input ++ 10 ∷ [] =
     strings_is o.least o.offsets d.input c.requires.some ∙ ap (λ t. scan_text o.least o.offsets 0 [] d.input ++ t) (long_end o.least (scan_run [] d.input) long) in
     write_stop (strings_text o.least o.offsets) _ _ _ _ _ (scan_text o.least o.offsets 0 [] d.input) d.input (10 ∷ []) c.in-Ok.done.written c.in-Err-emit_after.fault
-    d.consumed d.appended d.size e c.in-Err-emit_after.ensures.err
+    d.consumed (omega (arith, d.long, d.few)) d.appended d.size e c.in-Err-emit_after.ensures.err

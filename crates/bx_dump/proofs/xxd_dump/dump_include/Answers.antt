@@ -20,4 +20,4 @@ returns-in-Some-clause-err g c =
     let text = λ (xs : List ℕ). named_text c.as_bytes.result.now o.cols (part_of o.seek o.limit xs) in
     let other = λ (xs : List ℕ). styled (Include c.args.name) o.cols (group_of o.cols o.group) o.upper (o.seek + o.shift) (part_of o.seek o.limit xs) in
     let same : (xs : List ℕ) → text xs ≡ other xs = λ xs. rw (c.in-Some.is, c.as_bytes.ensures.value) refl in
-    err_along c.dump_named.result _ _ (λ e p. front_along text other 0 0 _ _ _ _ e same p) c.dump_named.ensures.err
+    err_along c.dump_named.result _ _ (λ e p. front_along text other o.seek o.limit 0 0 _ _ _ _ e same p) c.dump_named.ensures.err

@@ -27,7 +27,7 @@ returns-in-Err-clause-err g c =
     let o = c.args.o.now in
     let text = λ (xs : List ℕ). in_lines include_line c.new.result.cols 0 (part_of o.seek o.limit xs) in
     let other = λ (xs : List ℕ). include_items o.cols (part_of o.seek o.limit xs) in
-    front_then text other 0 c.args.before _ _ _ _ c.in-Err.fault (λ xs. items_more o.cols c.new.result.cols (part_of o.seek o.limit xs) c.new.ensures c.requires.some) c.in-Err.ensures.err
+    front_then text other o.seek o.limit 0 c.args.before _ _ _ _ c.in-Err.fault (λ xs. items_more o.cols c.new.result.cols (part_of o.seek o.limit xs) c.new.ensures c.requires.some) c.in-Err.ensures.err
 
 pub returns-then-lines-eq0-clause-ok : goal.returns-then-lines-eq0-clause-ok
 returns-then-lines-eq0-clause-ok g c =

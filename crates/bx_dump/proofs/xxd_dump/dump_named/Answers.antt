@@ -12,7 +12,7 @@ returns-in-Err-clause-err g c =
     let items = λ (xs : List ℕ). include_items o.cols (part_of o.seek o.limit xs) in
     let front = λ (xs : List ℕ). head ++ items xs in
     let other = λ (xs : List ℕ). named_text name o.cols (part_of o.seek o.limit xs) in
-    front_then front other 0 0 _ _ _ _ c.in-Err.fault (λ xs. (include_tail name (length (part_of o.seek o.limit xs)), refl)) (front_head items _ _ _ 0 head c.in-Err.fault c.in-Err.ensures.emits)
+    front_then front other o.seek o.limit 0 0 _ _ _ _ c.in-Err.fault (λ xs. (include_tail name (length (part_of o.seek o.limit xs)), refl)) (front_head items o.seek o.limit _ _ _ 0 head c.in-Err.fault c.in-Err.ensures.emits)
 
 pub returns-in-Err-dump_items-clause-err : goal.returns-in-Err-dump_items-clause-err
 returns-in-Err-dump_items-clause-err g c =
@@ -23,8 +23,8 @@ returns-in-Err-dump_items-clause-err g c =
     let front = λ (xs : List ℕ). head ++ items xs in
     let other = λ (xs : List ℕ). named_text name o.cols (part_of o.seek o.limit xs) in
     let first = c.in-Ok.ensures.emits in
-    front_then front other 0 0 _ _ _ _ c.in-Err-dump_items.fault (λ xs. (include_tail name (length (part_of o.seek o.limit xs)), refl))
-    (front_after items _ _ _ _ _ 0 0 c.in-Ok.before head c.in-Err-dump_items.fault first.0 first.1 c.in-Err-dump_items.ensures.err)
+    front_then front other o.seek o.limit 0 0 _ _ _ _ c.in-Err-dump_items.fault (λ xs. (include_tail name (length (part_of o.seek o.limit xs)), refl))
+    (front_after items o.seek o.limit _ _ _ _ _ 0 0 c.in-Ok.before head c.in-Err-dump_items.fault first.0 first.1 c.in-Err-dump_items.ensures.err)
 
 pub returns-in-Ok-emit_tail-clause-ok : goal.returns-in-Ok-emit_tail-clause-ok
 returns-in-Ok-emit_tail-clause-ok g c =

@@ -10,7 +10,7 @@ returns-clause-text g c input len seen =
 pub returns-clause-seen : goal.returns-clause-seen
 returns-clause-seen g c input len seen whole =
     let p = c.args.self.now in (
-      seen.0 + 768,
+      seen.0 + 1024,
       omega (arith, length-append input c.args.bytes.now, seen.1, whole),
-      c.put_lines.ensures.taken input seen.0 768 seen.1 (omega (arith, whole)) seen.2,
+      c.put_lines.ensures.taken input seen.0 1024 seen.1 (omega (arith, whole)) seen.2,
     )

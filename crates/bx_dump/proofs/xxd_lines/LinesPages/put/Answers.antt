@@ -13,7 +13,7 @@ split_at_mut-cells-requires g c =
     let block = g.F.LineForm.cols p.form * p.lines in
     let value : c.cell_len.result * n ≡ W * n = ap (λ w. w * n) c.cell_len.ensures.value in
     let inside : W * n ≤ W * block = mul-le-mul_left {m = n} {n = block} W c.requires.fits in
-    let room : length c.split_at_mut-text.result.1.now ≡ 32768 = omega (arith, c.split_at_mut-text.ensures.back_len, c.requires.page) in
+    let room : length c.split_at_mut-text.result.1.now ≡ 65536 = omega (arith, c.split_at_mut-text.ensures.back_len, c.requires.page) in
     omega (arith, p.narrow)
 
 pub put_lines-requires-clause-room : goal.put_lines-requires-clause-room

@@ -1,4 +1,4 @@
-use Rattle.std.proofs.Common.{rules, ℕ, ◌+◌, ◌≤◌, ◌++◌, take, arith, ◌∙◌}
+use Rattle.std.proofs.Common.{rules, ◌≡◌, ℕ, ◌+◌, ◌++◌, length, take, arith, ◌∙◌}
 use Rattle.std.proofs.lemmas.List.{length-take-le, length-append}
 use Rattle.bx_text.proofs.KnownLemmas.{Consumes-trans}
 use Rattle.bx_text.specs.Stream.{IsReadCause, IsRestCause}
@@ -6,12 +6,12 @@ use Rattle.bx_text.specs.declared.fault.IoFault.{IoFault}
 use Rattle.bx_text.specs.declared.fault.IoFault.TheVariants.{NoMemory, ReadFailed, WriteFailed, InputTooLong, SkipPastEnd}
 use Rattle.bx_text.proofs.stream.Source.rest.Goals as goal
 
-cause_more : (e : IoFault) (room more n m : ℕ) → IsReadCause e room n → more + n ≤ m + room → IsRestCause e more m
-cause_more ReadFailed room more n m p q = tt
-cause_more InputTooLong room more n m p q = omega arith
-cause_more NoMemory room more n m p q = absurd p
-cause_more (WriteFailed written) room more n m p q = absurd p
-cause_more SkipPastEnd room more n m p q = absurd p
+cause_more : (e : IoFault) (wanted room more n m k : ℕ) → IsReadCause e wanted room n → m ≡ k + n → more ≡ k + room → IsRestCause e more m
+cause_more ReadFailed wanted room more n m k p q r = omega (arith, p.1)
+cause_more InputTooLong wanted room more n m k p q r = omega (arith, p.1)
+cause_more NoMemory wanted room more n m k p q r = absurd p
+cause_more (WriteFailed written) wanted room more n m k p q r = absurd p
+cause_more SkipPastEnd wanted room more n m k p q r = absurd p
 
 pub returns-in-Err-clause-stopped : goal.returns-in-Err-clause-stopped
 returns-in-Err-clause-stopped g c was_open =
@@ -19,7 +19,8 @@ returns-in-Err-clause-stopped g c was_open =
     let more = c.in-Err.ensures.stopped (before.state ∙ was_open) in (
       c.loop-count.bytes.items ++ more.0,
       Consumes-trans _ _ _ _ _ before.bytes more.1,
-      cause_more c.in-Err.fault _ _ _ _ more.2 (omega (arith, length-append c.loop-count.bytes.items more.0, before.taken, before.limit)),
+      cause_more c.in-Err.fault _ _ _ _ _ (length c.loop-count.bytes.items) more.2 (omega (arith, length-append c.loop-count.bytes.items more.0))
+          (omega (arith, before.taken, before.limit, c.loop-count.self.meter.within)),
     )
 
 pub returns-then-is_err-clause-stopped : goal.returns-then-is_err-clause-stopped

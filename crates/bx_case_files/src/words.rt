@@ -1,0 +1,84 @@
+//! Cases of words.
+use crate::case::Records;
+use crate::cursor::Cursor;
+use crate::fault::{CaseFault, Trouble};
+use crate::values::records;
+use bx_text::Words;
+use std::alloc::Global;
+
+/// A fault by its text, and the exit status beside it.
+#[derive(Drop)]
+pub struct Refusal {
+    pub text: String,
+    pub status: u8,
+}
+
+/// The words of a command line, and what comes of them.
+#[derive(Drop)]
+pub struct WordsCase {
+    /// The words behind the program's name.
+    pub words: Words,
+    /// What is read; without it the words are only planned.
+    pub input: Option<Vec<u8>>,
+    /// What is written.
+    pub output: Vec<u8>,
+    /// How many bytes are dumped, where it is told.
+    pub count: Option<u64>,
+    /// What dd counts, where it is told.
+    pub records: Option<Records>,
+    /// What stops it, if anything does.
+    pub fault: Option<Refusal>,
+    /// The name of the job, and fields of it, where they are told.
+    pub job: Option<Words>,
+}
+
+/// The case whose lines follow.
+pub fn words_case(alloc: Global, cursor: &mut Cursor<'_>) -> Result<WordsCase, CaseFault> {
+    let Some(words) = cursor.words(alloc, "words")? else {
+        return Err(cursor.next_trouble(Trouble::MissingLine("words")));
+    };
+    let input = cursor.bytes(alloc, "input")?;
+    let output = match cursor.bytes(alloc, "output")? {
+        Some(output) => output,
+        None => Vec::new(alloc),
+    };
+    let count = cursor.number("count")?;
+    let records = counted(cursor)?;
+    let fault = refusal_of(alloc, cursor)?;
+    let job = cursor.words(alloc, "job")?;
+    Ok(WordsCase {
+        words,
+        input,
+        output,
+        count,
+        records,
+        fault,
+        job,
+    })
+}
+
+/// What dd counts, if the next line tells it.
+fn counted(cursor: &mut Cursor<'_>) -> Result<Option<Records>, CaseFault> {
+    let Some(value) = cursor.value("records")? else {
+        return Ok(None);
+    };
+    match records(value) {
+        Some(records) => Ok(Some(records)),
+        None => Err(cursor.trouble(Trouble::BadAnswer)),
+    }
+}
+
+/// A fault and its status, if the next lines tell them.
+fn refusal_of(alloc: Global, cursor: &mut Cursor<'_>) -> Result<Option<Refusal>, CaseFault> {
+    let Some(text) = cursor.text(alloc, "fault")? else {
+        return Ok(None);
+    };
+    let status = match cursor.number("status")? {
+        Some(status) => u8::try_from(status).ok(),
+        None => return Err(cursor.next_trouble(Trouble::MissingLine("status"))),
+    };
+    match status {
+        Some(status) => Ok(Some(Refusal { text, status })),
+        None => Err(cursor.trouble(Trouble::BadNumber)),
+    }
+}

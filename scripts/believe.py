@@ -1,0 +1,225 @@
+#!/usr/bin/env python3
+"""Which definitions the public contracts rest on, and whether docs/BELIEVE.md lists them.
+
+A public contract is a clause of an exported function, method, trait or type of the crates below. The names in its clauses
+are followed through specs/: what is met is what a reader has to believe. The page's headings give the order; below each, this
+script writes the definitions of that file with the sentence that stands above them in specs/.
+"""
+import argparse
+import pathlib
+import re
+import sys
+
+CRATES = ["bx_text", "bx_read", "bx_image", "bx_store", "bx_dump", "bx_dd", "bx_journal", "bx_cli"]
+NAME = re.compile(r"[A-Za-z_][A-Za-z0-9_'-]*")
+HEAD = re.compile(r"^(?:(?:abbrev|unfoldable|pub) )*(record |data )?([A-Za-z_][\w'-]*)(?= *[:({ ])")
+
+
+class Definition:
+    def __init__(self, crate, file, name, lines, sentence):
+        self.crate, self.file, self.name, self.lines, self.sentence = crate, file, name, lines, sentence
+
+    @property
+    def place(self):
+        return f"{self.crate}/{self.file}"
+
+
+def imports_of(text):
+    """name in this file -> (crate, module path, name there), of `use Rattle.CRATE.specs.MODULE.{..}`"""
+    found = {}
+    for match in re.finditer(r"use Rattle\.(\w+)\.specs\.([\w.]+)\.\{([^}]*)\}", text):
+        for item in match.group(3).split(","):
+            parts = item.strip().split(" as ")
+            if parts[0]:
+                found[parts[-1].strip()] = (match.group(1), match.group(2), parts[0].strip())
+    return found
+
+
+def parts_of(text):
+    """the definitions of a specs file: name, lines (no comments, no imports, no blank lines), and the comment above"""
+    parts, comment, begun = [], [], False
+    for line in text.split("\n"):
+        bare = line.rstrip()
+        if bare.startswith("--"):
+            comment.append(bare[2:].strip())
+            continue
+        if not bare:
+            comment = []
+        if not bare or bare.startswith(("use ", "pub use ", "pub mod ")) or bare.lstrip().startswith("--"):
+            continue
+        head = HEAD.match(bare)
+        declares = bare.startswith(("abbrev ", "unfoldable ", "pub ", "record ", "data ")) or re.match(r"^[\w'-]+ :", bare)
+        if head and not bare[0].isspace() and declares:
+            parts.append((head.group(2), [], " ".join(comment)))
+            comment = []
+        if parts:
+            parts[-1][1].append(bare)
+    return parts
+
+
+def read_specs(root):
+    definitions, imports = {}, {}
+    for crate in CRATES:
+        folder = root / "crates" / crate / "specs"
+        for path in sorted(folder.rglob("*.antt")):
+            file = str(path.relative_to(folder))[: -len(".antt")].replace("/", ".")
+            text = path.read_text()
+            imports[(crate, file)] = imports_of(text)
+            for name, lines, sentence in parts_of(text):
+                definitions[(crate, file, name)] = Definition(crate, file, name, lines, sentence)
+    return definitions, imports
+
+
+def exports_of(root, crate):
+    text = (root / "crates" / crate / "src" / "lib.rt").read_text()
+    names = set()
+    for match in re.finditer(r"^pub use [\w:]+::(\{[^}]*\}|\w+);", text, re.M):
+        names |= set(NAME.findall(match.group(1)))
+    for match in re.finditer(r"^pub mod (\w+);", text, re.M):
+        names.add("mod " + match.group(1))
+    return names
+
+
+def items_of(text):
+    """(what, name, text) of each item at the left margin, with its clauses; a body is left out where it can be told"""
+    for match in re.finditer(r"^(pub(?:\([a-z]+\))? )?(unsafe )?(fn|trait|struct|enum|impl|const)\b(.*?)(?=^(?:\}|\{\}|[^\s{}][^\n]*;)$)", text, re.M | re.S):
+        yield match.group(1) or "", match.group(3), match.group(4)
+
+
+def clauses_of(text):
+    """the braces of requires, ensures and ghost items"""
+    found, at = [], 0
+    for match in re.finditer(r"\b(requires|ensures|ghost)\b[^{;=]*=?\s*\{", text):
+        depth, i = 0, match.end() - 1
+        while i < len(text):
+            if text[i] == "{":
+                depth += 1
+            elif text[i] == "}":
+                depth -= 1
+                if depth == 0:
+                    break
+            i += 1
+        found.append(text[match.end() : i])
+    return found
+
+
+def methods_of(body):
+    """the methods of an impl or a trait, each with the text up to the next"""
+    starts = [m.start() for m in re.finditer(r"^ {4}(?:pub(?:\([a-z]+\))? )?(?:const )?(?:unsafe )?fn ", body, re.M)]
+    head = body[: starts[0]] if starts else body
+    yield "head", head
+    for start, end in zip(starts, starts[1:] + [len(body)]):
+        text = body[start:end]
+        yield ("pub" if text.strip().startswith("pub fn") or text.strip().startswith("pub const fn") else "inner"), text
+
+
+def public_names(root, crate):
+    """the specs that the public contracts of a crate name"""
+    exports, named = exports_of(root, crate), set()
+    for path in sorted((root / "crates" / crate / "src").rglob("*.rt")):
+        text = path.read_text()
+        known = imports_of(text)
+        module = "mod " + path.stem
+        for access, kind, rest in items_of(text):
+            name = NAME.search(re.sub(r"^<[^>]*>", "", rest.strip()))
+            shown = access == "pub " and name and (name.group() in exports or module in exports)
+            clauses = []
+            if kind in ("fn", "struct", "enum", "const") and shown:
+                clauses = clauses_of(rest)
+            elif kind == "trait" and shown:
+                clauses = clauses_of(rest)
+            elif kind == "impl":
+                header = rest.split("{")[0]
+                if any(word in exports for word in NAME.findall(header)):
+                    of_trait = " for " in header
+                    for shape, body in methods_of(rest):
+                        if shape == "pub" or shape == "head" or (of_trait and shape == "inner"):
+                            clauses += clauses_of(body)
+            for clause in clauses:
+                for word in NAME.findall(clause):
+                    if word in known:
+                        named.add(known[word])
+    return named
+
+
+def closure(definitions, imports, named):
+    seen, todo = {}, [key for key in named]
+    while todo:
+        key = todo.pop()
+        if key in seen or key not in definitions:
+            continue
+        definition = definitions[key]
+        seen[key] = definition
+        known = imports[(definition.crate, definition.file)]
+        for line in definition.lines:
+            for word in NAME.findall(line):
+                if word in known:
+                    todo.append(known[word])
+                elif (definition.crate, definition.file, word) in definitions and word != definition.name:
+                    todo.append((definition.crate, definition.file, word))
+    return seen
+
+
+def listed(definitions):
+    """the items of the page for the definitions of one file"""
+    return [f"- `{d.name}`: {d.sentence}" if d.sentence else f"- `{d.name}`" for d in definitions]
+
+
+def filled(page, needed):
+    """the page with the items below its headings as they are to be, and the files that it has no heading for"""
+    by_place = {}
+    for definition in needed.values():
+        by_place.setdefault(definition.place, []).append(definition)
+    lines, skipping = [], False
+    for line in page.split("\n"):
+        head = re.match(r"### `([\w/.]+)`", line)
+        if head:
+            lines += [line, "", *listed(by_place.pop(head.group(1), [])), ""]
+            skipping = True
+        elif not skipping or line and not line.startswith("- "):
+            skipping = False
+            lines.append(line)
+    while lines and not lines[-1]:
+        lines.pop()
+    return "\n".join(lines) + "\n", sorted(by_place)
+
+
+def main():
+    parser = argparse.ArgumentParser(description=__doc__, formatter_class=argparse.RawDescriptionHelpFormatter)
+    parser.add_argument("--root", type=pathlib.Path, default=pathlib.Path(__file__).resolve().parent.parent)
+    parser.add_argument("--write", action="store_true", help="writes the items below the page's headings")
+    parser.add_argument("--files", action="store_true", help="the lines of each file")
+    parser.add_argument("--unneeded", action="store_true", help="what no public contract needs")
+    args = parser.parse_args()
+    definitions, imports = read_specs(args.root)
+    named = set()
+    for crate in CRATES:
+        named |= public_names(args.root, crate)
+    met = closure(definitions, imports, named)
+    needed = {key: d for key, d in definitions.items() if key in met}
+    rest = {key: d for key, d in definitions.items() if key not in met}
+    size = lambda some: sum(len(d.lines) for d in some)
+    print(f"{size(needed.values())} lines in {len(needed)} definitions are needed by public contracts, {size(rest.values())} in {len(rest)} aren't")
+    if args.files:
+        places = {}
+        for definition in needed.values():
+            places.setdefault(definition.place, []).append(definition)
+        for place in sorted(places):
+            print(f"{size(places[place]):5} {place}: {' '.join(d.name for d in places[place])}")
+    if args.unneeded:
+        for (crate, file, name), definition in sorted(rest.items()):
+            print(f"unneeded: {crate}/{file} {name} {len(definition.lines)}")
+    page = args.root / "docs" / "BELIEVE.md"
+    text, missing = filled(page.read_text(), needed)
+    bad = [f"no heading for {place}" for place in missing]
+    bad += [f"no sentence above {d.place} {d.name}" for d in needed.values() if not d.sentence]
+    if args.write:
+        page.write_text(text)
+    elif text != page.read_text():
+        bad.append("docs/BELIEVE.md isn't what scripts/believe.py --write makes")
+    print("\n".join(bad) if bad else "docs/BELIEVE.md lists them all")
+    return 1 if bad else 0
+
+
+if __name__ == "__main__":
+    sys.exit(main())
