@@ -28,8 +28,9 @@ where
     ensures redo_text { IfOk result (λ s. ⟦<FileText as TextStore>⟧.failures s.redo_text ≡ 0) }
 {
     let files = trio(rt, image, texts, make)?;
-    let (image, journal) = (FileImage::new(files.image), FileText::new(files.journal));
-    let opened = Session::open(rt.alloc(), image, journal, FileText::new(files.redo));
+    let device = FileImage::new(files.image);
+    let store = FileText::new(files.journal);
+    let opened = Session::open(rt.alloc(), device, store, FileText::new(files.redo));
     let (session, found) = match opened {
         Ok(opened) => opened,
         Err((_, _, _, fault)) => return Err(Fault::from(fault)),

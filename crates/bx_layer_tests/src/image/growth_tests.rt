@@ -1,6 +1,6 @@
 //! Each growth refused in turn.
 use crate::image::change_tests::change;
-use crate::image::guarded::{assert_number, reserve, room, room_of, saved};
+use crate::image::guarded::{assert_number, reserve, room, saved};
 use crate::shared::assert_bytes;
 use bx_image::{Device, ImageFault, MemImage};
 use bx_ration::{ration, used};
@@ -89,7 +89,7 @@ fn room_within(
     let Ok(change) = change(&bump, Some(9), &WRITES) else {
         return Ok((Outcome::NoChange, 0));
     };
-    match room_of(&bump, &change, IMAGE.len() as u64) {
+    match bx_image::room(&bump, &change, IMAGE.len() as u64) {
         Ok(saved) => {
             assert_number(rt, saved.runs.as_slice().len() as u64, 3);
             Ok((Outcome::Saved, used(&bump, bytes)))

@@ -1,6 +1,5 @@
 //! Calls of any device that look first whether they may be made. So a test carries no facts about its device.
-ghost use Rattle.std.specs.Prelude.{◌<◌, IfOk};
-ghost use Rattle.bx_image.specs.Runs.{LieBelow};
+ghost use Rattle.std.specs.Prelude.{◌<◌};
 
 use crate::shared::assert_bytes;
 use bx_image::{Change, Device, DeviceFailed, ImageFault, NoMemory, Saved, apply, check, save};
@@ -66,32 +65,6 @@ pub fn reserve<D: Device>(device: &mut D, n: u64) -> Result<(), NoMemory> {
 /// The room that there is.
 pub fn room<D: Device>(device: &D) -> u64 {
     device.reserved()
-}
-
-/// What the change saves, read into the room that was made for it.
-pub fn filled<D: Device>(
-    rt: &impl Abort,
-    alloc: Global,
-    device: &mut D,
-    change: &Change,
-) -> Result<Saved, Fail> {
-    assert_countable(rt, device);
-    let len = device.len()?;
-    let mut saved = room_of(alloc, change, len)?;
-    assert_countable(rt, device);
-    saved.fill(device)?;
-    Ok(saved)
-}
-
-/// The room for what the change saves of an image of this length.
-pub fn room_of<A: Allocator + Clone>(
-    alloc: A,
-    change: &Change<A>,
-    len: u64,
-) -> Result<Saved<A>, NoMemory>
-    ensures { IfOk result (λ s. LieBelow len s.runs) }
-{
-    bx_image::room(alloc, change, len)
 }
 
 /// What is saved before the change.

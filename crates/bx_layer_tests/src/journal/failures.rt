@@ -4,6 +4,7 @@ use crate::journal::script::{
     writes,
 };
 use crate::journal::tools::{PATCHED, UNDONE, image, text};
+use crate::shared::front;
 use bx_image::{FuseImage, MemImage, Part};
 use bx_journal::{How, Recovered, SessionFault};
 use bx_store::{FuseText, MemText};
@@ -307,7 +308,7 @@ fn emptying_fails(alloc: Global, rt: &impl Abort, part: Part) -> Result<(), Fail
 
 // An opening that stops where it empties the redo text: it has changed neither image nor journal.
 fn recovery_stops(alloc: Global, rt: &impl Abort, part: Part) -> Result<(), Fail> {
-    let (stopped, _) = PATCHED.split_at(102);
+    let stopped = front(PATCHED, 102);
     let fused = FuseText::new(text(alloc, UNDONE)?, 0, part, false);
     let texts = (sure(alloc, stopped)?, fused);
     let refused = Err(SessionFault::Interrupted);

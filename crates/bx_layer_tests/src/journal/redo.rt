@@ -1,6 +1,7 @@
 //! Redo texts that opening finds beside an image and a journal.
 use crate::journal::script::{Step, assert_held, clean_with, held_of, on_both, on_memory, writes};
 use crate::journal::tools::{PATCHED, PATCHED_FIRST, UNDONE, entries_of_nothing};
+use crate::shared::front;
 use bx_journal::{How, Recovered, SessionFault};
 use std::alloc::{AllocError, Global};
 use std::fs::File;
@@ -73,10 +74,8 @@ fn redo_texts_in_order(rt: HostRuntime) -> Result<(), Fail> {
 #[test]
 fn redo_text_cut_short(rt: HostRuntime) -> Result<(), Fail> {
     let name = "redo_text_cut_short";
-    let (front, _) = UNDONE.split_at(40);
-    assert_refused(&rt, name, (b"ABCDEFGH", b"", front), 1)?;
-    let (front, _) = UNDONE_TWO.split_at(140);
-    assert_refused(&rt, name, (b"a", ONE, front), 5)
+    assert_refused(&rt, name, (b"ABCDEFGH", b"", front(UNDONE, 40)), 1)?;
+    assert_refused(&rt, name, (b"a", ONE, front(UNDONE_TWO, 140)), 5)
 }
 
 #[test]
@@ -146,8 +145,7 @@ fn assert_recovers<R>(rt: &R, name: &str, front: usize, redo: &[u8], how: How) -
 where
     R: Files<File = File> + AllocGlobal + Abort,
 {
-    let (journal, _) = PATCHED.split_at(front);
-    let start = held_of(rt.alloc(), b"ABCDEFGH", journal, redo)?;
+    let start = held_of(rt.alloc(), b"ABCDEFGH", front(PATCHED, count), redo)?;
     let found = Recovered {
         how,
         changes: 0,
@@ -213,8 +211,8 @@ fn redo_text_beside_too_many(rt: HostRuntime) -> Result<(), Fail> {
     let redo = undone_nothings(rt.alloc(), 2)?;
     assert_eq!(rt; full.len(), 65_535 * FIRST_LEN);
     assert_eq!(rt; redo.len(), 2 * SECOND_LEN);
-    let (less, _) = full.as_slice().split_at(65_534 * FIRST_LEN);
-    let (one, _) = redo.as_slice().split_at(SECOND_LEN);
+    let less = front(full.as_slice(), 65_534 * FIRST_LEN);
+    let one = front(redo.as_slice(), SECOND_LEN);
     let first = Err(SessionFault::RedoDamaged { line: 1 });
     let second = Err(SessionFault::RedoDamaged { line: 4 });
     assert_counted(&rt, full.as_slice(), one, first)?;
