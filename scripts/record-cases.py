@@ -581,7 +581,7 @@ def main():
             else:
                 with open(os.path.join(options.out, name + ".cases"), "w", encoding="ascii") as file:
                     file.write(text)
-            print(f"{name}: {len(cases)} cases, {len(text)} bytes")
+            print(f"{name}: {len(cases)} cases, {len(text)} bytes, {', '.join(versions(tool)[1:])}")
     sys.exit(1 if bad else 0)
 
 

@@ -11,9 +11,6 @@ use bx_journal::How;
 use bx_scripts::judge::{RedoVerdict, Verdict, judge, judge_redo};
 use std::alloc::Global;
 
-/// Texts of at most so many bytes have each byte made each other one; of longer texts each has one bit changed.
-const SHORT: usize = 140;
-
 /// What the judge found, as a case file says it: so many changes, and where the journal was finished entries alone so many undone ones.
 fn opening_of(how: How, changes: u32, undone: u32) -> Opening {
     match how {
@@ -151,27 +148,28 @@ pub fn fronts(alloc: Global, texts: Texts<'_>) -> Result<u32, Wrong> {
     Ok(count)
 }
 
-/// Opens the text with each byte changed. Tells how often.
-pub fn changed_bytes(alloc: Global, texts: Texts<'_>) -> Result<u32, Wrong> {
-    let len = text_of(texts).len();
+/// Opens the text with each byte changed, by each of these turns of its bits. Tells how often.
+pub fn changed_bytes(alloc: Global, texts: Texts<'_>, turns: &[u8]) -> Result<u32, Wrong> {
     let mut count = 0u32;
-    let step = if len > SHORT { 64 } else { 1 };
-    for place in 0..len {
-        for turn in 1..=255u8 {
-            if turn % step == 0 {
-                changed_byte(alloc, texts, place, turn)?;
-                count = count.saturating_add(1);
-            }
-        }
+    for place in 0..text_of(texts).len() {
+        count = count.saturating_add(changed_byte(alloc, texts, place, turns)?);
     }
     Ok(count)
 }
 
-/// Opens the text with one byte changed by so much.
-fn changed_byte(alloc: Global, texts: Texts<'_>, place: usize, turn: u8) -> Result<(), Wrong> {
+/// Opens the text with one byte changed, by each of these turns. Tells how often.
+fn changed_byte(alloc: Global, texts: Texts<'_>, place: usize, turns: &[u8]) -> Result<u32, Wrong> {
+    let mut count = 0u32;
     let mut changed = text_of(texts).to_vec(alloc)?;
-    if let Some(byte) = changed.get_mut(place) {
-        *byte ^= turn;
+    for turn in turns {
+        if let Some(byte) = changed.get_mut(place) {
+            *byte ^= *turn;
+        }
+        judged(alloc, with_text(texts, changed.as_slice()))?;
+        if let Some(byte) = changed.get_mut(place) {
+            *byte ^= *turn;
+        }
+        count = count.saturating_add(1);
     }
-    judged(alloc, with_text(texts, changed.as_slice()))
+    Ok(count)
 }

@@ -83,14 +83,14 @@ pairs_fault number text digits body fault address = by_pairs (pairs_of (data_of 
   where
     by_pairs : (found : Option (List ℕ)) → pairs_of (data_of body) ≡ found →
         read_pairs number (digits_value 16 digits) (data_of body) (option_map length found) ≡ Err fault → IsFaultOf number text fault
-    by_pairs None is h = answers (IsFaultOf number text) (BadPair number) fault h (refl, digits, 32 ∷ body, address, inr (body, refl, is))
+    by_pairs None is h = answers (IsFaultOf number text) (BadPair number) fault h (refl, (digits, 32 ∷ body, address, inr (body, refl, is)))
     by_pairs (Some bytes) is h =
         let pairs : HasPairs text digits body bytes = record { address = address; pairs = is } in
         let at = digits_value 16 digits in
         tested (IsFaultOf number text) (ltb 256 (length bytes)) (TooWide number) fault (cond (leb (2 ^ 62) at) (Err (AddressTooLarge number)) (Ok (at, data_of body))) h
-        (λ wide. (refl, digits, body, bytes, pairs, ltb-true 256 (length bytes) wide))
+        (λ wide. (refl, (digits, body, bytes, pairs, ltb-true 256 (length bytes) wide)))
         (λ few goes. tested (IsFaultOf number text) (leb (2 ^ 62) at) (AddressTooLarge number) fault (Ok (at, data_of body)) goes
-        (λ large. (refl, digits, body, bytes, pairs, ltb-false 256 (length bytes) few, leb-true (2 ^ 62) at large))
+        (λ large. (refl, (digits, body, bytes, pairs, ltb-false 256 (length bytes) few, leb-true (2 ^ 62) at large)))
         (λ small read. absurd (cc read)))
 
 -- behind the colon
@@ -103,13 +103,13 @@ data_fault number text digits tail fault address h =
     let third = cond (eqb (length tail) 1 || eqb (get_or tail 1 0) 32) (Err (NoData number)) last in
     let second = cond (not (eqb (get_or tail 0 0) 32)) (Err (BadPair number)) third in
     tested P (eqb (length tail) 0) (NoData number) fault second h
-    (λ none. (refl, digits, tail, address, inl (empty tail (eqb-true (length tail) 0 none))))
+    (λ none. (refl, (digits, tail, address, inl (empty tail (eqb-true (length tail) 0 none)))))
     (λ some goes. tested P (not (eqb (get_or tail 0 0) 32)) (BadPair number) fault third goes
-    (λ other. (refl, digits, tail, address, inl (get_or tail 0 0, body, first_of tail some, eqb-false (get_or tail 0 0) 32 (is_not (eqb (get_or tail 0 0) 32) other))))
+    (λ other. (refl, (digits, tail, address, inl (get_or tail 0 0, body, first_of tail some, eqb-false (get_or tail 0 0) 32 (is_not (eqb (get_or tail 0 0) 32) other)))))
     (λ space on.
     let is : tail ≡ 32 ∷ body = first_of tail some ∙ ap (λ c. c ∷ body) (eqb-true (get_or tail 0 0) 32 (is_so (eqb (get_or tail 0 0) 32) space)) in
     tested P (eqb (length tail) 1 || eqb (get_or tail 1 0) 32) (NoData number) fault last on
-    (λ ends. (refl, digits, tail, address, inr (spaces tail body is (either (eqb (length tail) 1) (eqb (get_or tail 1 0) 32) ends))))
+    (λ ends. (refl, (digits, tail, address, inr (spaces tail body is (either (eqb (length tail) 1) (eqb (get_or tail 1 0) 32) ends)))))
     (λ more pairs. pairs_fault number text digits body fault (subst (λ t. HasAddress text digits (58 ∷ t)) is address) pairs)))
 
 pub fault_is_of_line : FaultIsOfLine
@@ -123,7 +123,7 @@ fault_is_of_line number text fault h =
     let last = read_data number (digits_value 16 digits) (drop (count + 1) text) in
     let here : get_or rest 0 0 ≡ get_or text count 0 = get_or-drop count text 0 0 ∙ ap (λ n. get_or text n 0) (omega arith) in
     tested P (eqb count 0 || ltb 16 count) (BadAddress number) fault (cond (not (eqb (get_or text count 0) 58)) (Err (MissingColon number)) last) h
-    (λ bad. (refl, digits, rest, front, ⊎_elim (λ none. inl (size ∙ eqb-true count 0 none)) (λ many. inr (omega (arith, size, ltb-true 16 count many))) (either (eqb count 0) (ltb 16 count) bad)))
+    (λ bad. (refl, (digits, rest, front, ⊎_elim (λ none. inl (size ∙ eqb-true count 0 none)) (λ many. inr (omega (arith, size, ltb-true 16 count many))) (either (eqb count 0) (ltb 16 count) bad))))
     (λ good goes.
     let both = neither (eqb count 0) (ltb 16 count) good in
     let address : HasAddress text digits rest = record {
@@ -132,7 +132,7 @@ fault_is_of_line number text fault h =
       few = omega (arith, size, ltb-false 16 count both.1);
     } in
     tested P (not (eqb (get_or text count 0) 58)) (MissingColon number) fault last goes
-    (λ other. (refl, digits, rest, address, λ colon. eqb-false (get_or text count 0) 58 (is_not (eqb (get_or text count 0) 58) other) (sym here ∙ colon)))
+    (λ other. (refl, (digits, rest, address, λ colon. eqb-false (get_or text count 0) 58 (is_not (eqb (get_or text count 0) 58) other) (sym here ∙ colon))))
     (λ colon on.
     let is : get_or text count 0 ≡ 58 = eqb-true (get_or text count 0) 58 (is_so (eqb (get_or text count 0) 58) colon) in
     let after : rest ≡ 58 ∷ drop (count + 1) text = drop_more text count 0 (inside text count is) ∙ ap (λ c. c ∷ drop (count + 1) text) is in

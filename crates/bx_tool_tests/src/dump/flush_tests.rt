@@ -1,5 +1,3 @@
-ghost use Rattle.std.specs.Prelude.{◌≡◌};
-
 use crate::expected::assert_answer;
 use bx_dump::{
     Address, HexdumpOptions, Kind, OdOptions, StringsOptions, XxdOptions, XxdStyle, hexdump_c, od,
