@@ -141,7 +141,7 @@ fn lengths_before_redo(rt: HostRuntime) -> Result<(), Fail> {
 }
 
 // Opening takes this front of the patch's journal back: no text stays.
-fn assert_recovers<R>(rt: &R, name: &str, front: usize, redo: &[u8], how: How) -> Result<(), Fail>
+fn assert_recovers<R>(rt: &R, name: &str, count: usize, redo: &[u8], how: How) -> Result<(), Fail>
 where
     R: Files<File = File> + AllocGlobal + Abort,
 {
