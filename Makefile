@@ -4,7 +4,7 @@ man = $(DESTDIR)$(PREFIX)/share/man/man1
 bash = $(DESTDIR)$(PREFIX)/share/bash-completion/completions
 fish = $(DESTDIR)$(PREFIX)/share/fish/vendor_completions.d
 zsh = $(DESTDIR)$(PREFIX)/share/zsh/$(if $(filter /usr,$(PREFIX)),vendor-completions,site-functions)
-.PHONY: all look test install uninstall package tour check-docs compare record hostile bench clean
+.PHONY: all look test install uninstall package tour check-docs compare cases record hostile bench clean
 
 all: bx
 
@@ -52,7 +52,11 @@ check-docs: all
 compare: all
 	scripts/compare.py --bx ./bx
 
-# The files of crates/bx_cases/data that hold what the real tools do, written again.
+# The cases of cases/data, played in each way that their kind allows, by a player that isn't proved.
+cases:
+	scripts/play-cases.sh
+
+# The files of cases/data that hold what the real tools do, written again.
 record:
 	scripts/record-cases.py
 

@@ -21,28 +21,40 @@ best() { # the least seconds of three runs of a command, its output to a null de
   done
   echo "$least"
 }
-row() { # row GOAL NAME -- OURS -- REAL
-  local goal=$1 name=$2 ours=() real=() part=0; shift 2
+split_words() { # the words behind the first and the second --, into ours and real
+  ours=() real=(); local part=0 word
   for word in "$@"; do
     if [ "$word" = -- ]; then part=$((part + 1)); elif [ "$part" = 1 ]; then ours+=("$word"); else real+=("$word"); fi
   done
+}
+ratio() { awk "BEGIN{printf \"%.1f\", $1/$2}"; }
+row() { # row GOAL NAME -- OURS -- REAL
+  local goal=$1 name=$2; shift 2; split_words "$@"
   local a b; a=$(best "${ours[@]}"); b=$(best "${real[@]}")
-  printf '%-34s bx %9s us   real %10s us   ratio %7s   goal %s\n' "$name" "$a" "$b" "$(awk "BEGIN{printf \"%.1f\", $b/$a}")" "$goal"
+  printf '%-34s bx %9s us   real %10s us   ratio %7s   goal %s\n' "$name" "$a" "$b" "$(ratio "$b" "$a")" "$goal"
+}
+dump() { # the same of a dump, with the time that cat of its text takes, and how many times that is
+  local goal=$1 name=$2; shift 2; split_words "$@"
+  "${ours[@]}" > dumped
+  local a b c; a=$(best "${ours[@]}"); b=$(best "${real[@]}"); c=$(best cat dumped)
+  printf '%-34s bx %9s us   real %10s us   ratio %7s   goal %-4s cat of the text %9s us   times %s\n' \
+    "$name" "$a" "$b" "$(ratio "$b" "$a")" "$goal" "$c" "$(ratio "$a" "$c")"
+  rm dumped
 }
 
-row 15 'xxd'               -- "$BX" xxd random              -- xxd random
-row 15 'xxd -p'            -- "$BX" xxd -p random           -- xxd -p random
-row 8  'xxd -b'            -- "$BX" xxd -b random           -- xxd -b random
-row 20 'xxd -i'            -- "$BX" xxd -i random           -- xxd -i random
-row 8  'xxd -c 32 -g 4'    -- "$BX" xxd -c 32 -g 4 random   -- xxd -c 32 -g 4 random
-row 40 'od, random'        -- "$BX" od less                 -- od less
-row 40 'od -t x1, random'  -- "$BX" od -t x1 less           -- od -t x1 less
-row 40 'od -c, random'     -- "$BX" od -c less              -- od -c less
-row 20 'od -t d4, random'  -- "$BX" od -t d4 less           -- od -t d4 less
-row 20 'od -t u1, random'  -- "$BX" od -t u1 less           -- od -t u1 less
-row 1  'od, zeros'         -- "$BX" od few                  -- od few
-row 60 'hexdump -C, random' -- "$BX" hexdump -C less        -- hexdump -C less
-row 1  'hexdump -C, zeros' -- "$BX" hexdump -C few          -- hexdump -C few
+dump 15 'xxd'               -- "$BX" xxd random              -- xxd random
+dump 15 'xxd -p'            -- "$BX" xxd -p random           -- xxd -p random
+dump 8  'xxd -b'            -- "$BX" xxd -b random           -- xxd -b random
+dump 20 'xxd -i'            -- "$BX" xxd -i random           -- xxd -i random
+dump 8  'xxd -c 32 -g 4'    -- "$BX" xxd -c 32 -g 4 random   -- xxd -c 32 -g 4 random
+dump 40 'od, random'        -- "$BX" od less                 -- od less
+dump 40 'od -t x1, random'  -- "$BX" od -t x1 less           -- od -t x1 less
+dump 40 'od -c, random'     -- "$BX" od -c less              -- od -c less
+dump 20 'od -t d4, random'  -- "$BX" od -t d4 less           -- od -t d4 less
+dump 20 'od -t u1, random'  -- "$BX" od -t u1 less           -- od -t u1 less
+dump 1  'od, zeros'         -- "$BX" od few                  -- od few
+dump 60 'hexdump -C, random' -- "$BX" hexdump -C less        -- hexdump -C less
+dump 1  'hexdump -C, zeros' -- "$BX" hexdump -C few          -- hexdump -C few
 row 4  'strings, random'   -- "$BX" strings random          -- strings random
 row 4  'strings, text'     -- "$BX" strings text            -- strings text
 row 4  'strings, zeros'    -- "$BX" strings zeros           -- strings zeros

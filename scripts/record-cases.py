@@ -1,5 +1,5 @@
 #!/usr/bin/env python3
-"""Records what xxd, od, hexdump, strings and dd write, as cases of words for crates/bx_cases/data.
+"""Records what xxd, od, hexdump, strings and dd write, as cases of words for cases/data.
 
 Usage: scripts/record-cases.py [--out FOLDER] [--seed N] [--bx PATH]
 
@@ -564,7 +564,7 @@ def recorded(tools, name, tool, maker, seed):
 
 def main():
     parser = argparse.ArgumentParser(description=__doc__.split("\n")[0])
-    parser.add_argument("--out", default="crates/bx_cases/data")
+    parser.add_argument("--out", default="cases/data")
     parser.add_argument("--seed", type=int, default=1)
     parser.add_argument("--bx")
     options = parser.parse_args()

@@ -1,4 +1,6 @@
-//! Dumps: lines beside plain lines, splits of what is read, flushes.
+//! Dumps: worked cases, readers and writers that fail.
 mod flush_tests;
 mod lines_tests;
+mod od_tests;
 mod printable_tests;
+mod xxd_tests;

@@ -1,0 +1,22 @@
+#!/usr/bin/env bash
+# Plays the cases of cases/data (docs/CASES.md) in each way that their kind allows.
+# Usage: scripts/play-cases.sh [FILE ...]      (without FILE, all of them)
+# The player (cases/player) is no crate of the gate: it stands in a folder of its own beside copies of the crates, and runs
+# as it is before any proof (rt try).
+set -euo pipefail
+top=$(realpath "$(dirname "$0")/..")
+[ $# -gt 0 ] || set -- "$top"/cases/data/*.cases
+room=$(mktemp -d); trap 'rm -rf "$room"' EXIT
+cp "$top/HANDLES" "$room"
+(cat "$top/crates.txt"; cat "$top/cases/player/crates.txt") > "$room/crates.txt"
+for crate in "$top"/crates/*; do
+  mkdir -p "$room/crates/${crate##*/}"
+  for part in src specs proofs; do [ ! -d "$crate/$part" ] || cp -r "$crate/$part" "$room/crates/${crate##*/}"; done
+done
+for part in src specs proofs; do
+  mkdir -p "$room/crates/bx_cases/$part"
+  for file in "$top/cases/player/$part"/*.in; do name=${file##*/}; cp "$file" "$room/crates/bx_cases/$part/${name%.in}"; done
+done
+data=()
+for file in "$@"; do data+=(--data "$(basename "$file")=$(realpath "$file")"); done
+cd "$room/crates/bx_cases" && rt try --seconds 1800 --steps 100000000000 "${data[@]}"
