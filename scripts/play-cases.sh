@@ -8,7 +8,9 @@ top=$(realpath "$(dirname "$0")/..")
 [ $# -gt 0 ] || set -- "$top"/cases/data/*.cases
 room=$(mktemp -d); trap 'rm -rf "$room"' EXIT
 cp "$top/HANDLES" "$room"
-(cat "$top/crates.txt"; cat "$top/cases/player/crates.txt") > "$room/crates.txt"
+{ cat "$top/crates.txt"
+  echo bx_cases: bx_text bx_read bx_image bx_dd bx_store bx_journal bx_dump bx_cli bx_ration bx_scripts bx_case_files bumpalo
+} > "$room/crates.txt"
 for crate in "$top"/crates/*; do
   mkdir -p "$room/crates/${crate##*/}"
   for part in src specs proofs; do [ ! -d "$crate/$part" ] || cp -r "$crate/$part" "$room/crates/${crate##*/}"; done

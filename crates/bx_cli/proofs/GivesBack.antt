@@ -23,7 +23,7 @@ use Rattle.bx_cli.specs.Laws.{IsMade}
 use Rattle.bx_cli.proofs.Unfailed.{all_tail}
 
 -- the stack of a session that goes on
-stack_of : Standing → List (List ℕ)
+abbrev stack_of : Standing → List (List ℕ)
 stack_of (Standing.Up stack) = stack
 stack_of (Standing.Down stack) = stack
 
@@ -76,14 +76,18 @@ Adds k old new = (drop k new ≡ old) × (length new ≡ k + length old)
 
 add_first : (k : ℕ) (old now new : List (List ℕ)) → OneMore old now → Adds k now new → Adds (suc k) old new
 add_first k old now new one more =
-    let next : drop (suc k) new ≡ old = sym (ap (λ n. drop n new) (omega arith)) ∙ sym (drop-drop 1 k new) ∙ ap (drop 1) (more.0 ∙ one.1) in
-    let count = ap length one.1 in
-    let long = more.1 in
+    let after : k + 1 ≡ suc k = omega arith in
+    let first : drop (suc k) new ≡ drop (k + 1) new = ap (λ n. drop n new) (sym after) in
+    let next : drop (suc k) new ≡ old = first ∙ sym (drop-drop 1 k new) ∙ ap (drop 1) (more.0 ∙ one.1) in
+    let count : length now ≡ suc (length old) = ap length one.1 in
+    let long : length new ≡ k + length now = more.1 in
     (next, omega (arith, count, long))
 
 run_adds : {R A : Type 0} (remaining : R → Option (List ℕ)) (start new : List (List ℕ)) (list : List (Command R A)) (replies : List Reply)
     → StackRun remaining start list replies new → All IsMade replies → Adds (length list) start new
-run_adds remaining start new [] [] run all = (run, ap length run)
+run_adds remaining start new [] [] run all =
+    let count = ap length run in
+    (run, omega (arith, count))
 run_adds remaining start new [] (p ∷ replies) run all = absurd run
 run_adds remaining start new (c ∷ list) [] run all = absurd run
 run_adds remaining start new (c ∷ list) (p ∷ replies) (now, step, rest) all =
@@ -91,11 +95,11 @@ run_adds remaining start new (c ∷ list) (p ∷ replies) (now, step, rest) all 
     add_first (length list) start now new one (run_adds remaining now new list replies rest (all_tail IsMade p replies all))
 
 -- how many changes are left, by the reply
-left_of : Reply → ℕ
+abbrev left_of : Reply → ℕ
 left_of (Undone left) = left
 left_of p = 0
 
-IsUndone : Reply → Type 0
+abbrev IsUndone : Reply → Type 0
 IsUndone (Undone left) = Unit {0}
 IsUndone p = ⊥
 
