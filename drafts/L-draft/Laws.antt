@@ -1,0 +1,24 @@
+-- What the definitions say, in other words.
+use Rattle.std.specs.Prelude.{◌≡◌, ℕ, ◌+◌, ◌-◌, ◌*◌, ◌/◌, ◌^◌, ◌<◌, nat_lt, if◌then◌else◌, List, ◌++◌, length, take, drop, slice_index, sum_by, codes}
+use Rattle.std.specs.List.{flat_map, range_with_len}
+use Rattle.bx_dump.specs.Od.{value_of}
+use Rattle.bx_dump.specs.Rows.{items}
+use Rattle.bx_dump.specs.Styles.{include_items}
+
+-- The value of bytes is the sum of each byte times 256 to the power of its place.
+abbrev pub ValueIsSum : Type 0
+ValueIsSum = (bytes : List ℕ) → value_of bytes ≡ sum_by (λ i. slice_index bytes i * 256 ^ i) (range_with_len 0 (length bytes))
+
+-- how many lines the items of n bytes have
+abbrev pub line_count : ℕ → ℕ → ℕ
+line_count cols n = (n + cols - 1) / cols
+
+-- line k of the items: each but the last ends in a comma
+abbrev pub array_line : ℕ → List ℕ → ℕ → List ℕ
+array_line cols bytes k =
+    codes "  " ++ (items (take cols (drop (cols * k) bytes)) ++ (if nat_lt (k + 1) (line_count cols (length bytes)) then codes ",\n" else codes "\n"))
+
+-- The items of a C array are its lines, one for each `cols` bytes, and each but the last ends in a comma.
+abbrev pub ItemsAreLines : Type 0
+ItemsAreLines = (cols : ℕ) (bytes : List ℕ) → 0 < cols →
+    include_items cols bytes ≡ flat_map (array_line cols bytes) (range_with_len 0 (line_count cols (length bytes)))
