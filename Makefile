@@ -52,11 +52,11 @@ check-docs: all
 compare: all
 	scripts/compare.py --bx ./bx
 
-# The cases of cases/data, played in each way that their kind allows, by a player that isn't proved.
+# The cases of commands and texts, played in each way that their kind allows, by a player that isn't proved.
 cases:
 	scripts/play-cases.sh
 
-# The files of cases/data that hold what the real tools do, written again.
+# The case files that hold what the real tools do, written again.
 record:
 	scripts/record-cases.py
 

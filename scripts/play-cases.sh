@@ -1,14 +1,14 @@
 #!/usr/bin/env bash
-# Plays the cases of cases/data (docs/CASES.md) in each way that their kind allows.
+# Plays the cases of commands and texts of cases/data (docs/CASES.md) in each way that their kind allows.
 # Usage: scripts/play-cases.sh [FILE ...]      (without FILE, all of them)
-# The player (cases/player) is no crate of the gate: it stands in a folder of its own beside copies of the crates, and runs
+# The player of these (cases/player) is no part of the gate: its modules stand over those of the crate bx_cases, and it runs
 # as it is before any proof (rt try).
 set -euo pipefail
 top=$(realpath "$(dirname "$0")/..")
 [ $# -gt 0 ] || set -- "$top"/cases/data/*.cases
 room=$(mktemp -d); trap 'rm -rf "$room"' EXIT
 cp "$top/HANDLES" "$room"
-{ cat "$top/crates.txt"
+{ grep -v '^bx_cases:' "$top/crates.txt"
   echo bx_cases: bx_text bx_read bx_image bx_dd bx_store bx_journal bx_dump bx_cli bx_ration bx_scripts bx_case_files bumpalo
 } > "$room/crates.txt"
 for crate in "$top"/crates/*; do

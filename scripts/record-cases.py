@@ -1,5 +1,5 @@
 #!/usr/bin/env python3
-"""Records what xxd, od, hexdump, strings and dd write, as cases of words for cases/data.
+"""Records what xxd, od, hexdump, strings and dd write, as cases for crates/bx_cases/data and cases/data.
 
 Usage: scripts/record-cases.py [--out FOLDER] [--seed N] [--bx PATH]
 
@@ -564,7 +564,7 @@ def recorded(tools, name, tool, maker, seed):
 
 def main():
     parser = argparse.ArgumentParser(description=__doc__.split("\n")[0])
-    parser.add_argument("--out", default="cases/data")
+    parser.add_argument("--out")
     parser.add_argument("--seed", type=int, default=1)
     parser.add_argument("--bx")
     options = parser.parse_args()
@@ -579,7 +579,8 @@ def main():
                 bad += sum(map(bool, found))
                 print(*filter(None, found), sep="\n", end="\n" if any(found) else "")
             else:
-                with open(os.path.join(options.out, name + ".cases"), "w", encoding="ascii") as file:
+                out = options.out or ("cases/data" if kind == "commands" else "crates/bx_cases/data")
+                with open(os.path.join(out, name + ".cases"), "w", encoding="ascii") as file:
                     file.write(text)
             print(f"{name}: {len(cases)} cases, {len(text)} bytes, {', '.join(versions(tool)[1:])}")
     sys.exit(1 if bad else 0)
