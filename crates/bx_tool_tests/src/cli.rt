@@ -1,6 +1,2 @@
-//! The command line: words and jobs, dumps, the listing of a journal.
+//! The command line: numbers and texts of faults.
 mod fault_tests;
-mod jobs;
-mod tests;
-mod values_tests;
-mod words_tests;

@@ -1,6 +1,4 @@
-//! Dumps: worked cases, readers and writers that fail.
+//! Dumps: lines beside plain lines, splits of what is read, flushes.
 mod flush_tests;
 mod lines_tests;
-mod od_tests;
 mod printable_tests;
-mod xxd_tests;

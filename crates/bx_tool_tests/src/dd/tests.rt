@@ -1,13 +1,10 @@
-// The worked rows of dd.
+//! Texts of dd's faults, dd block by block, and dd onto an image.
 ghost use Rattle.std.specs.Prelude.{◌≡◌, ◌<◌, IfOk};
 
 use crate::expected::assert_bytes;
-use bx_dd::{
-    Convert, Counts, DdFault, Letters, Plan, Shape, Transfer, convert_whole, parse, report,
-    transfer,
-};
+use bx_dd::{Convert, Counts, DdFault, Plan, Transfer, parse, transfer};
 use bx_image::{Change, Device, ImageFault, MemImage, Saved, apply, check, save};
-use bx_text::{Name, NoMemory, Words};
+use bx_text::{NoMemory, Words};
 use std::alloc::Global;
 use std::io::Read;
 use std::process::Abort;
@@ -55,132 +52,6 @@ fn assert_counts(rt: &impl Abort, found: Counts, wanted: Counts) {
     assert_eq!(rt; found, wanted);
 }
 
-fn expect(
-    rt: &impl Abort,
-    alloc: Global,
-    operands: &[&str],
-    input: &[u8],
-    output: &[u8],
-    counted: Counts,
-) -> Result<(), DdFault> {
-    let plan = plan(alloc, operands)?;
-    let mut from = input;
-    let transfer = converted(alloc, &mut from, &plan)?;
-    assert_bytes(rt, transfer.bytes.as_slice(), output);
-    assert_counts(rt, transfer.counts, counted);
-    Ok(())
-}
-
-fn expect_report(
-    rt: &impl Abort,
-    alloc: Global,
-    counts: Counts,
-    text: &str,
-) -> Result<(), DdFault> {
-    let found = report(alloc, &counts)?;
-    assert_bytes(rt, found.as_slice(), text.as_bytes());
-    Ok(())
-}
-
-#[test]
-fn swab_odd_block(rt: HostRuntime) -> Result<(), Fail> {
-    let alloc = rt.alloc();
-    let counted = counts(2, 0, 0, 1, 0);
-    expect(
-        &rt,
-        alloc,
-        &["ibs=3", "conv=swab"],
-        b"ABCDEF",
-        b"BACEDF",
-        counted,
-    )?;
-    expect_report(&rt, alloc, counted, "2+0 records in\n0+1 records out\n")?;
-    Ok(())
-}
-
-#[test]
-fn block_and_unblock(rt: HostRuntime) -> Result<(), Fail> {
-    let alloc = rt.alloc();
-    let block = ["cbs=4", "conv=block"];
-    let counted = counts(0, 1, 0, 1, 1);
-    expect(&rt, alloc, &block, b"ab\nlongline\n", b"ab  long", counted)?;
-    let text = "0+1 records in\n0+1 records out\n1 truncated record\n";
-    expect_report(&rt, alloc, counted, text)?;
-    let text = "0+0 records in\n0+0 records out\n12 truncated records\n";
-    expect_report(&rt, alloc, counts(0, 0, 0, 0, 12), text)?;
-    let unblock = ["conv=unblock", "cbs=4"];
-    let counted = counts(0, 1, 0, 1, 0);
-    expect(&rt, alloc, &unblock, b"ab  cd", b"ab\ncd\n", counted)?;
-    Ok(())
-}
-
-#[test]
-fn sync_skip_count(rt: HostRuntime) -> Result<(), Fail> {
-    let alloc = rt.alloc();
-    let sync = ["ibs=4", "conv=sync"];
-    expect(
-        &rt,
-        alloc,
-        &sync,
-        b"abcde",
-        b"abcde\0\0\0",
-        counts(1, 1, 0, 1, 0),
-    )?;
-    let second = ["ibs=2", "obs=2", "skip=1", "count=1", "conv=ucase"];
-    expect(&rt, alloc, &second, b"abcdef", b"CD", counts(1, 0, 1, 0, 0))?;
-    let none = counts(0, 0, 0, 0, 0);
-    expect(&rt, alloc, &["skip=9"], b"abc", b"", none)?;
-    expect(&rt, alloc, &["count=0"], b"abc", b"", none)?;
-    Ok(())
-}
-
-fn refuse(rt: &impl Abort, alloc: Global, operands: &[&str], fault: DdFault) {
-    match plan(alloc, operands) {
-        Ok(_) => assert!(rt; false, "{fault}"),
-        Err(found) => assert_fault(rt, found, fault),
-    }
-}
-
-fn refuse_words(rt: &impl Abort, alloc: Global) {
-    let unknown = DdFault::UnknownOperand(1);
-    refuse(rt, alloc, &["foo=1"], unknown);
-    refuse(rt, alloc, &["ibs"], unknown);
-    refuse(rt, alloc, &["if="], unknown);
-    refuse(rt, alloc, &["conv=swab,"], unknown);
-}
-
-fn refuse_numbers(rt: &impl Abort, alloc: Global) {
-    refuse(rt, alloc, &["ibs=1q"], DdFault::BadNumber(1));
-    refuse(rt, alloc, &["ibs=1kB"], DdFault::BadNumber(1));
-    let large = DdFault::NumberTooLarge(1);
-    refuse(rt, alloc, &["ibs=16777217"], large);
-    refuse(rt, alloc, &["count=1099511627776"], large);
-    refuse(rt, alloc, &["seek=1G", "obs=1M"], large);
-    let large = DdFault::NumberTooLarge(2);
-    refuse(rt, alloc, &["ibs=16777216", "skip=16777217"], large);
-    refuse(rt, alloc, &["obs=0"], DdFault::ZeroSize(1));
-    refuse(rt, alloc, &["obs=0", "foo=1"], DdFault::ZeroSize(1));
-}
-
-fn refuse_pairs(rt: &impl Abort, alloc: Global) {
-    refuse(rt, alloc, &["conv=lcase,ucase"], DdFault::Conflict);
-    let shapes = ["cbs=4", "conv=unblock,block"];
-    refuse(rt, alloc, &shapes, DdFault::Conflict);
-    refuse(rt, alloc, &["conv=block", "bs=1"], DdFault::MissingCbs);
-    refuse(rt, alloc, &["bs=1", "bs=2"], DdFault::Repeated(2));
-    refuse(rt, alloc, &["bs=1", "bs=q"], DdFault::Repeated(2));
-}
-
-#[test]
-fn operand_faults(rt: HostRuntime) -> Result<(), Fail> {
-    let alloc = rt.alloc();
-    refuse_words(&rt, alloc);
-    refuse_numbers(&rt, alloc);
-    refuse_pairs(&rt, alloc);
-    assert_number(&rt, plan(alloc, &["ibs=2x3k"])?.ibs, 6144);
-    Ok(())
-}
-
 fn expect_text(rt: &impl Abort, alloc: Global, fault: DdFault, text: &str) {
     match fault.to_string(alloc) {
         Ok(shown) => assert_bytes(rt, shown.as_bytes(), text.as_bytes()),
@@ -212,52 +83,6 @@ fn fault_texts(rt: HostRuntime) {
         DdFault::SeekWithoutOutput,
         "seek needs an output file",
     );
-}
-
-fn assert_name(rt: &impl Abort, found: &Option<Name>, wanted: &str) {
-    match found {
-        Some(name) => assert!(rt; name.as_str() == wanted),
-        None => assert!(rt; false),
-    }
-}
-
-fn assert_sizes(rt: &impl Abort, plan: &Plan) {
-    assert_number(rt, plan.ibs, 3);
-    assert_number(rt, plan.obs, 3);
-    assert_number(rt, plan.cbs, 5);
-    assert_number(rt, plan.skip, 1);
-    assert_number(rt, plan.seek, 2);
-    assert_eq!(rt; plan.count, Some(4));
-}
-
-fn assert_conversions(rt: &impl Abort, plan: &Plan) {
-    assert!(rt; plan.swab);
-    assert!(rt; plan.sync);
-    assert!(rt; plan.notrunc);
-    assert!(rt; plan.letters == Letters::Lower);
-    assert!(rt; plan.shape == Shape::Block);
-    assert_eq!(rt; plan.for_stream(), Err(DdFault::SeekWithoutOutput));
-}
-
-#[test]
-fn a_whole_plan(rt: HostRuntime) -> Result<(), Fail> {
-    let operands = [
-        "if=a=b",
-        "of=c",
-        "ibs=7",
-        "bs=3",
-        "cbs=5",
-        "skip=1",
-        "seek=2",
-        "count=4",
-        "conv=swab,sync,swab,notrunc,lcase,block",
-    ];
-    let plan = plan(rt.alloc(), &operands)?;
-    assert_name(&rt, &plan.input, "a=b");
-    assert_name(&rt, &plan.output, "c");
-    assert_sizes(&rt, &plan);
-    assert_conversions(&rt, &plan);
-    Ok(())
 }
 
 fn assert_progress(rt: &impl Abort, convert: &Convert, taken: u64, held: u64) {
@@ -299,6 +124,22 @@ fn held_after_each_block(rt: HostRuntime) -> Result<(), Fail> {
     let transfer = convert.finish()?;
     assert_bytes(&rt, transfer.bytes.as_slice(), b"AB  LONG");
     assert_counts(&rt, transfer.counts, counts(4, 0, 0, 1, 1));
+    Ok(())
+}
+
+fn expect(
+    rt: &impl Abort,
+    alloc: Global,
+    operands: &[&str],
+    input: &[u8],
+    output: &[u8],
+    counted: Counts,
+) -> Result<(), DdFault> {
+    let plan = plan(alloc, operands)?;
+    let mut from = input;
+    let transfer = converted(alloc, &mut from, &plan)?;
+    assert_bytes(rt, transfer.bytes.as_slice(), output);
+    assert_counts(rt, transfer.counts, counted);
     Ok(())
 }
 
@@ -387,51 +228,4 @@ fn notrunc_and_sync_block(rt: HostRuntime) -> Result<(), Fail> {
         counts(0, 1, 0, 1, 0),
     )?;
     Ok(())
-}
-
-fn expect_same(rt: &impl Abort, alloc: Global, plan: &Plan, input: &[u8]) -> Result<(), DdFault> {
-    let mut from = input;
-    let transfer = converted(alloc, &mut from, plan)?;
-    assert_bytes(rt, transfer.bytes.as_slice(), input);
-    Ok(())
-}
-
-#[test]
-fn every_length(rt: HostRuntime) -> Result<(), Fail> {
-    let plan = plan(rt.alloc(), &[])?;
-    let bytes = [7u8; 600];
-    for n in 0..=600usize {
-        expect_same(&rt, rt.alloc(), &plan, &bytes[..n])?;
-    }
-    Ok(())
-}
-
-const TEXT: &[u8] = b"one\ntwo  \n\na longer Line with  spaces   \nq\xe9\xff\0\n\nlast";
-
-// The converter, block by block, and the plain program over the whole input agree.
-fn agree(rt: &impl Abort, alloc: Global, plan: &Plan, input: &[u8]) -> Result<(), Fail> {
-    let mut from = input;
-    let fast = converted(alloc, &mut from, plan)?;
-    let plain = convert_whole(alloc, plan.form(), input)?;
-    assert_bytes(rt, fast.bytes.as_slice(), plain.as_slice());
-    Ok(())
-}
-
-fn agree_on_text(rt: &impl Abort, alloc: Global, operands: &[&str]) -> Result<(), Fail> {
-    let plan = plan(alloc, operands)?;
-    for n in 0..=TEXT.len() {
-        agree(rt, alloc, &plan, &TEXT[..n])?;
-    }
-    Ok(())
-}
-
-#[test]
-fn converter_and_plain_program(rt: HostRuntime) -> Result<(), Fail> {
-    let alloc = rt.alloc();
-    agree_on_text(&rt, alloc, &["ibs=3", "cbs=5", "conv=swab"])?;
-    agree_on_text(&rt, alloc, &["ibs=7", "cbs=5", "conv=sync,ucase"])?;
-    agree_on_text(&rt, alloc, &["ibs=1", "cbs=5", "conv=block"])?;
-    agree_on_text(&rt, alloc, &["ibs=3", "cbs=5", "conv=block,sync,swab"])?;
-    agree_on_text(&rt, alloc, &["ibs=16", "cbs=5", "conv=unblock,lcase"])?;
-    agree_on_text(&rt, alloc, &["ibs=2", "cbs=3", "conv=unblock,sync"])
 }
