@@ -134,8 +134,8 @@ def fish_options(text, command):
 
 def fault_texts(source):
     """Numbers and texts of the faults, as the program's source has them."""
-    texts = {name: re.sub(r"\{\w+\}", "N", text)
-             for text, name in re.findall(r'#\[error\("(.*?)"\)\]\s*(\w+)', source)}
+    texts = {name: f"{front}N{back}" if back or front.endswith(" ") else front
+             for name, front, back in re.findall(r'Fault::(\w+)(?: \{ \.\. \})? => \("(.*?)", "(.*?)"\)', source)}
     return {int(number): texts[name] for name, number in re.findall(r"Fault::(\w+)(?: \{ \.\. \})? => (\d+),", source)}
 
 
