@@ -50,14 +50,14 @@ pub mod Sharper
 pub mod StepFound
 pub mod Pushed
 pub mod TurnLemmas
-pub mod TrioLemmas
+pub mod StopLemmas
 pub mod Shapes
 pub mod Bounds
 pub mod TakenLemmas
+pub mod TakingLemmas
 pub mod LoopLemmas
 pub mod RedoLoop
 pub mod StandingLoop
-pub mod AloneLemmas
 pub mod RecoverLemmas
 pub mod Refused
 pub mod JudgeLemmas
