@@ -57,6 +57,8 @@ pub mod TakenLemmas
 pub mod TakingLemmas
 pub mod LoopLemmas
 pub mod RedoLoop
+pub mod RedoStanding
+pub mod RedoingLemmas
 pub mod StandingLoop
 pub mod RecoverLemmas
 pub mod Refused

@@ -26,6 +26,7 @@ mod reader;
 mod recovery;
 mod redo;
 mod redo_text;
+mod redoing;
 mod rest;
 mod rows;
 mod session;

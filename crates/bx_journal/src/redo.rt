@@ -3,11 +3,12 @@ ghost use Rattle.std.specs.Prelude.{◌≡◌, ◌↔◌, ◌+◌, ◌-◌, ◌<
 ghost use Rattle.bx_journal.specs.Images.{Images as Pictures, redo_of};
 ghost use Rattle.bx_journal.specs.Machine.{changes_of};
 ghost use Rattle.bx_journal.specs.Opening.{OneMoreOfThree};
-ghost use Rattle.bx_journal.specs.Parsed.{AllKept};
+ghost use Rattle.bx_journal.specs.Parsed.{AllKept, entries_of};
 ghost use Rattle.bx_journal.specs.Redo.{Finds};
 ghost use Rattle.bx_journal.specs.Takens.{AreReady, AllShaped, entries_len};
-ghost use Rattle.bx_journal.specs.Turns.{AreAtRest};
-ghost use Rattle.bx_journal.specs.Undoing.{AreReadFrom};
+ghost use Rattle.bx_journal.specs.Text.{IsPrefix};
+ghost use Rattle.bx_journal.specs.Turns.{AreAtRest, AreStanding};
+ghost use Rattle.bx_journal.specs.Undoing.{AreReadFrom, HasLeft};
 
 use crate::EntryRead;
 use crate::filling::fill_last;
@@ -42,8 +43,12 @@ pub fn redo_entries<D: Device, T: TextStore, A: Allocator>(
     requires empty { page.old.items ≡ [] }
     requires page_room { 82 ≤ vec_capacity page.old }
     ensures found { D.honest device.old → T.honest store.old → T.honest redo_text.old → (s : Pictures) → AreAtRest (T.text store.old) (D.image device.old) (T.text redo_text.old) s
-        → count ≡ changes_of s.stack → IfOk result (λ n. (n ≡ count + length takens.old.items)
-        × AreAtRest (T.text store.new) (D.image device.new) (T.text redo_text.new) (redo_of (length takens.old.items) s)) }
+        → count ≡ changes_of s.stack → OnOk result (AreAtRest (T.text store.new) (D.image device.new) (T.text redo_text.new) (redo_of (length takens.old.items) s)) }
+    ensures images { D.honest device.old → T.honest store.old → T.honest redo_text.old → (s : Pictures) → AreStanding (T.text store.old) (D.image device.old) (T.text redo_text.old) s
+        → count ≡ changes_of s.stack → OnOk result (AreStanding (T.text store.new) (D.image device.new) (T.text redo_text.new) (redo_of (length takens.old.items) s)) }
+    ensures number { IfOk result (λ n. n ≡ count + length takens.old.items) }
+    ensures left { T.honest redo_text.old → OnOk result (HasLeft (T.text redo_text.old) (T.text redo_text.new) (drop (length takens.old.items) (entries_of entries.old.items))) }
+    ensures front { T.honest store.old → OnOk result (IsPrefix (T.text store.old) (T.text store.new)) }
     ensures finds { D.honest device.old → T.honest store.old → T.honest redo_text.old → (s : Pictures) → AreAtRest (T.text store.old) (D.image device.old) (T.text redo_text.old) s
         → count ≡ changes_of s.stack → OnErr result ((i : ℕ) × (i ≤ length takens.old.items) × Finds (T.text store.new) (D.image device.new) (T.text redo_text.new) (redo_of i s)) }
     ensures device_honesty { D.honest device.new ↔ D.honest device.old }
