@@ -141,10 +141,10 @@ fn old_journal_under_new_entry(rt: HostRuntime) -> Result<(), Fail> {
     assert_eq!(rt; changed.journal.len(), 240);
     let undone = on_both(&rt, name, &changed, clean(2), &[undoes(2, 0)])?;
     assert!(rt; undone.image.as_slice() == b"ABCDEFGH".as_slice());
-    assert!(rt; undone.journal.is_empty() && undone.redo.len() == 268);
+    assert!(rt; undone.journal.is_empty() && undone.redo.len() == 267);
     let again = on_both(&rt, name, &undone, clean_with(0, 2), &[redoes(2, 2)])?;
     assert!(rt; again.image.as_slice() == b"ZBxyEFGH".as_slice());
-    assert!(rt; again.journal.len() == 268 && again.redo.is_empty());
+    assert!(rt; again.journal.len() == 267 && again.redo.is_empty());
     Ok(())
 }
 
