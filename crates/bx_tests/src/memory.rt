@@ -255,7 +255,7 @@ fn growths_of_an_undo(rt: HostRuntime) -> Result<(), Fail> {
         reply: Reply::Undone { left: 0 },
         left: b"ABCDEFGH",
     };
-    sweep_command(&rt, rt.alloc(), &undo, 3)?;
+    sweep_command(&rt, rt.alloc(), &undo, 6)?;
     // The image has to grow back.
     let cut = Case {
         image: b"A",
@@ -265,7 +265,7 @@ fn growths_of_an_undo(rt: HostRuntime) -> Result<(), Fail> {
         reply: Reply::Undone { left: 0 },
         left: b"A\0\0\0\0\0\0\0\0\0\0\0\0\0\0\0\0\0\0\0\0\0\0\0\0\0\0\0\0\0\0\0\0\0\0\0\0\0\0\0\0\0\0\0\0\0\0\0AB\0\0\0\0\0\0\0\0\0\0\0\0\0\0",
     };
-    sweep_command(&rt, rt.alloc(), &cut, 4)
+    sweep_command(&rt, rt.alloc(), &cut, 6)
 }
 
 #[test]
@@ -278,7 +278,7 @@ fn growths_of_a_redo(rt: HostRuntime) -> Result<(), Fail> {
         reply: Reply::Redone { changes: 1 },
         left: b"ABxyEFGH",
     };
-    sweep_command(&rt, rt.alloc(), &redo, 3)?;
+    sweep_command(&rt, rt.alloc(), &redo, 6)?;
     let two = Case {
         image: b"a",
         text: FIRST_PATCH,
@@ -287,7 +287,7 @@ fn growths_of_a_redo(rt: HostRuntime) -> Result<(), Fail> {
         reply: Reply::Redone { changes: 3 },
         left: b"c",
     };
-    sweep_command(&rt, rt.alloc(), &two, 4)?;
+    sweep_command(&rt, rt.alloc(), &two, 8)?;
     // The image has to grow.
     let gap = Case {
         image: b"AB",
@@ -297,7 +297,7 @@ fn growths_of_a_redo(rt: HostRuntime) -> Result<(), Fail> {
         reply: Reply::Redone { changes: 1 },
         left: b"AB\0\0\0Z",
     };
-    sweep_command(&rt, rt.alloc(), &gap, 3)
+    sweep_command(&rt, rt.alloc(), &gap, 5)
 }
 
 /// Opens a session and closes it, and tells what was found.
