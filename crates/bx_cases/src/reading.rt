@@ -1,0 +1,72 @@
+//! Cases of reading.
+use crate::outcome::{Wrong, differs, fault_text, same_bytes, same_number, same_text};
+use crate::tally::{Failure, at};
+use bx_case_files::{ReadingCase, Reads};
+use bx_cli::Fault;
+use bx_read::{read_dump, read_plain};
+use bx_text::Piece;
+use std::alloc::Global;
+
+/// The ways in which a case of reading is played.
+pub static SWEEPS: [&str; 1] = ["read"];
+
+/// Plays a case. Tells how often.
+pub fn play_reading(alloc: Global, case: &ReadingCase) -> Result<u32, Failure> {
+    let played = if case.plain {
+        plain(alloc, case)
+    } else {
+        dump(alloc, case)
+    };
+    match played {
+        Ok(()) => Ok(1),
+        Err(wrong) => Err(at(0, wrong)),
+    }
+}
+
+/// A fault is the one that the case tells.
+fn refused(alloc: Global, reads: &Reads, fault: Fault) -> Result<(), Wrong> {
+    let found = fault_text(alloc, fault)?;
+    let wanted = match reads {
+        Reads::Fault(text) => text.as_str(),
+        _ => "no fault",
+    };
+    same_text(alloc, "fault", wanted, found.as_str())
+}
+
+/// Reads plain hexadecimal.
+fn plain(alloc: Global, case: &ReadingCase) -> Result<(), Wrong> {
+    match (read_plain(alloc, case.text.as_slice()), &case.reads) {
+        (Err(fault), reads) => refused(alloc, reads, Fault::from(fault)),
+        (Ok(found), Reads::Bytes(wanted)) => {
+            same_bytes(alloc, "bytes", wanted.as_slice(), found.as_slice())
+        }
+        (Ok(_), Reads::Fault(wanted)) => {
+            Err(differs(alloc, "fault", wanted.as_str(), "no fault"))
+        }
+        (Ok(_), Reads::Pieces(_)) => Err(differs(alloc, "bytes", "pieces", "plain bytes")),
+    }
+}
+
+/// Reads a dump.
+fn dump(alloc: Global, case: &ReadingCase) -> Result<(), Wrong> {
+    match (read_dump(alloc, case.text.as_slice()), &case.reads) {
+        (Err(fault), reads) => refused(alloc, reads, Fault::from(fault)),
+        (Ok(found), Reads::Pieces(wanted)) => {
+            same_pieces(alloc, wanted.as_slice(), found.as_slice())
+        }
+        (Ok(_), Reads::Fault(wanted)) => {
+            Err(differs(alloc, "fault", wanted.as_str(), "no fault"))
+        }
+        (Ok(_), Reads::Bytes(_)) => Err(differs(alloc, "pieces", "plain bytes", "pieces")),
+    }
+}
+
+/// These are the pieces.
+fn same_pieces(alloc: Global, wanted: &[(u64, Vec<u8>)], found: &[Piece]) -> Result<(), Wrong> {
+    same_number(alloc, "pieces", wanted.len() as u64, found.len() as u64)?;
+    for (wanted, found) in wanted.iter().zip(found.iter()) {
+        same_number(alloc, "address", wanted.0, found.at)?;
+        same_bytes(alloc, "piece", wanted.1.as_slice(), found.bytes.as_slice())?;
+    }
+    Ok(())
+}
