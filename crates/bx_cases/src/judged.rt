@@ -1,0 +1,175 @@
+//! Texts that are cut off or changed, opened beside the slow judge.
+use crate::answers::{refused, same_opening};
+use crate::commands::{Standing, again};
+use crate::growths::unchanged;
+use crate::outcome::{Wrong, differs, fault_text, same_bytes, same_text};
+use crate::places::Memory;
+use crate::sessions::{MemSession, Texts, ask_for, close, in_memory, open};
+use bx_case_files::{Ask, Opening};
+use bx_cli::Fault;
+use bx_journal::How;
+use bx_scripts::judge::{RedoVerdict, Verdict, judge, judge_redo};
+use std::alloc::Global;
+
+/// What the judge found, as a case file says it: so many changes, and where the journal was finished entries alone so many undone ones.
+fn opening_of(how: How, changes: u32, undone: u32) -> Opening {
+    match how {
+        How::Clean => Opening::Clean { changes, undone },
+        How::Dropped => Opening::Dropped { changes },
+        How::Restored { number } => Opening::Restored { number, changes },
+    }
+}
+
+/// How many changes were undone, beside so many that stand; or the line at which their text is refused.
+fn undone_of(alloc: Global, texts: Texts<'_>, changes: u32) -> Result<Result<u32, u64>, Wrong> {
+    match judge_redo(alloc, texts.image, texts.redo, changes)? {
+        RedoVerdict::Undone { count } => Ok(Ok(count)),
+        RedoVerdict::Damaged { line } => Ok(Err(line)),
+    }
+}
+
+/// Undoing all leaves this image, and no text.
+fn unwinds(alloc: Global, session: MemSession, first: &[u8]) -> Result<(), Wrong> {
+    let mut session = session;
+    let changes = session.changes();
+    let _ = ask_for(alloc, &mut session, &Ask::Undo(changes), None)?;
+    let devices = close(session);
+    same_bytes(alloc, "first image", first, devices.image.as_slice())?;
+    same_bytes(
+        alloc,
+        "journal of no change",
+        b"",
+        devices.journal.as_slice(),
+    )
+}
+
+/// What is left agrees with what the judges said.
+fn agrees(
+    alloc: Global,
+    session: MemSession,
+    found: Opening,
+    texts: Texts<'_>,
+    verdict: &Verdict,
+) -> Result<(), Wrong> {
+    let Verdict::Opened {
+        how,
+        changes,
+        image,
+        kept,
+        first,
+    } = verdict
+    else {
+        return Err(differs(alloc, "opening", "a refusal", "no fault"));
+    };
+    let undone = undone_of(alloc, texts, *changes)?.unwrap_or(u32::MAX);
+    same_opening(alloc, opening_of(*how, *changes, undone), found)?;
+    let redo = if *how == How::Clean { texts.redo } else { b"" };
+    let Standing { session, held } = again(alloc, &Memory, session)?;
+    same_bytes(alloc, "image", image.as_slice(), held.image.as_slice())?;
+    let (front, _) = texts.journal.split_at((*kept).min(texts.journal.len()));
+    same_bytes(alloc, "journal", front, held.journal.as_slice())?;
+    same_bytes(alloc, "redo text", redo, held.redo.as_slice())?;
+    match first {
+        Some(first) => unwinds(alloc, session, first.as_slice()),
+        None => Ok(()),
+    }
+}
+
+/// The fault that the judges call for.
+fn fault_of(alloc: Global, texts: Texts<'_>, verdict: &Verdict) -> Result<Option<Fault>, Wrong> {
+    match verdict {
+        Verdict::Damaged { line } => Ok(Some(Fault::Damaged { line: *line })),
+        Verdict::LengthDiffers { expected } => {
+            let expected = *expected;
+            Ok(Some(Fault::LengthDiffers { expected }))
+        }
+        Verdict::Opened { how, changes, .. } if *how == How::Clean => {
+            match undone_of(alloc, texts, *changes)? {
+                Ok(_) => Ok(None),
+                Err(line) => Ok(Some(Fault::RedoDamaged { line })),
+            }
+        }
+        Verdict::Opened { .. } => Ok(None),
+    }
+}
+
+/// Opening answers what the judges answer; where it refuses, nothing changes.
+fn judged(alloc: Global, texts: Texts<'_>) -> Result<(), Wrong> {
+    let verdict = judge(alloc, texts.image, texts.journal)?;
+    match open(alloc, in_memory(alloc, texts)?) {
+        Ok((session, found)) => agrees(alloc, session, found, texts, &verdict),
+        Err((devices, fault)) => {
+            unchanged(alloc, texts, &devices)?;
+            match fault_of(alloc, texts, &verdict)? {
+                Some(wanted) => {
+                    let wanted = fault_text(alloc, wanted)?;
+                    let found = fault_text(alloc, fault)?;
+                    same_text(alloc, "fault", wanted.as_str(), found.as_str())
+                }
+                None => Err(refused(alloc, fault)),
+            }
+        }
+    }
+}
+
+/// The text that is cut off or changed: the journal's, or that of what was undone where there is any.
+fn text_of<'a>(texts: Texts<'a>) -> &'a [u8] {
+    if texts.redo.is_empty() {
+        texts.journal
+    } else {
+        texts.redo
+    }
+}
+
+/// The same with another text in its place.
+fn with_text<'a>(texts: Texts<'a>, text: &'a [u8]) -> Texts<'a> {
+    if texts.redo.is_empty() {
+        Texts {
+            journal: text,
+            ..texts
+        }
+    } else {
+        Texts {
+            redo: text,
+            ..texts
+        }
+    }
+}
+
+/// Opens each front of the text. Tells how many they are.
+pub fn fronts(alloc: Global, texts: Texts<'_>) -> Result<u32, Wrong> {
+    let text = text_of(texts);
+    let mut count = 0u32;
+    for n in 0..text.len() + 1 {
+        let (front, _) = text.split_at(n);
+        judged(alloc, with_text(texts, front))?;
+        count = count.saturating_add(1);
+    }
+    Ok(count)
+}
+
+/// Opens the text with each byte changed, by each of these turns of its bits. Tells how often.
+pub fn changed_bytes(alloc: Global, texts: Texts<'_>, turns: &[u8]) -> Result<u32, Wrong> {
+    let mut count = 0u32;
+    for place in 0..text_of(texts).len() {
+        count = count.saturating_add(changed_byte(alloc, texts, place, turns)?);
+    }
+    Ok(count)
+}
+
+/// Opens the text with one byte changed, by each of these turns. Tells how often.
+fn changed_byte(alloc: Global, texts: Texts<'_>, place: usize, turns: &[u8]) -> Result<u32, Wrong> {
+    let mut count = 0u32;
+    let mut changed = text_of(texts).to_vec(alloc)?;
+    for turn in turns {
+        if let Some(byte) = changed.get_mut(place) {
+            *byte ^= *turn;
+        }
+        judged(alloc, with_text(texts, changed.as_slice()))?;
+        if let Some(byte) = changed.get_mut(place) {
+            *byte ^= *turn;
+        }
+        count = count.saturating_add(1);
+    }
+    Ok(count)
+}

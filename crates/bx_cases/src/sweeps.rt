@@ -1,0 +1,63 @@
+//! The ways in which a case of commands is played.
+use crate::commands::{play_each, play_once};
+use crate::growths::play_growths;
+use crate::outcome::Wrong;
+use crate::places::{Files, Memory, Pages, Place};
+use crate::stops::play_stops;
+use crate::tally::{Failure, at};
+use bx_case_files::CommandsCase;
+use bx_image::Device;
+use bx_store::TextStore;
+use std::alloc::Global;
+
+/// The ways in which a case of commands is played.
+pub static SWEEPS: [&str; 6] = [
+    "in memory",
+    "in pages",
+    "in files",
+    "growths refused",
+    "calls failing",
+    "openings stopped",
+];
+
+/// Cases of at most so many commands, on images and texts of at most so many bytes, are stopped when what is left is opened again.
+const FEW: usize = 3;
+
+const SHORT: usize = 200;
+
+/// Plays a case in one way. Tells how often.
+pub fn play_commands(rt: &HostRuntime, case: &CommandsCase, sweep: usize) -> Result<u32, Failure> {
+    let alloc = rt.alloc();
+    match sweep {
+        0 => play_at(alloc, &Memory, case),
+        1 => play_at(alloc, &Pages, case),
+        2 => play_at(alloc, &Files::new(rt), case),
+        3 => play_growths(alloc, case),
+        4 => play_stops(alloc, case, false),
+        _ if is_small(case) => play_stops(alloc, case, true),
+        _ => Ok(0),
+    }
+}
+
+fn is_small(case: &CommandsCase) -> bool {
+    case.rows.len() <= FEW && case.image.len() <= SHORT && case.journal.len() <= SHORT
+}
+
+/// Plays a case at a place, with the devices opened again behind each command, behind any one of them, and at the end alone.
+fn play_at<D: Device + Drop, T: TextStore + Drop, P: Place<D, T>>(
+    alloc: Global,
+    place: &P,
+    case: &CommandsCase,
+) -> Result<u32, Failure> {
+    if let Err(wrong) = play_each(alloc, place, case) {
+        return Err(at(0, wrong));
+    }
+    let mut plays = 1u32;
+    for behind in 0..case.rows.len() {
+        if let Err(wrong) = play_once(alloc, place, case, behind) {
+            return Err(at(plays, wrong));
+        }
+        plays = plays.saturating_add(1);
+    }
+    Ok(plays)
+}

@@ -1,0 +1,149 @@
+//! Cases of texts that are opened.
+use crate::commands::{Standing, again};
+use crate::growths::{found_so, opening_growths};
+use crate::history::{History, Images, history_of};
+use crate::judged::{changed_bytes, fronts};
+use crate::openings::openings;
+use crate::outcome::{Wrong, same_bytes};
+use crate::places::{Files, Memory, Pages, Place};
+use crate::sessions::{Held, Texts, contents, held_of, in_memory, open};
+use crate::tally::{Failure, at};
+use bx_case_files::{Found, Opening, TextCase};
+use bx_image::Device;
+use bx_store::TextStore;
+use std::alloc::Global;
+
+/// The ways in which a text is opened.
+pub static SWEEPS: [&str; 8] = [
+    "in memory",
+    "in pages",
+    "in files",
+    "all undone",
+    "growths refused",
+    "openings stopped",
+    "fronts",
+    "changed bytes",
+];
+
+/// Opens a text in one way. Tells how often.
+pub fn play_text(rt: &HostRuntime, case: &TextCase, sweep: usize) -> Result<u32, Failure> {
+    let alloc = rt.alloc();
+    let played = match sweep {
+        0 => opens(alloc, &Memory, case),
+        1 => opens(alloc, &Pages, case),
+        2 => opens(alloc, &Files::new(rt), case),
+        3 => all_undone(alloc, case),
+        4 => opening_growths(alloc, case, texts_of(case)),
+        5 => stopped(alloc, case),
+        6 => fronts(alloc, texts_of(case)),
+        _ => each_byte(alloc, case),
+    };
+    match played {
+        Ok(plays) => Ok(plays),
+        Err(wrong) => Err(at(0, wrong)),
+    }
+}
+
+/// Clean texts of at most so many bytes have each byte made each other one; others have it changed in three ways.
+const SHORT: usize = 140;
+
+/// Opens the text with each byte changed.
+fn each_byte(alloc: Global, case: &TextCase) -> Result<u32, Wrong> {
+    let is_clean = matches!(&case.found, Found::Opened(Opening::Clean { .. }));
+    if !is_clean || case.journal.len() > SHORT || case.redo.len() > SHORT {
+        return changed_bytes(alloc, texts_of(case), &[1, 32, 128]);
+    }
+    let mut turns = Vec::new(alloc);
+    for turn in 1..=255u8 {
+        turns.push(turn)?;
+    }
+    changed_bytes(alloc, texts_of(case), turns.as_slice())
+}
+
+/// What is opened.
+fn texts_of(case: &TextCase) -> Texts<'_> {
+    Texts {
+        image: case.image.as_slice(),
+        journal: case.journal.as_slice(),
+        redo: case.redo.as_slice(),
+    }
+}
+
+/// What is told, or what was there before.
+fn or_before<'a>(told: &'a Option<Vec<u8>>, before: &'a Vec<u8>) -> &'a [u8] {
+    match told {
+        Some(bytes) => bytes.as_slice(),
+        None => before.as_slice(),
+    }
+}
+
+/// This is left.
+fn same_left(alloc: Global, case: &TextCase, held: &Held) -> Result<(), Wrong> {
+    let image = or_before(&case.image_left, &case.image);
+    same_bytes(alloc, "image left", image, held.image.as_slice())?;
+    let journal = or_before(&case.journal_left, &case.journal);
+    same_bytes(alloc, "journal left", journal, held.journal.as_slice())?;
+    let redo = or_before(&case.redo_left, &case.redo);
+    same_bytes(alloc, "redo text left", redo, held.redo.as_slice())
+}
+
+/// Opens the text at a place.
+fn opens<D: Device + Drop, T: TextStore + Drop, P: Place<D, T>>(
+    alloc: Global,
+    place: &P,
+    case: &TextCase,
+) -> Result<u32, Wrong> {
+    match open(alloc, place.devices(alloc, texts_of(case))?) {
+        Ok((session, found)) => {
+            found_so(alloc, &case.found, Ok(found))?;
+            let Standing { held, .. } = again(alloc, place, session)?;
+            same_left(alloc, case, &held)?;
+        }
+        Err((devices, fault)) => {
+            found_so(alloc, &case.found, Err(fault))?;
+            let mut devices = devices;
+            let held = contents(alloc, &mut devices)?;
+            same_left(alloc, case, &held)?;
+        }
+    }
+    Ok(1)
+}
+
+/// The images of what is opened; none where it isn't opened.
+fn history(alloc: Global, case: &TextCase) -> Result<Option<History>, Wrong> {
+    match open(alloc, in_memory(alloc, texts_of(case))?) {
+        Ok((session, _)) => {
+            let standing = again(alloc, &Memory, session)?;
+            Ok(Some(history_of(alloc, standing)?))
+        }
+        Err(_) => Ok(None),
+    }
+}
+
+/// Undoes all that stands.
+fn all_undone(alloc: Global, case: &TextCase) -> Result<u32, Wrong> {
+    let Some(first) = &case.first else {
+        return Ok(0);
+    };
+    let history = history(alloc, case)?;
+    let found = match &history {
+        Some(history) => match history.images.first() {
+            Some(image) => image.as_slice(),
+            None => b"",
+        },
+        None => b"",
+    };
+    same_bytes(alloc, "first image", first.as_slice(), found)?;
+    Ok(1)
+}
+
+/// Stops the opening at each call of each device, and what is left again.
+fn stopped(alloc: Global, case: &TextCase) -> Result<u32, Wrong> {
+    let Some(history) = history(alloc, case)? else {
+        return Ok(0);
+    };
+    let expected = Images::of(alloc, &history)?;
+    let left = held_of(alloc, &in_memory(alloc, texts_of(case))?)?;
+    let mut seen = Vec::new(alloc);
+    openings(alloc, left, &expected, &mut seen)
+}
