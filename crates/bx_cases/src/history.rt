@@ -110,10 +110,7 @@ fn unwound(alloc: Global, standing: Standing<MemImage, MemText>) -> Result<Vec<V
 }
 
 /// The images of a session and how many changes stand.
-pub fn history_of(
-    alloc: Global,
-    standing: Standing<MemImage, MemText>,
-) -> Result<History, Wrong> {
+pub fn history_of(alloc: Global, standing: Standing<MemImage, MemText>) -> Result<History, Wrong> {
     let changes = standing.session.changes() as usize;
     let redone = all_redone(alloc, standing)?;
     let images = unwound(alloc, redone)?;
@@ -190,6 +187,16 @@ impl<'a> Follower<'a> {
         self.course = Course::Refused;
     }
 
+    /// Whether the case tells what a row leaves: behind a refusal it doesn't tell what a change makes of the image.
+    pub fn can_follow(&self, row: &Row) -> bool {
+        match (self.course, &row.ask, &row.answer) {
+            (Course::Refused, Ask::Undo(_) | Ask::Redo(_), _) => true,
+            (Course::Refused, _, Answer::Refused(_)) => true,
+            (Course::Refused, _, _) => false,
+            _ => true,
+        }
+    }
+
     /// What a reply makes of the images, where nothing failed.
     fn go_on(&mut self, row: &'a Row, reply: Reply) -> Result<(), AllocError> {
         match reply {
@@ -262,7 +269,12 @@ impl<'a> Follower<'a> {
 
     /// The images that are expected where opening finds this, and so many changes stand. Where something unfinished was
     /// found, what was undone is given up.
-    pub fn expected(&self, alloc: Global, found: Opening, changes: usize) -> Result<Images<'a>, AllocError> {
+    pub fn expected(
+        &self,
+        alloc: Global,
+        found: Opening,
+        changes: usize,
+    ) -> Result<Images<'a>, AllocError> {
         let mut images = self.images.copy(alloc)?;
         match self.course {
             Course::Stopped(Stop::Change(image)) if changes > images.changes => {

@@ -16,12 +16,7 @@ use std::alloc::Global;
 pub const MOST_CALLS: u64 = 10_000;
 
 /// Asks for an undo or redo, which is answered so.
-fn moved(
-    alloc: Global,
-    session: &mut MemSession,
-    ask: &Ask,
-    wanted: &Answer,
-) -> Result<(), Wrong> {
+fn moved(alloc: Global, session: &mut MemSession, ask: &Ask, wanted: &Answer) -> Result<(), Wrong> {
     match ask_for(alloc, session, ask, None)? {
         Some(reply) => same_reply(alloc, wanted, reply),
         None => Err(Wrong::NoMemory),
@@ -60,7 +55,11 @@ fn all_made(
     expected: &Images<'_>,
 ) -> Result<MemSession, Wrong> {
     let mut session = session;
-    for image in expected.list.iter().skip(expected.changes.saturating_add(1)) {
+    for image in expected
+        .list
+        .iter()
+        .skip(expected.changes.saturating_add(1))
+    {
         session = step_on(alloc, session, image)?;
     }
     let Standing { session, held } = again(alloc, &Memory, session)?;
@@ -75,11 +74,7 @@ fn all_made(
 
 /// A session that was opened is the one that is expected: what was undone is made again, and all changes are taken back, one
 /// by one.
-pub fn stands_for(
-    alloc: Global,
-    session: MemSession,
-    expected: &Images<'_>,
-) -> Result<(), Wrong> {
+pub fn stands_for(alloc: Global, session: MemSession, expected: &Images<'_>) -> Result<(), Wrong> {
     same_opening(alloc, expected.opening(), found_again(&session))?;
     let mut session = all_made(alloc, session, expected)?;
     for image in expected.list.iter().rev() {

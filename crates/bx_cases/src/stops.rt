@@ -6,20 +6,22 @@ use crate::history::{Follower, History, Images, history_of};
 use crate::openings::{MOST_CALLS, openings, recovered, stands_for};
 use crate::outcome::{Wrong, differs};
 use crate::places::Memory;
-use crate::sessions::{Fused, FusedDevices, FusedSession, Held, ask_for, close, held_fused, in_fused, open};
+use crate::sessions::{
+    Fused, FusedDevices, FusedSession, Held, ask_for, close, held_fused, in_fused, open,
+};
 use crate::tally::{Failure, at};
 use bx_case_files::{Ask, CommandsCase, Row};
 use bx_cli::Fault;
 use std::alloc::Global;
 
-/// Asks for what a row tells, and has the list of images follow.
+/// Asks for what a row tells, if the list of images can follow it.
 fn run_row<'a>(
     alloc: Global,
     session: &mut FusedSession,
     row: &'a Row,
     follower: &mut Follower<'a>,
 ) -> Result<(), Wrong> {
-    if matches!(&row.ask, Ask::Open) {
+    if matches!(&row.ask, Ask::Open) || !follower.can_follow(row) {
         return Ok(());
     }
     match ask_for(alloc, session, &row.ask, None)? {
@@ -61,11 +63,7 @@ fn too_many(alloc: Global, least: usize, most: usize, changes: usize) -> Wrong {
 }
 
 /// Opens what a run left: so many changes stand. Answers the images that it stands for.
-fn follows<'a>(
-    alloc: Global,
-    left: &Held,
-    follower: &Follower<'a>,
-) -> Result<Images<'a>, Wrong> {
+fn follows<'a>(alloc: Global, left: &Held, follower: &Follower<'a>) -> Result<Images<'a>, Wrong> {
     let (session, found) = recovered(alloc, left.texts())?;
     let changes = session.changes() as usize;
     let (least, most) = follower.bounds();
@@ -127,7 +125,8 @@ fn stop_kind(
 
 /// How a failure names the call: its way and device, and how many calls came before.
 fn call_of(kind: u32, pass: u64) -> u32 {
-    kind.saturating_mul(100_000).saturating_add(pass.min(99_999) as u32)
+    kind.saturating_mul(100_000)
+        .saturating_add(pass.min(99_999) as u32)
 }
 
 /// Stops a case at each call of each device, and with openings also the opening of what is left. Tells how often.
