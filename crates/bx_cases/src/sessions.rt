@@ -369,11 +369,13 @@ fn run_one<D: Device, T: TextStore, A: Allocator + Clone>(
 ) -> Result<Option<Reply>, Wrong>
     requires { IsNear command }
 {
+    let mut list = Vec::new(alloc.clone()?);
+    list.push(command)?;
     limit_to(limit)?;
     if session.faults() > MANY {
         return Err(Wrong::Unknown);
     }
-    match run_all(alloc, session, &mut [command]) {
+    match run_all(alloc, session, list.as_mut_slice()) {
         Ok(replies) => Ok(replies.first().copied()),
         Err(_) => Ok(None),
     }

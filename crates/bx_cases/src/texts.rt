@@ -4,7 +4,7 @@ use crate::growths::{found_so, opening_growths};
 use crate::history::{History, Images, history_of};
 use crate::judged::{changed_bytes, fronts};
 use crate::openings::openings;
-use crate::outcome::{Wrong, same_bytes};
+use crate::outcome::{Wrong, differs, same_bytes};
 use crate::places::{Files, Memory, Pages, Place};
 use crate::sessions::{Held, Texts, contents, held_of, in_memory, open};
 use crate::tally::{Failure, at};
@@ -120,20 +120,23 @@ fn history(alloc: Global, case: &TextCase) -> Result<Option<History>, Wrong> {
     }
 }
 
+/// The image below all changes is this one.
+fn same_first(alloc: Global, wanted: &[u8], history: &History) -> Result<(), Wrong> {
+    match history.images.first() {
+        Some(image) => same_bytes(alloc, "first image", wanted, image.as_slice()),
+        None => Err(Wrong::Unknown),
+    }
+}
+
 /// Undoes all that stands.
 fn all_undone(alloc: Global, case: &TextCase) -> Result<u32, Wrong> {
     let Some(first) = &case.first else {
         return Ok(0);
     };
-    let history = history(alloc, case)?;
-    let found = match &history {
-        Some(history) => match history.images.first() {
-            Some(image) => image.as_slice(),
-            None => b"",
-        },
-        None => b"",
-    };
-    same_bytes(alloc, "first image", first.as_slice(), found)?;
+    match history(alloc, case)? {
+        Some(history) => same_first(alloc, first.as_slice(), &history)?,
+        None => return Err(differs(alloc, "first image", "an opening", "a fault")),
+    }
     Ok(1)
 }
 
