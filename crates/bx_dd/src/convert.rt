@@ -159,8 +159,8 @@ fn take_block<A: Allocator>(
     requires few { tail.cut + 16777216 < 2 ^ 64 }
     ensures within { IfOk result (λ t. (length held.new.items ≤ form.cbs) × (t.cut ≤ tail.cut + form.ibs) × (length b.now ≡ form.ibs → t.cut ≤ tail.cut + length b.now)) }
     ensures part { IfOk result (λ t. form.shape ≡ Unblock → length held.new.items < form.cbs) }
-    ensures next { (z : List ℕ) → Stands form.shape form.cbs z out.old.items held.old.items tail.over tail.cut →
-        IfOk result (λ t. Stands form.shape form.cbs (z ++ block_of form b.now) out.new.items held.new.items t.over t.cut) }
+    ensures next { (z gone : List ℕ) → Stands form.shape form.cbs z (gone ++ out.old.items) held.old.items tail.over tail.cut →
+        IfOk result (λ t. Stands form.shape form.cbs (z ++ block_of form b.now) (gone ++ out.new.items) held.new.items t.over t.cut) }
 {
     let ready = ready_block(alloc, b, form)?;
     let next = push_shaped(
