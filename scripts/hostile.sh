@@ -152,6 +152,7 @@ bad_redo_files() {
         [ "$(cat err)" = "bx: redo line 1 is damaged" ] && [ "$(trio_sum)" = "$sums" ] || well=0
     done
     say "$well" "each front of a redo file" "133 runs"
+    : > redo
     truncate -s 1G redo
     fresh ABxyEFGH text redo
     rm redo
@@ -311,7 +312,7 @@ undo -k 65536 img
 log -k 1 img
 revert -s 1k img
 revert -J img img
-undo -J img j
+undo -J img img
 log -J j j.redo
 END
     fresh xyz && expect "words: a name that is not UTF-8" same 2 "bad arguments" xxd "$(printf 'a\377')"
