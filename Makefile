@@ -4,7 +4,7 @@ man = $(DESTDIR)$(PREFIX)/share/man/man1
 bash = $(DESTDIR)$(PREFIX)/share/bash-completion/completions
 fish = $(DESTDIR)$(PREFIX)/share/fish/vendor_completions.d
 zsh = $(DESTDIR)$(PREFIX)/share/zsh/$(if $(filter /usr,$(PREFIX)),vendor-completions,site-functions)
-.PHONY: all look test install uninstall package tour check-docs compare cases record hostile bench clean
+.PHONY: all look test install uninstall package tour pictures check-docs compare cases record hostile bench clean
 
 all: bx
 
@@ -42,6 +42,10 @@ package: all
 tour: all
 	scripts/tour.py --bx ./bx
 	scripts/tour.py --bx ./bx docs/RECIPES.md
+
+# The pictures of docs/pictures, each drawn from what its commands write.
+pictures: all
+	scripts/picture.py --bx ./bx docs/pictures/session.txt docs/pictures/session.svg
 
 # The options of bx beside those of its help, man page, completions and README.md.
 check-docs: all
