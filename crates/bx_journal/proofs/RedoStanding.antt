@@ -1,8 +1,8 @@
 -- One turn of the redos over three devices, for pairs that need not be sound.
-use Rattle.std.proofs.Common.{◌≡◌, ℕ, ◌+◌, List, ◌∷◌, ◌++◌, length, take, drop, refl, ap, sym, ◌∙◌, subst, append_assoc}
+use Rattle.std.proofs.Common.{◌≡◌, ℕ, ◌+◌, List, ◌∷◌, ◌++◌, length, take, drop, ap, sym, ◌∙◌, subst, append_assoc}
 use Rattle.bx_image.specs.declared.change.Change.{Change}
 use Rattle.bx_image.specs.Change.{effect, saved, restore, IsAsGood}
-use Rattle.bx_journal.specs.Entry.{head_text, end_text, entry_text}
+use Rattle.bx_journal.specs.Entry.{head_text, entry_text}
 use Rattle.bx_journal.specs.Images.{Images, redo_of}
 use Rattle.bx_journal.specs.Kept.{Kept, kept_of}
 use Rattle.bx_journal.specs.Machine.{changes_of}

@@ -1,11 +1,11 @@
 -- What some undos, or some redos, take before their first write.
-use Rattle.std.proofs.Common.{◌≡◌, ℕ, zero, suc, ◌+◌, ◌<◌, ◌≤◌, List, [], ◌∷◌, ◌++◌, length, take, drop, refl, ap, sym, ◌∙◌, subst, arith, length-drop, length-append}
+use Rattle.std.proofs.Common.{◌≡◌, ℕ, zero, suc, ◌+◌, ◌<◌, List, [], ◌∷◌, ◌++◌, length, take, drop, refl, ap, sym, ◌∙◌, subst, arith, length-drop, length-append}
 use Rattle.std.specs.Prelude.{reverse, slice_index_or}
 use Rattle.std.proofs.lemmas.List.{take_more}
 use Rattle.bx_image.specs.declared.record.Saved.{Saved}
 use Rattle.bx_image.specs.Change.{AllWithin}
 use Rattle.bx_journal.specs.Kept.{kept_of}
-use Rattle.bx_journal.specs.Entry.{head_text, end_text, entry_text}
+use Rattle.bx_journal.specs.Entry.{head_text, end_text}
 use Rattle.bx_journal.specs.Images.{Images}
 use Rattle.bx_journal.specs.Machine.{changes_of}
 use Rattle.bx_journal.specs.Redo.{IsRedoOf}

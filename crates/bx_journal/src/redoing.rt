@@ -53,6 +53,14 @@ fn read_undone<T: TextStore, A: Allocator + Clone>(
     }
 }
 
+/// Whether more are wanted than there are.
+#[inline]
+fn is_beyond(wanted: u32, have: u32) -> bool
+    ensures { (result ≡ true) ↔ (have < wanted) }
+{
+    wanted > have
+}
+
 /// How many changes are undone when so many are made again.
 #[inline]
 fn undone_left(undone: u32, made: u32) -> u32
@@ -121,7 +129,7 @@ impl<D: Device, T: TextStore, A: Allocator + Clone> Session<D, T, A> {
         if self.is_broken {
             return Err(SessionFault::Broken);
         }
-        if j > self.undone {
+        if is_beyond(j, self.undone) {
             return Err(SessionFault::NothingToRedo { have: self.undone });
         }
         let mut read = read_undone(&self.alloc, &mut self.redo_text, self.undone)?;

@@ -100,7 +100,9 @@ fn entries_len<A: Allocator>(takens: &[Saved<A>]) -> u64
 {
     let mut total: u64 = 0;
     for taken in takens {
-        total = total.saturating_add(head_len(taken)).saturating_add(END_LINE);
+        total = total
+            .saturating_add(head_len(taken))
+            .saturating_add(END_LINE);
     }
     total
 }

@@ -1,7 +1,6 @@
-use Rattle.std.proofs.Common.{◌≡◌, ℕ, List, sym, subst}
-use Rattle.bx_journal.specs.declared.fault.SessionFault.{SessionFault}
+use Rattle.std.proofs.Common.{sym, subst}
 use Rattle.bx_journal.specs.Opening.{FaultCounts}
-use Rattle.bx_journal.specs.Undoing.{AgainFault, RedoAgainFault, redo_fault}
+use Rattle.bx_journal.specs.Undoing.{RedoAgainFault}
 use Rattle.bx_journal.proofs.RedoingLemmas.{redo_again, redo_counts}
 use Rattle.bx_journal.proofs.redoing.read_undone.Goals as goal
 
