@@ -1,6 +1,7 @@
 pub mod BlockLemmas
 pub mod RecordsLemmas
 pub mod ConvertLemmas
+pub mod TurnLemmas
 pub mod TransferLemmas
 pub mod OperandsLemmas
 pub mod PlanLemmas

@@ -36,11 +36,13 @@ cased Keep b = b
 cased Upper b = to_ascii_uppercase b
 cased Lower b = to_ascii_lowercase b
 
+-- a block that is whole, or was filled up: swapped, then in one case
+abbrev pub turned : Form → List ℕ → List ℕ
+turned form full = map (cased form.letters) (if form.swab then swapped full else full)
+
 -- one block: padded, then swapped, then in one case
 unfoldable pub block_of : Form → List ℕ → List ℕ
-block_of form block =
-    let full = if form.sync then padded (filler form.shape) form.ibs block else block in
-    map (cased form.letters) (if form.swab then swapped full else full)
+block_of form block = turned form (if form.sync then padded (filler form.shape) form.ibs block else block)
 
 -- the blocks, joined
 unfoldable pub joined : Form → List ℕ → List ℕ

@@ -7,7 +7,7 @@ ghost use Rattle.bx_dd.specs.Standing.{IsAfter, HasSizes, Stands, finished};
 ghost use Rattle.bx_dd.specs.declared.form.Shape.TheVariants.{Unblock};
 
 use crate::block::ready_block;
-use crate::counts::{Counts, Transfer};
+use crate::counts::{Transfer, counted};
 use crate::fault::DdFault;
 use crate::form::Form;
 use crate::plan::Plan;
@@ -104,14 +104,7 @@ impl<A: Allocator> Convert<A> {
             cut,
         } = self;
         push_rest(&mut out, held.as_slice(), form)?;
-        let length = out.len() as u64;
-        let counts = Counts {
-            whole_in: taken / form.ibs,
-            part_in: (taken % form.ibs).min(1),
-            whole_out: length / form.obs,
-            part_out: (length % form.obs).min(1),
-            cut: if over { cut + 1 } else { cut },
-        };
+        let counts = counted(form, taken, out.len() as u64, Tail { over, cut });
         Ok(Transfer {
             bytes: Bytes::from_vec(out),
             counts,
@@ -159,8 +152,8 @@ fn take_block<A: Allocator>(
     requires few { tail.cut + 16777216 < 2 ^ 64 }
     ensures within { IfOk result (λ t. (length held.new.items ≤ form.cbs) × (t.cut ≤ tail.cut + form.ibs) × (length b.now ≡ form.ibs → t.cut ≤ tail.cut + length b.now)) }
     ensures part { IfOk result (λ t. form.shape ≡ Unblock → length held.new.items < form.cbs) }
-    ensures next { (z : List ℕ) → Stands form.shape form.cbs z out.old.items held.old.items tail.over tail.cut →
-        IfOk result (λ t. Stands form.shape form.cbs (z ++ block_of form b.now) out.new.items held.new.items t.over t.cut) }
+    ensures next { (z gone : List ℕ) → Stands form.shape form.cbs z (gone ++ out.old.items) held.old.items tail.over tail.cut →
+        IfOk result (λ t. Stands form.shape form.cbs (z ++ block_of form b.now) (gone ++ out.new.items) held.new.items t.over t.cut) }
 {
     let ready = ready_block(alloc, b, form)?;
     let next = push_shaped(

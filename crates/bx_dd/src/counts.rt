@@ -1,8 +1,12 @@
 //! What was made of an input.
-ghost use Rattle.std.specs.Prelude.{◌≡◌, ◌++◌, IfOk, OnOk, IsOkUnless, string_bytes};
-ghost use Rattle.bx_dd.specs.Counting.{cut_text, report_text};
+ghost use Rattle.std.specs.Prelude.{◌≡◌, ℕ, ◌+◌, ◌-◌, ◌^◌, ◌<◌, if◌then◌else◌, List, ◌++◌, length, IfOk, OnOk, IsOkUnless, string_bytes};
+ghost use Rattle.bx_dd.specs.Counting.{counts_of, cut_text, report_text};
+ghost use Rattle.bx_dd.specs.Output.{converted, cut_records, joined};
+ghost use Rattle.bx_dd.specs.Standing.{HasSizes};
 
 use crate::fault::DdFault;
+use crate::form::Form;
+use crate::records::Tail;
 use bx_text::Bytes;
 use std::alloc::{AllocError, Allocator, Global};
 use std::fmt::Write;
@@ -27,6 +31,22 @@ pub struct Counts {
 pub struct Transfer<A: Allocator = Global> {
     pub bytes: Bytes<A>,
     pub counts: Counts,
+}
+
+/// What is reported of so many bytes read and written, and of the records so far.
+pub fn counted(form: Form, taken: u64, written: u64, tail: Tail) -> Counts
+    requires sizes { HasSizes form }
+    requires few { tail.cut < 2 ^ 64 - 1 }
+    ensures counts { (input : List ℕ) → taken ≡ length input → written ≡ length (converted form input) →
+        tail.cut + (if tail.over then 1 else 0) ≡ cut_records form.shape form.cbs (joined form input) → result ≡ counts_of form input }
+{
+    Counts {
+        whole_in: taken / form.ibs,
+        part_in: (taken % form.ibs).min(1),
+        whole_out: written / form.obs,
+        part_out: (written % form.obs).min(1),
+        cut: if tail.over { tail.cut + 1 } else { tail.cut },
+    }
 }
 
 /// dd's report on standard error: a line of blocks in, a line of blocks out, and one of records that were cut, if there are any. The one fault is want of memory.

@@ -1,7 +1,9 @@
 //! What can be wrong with operands, and what can stop a transfer.
 ghost use Rattle.std.specs.Prelude.{◌≡◌};
+ghost use Rattle.bx_dd.specs.declared.fault.CopyFault.TheVariants.{Input};
 ghost use Rattle.bx_dd.specs.declared.fault.DdFault.TheVariants.{NoMemory};
 
+use bx_text::IoFault;
 use std::alloc::AllocError;
 use thiserror::Error;
 
@@ -37,5 +39,24 @@ impl From<AllocError> for DdFault {
 
     fn from(_error: AllocError) -> Self {
         DdFault::NoMemory
+    }
+}
+
+/// What can stop a copy to a writer.
+#[derive(Clone, Copy, Debug, PartialEq, Eq, Error)]
+pub enum CopyFault {
+    /// Memory was refused, a read failed, or the input is too long.
+    #[error("{0}")]
+    Input(DdFault),
+    /// The writer failed, and `written` bytes went out before. It fails too where it would be given 2^64 bytes.
+    #[error("{0}")]
+    Output(IoFault),
+}
+
+impl From<AllocError> for CopyFault {
+    ghost from_gives = { λ _ e. e ≡ Input NoMemory };
+
+    fn from(_error: AllocError) -> Self {
+        CopyFault::Input(DdFault::NoMemory)
     }
 }

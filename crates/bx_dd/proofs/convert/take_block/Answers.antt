@@ -12,3 +12,6 @@ returns-clause-within g c =
     let same = ap length (c.as_slice.ensures.value ∙ c.in_ok-ready.ensures) in
     let within = c.in_ok-next.ensures.within in
     (within.0, omega (arith, fits, same, within.1), λ e. omega (arith, fits, same, within.1, e))
+
+pub returns-clause-next : goal.returns-clause-next
+returns-clause-next g c z gone stands = rw (c.as_slice.ensures.value ∙ c.in_ok-ready.ensures) at (c.in_ok-next.ensures.next z gone stands)

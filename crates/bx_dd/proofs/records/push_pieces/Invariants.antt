@@ -8,8 +8,8 @@ abbrev pub invariant-loop-done : goal.invariant-loop-done
 invariant-loop-done g l = record {
   inside : l.done ≤ length l.bytes;
   room : length l.held.items < l.size;
-  next : (z : List ℕ) (over : Bool) (cut : ℕ) → Stands Unblock l.size z l.initial.out.items l.initial.held.items over cut →
-      Stands Unblock l.size (z ++ take l.done l.bytes) l.out.items l.held.items over cut;
+  next : (z gone : List ℕ) (over : Bool) (cut : ℕ) → Stands Unblock l.size z (gone ++ l.initial.out.items) l.initial.held.items over cut →
+      Stands Unblock l.size (z ++ take l.done l.bytes) (gone ++ l.out.items) l.held.items over cut;
 }
 
 abbrev pub decreases-loop-done : goal.decreases-loop-done

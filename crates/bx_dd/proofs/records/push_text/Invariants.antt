@@ -9,8 +9,8 @@ invariant-loop-done g l = record {
   inside : l.done ≤ length l.bytes;
   room : length l.held.items ≤ l.size;
   few : l.cut ≤ l.initial.cut + l.done;
-  next : (z : List ℕ) → Stands Block l.size z l.initial.out.items l.initial.held.items l.initial.over l.initial.cut →
-      Stands Block l.size (z ++ take l.done l.bytes) l.out.items l.held.items l.over l.cut;
+  next : (z gone : List ℕ) → Stands Block l.size z (gone ++ l.initial.out.items) l.initial.held.items l.initial.over l.initial.cut →
+      Stands Block l.size (z ++ take l.done l.bytes) (gone ++ l.out.items) l.held.items l.over l.cut;
 }
 
 abbrev pub decreases-loop-done : goal.decreases-loop-done

@@ -1,4 +1,4 @@
-use Rattle.std.proofs.Common.{◌≡◌, ◌≤◌, ◌%◌, ◌+◌, length, subst, ◌∙◌, sym, ap, arith, ◌^◌, inl, inr}
+use Rattle.std.proofs.Common.{◌≡◌, ◌≤◌, ◌%◌, ◌+◌, [], length, subst, ◌∙◌, sym, ap, arith, ◌^◌, inl, inr}
 use Rattle.std.proofs.lemmas.Bool.{cases_lt}
 use Rattle.std.proofs.lemmas.List.{length-append}
 use Rattle.bx_dd.specs.Output.{joined}
@@ -45,5 +45,5 @@ returns-clause-after g c input after =
     let so_far : length input % i.form.ibs ≡ 0 = ap (λ n. n % i.form.ibs) (sym was.taken) ∙ whole in
     record {
       taken = ap (λ n. n + length b) was.taken ∙ sym (length-append input b);
-      stands = rw (joined_more i.form input b inv.0.some_ibs so_far c.requires.some fits) (c.in_ok-tail.ensures.next (joined i.form input) was.stands);
+      stands = rw (joined_more i.form input b inv.0.some_ibs so_far c.requires.some fits) (c.in_ok-tail.ensures.next (joined i.form input) [] was.stands);
     }
