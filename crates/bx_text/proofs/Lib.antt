@@ -6,3 +6,4 @@ pub mod RangeLemmas
 pub mod PiecesLemmas
 pub mod NumberLemmas
 pub mod LaneLemmas
+pub mod NumberLaws

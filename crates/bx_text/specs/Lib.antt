@@ -9,3 +9,4 @@ pub mod Lending
 pub mod InPieces
 pub mod Number
 pub mod Capped
+pub mod NumberGrammar
