@@ -1,5 +1,5 @@
 -- A size is what its form says.
-use Rattle.std.proofs.Common.{◌≡◌, ◌⊎◌, ℕ, zero, suc, ◌+◌, ◌*◌, ◌<◌, ◌≤◌, Bool, true, false, cond, Option, None, Some, List, [], ◌∷◌, ◌++◌, length, get_or, refl, arith, sym, ap, subst, ◌∙◌, inl, inr, ⊎_elim}
+use Rattle.std.proofs.Common.{◌≡◌, ◌⊎◌, ℕ, zero, suc, ◌*◌, ◌<◌, Bool, true, false, cond, Option, None, Some, List, [], ◌∷◌, ◌++◌, length, get_or, refl, arith, sym, ap, subst, ◌∙◌, inl, inr}
 use Rattle.std.specs.Prelude.{nat_le, All, IsTrue, Result, Ok, Err}
 use Rattle.std.specs.Char.{is_digit}
 use Rattle.std.specs.Option.{option_map, option_and_then}
@@ -9,7 +9,7 @@ use Rattle.bx_text.specs.declared.number.SizeFault.{SizeFault}
 use Rattle.bx_text.specs.declared.number.SizeFault.TheVariants.{Bad, TooLarge}
 use Rattle.bx_text.specs.declared.number.SizeStyle.{SizeStyle}
 use Rattle.bx_text.specs.declared.number.SizeStyle.TheVariants.{Count, Bare, Product}
-use Rattle.bx_text.specs.Number.{units_of, unit_of, some_digits, factors_of, product_of, size_value, greatest, within, read_size}
+use Rattle.bx_text.specs.Number.{units_of, unit_of, some_digits, factors_of, product_of, size_value, greatest, within}
 use Rattle.bx_text.specs.NumberGrammar.{IsAmount}
 use Rattle.bx_text.specs.SizeGrammar.{IsProduct, last, more, IsSize, IsReadAs, SizeHasForm}
 use Rattle.bx_text.proofs.NumberLemmas.{factor_last}
