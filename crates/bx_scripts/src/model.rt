@@ -1,4 +1,5 @@
 //! Plain lists of images, kept beside a session.
+use bx_cli::{Fault, Reply};
 use std::alloc::{AllocError, Global};
 
 /// Images from the first to the newest, and those that are undone.
@@ -107,5 +108,27 @@ impl Images {
         }
         shift(&mut self.undone, &mut self.list, j)?;
         Ok(true)
+    }
+
+    /// The same as `undo`, and the reply to its command.
+    pub fn reply_to_undo(&mut self, k: u32) -> Result<Reply, AllocError> {
+        let have = self.changes();
+        if self.undo(k)? {
+            let left = self.changes();
+            Ok(Reply::Undone { left })
+        } else {
+            Ok(Reply::Refused(Fault::TooFew { have }))
+        }
+    }
+
+    /// The same as `redo`, and the reply to its command.
+    pub fn reply_to_redo(&mut self, j: u32) -> Result<Reply, AllocError> {
+        let have = self.undone();
+        if self.redo(j)? {
+            let changes = self.changes();
+            Ok(Reply::Redone { changes })
+        } else {
+            Ok(Reply::Refused(Fault::NothingToRedo { have }))
+        }
     }
 }

@@ -79,14 +79,6 @@ fn nothing_to_redo(have: u32) -> Reply {
     Reply::Refused(Fault::NothingToRedo { have })
 }
 
-pub fn patch_and_undo(alloc: Global) -> Made {
-    let mut script = Script::new(alloc, b"ABCDEFGH");
-    let dump = Ask::Revert("00000002: 7879\n");
-    script.then_text(dump, changed(1), b"ABxyEFGH", PATCHED)?;
-    script.then_text(Ask::Undo(1), undone(0), b"ABCDEFGH", "")?;
-    Ok(script)
-}
-
 pub fn patch_undone_and_redone(alloc: Global) -> Made {
     let (first, patched) = (b"ABCDEFGH", b"ABxyEFGH");
     let mut script = Script::new(alloc, first);
@@ -118,20 +110,12 @@ pub fn overlapping_lines(alloc: Global) -> Made {
     Ok(script)
 }
 
-pub fn gap_and_undo(alloc: Global) -> Made {
-    let mut script = Script::new(alloc, b"AB");
-    let dump = Ask::Revert("00000005: 5a\n");
-    script.then_text(dump, changed(1), b"AB\0\0\0Z", GAPPED)?;
-    script.then_text(Ask::Undo(1), undone(0), b"AB", "")?;
-    Ok(script)
-}
-
 pub fn gap_undone_and_redone(alloc: Global) -> Made {
     let mut script = Script::new(alloc, b"AB");
     let dump = Ask::Revert("00000005: 5a\n");
-    script.then(dump, changed(1), b"AB\0\0\0Z")?;
-    script.then_texts(Ask::Undo(1), undone(0), b"AB", ("", UNDONE_GAP))?;
     let grown = b"AB\0\0\0Z";
+    script.then_text(dump, changed(1), grown, GAPPED)?;
+    script.then_texts(Ask::Undo(1), undone(0), b"AB", ("", UNDONE_GAP))?;
     script.then_texts(Ask::Redo(1), redone(1), grown, (GAPPED, ""))?;
     Ok(script)
 }
@@ -309,10 +293,8 @@ type Scripts = Vec<Script<'static>>;
 /// Dumps that are put onto images.
 fn dumps(alloc: Global) -> Result<Scripts, AllocError> {
     let mut scripts = Vec::new(alloc);
-    scripts.push(patch_and_undo(alloc)?)?;
     scripts.push(patch_over_redo(alloc)?)?;
     scripts.push(overlapping_lines(alloc)?)?;
-    scripts.push(gap_and_undo(alloc)?)?;
     scripts.push(three_patches_reopened(alloc)?)?;
     scripts.push(three_undone_reopened_redone(alloc)?)?;
     scripts.push(too_many_undos(alloc)?)?;
@@ -385,10 +367,8 @@ pub fn cut_and_grown(alloc: Global) -> Made {
 
 fn failing_dumps(alloc: Global) -> Result<Scripts, AllocError> {
     let mut scripts = Vec::new(alloc);
-    scripts.push(patch_and_undo(alloc)?)?;
     scripts.push(patch_over_redo(alloc)?)?;
     scripts.push(overlapping_lines(alloc)?)?;
-    scripts.push(gap_and_undo(alloc)?)?;
     scripts.push(three_patches_reopened(alloc)?)?;
     scripts.push(three_undone_reopened_redone(alloc)?)?;
     scripts.push(empty_dump(alloc)?)?;

@@ -173,33 +173,17 @@ fn unfused(trio: FusedTrio) -> MemTrio {
     )
 }
 
-/// What the reply to a row makes of the images.
-fn follow_made(
-    rt: &impl Abort,
-    alloc: Global,
-    images: &mut Images,
-    row: &Row<'_>,
-    reply: Reply,
-) -> Result<(), Fail> {
-    let have = images.changes();
-    match reply {
-        Reply::Changed { .. } | Reply::Copied { .. } => images.push(row.image.to_vec(alloc)?)?,
-        Reply::Undone { left } => assert!(rt; images.undo(have.saturating_sub(left))?),
-        Reply::Redone { changes } => assert!(rt; images.redo(changes.saturating_sub(have))?),
-        Reply::Refused(fault) => assert!(rt; is_own(fault, images)),
+/// The reply to a row that nothing stops, and what it makes of the images.
+fn follow_row(alloc: Global, images: &mut Images, row: &Row<'_>) -> Result<Reply, AllocError> {
+    match (row.ask, row.reply) {
+        (Ask::Undo(k), _) => images.reply_to_undo(k),
+        (Ask::Redo(j), _) => images.reply_to_redo(j),
+        (_, Reply::Refused(_)) => Ok(row.reply),
+        _ => {
+            images.push(row.image.to_vec(alloc)?)?;
+            Ok(row.reply)
+        }
     }
-    Ok(())
-}
-
-/// Whether a fault tells how many changes the images have to undo or to redo.
-fn is_own(fault: Fault, images: &Images) -> bool {
-    let few = Fault::TooFew {
-        have: images.changes(),
-    };
-    let nothing = Fault::NothingToRedo {
-        have: images.undone(),
-    };
-    fault == few || fault == nothing
 }
 
 /// What the reply to a row makes of what stands.
@@ -216,7 +200,7 @@ fn follow<'a>(
         (Course::Whole, Reply::Refused(Fault::Interrupted)) => standing.stop(row),
         (course, _) => {
             assert!(rt; course == Course::Refused || reply == row.reply);
-            follow_made(rt, alloc, &mut standing.images, row, reply)?;
+            assert!(rt; reply == follow_row(alloc, &mut standing.images, row)?);
             standing.settle();
         }
     }
@@ -289,34 +273,6 @@ fn again(
     Ok(session)
 }
 
-/// Makes the image that was undone last again, where there is one.
-fn assert_redone(
-    rt: &impl Abort,
-    alloc: Global,
-    session: &mut MemSession,
-    images: &mut Images,
-) -> Result<(), Fail> {
-    if !images.redo(1)? {
-        return Ok(());
-    }
-    let changes = images.changes();
-    assert_reply(rt, alloc, session, Ask::Redo(1), Reply::Redone { changes })
-}
-
-/// Takes the newest change back, where there is one.
-fn assert_undone(
-    rt: &impl Abort,
-    alloc: Global,
-    session: &mut MemSession,
-    images: &mut Images,
-) -> Result<(), Fail> {
-    if !images.undo(1)? {
-        return Ok(());
-    }
-    let left = images.changes();
-    assert_reply(rt, alloc, session, Ask::Undo(1), Reply::Undone { left })
-}
-
 /// Makes the undone changes again one by one, and then takes all changes back: each image is that of the list.
 fn assert_stack(
     rt: &impl Abort,
@@ -326,11 +282,13 @@ fn assert_stack(
 ) -> Result<(), Fail> {
     let mut session = again(rt, alloc, session, images)?;
     for _ in 0..images.undone() {
-        assert_redone(rt, alloc, &mut session, images)?;
+        let redone = images.reply_to_redo(1)?;
+        assert_reply(rt, alloc, &mut session, Ask::Redo(1), redone)?;
         session = again(rt, alloc, session, images)?;
     }
     for _ in 0..images.changes() {
-        assert_undone(rt, alloc, &mut session, images)?;
+        let undone = images.reply_to_undo(1)?;
+        assert_reply(rt, alloc, &mut session, Ask::Undo(1), undone)?;
         session = again(rt, alloc, session, images)?;
     }
     Ok(())

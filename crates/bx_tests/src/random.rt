@@ -95,14 +95,8 @@ fn undo<D: Device, T: TextStore>(
     images: &mut Images,
     session: &mut Session<D, T>,
 ) -> Result<(), Fail> {
-    let have = images.changes();
     let k = dice.roll(4).saturating_add(dice.roll(2) * dice.roll(4));
-    let expected = if images.undo(k)? {
-        let left = images.changes();
-        Reply::Undone { left }
-    } else {
-        Reply::Refused(Fault::TooFew { have })
-    };
+    let expected = images.reply_to_undo(k)?;
     assert_reply(rt, alloc, session, Ask::Undo(k), expected)
 }
 
@@ -114,14 +108,8 @@ fn redo<D: Device, T: TextStore>(
     images: &mut Images,
     session: &mut Session<D, T>,
 ) -> Result<(), Fail> {
-    let have = images.undone();
     let j = dice.roll(4);
-    let expected = if images.redo(j)? {
-        let changes = images.changes();
-        Reply::Redone { changes }
-    } else {
-        Reply::Refused(Fault::NothingToRedo { have })
-    };
+    let expected = images.reply_to_redo(j)?;
     assert_reply(rt, alloc, session, Ask::Redo(j), expected)
 }
 
@@ -165,17 +153,13 @@ fn unwind<D: Device + Drop, T: TextStore + Drop, P: Place<D, T>>(
 ) -> Result<(), Fail> {
     let mut session = session;
     for _ in 0..images.changes() {
-        let _ = images.undo(1)?;
-        let left = images.changes();
-        let undone = Reply::Undone { left };
+        let undone = images.reply_to_undo(1)?;
         assert_reply(rt, alloc, &mut session, Ask::Undo(1), undone)?;
         session = reopened(rt, alloc, place, session, images.top(), (None, None))?;
     }
     session = reopened(rt, alloc, place, session, images.top(), (Some(b""), None))?;
     let all = images.undone();
-    let _ = images.redo(all)?;
-    let changes = images.changes();
-    let redone = Reply::Redone { changes };
+    let redone = images.reply_to_redo(all)?;
     assert_reply(rt, alloc, &mut session, Ask::Redo(all), redone)?;
     let _session = reopened(rt, alloc, place, session, images.top(), (None, Some(b"")))?;
     Ok(())
