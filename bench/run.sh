@@ -117,9 +117,12 @@ library_calls() {
   "$calls" change changed less > report
   line 0.5 'perform against plain writes' "$(field call)" "$(field plain)"
   line 0.5 'undo against perform' "$(field undo)" "$(field call)"
+  line none 'redo against that undo' "$(field redo)" "$(field undo)"
+  line none 'open behind it, against a journal' "$(field behind)" "$(field beside)"
   # The same in huge pages, where the system gives them to who asks: most of an undo is memory touched for the first time.
   GLIBC_TUNABLES=glibc.malloc.hugetlb=1 "$calls" change changed less > report
   line 0.5 'perform, in huge pages' "$(field call)" "$(field plain)"
   line 0.5 'undo, in huge pages' "$(field undo)" "$(field call)"
+  line none 'redo, in huge pages' "$(field redo)" "$(field undo)"
 }
 library_calls

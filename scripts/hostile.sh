@@ -62,6 +62,11 @@ unpatched() { # the redo text of that patch, once it is taken back
     printf 'change2 00000001 0000000000000008\n00000002: 7879%37sxy\nsave 00000001\ndone2 00000001 0000000000000008\n' ''
 }
 
+undone_twice() { # the redo text of that patch, and of the same one below it
+    unpatched
+    unpatched | sed 's/ 00000001/ 00000002/'
+}
+
 letters() { # letters COUNT LETTER
     head -c "$1" /dev/zero | tr '\0' "$2"
 }
@@ -131,6 +136,7 @@ bad_redo_files() {
     fresh ABxyEFGH text redo && expect "a redo file of a line of a megabyte" same 1 "redo line 1 is damaged" revert -f dump img
     cp "$bx" redo
     fresh ABxyEFGH text redo && expect "a program as a redo file" same 1 "redo line 1 is damaged" log img
+    fresh ABxyEFGH text redo && expect "and no redo of it" same 1 "redo line 1 is damaged" redo img
     (unpatched && unpatched) > redo
     fresh ABxyEFGH text redo && expect "an undone entry twice" same 1 "redo line 5 is damaged" undo -k 0 img
     (unpatched && printf 'change2 00000002 0000000000000008\n') > redo
@@ -143,8 +149,14 @@ bad_redo_files() {
     fresh ABxyEFG text redo && expect "a longer image is told by its journal first" same 1 "image should have 8 bytes" log img
     fresh ABxyEFGH text redo && expect "a redo file in order" same 0 "" log img
     fresh ABxyEFGH text redo && expect "an undo of none leaves it" same 0 "" undo -k 0 img
-    fresh ABxyEFGH text redo && expect "an undo empties it" any 0 "" undo img
-    [ "$(cat img)" = ABCDEFGH ] && [ ! -s img.bxj ] && [ ! -s img.bxj.redo ] && say 1 "and it is empty" || say 0 "and it is empty"
+    fresh ABxyEFGH text redo && expect "a redo of none leaves it" same 0 "" redo -k 0 img
+    fresh ABxyEFGH text redo && expect "more redos than undone changes" same 1 "only 1 changes to redo" redo -k 2 img
+    fresh ABxyEFGH text redo && expect "an undo adds to it" any 0 "" undo img
+    [ "$(cat img)" = ABCDEFGH ] && [ ! -s img.bxj ] && undone_twice | cmp -s - img.bxj.redo && say 1 "and it has both" || say 0 "and it has both"
+    fresh ABCDEFGH none redo && expect "a redo takes from it" any 0 "" redo img
+    [ "$(cat img)" = ABxyEFGH ] && cmp -s text img.bxj && [ ! -s img.bxj.redo ] && say 1 "and it is empty" || say 0 "and it is empty"
+    fresh ABxyEFGH text redo && expect "a change empties it" any 0 "" revert -f dump img
+    [ ! -s img.bxj.redo ] && say 1 "and it is empty too" || say 0 "and it is empty too"
     for n in $(seq 1 133); do
         unpatched | head -c "$n" > redo
         fresh ABxyEFGH text redo
@@ -224,6 +236,7 @@ other_kinds() {
         expect "$name as the redo file" same 1 "cannot open file" revert -f dump -J kind img
         expect "$name as the redo file of a new image" same 1 "cannot open file" dd if=dump of=new -J kind
         expect "$name as the redo file of undo" same 1 "cannot open file" undo -J kind img
+        expect "$name as the redo file of redo" same 1 "cannot open file" redo -J kind img
         expect "$name as the redo file of log" same 1 "cannot open file" log -J kind img
     done
     [ ! -s kind ] && rm kind kind.redo
@@ -248,7 +261,7 @@ held() {
     patched | head -n 3 > text
     unpatched > redo
     for name in img img.bxj img.bxj.redo; do
-        for command in "revert -f dump img" "dd if=dump of=img" "undo img" "undo -k 0 img" "log img"; do
+        for command in "revert -f dump img" "dd if=dump of=img" "undo img" "undo -k 0 img" "redo img" "log img"; do
             fresh ABxyEFGH text redo
             exec 9< "$name"
             flock -n 9
@@ -309,11 +322,15 @@ od -t x3
 strings -n 0
 undo
 undo -k 65536 img
+redo
+redo -k 65536 img
+redo -k 1k img
 log -k 1 img
 revert -s 1k img
 revert -J img img
 undo -J img img
 log -J j j.redo
+redo -J j j.redo
 END
     fresh xyz && expect "words: a name that is not UTF-8" same 2 "bad arguments" xxd "$(printf 'a\377')"
 }
@@ -423,6 +440,7 @@ closed_streams() {
     closed_command 0 ABxyEFGH dd of=img seek=1 obs=2 conv=ucase
     closed_command none ABxyEFGH dd if=dump of=img
     closed_command 1 ABxyEFGH undo img
+    closed_command 1 ABxyEFGH redo -k 0 img
     closed_command 1 ABxyEFGH log img
     closed_command 1 ABxyEFGH xxd img
     closed_command 1 ABxyEFGH dd if=img
@@ -451,6 +469,32 @@ full_disk() {
         if [ "$status" = 1 ] && cmp -s before img && [ ! -s img.bxj ]; then well=1; fi
         if [ "$status" = 0 ] && "$bx" undo img > out 2>&1 && cmp -s before img && [ ! -s img.bxj ]; then well=1; fi
         say "$well" "files of at most $((blocks * 1024)) bytes" "status $status, $(tail -n 1 err), $(cat recovered)"
+    done
+    full_disk_of_undo
+}
+
+# The same of an undo, which writes the redo file: it stops, and opening finds one of the two images.
+full_disk_of_undo() {
+    local blocks status well
+    cp before img
+    rm -f img.bxj img.bxj.redo
+    "$bx" revert -p -f dump img
+    cp img after
+    cp img.bxj text
+    for blocks in 4 8 16 18 20; do
+        cp after img
+        cp text img.bxj
+        rm -f img.bxj.redo
+        (
+            trap '' XFSZ
+            ulimit -f "$blocks"
+            timeout 60 "$bx" undo img > out 2> err
+        )
+        status=$?
+        well=0
+        "$bx" log img > changes 2> recovered && "$bx" undo -k "$(wc -l < changes)" img > out 2>&1 \
+            && cmp -s before img && [ ! -s img.bxj ] && [ "$status" -le 1 ] && well=1
+        say "$well" "an undo, files of at most $((blocks * 1024)) bytes" "status $status, $(tail -n 1 err), $(cat recovered)"
     done
 }
 
@@ -501,6 +545,19 @@ killed() {
         kill_after "$(awk -v n="$n" 'BEGIN { printf "%.4f", n * 0.003 }')" undo img
     done
     say_kills "killed in the middle of an undo"
+    cp after img
+    cp text img.bxj
+    rm -f img.bxj.redo
+    "$bx" undo img > out
+    cp img.bxj.redo redo
+    kills=0
+    for n in $(seq 1 30); do
+        cp before img
+        : > img.bxj
+        cp redo img.bxj.redo
+        kill_after "$(awk -v n="$n" 'BEGIN { printf "%.4f", n * 0.003 }')" redo img
+    done
+    say_kills "killed in the middle of a redo"
 }
 
 # Two commands at once, many times: one is refused, or both are done, and image and journal are as one of them or an order of
@@ -549,6 +606,12 @@ letters_changed() {
     rm -f img.bxj.redo
 }
 
+letters_half_undone() {
+    cp changed img
+    cp changed.bxj img.bxj
+    cp half_undone.redo img.bxj.redo
+}
+
 letters_stopped() {
     cp changed img
     head -c -20 changed.bxj > img.bxj
@@ -565,6 +628,10 @@ two_at_once() {
     cp img.bxj changed.bxj
     at_once "two reverts at once" 400 letters_alone "revert -f dump1 img" "revert -f dump2 img"
     at_once "a revert and an undo at once" 200 letters_changed "revert -f dump1 img" "undo img"
+    "$bx" revert -f dump1 img
+    "$bx" undo img > out
+    cp img.bxj.redo half_undone.redo
+    at_once "an undo and a redo at once" 200 letters_half_undone "undo img" "redo img"
     at_once "a revert and a log that recovers, at once" 200 letters_stopped "revert -f dump1 img" "log img"
     at_once "two dd onto an image that is missing, at once" 200 none_there "dd if=dump1 of=img" "dd if=dump2 of=img seek=1"
 }
@@ -661,7 +728,10 @@ loop_devices() {
     too_long "a dd that would make a device longer" dd if=/dev/null of="$loop" obs=1 seek=$((size + 1)) -J device.bxj
     on_both log -J JOURNAL DEV
     on_both undo -k 2 -J JOURNAL DEV
-    on_both undo -k 4 -J JOURNAL DEV
+    on_both redo -J JOURNAL DEV
+    on_both undo -k 5 -J JOURNAL DEV
+    on_both redo -k 6 -J JOURNAL DEV
+    on_both undo -k 6 -J JOURNAL DEV
     [ "$(sha256sum < "$loop")" = "$first" ] && [ ! -s device.bxj ] && say 1 "the device is as it was" || say 0 "the device is as it was"
     killed_on_device
     [ "$(sha256sum < "$loop")" = "$first" ] && say 1 "the device is as it was, after kills" || say 0 "the device is as it was, after kills"
@@ -857,6 +927,8 @@ failing_calls() {
     each_request "revert over a journal" ABxyEFGH text revert -f dump img
     each_request "dd onto an image" ABxyEFGH text dd if=plain of=img obs=3 seek=1 conv=ucase
     each_request "undo" ABxyEFGH text undo img
+    each_request "redo" ABCDEFGH none redo img
+    each_request "redo over a journal" ABxyEFGH text redo img
     each_request "log" ABxyEFGH text log img
     fresh ABCDEFGH none
     : > input
@@ -866,6 +938,8 @@ failing_calls() {
     each_call "revert over a journal" ABxyEFGH text ABCDEFGH revert -f dump img
     each_call "dd onto an image" ABxyEFGH text ABCDEFGH dd if=plain of=img obs=3 seek=1 conv=ucase
     each_call "undo" ABxyEFGH text ABCDEFGH undo img
+    each_call "redo" ABCDEFGH none ABCDEFGH redo img
+    each_call "redo over a journal" ABxyEFGH text ABCDEFGH redo img
     each_of_dump xxd
     each_of_dump xxd -i
     each_of_dump od -t x2

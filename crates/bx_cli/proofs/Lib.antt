@@ -1,5 +1,6 @@
 pub mod Moves
 pub mod Steps
+pub mod Stays
 pub mod Runs
 pub mod Unfailed
 pub mod GivesBack

@@ -2,7 +2,7 @@
 use Rattle.std.specs.Prelude.{◌≤◌, ◌^◌, ℕ, ◌+◌, None, List, [], ◌∷◌, map}
 use Rattle.bx_text.specs.declared.pieces.Piece.{Piece}
 use Rattle.bx_cli.specs.declared.command.Command.{Command}
-use Rattle.bx_cli.specs.declared.command.Command.TheVariants.{Revert, RevertPlain, Dd, Undo}
+use Rattle.bx_cli.specs.declared.command.Command.TheVariants.{Revert, RevertPlain, Dd, Undo, Redo}
 use Rattle.bx_image.specs.declared.change.Change.{Change}
 
 -- a piece at its address plus an offset
@@ -23,3 +23,4 @@ IsNear (Revert text offset) = offset ≤ 2 ^ 62
 IsNear (RevertPlain text at) = at ≤ 2 ^ 62
 IsNear (Dd operands input) = Unit {0}
 IsNear (Undo k) = Unit {0}
+IsNear (Redo j) = Unit {0}

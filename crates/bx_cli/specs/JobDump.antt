@@ -22,7 +22,7 @@ use Rattle.bx_cli.specs.declared.job.HexdumpJob.{HexdumpJob}
 use Rattle.bx_cli.specs.declared.job.OdJob.{OdJob}
 use Rattle.bx_cli.specs.declared.job.StringsJob.{StringsJob}
 use Rattle.bx_cli.specs.declared.job.Job.{Job}
-use Rattle.bx_cli.specs.declared.job.Job.TheVariants.{Od, Xxd, Hexdump, Strings, Dd, Revert, Undo, Log, Help}
+use Rattle.bx_cli.specs.declared.job.Job.TheVariants.{Od, Xxd, Hexdump, Strings, Dd, Revert, Undo, Redo, Log, Help}
 
 -- the text of hexdump -C of the bytes that the job asks for
 abbrev pub DumpsHexdump : HexdumpJob → Option (List ℕ) → Option (List ℕ) → Option (List ℕ) → Option (List ℕ) → ℕ → Type 0
@@ -53,6 +53,7 @@ DumpsJob (Strings job) r0 r1 w0 w1 (Copied counts) = ⊥
 DumpsJob (Dd job) r0 r1 w0 w1 (Dumped n) = ⊥
 DumpsJob (Revert job) r0 r1 w0 w1 done = ⊥
 DumpsJob (Undo count image journal) r0 r1 w0 w1 done = ⊥
+DumpsJob (Redo count image journal) r0 r1 w0 w1 done = ⊥
 DumpsJob (Log image journal) r0 r1 w0 w1 done = ⊥
 DumpsJob (Help text) r0 r1 w0 w1 done = ⊥
 
@@ -80,5 +81,6 @@ StopsJob (Strings job) r0 r1 w0 w1 e = Stops (DumpsFront (strings_text job.least
 StopsJob (Dd job) r0 r1 w0 w1 e = StopsDd job.plan.output job.plan r0 r1 w0 w1 e
 StopsJob (Revert job) r0 r1 w0 w1 e = IsNoDump r0 r1 w0 w1 e
 StopsJob (Undo count image journal) r0 r1 w0 w1 e = IsNoDump r0 r1 w0 w1 e
+StopsJob (Redo count image journal) r0 r1 w0 w1 e = IsNoDump r0 r1 w0 w1 e
 StopsJob (Log image journal) r0 r1 w0 w1 e = IsNoDump r0 r1 w0 w1 e
 StopsJob (Help text) r0 r1 w0 w1 e = IsNoDump r0 r1 w0 w1 e

@@ -1,10 +1,11 @@
 -- Laws of runs.
 use Rattle.std.specs.Prelude.{◌≡◌, ℕ, List, ◌++◌, length, Option, All}
+use Rattle.bx_journal.specs.Images.{Images}
 use Rattle.bx_journal.specs.Machine.{changes_of}
 use Rattle.bx_cli.specs.declared.command.Command.{Command}
-use Rattle.bx_cli.specs.declared.command.Command.TheVariants.{Undo}
+use Rattle.bx_cli.specs.declared.command.Command.TheVariants.{Undo, Redo}
 use Rattle.bx_cli.specs.declared.command.Reply.{Reply}
-use Rattle.bx_cli.specs.declared.command.Reply.TheVariants.{Changed, Copied, Undone, Refused}
+use Rattle.bx_cli.specs.declared.command.Reply.TheVariants.{Changed, Copied, Undone, Redone, Refused}
 use Rattle.bx_cli.specs.Standing.{Standing}
 use Rattle.bx_cli.specs.Run.{CommandRun, StackRun, StackStep, Unfailed}
 
@@ -13,22 +14,30 @@ abbrev pub RunsJoin : (R A : Type 0) → (R → Option (List ℕ)) → Type 0
 RunsJoin R A remaining = (start middle after : Standing) (xs ys : List (Command R A)) (ps qs : List Reply)
     → CommandRun remaining start xs ps middle → CommandRun remaining middle ys qs after → CommandRun remaining start (xs ++ ys) (ps ++ qs) after
 
--- a run in which no device fails goes from stack to stack
+-- a run in which no device fails goes from images to images
 abbrev pub UnfailedRuns : (R A : Type 0) → (R → Option (List ℕ)) → Type 0
-UnfailedRuns R A remaining = (start : List (List ℕ)) (after : Standing) (list : List (Command R A)) (replies : List Reply)
+UnfailedRuns R A remaining = (start : Images) (after : Standing) (list : List (Command R A)) (replies : List Reply)
     → CommandRun remaining (Standing.Up start) list replies after → All Unfailed replies
-    → (top : List (List ℕ)) × (after ≡ Standing.Up top) × StackRun remaining start list replies top
+    → (top : Images) × (after ≡ Standing.Up top) × StackRun remaining start list replies top
 
 -- the reply says that a change was made
 abbrev pub IsMade : Reply → Type 0
 IsMade (Changed n) = Unit {0}
 IsMade (Copied n counts) = Unit {0}
 IsMade (Undone left) = ⊥
+IsMade (Redone n) = ⊥
 IsMade (Refused e) = ⊥
 
 -- behind changes that were all made, an undo of as many that is made leads back to the first stack, so to its image
 abbrev pub UndoGivesBack : (R A : Type 0) → (R → Option (List ℕ)) → Type 0
-UndoGivesBack R A remaining = (start changed after : List (List ℕ)) (list : List (Command R A)) (replies : List Reply) (left : ℕ)
+UndoGivesBack R A remaining = (start changed after : Images) (list : List (Command R A)) (replies : List Reply) (left : ℕ)
     → StackRun remaining start list replies changed → All IsMade replies
     → StackStep {R = R} {A = A} remaining changed (Undo (length list)) (Undone left) after
-    → (after ≡ start) × (left ≡ changes_of start)
+    → (after.stack ≡ start.stack) × (left ≡ changes_of start.stack)
+
+-- an undo of k and a redo of k behind it that are both made lead back to the same images, those that stand and those undone
+abbrev pub RedoGivesBack : (R A : Type 0) → (R → Option (List ℕ)) → Type 0
+RedoGivesBack R A remaining = (start undone after : Images) (k left changes : ℕ)
+    → StackStep {R = R} {A = A} remaining start (Undo k) (Undone left) undone
+    → StackStep {R = R} {A = A} remaining undone (Redo k) (Redone changes) after
+    → (after ≡ start) × (changes ≡ changes_of start.stack)

@@ -8,18 +8,18 @@ use Rattle.bx_journal.specs.declared.fault.SessionFault.{SessionFault}
 use Rattle.bx_read.specs.Plain.{plain_answer}
 use Rattle.bx_read.specs.Text.{dump_pieces}
 use Rattle.bx_cli.specs.declared.command.Command.{Command}
-use Rattle.bx_cli.specs.declared.command.Command.TheVariants.{Revert, RevertPlain, Dd, Undo}
+use Rattle.bx_cli.specs.declared.command.Command.TheVariants.{Revert, RevertPlain, Dd, Undo, Redo}
 use Rattle.bx_cli.specs.declared.command.Reply.{Reply}
-use Rattle.bx_cli.specs.declared.command.Reply.TheVariants.{Changed, Copied, Undone, Refused}
+use Rattle.bx_cli.specs.declared.command.Reply.TheVariants.{Changed, Copied, Undone, Redone, Refused}
 use Rattle.bx_read.specs.declared.fault.ReadFault.TheVariants.{NoMemory as ReadNoMemory}
 use Rattle.bx_cli.specs.declared.fault.Fault.TheVariants.{DeviceFailed, Interrupted}
+use Rattle.bx_journal.specs.Images.{Images}
 use Rattle.bx_journal.specs.SessionView.{SessionView}
 use Rattle.bx_cli.specs.declared.changes.DdChange.{DdChange}
 use Rattle.bx_cli.specs.Command.{dump_change, plain_change}
 use Rattle.bx_cli.specs.Copy.{Makes}
 use Rattle.bx_cli.specs.Fault.{of_dd, of_read, of_session}
-use Rattle.bx_journal.specs.Standing.{IsStanding}
-use Rattle.bx_cli.specs.Standing.{Standing, PerformFrom, UndoFrom, failures_of}
+use Rattle.bx_cli.specs.Standing.{Standing, PerformFrom, RedoFrom, Shows, UndoFrom, failures_of}
 
 -- the reply to a change that was made; dd's tells its counts too
 abbrev pub made_reply : Option Counts → ℕ → Reply
@@ -36,6 +36,11 @@ abbrev pub undone : Result ℕ SessionFault → Reply
 undone (Ok n) = Undone n
 undone (Err e) = Refused (of_session e)
 
+-- the reply to a redo
+abbrev pub redone : Result ℕ SessionFault → Reply
+redone (Ok n) = Redone n
+redone (Err e) = Refused (of_session e)
+
 -- a change, and the reply to it
 abbrev pub ChangeStep : {A : Type 0} → Standing → Change A → Option Counts → Reply → Standing → Type 0
 ChangeStep before c counts reply after = (r : Result ℕ SessionFault) × (reply ≡ changed counts r) × PerformFrom before c r after
@@ -43,6 +48,10 @@ ChangeStep before c counts reply after = (r : Result ℕ SessionFault) × (reply
 -- an undo, and the reply to it
 abbrev pub UndoesStep : Standing → ℕ → Reply → Standing → Type 0
 UndoesStep before k reply after = (r : Result ℕ SessionFault) × (reply ≡ undone r) × UndoFrom before k r after
+
+-- a redo, and the reply to it
+abbrev pub RedoesStep : Standing → ℕ → Reply → Standing → Type 0
+RedoesStep before j reply after = (r : Result ℕ SessionFault) × (reply ≡ redone r) × RedoFrom before j r after
 
 -- nothing is done for this fault of the command's own
 abbrev pub RefusesStep : Standing → ReadFault → Reply → Standing → Type 0
@@ -71,6 +80,7 @@ CommandStep {A = A} remaining before (RevertPlain text at) reply after =
 CommandStep {A = A} remaining before (Dd operands input) reply after =
     (left : Option (List ℕ)) × ((r : Result (DdChange A) DdFault) × (Makes operands (remaining input) left r × DdStep before r reply after))
 CommandStep remaining before (Undo k) reply after = UndoesStep before k reply after
+CommandStep remaining before (Redo j) reply after = RedoesStep before j reply after
 
 -- A list of commands: one reply each, in order; it goes on after a refusal
 abbrev pub CommandRun : {R A : Type 0} → (R → Option (List ℕ)) → Standing → List (Command R A) → List Reply → Standing → Type 0
@@ -95,18 +105,18 @@ IsCounted device_failures text_failures old new reply =
 abbrev pub Unfailed : Reply → Type 0
 Unfailed p = HasFailed p → ⊥
 
--- The same where no device fails: from stack to stack
-abbrev pub StackStep : {R A : Type 0} → (R → Option (List ℕ)) → List (List ℕ) → Command R A → Reply → List (List ℕ) → Type 0
+-- The same where no device fails: from images to images
+abbrev pub StackStep : {R A : Type 0} → (R → Option (List ℕ)) → Images → Command R A → Reply → Images → Type 0
 StackStep remaining before c reply after = CommandStep remaining (Standing.Up before) c reply (Standing.Up after) × Unfailed reply
 
--- a list of commands from stack to stack: one reply each, in order; it goes on after a refusal
-abbrev pub StackRun : {R A : Type 0} → (R → Option (List ℕ)) → List (List ℕ) → List (Command R A) → List Reply → List (List ℕ) → Type 0
+-- a list of commands from images to images: one reply each, in order; it goes on after a refusal
+abbrev pub StackRun : {R A : Type 0} → (R → Option (List ℕ)) → Images → List (Command R A) → List Reply → Images → Type 0
 StackRun remaining before [] [] after = after ≡ before
 StackRun remaining before [] (p ∷ replies) after = ⊥
 StackRun remaining before (c ∷ list) [] after = ⊥
 StackRun remaining before (c ∷ list) (p ∷ replies) after =
-    (now : List (List ℕ)) × StackStep remaining before c p now × StackRun remaining now list replies after
+    (now : Images) × StackStep remaining before c p now × StackRun remaining now list replies after
 
--- the session's pair stands for a stack to which the step leads
-abbrev pub StandsThen : {D T : Type 0} → (D → List ℕ) → (T → List ℕ) → SessionView D T → (List (List ℕ) → Type 0) → Type 0
-StandsThen image text s Step = (top : List (List ℕ)) × IsStanding image text s top × Step top
+-- the session's devices stand for images to which the step leads
+abbrev pub StandsThen : {D T : Type 0} → (D → List ℕ) → (T → List ℕ) → SessionView D T → (Images → Type 0) → Type 0
+StandsThen image text s Step = (top : Images) × Shows image text s top × Step top

@@ -16,6 +16,8 @@ pub enum Command<R = Empty, A: Allocator = Global> {
     Dd { operands: Words<A>, input: R },
     /// Takes the last `k` changes back.
     Undo { k: u32 },
+    /// Makes the last `j` undone changes again.
+    Redo { j: u32 },
 }
 
 /// The answer to one command.
@@ -27,6 +29,8 @@ pub enum Reply {
     Copied { number: u32, counts: Counts },
     /// So many changes are left.
     Undone { left: u32 },
+    /// So many changes then stand.
+    Redone { changes: u32 },
     /// Nothing was done, unless the fault says otherwise.
     Refused(Fault),
 }

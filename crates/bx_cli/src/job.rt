@@ -153,6 +153,15 @@ pub enum Job {
         /// The names of its texts.
         texts: Texts,
     },
+    /// Makes the last undone changes again.
+    Redo {
+        /// How many undone changes are made again, at most 65,535.
+        count: u32,
+        /// The name of the image.
+        image: Name,
+        /// The names of its texts.
+        texts: Texts,
+    },
     /// Lists the changes that stand.
     Log {
         /// The name of the image.

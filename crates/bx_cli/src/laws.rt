@@ -1,5 +1,5 @@
 //! Laws of commands and dumps, over their definitions alone.
-ghost use Rattle.bx_cli.specs.Laws.{RunsJoin, UnfailedRuns, UndoGivesBack};
+ghost use Rattle.bx_cli.specs.Laws.{RedoGivesBack, RunsJoin, UndoGivesBack, UnfailedRuns};
 ghost use Rattle.bx_cli.specs.XxdLaws.{NormalTextReadsBack, NormalTextReverts};
 
 use std::alloc::Allocator;
@@ -11,13 +11,19 @@ pub fn undo_gives_back<R: Read, A: Allocator>()
     ensures { UndoGivesBack R A R.remaining }
 {}
 
+/// Redo is exact: an undo of k and a redo of k behind it that are both made lead back to the same images, those that stand
+/// and those that were undone before, so to the same image, its bytes and its length.
+pub fn redo_gives_back<R: Read, A: Allocator>()
+    ensures { RedoGivesBack R A R.remaining }
+{}
+
 /// The runs of two lists, one from where the other ends, are a run of both: so it does not matter whether the session
 /// is closed and opened again between them.
 pub fn runs_join<R: Read, A: Allocator>()
     ensures { RunsJoin R A R.remaining }
 {}
 
-/// A run in which no device fails goes from a stack of whole images to a stack.
+/// A run in which no device fails goes from whole images to whole images.
 pub fn unfailed_runs<R: Read, A: Allocator>()
     ensures { UnfailedRuns R A R.remaining }
 {}

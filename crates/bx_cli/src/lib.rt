@@ -17,7 +17,8 @@ pub use dump::{Done, run_dump};
 pub use fault::Fault;
 pub use job::{DdJob, HexdumpJob, Job, OdJob, RevertJob, StringsJob, Texts, XxdJob, XxdLook};
 pub use laws::{
-    normal_text_reads_back, normal_text_reverts, runs_join, undo_gives_back, unfailed_runs,
+    normal_text_reads_back, normal_text_reverts, redo_gives_back, runs_join, undo_gives_back,
+    unfailed_runs,
 };
 pub use listing::log_text;
 pub use plan::plan_words;

@@ -230,6 +230,16 @@ static UNDO: [Row; 2] = [
     },
 ];
 
+static REDO: [Row; 2] = [
+    JOURNAL,
+    Row {
+        id: "count",
+        short: 'k',
+        value: Some("COUNT"),
+        help: "Undone changes to make again, 0 to 65535 [default: 1]",
+    },
+];
+
 static LOG: [Row; 1] = [JOURNAL];
 
 static DD: [Row; 1] = [JOURNAL];
@@ -378,6 +388,15 @@ fn undo<'a>(alloc: Global) -> Result<Command<'a>, AllocError> {
     changer(alloc, command, &UNDO)
 }
 
+fn redo<'a>(alloc: Global) -> Result<Command<'a>, AllocError> {
+    let command = Command::new(alloc, "redo")
+        .about("Make the last undone changes of an image again, and show how many then stand")
+        .after_help(
+            "COUNT: decimal. A change that is made by another command gives up what was undone.\n\nEXAMPLES:\n  bx redo disk.img         the change that was undone last\n  bx redo -k 3 disk.img    the last three undone changes",
+        );
+    changer(alloc, command, &REDO)
+}
+
 fn log<'a>(alloc: Global) -> Result<Command<'a>, AllocError> {
     let command = Command::new(alloc, "log")
         .about("List the changes of an image, the oldest first")
@@ -393,7 +412,7 @@ pub fn program<'a>(alloc: Global) -> Result<Command<'a>, AllocError> {
         .version("1.0.0")
         .about("A byte toolkit with undo: dumps files, patches them, and takes changes back")
         .after_help(
-            "EXAMPLES:\n  bx xxd -l 64 disk.img\n  echo '00000002: 7879' | bx revert disk.img\n  bx undo disk.img\n\nThe exit status is 0, 1 for a fault, and 2 for wrong words.\nSee 'bx COMMAND --help' for a command's options, and 'man bx' for formats and faults.",
+            "EXAMPLES:\n  bx xxd -l 64 disk.img\n  echo '00000002: 7879' | bx revert disk.img\n  bx undo disk.img\n  bx redo disk.img\n\nThe exit status is 0, 1 for a fault, and 2 for wrong words.\nSee 'bx COMMAND --help' for a command's options, and 'man bx' for formats and faults.",
         )
         .subcommand_required(true)
         .subcommand(od(alloc)?)?
@@ -403,5 +422,6 @@ pub fn program<'a>(alloc: Global) -> Result<Command<'a>, AllocError> {
         .subcommand(dd(alloc)?)?
         .subcommand(revert(alloc)?)?
         .subcommand(undo(alloc)?)?
+        .subcommand(redo(alloc)?)?
         .subcommand(log(alloc)?)
 }

@@ -62,6 +62,7 @@ fn job_of(alloc: Global, name: &str, inner: &ArgMatches<'_>) -> Result<Job, Faul
         "dd" => dd(alloc, inner),
         "revert" => revert(alloc, inner),
         "undo" => undo(alloc, inner),
+        "redo" => redo(alloc, inner),
         "log" => log(alloc, inner),
         _ => Err(Fault::Usage),
     }
@@ -303,6 +304,16 @@ fn undo(alloc: Global, m: &ArgMatches<'_>) -> Result<Job, Fault> {
     let count = count_or(m, "count", 1, MOST_STEPS)? as u32;
     let (image, texts) = image_and_texts(alloc, m)?;
     Ok(Job::Undo {
+        count,
+        image,
+        texts,
+    })
+}
+
+fn redo(alloc: Global, m: &ArgMatches<'_>) -> Result<Job, Fault> {
+    let count = count_or(m, "count", 1, MOST_STEPS)? as u32;
+    let (image, texts) = image_and_texts(alloc, m)?;
+    Ok(Job::Redo {
         count,
         image,
         texts,

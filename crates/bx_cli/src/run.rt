@@ -1,12 +1,12 @@
 //! Lists of commands, run in order on a session.
 ghost use Rattle.std.specs.Prelude.{◌≡◌, ◌↔◌, ◌⊎◌, ◌+◌, ◌^◌, ◌≤◌, ◌<◌, List, ℕ, length, None, Some, IfOk, OnErr, All};
-ghost use Rattle.bx_journal.specs.Session.{IsReady, IsRedoSame, IsSame, IsUnfailed};
-ghost use Rattle.bx_journal.specs.Standing.{IsStanding};
+ghost use Rattle.bx_journal.specs.Images.{Images};
+ghost use Rattle.bx_journal.specs.Session.{HasUndone, IsReady, IsRedoSame, IsSame, IsUnfailed};
 ghost use Rattle.bx_cli.specs.Obeys.{Obeys};
-ghost use Rattle.bx_cli.specs.Standing.{CountsOn, HoldsAt, Standing};
+ghost use Rattle.bx_cli.specs.Standing.{CountsOn, HoldsAt, Shows, Standing};
 ghost use Rattle.bx_cli.specs.Command.{IsNear};
 ghost use Rattle.bx_cli.specs.Refusal.{IsOwnRefusal, IsWholeRefusal};
-ghost use Rattle.bx_cli.specs.Run.{made_reply, ChangeStep, UndoesStep, ReadStep, DdStep, DumpStep, CommandStep, CommandRun, StackRun, StandsThen, Unfailed};
+ghost use Rattle.bx_cli.specs.Run.{made_reply, ChangeStep, UndoesStep, RedoesStep, ReadStep, DdStep, DumpStep, CommandStep, CommandRun, StackRun, StandsThen, Unfailed};
 
 use crate::changes::{DdChange, change_of_dd, change_of_dump, change_of_plain};
 use crate::{Command, Fault, Reply};
@@ -57,6 +57,22 @@ fn run_undo<D: Device, T: TextStore, A: Allocator + Clone>(
 {
     match session.undo(k) {
         Ok(left) => Reply::Undone { left },
+        Err(fault) => Reply::Refused(Fault::from(fault)),
+    }
+}
+
+/// Makes undone changes again.
+fn run_redo<D: Device, T: TextStore, A: Allocator + Clone>(
+    session: &mut Session<D, T, A>,
+    j: u32,
+) -> Reply
+    requires device_countable { D.failures session.old.device < u64.MAX }
+    requires store_countable { T.failures session.old.store < u64.MAX }
+    requires redo_countable { T.failures session.old.redo_text < u64.MAX }
+    ensures obeys { Obeys D.honest T.honest D.image T.text D.failures T.failures session.old session.new result (λ s. RedoesStep s j) }
+{
+    match session.redo(j) {
+        Ok(changes) => Reply::Redone { changes },
         Err(fault) => Reply::Refused(Fault::from(fault)),
     }
 }
@@ -133,6 +149,7 @@ fn run_one<D: Device, T: TextStore, R: Read, A: Allocator + Clone>(
             run_dd(session, made)
         }
         Command::Undo { k } => run_undo(session, *k),
+        Command::Redo { j } => run_redo(session, *j),
     }
 }
 
@@ -148,16 +165,18 @@ pub fn run_all<D: Device, T: TextStore, R: Read, A: Allocator + Clone>(
     requires redo_countable { T.failures session.old.redo_text + length list.old ≤ u64.MAX }
     requires near { All IsNear list.old }
 
-    // Where no device fails, the replies and the final pair are a run of the machine, from the stack of whole images that
-    // the first pair stands for to the one that the final pair stands for.
-    ensures headline { D.honest session.old.device → T.honest session.old.store → (stack : List (List ℕ)) → IsStanding D.image T.text session.old stack
-        → IsUnfailed D.failures T.failures session.old session.new
-        → IfOk result (λ replies. StandsThen D.image T.text session.new (λ top. StackRun R.remaining stack list.old replies.items top)) }
+    // Where no device fails, the replies and the final devices are a run of the machine, from the whole images that the
+    // first devices stand for to those that the final ones stand for.
+    ensures headline { D.honest session.old.device → T.honest session.old.store → T.honest session.old.redo_text → (start : Images)
+        → Shows D.image T.text session.old start → IsUnfailed D.failures T.failures session.old session.new
+        → IfOk result (λ replies. StandsThen D.image T.text session.new (λ top. StackRun R.remaining start list.old replies.items top)) }
 
-    // From a sound pair it leaves a sound one.
-    ensures sound { D.honest session.old.device → T.honest session.old.store → (stack : List (List ℕ)) → IsReady D.image T.text session.old stack
-        → IsUnfailed D.failures T.failures session.old session.new
-        → IfOk result (λ replies. (top : List (List ℕ)) × IsReady D.image T.text session.new top × StackRun R.remaining stack list.old replies.items top) }
+    // From a sound journal it leaves a sound one.
+    ensures sound { D.honest session.old.device → T.honest session.old.store → T.honest session.old.redo_text → (start : Images)
+        → IsReady D.image T.text session.old start.stack → HasUndone D.image T.text session.old start.undone
+        → IsUnfailed D.failures T.failures session.old session.new → IfOk result (λ replies. (top : Images)
+        × IsReady D.image T.text session.new top.stack × HasUndone D.image T.text session.new top.undone
+        × StackRun R.remaining start list.old replies.items top) }
 
     // Whatever devices fail: up to the first failure after a write it is a run in which a device may refuse a command, and
     // then each reply is the command's own fault or says that the session is broken.

@@ -3,6 +3,7 @@ use Rattle.std.specs.Prelude.{◌≡◌, ◌<◌, ◌≤◌, ℕ, ◌+◌, ◌-�
 use Rattle.bx_image.specs.declared.change.Change.{Change}
 use Rattle.bx_image.specs.declared.change.TheConstants.{MAX_LEN}
 use Rattle.bx_image.specs.Change.{effect, Fits}
+use Rattle.bx_journal.specs.Images.{Images, redo_of}
 use Rattle.bx_journal.specs.declared.fault.SessionFault.{SessionFault}
 use Rattle.bx_journal.specs.declared.fault.SessionFault.TheVariants.{NoMemory, TooLarge, DeviceFailed, Damaged, TooFew, JournalFull, Interrupted, Broken, LengthDiffers, NothingToRedo, RedoDamaged}
 
@@ -45,3 +46,18 @@ UndoStep old k (Err Broken) new = ⊥
 UndoStep old k (Err (LengthDiffers expected)) new = ⊥
 UndoStep old k (Err (NothingToRedo have)) new = ⊥
 UndoStep old k (Err (RedoDamaged line)) new = ⊥
+
+-- a redo: 46 only where there are too few to redo, and want of memory may take the place of a redo
+abbrev pub RedoStep : Images → ℕ → Result ℕ SessionFault → Images → Type 0
+RedoStep old j (Ok n) new = (j ≤ length old.undone) × (n ≡ changes_of old.stack + j) × (new ≡ redo_of j old)
+RedoStep old j (Err (NothingToRedo have)) new = (length old.undone < j) × (have ≡ length old.undone) × (new ≡ old)
+RedoStep old j (Err NoMemory) new = new ≡ old
+RedoStep old j (Err JournalFull) new = ⊥
+RedoStep old j (Err TooLarge) new = ⊥
+RedoStep old j (Err DeviceFailed) new = ⊥
+RedoStep old j (Err (Damaged line)) new = ⊥
+RedoStep old j (Err (TooFew have)) new = ⊥
+RedoStep old j (Err Interrupted) new = ⊥
+RedoStep old j (Err Broken) new = ⊥
+RedoStep old j (Err (LengthDiffers expected)) new = ⊥
+RedoStep old j (Err (RedoDamaged line)) new = ⊥

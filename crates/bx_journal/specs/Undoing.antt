@@ -75,3 +75,45 @@ UndoFault count DeviceFailed = Unit {0}
 UndoFault count (Damaged line) = Unit {0}
 UndoFault count Interrupted = Unit {0}
 UndoFault count Broken = Unit {0}
+
+-- what a fault of reading is, where the redo text was read
+abbrev pub redo_fault : SessionFault → SessionFault
+redo_fault (Damaged line) = RedoDamaged line
+redo_fault NoMemory = NoMemory
+redo_fault TooLarge = TooLarge
+redo_fault DeviceFailed = DeviceFailed
+redo_fault (TooFew have) = TooFew have
+redo_fault JournalFull = JournalFull
+redo_fault Interrupted = Interrupted
+redo_fault Broken = Broken
+redo_fault (LengthDiffers expected) = LengthDiffers expected
+redo_fault (NothingToRedo have) = NothingToRedo have
+redo_fault (RedoDamaged line) = RedoDamaged line
+
+-- which fault reading the redo text again may answer
+abbrev pub RedoAgainFault : Type 0 → List ℕ → ℕ → SessionFault → Type 0
+RedoAgainFault honest text count NoMemory = Unit {0}
+RedoAgainFault honest text count DeviceFailed = Unit {0}
+RedoAgainFault honest text count (RedoDamaged line) = honest → IsOutOfStep text count line
+RedoAgainFault honest text count TooLarge = ⊥
+RedoAgainFault honest text count (Damaged line) = ⊥
+RedoAgainFault honest text count (TooFew have) = ⊥
+RedoAgainFault honest text count JournalFull = ⊥
+RedoAgainFault honest text count Interrupted = ⊥
+RedoAgainFault honest text count Broken = ⊥
+RedoAgainFault honest text count (LengthDiffers expected) = ⊥
+RedoAgainFault honest text count (NothingToRedo have) = ⊥
+
+-- which fault redoing may answer, where `undone` changes are undone
+abbrev pub RedoFault : ℕ → SessionFault → Type 0
+RedoFault undone (NothingToRedo have) = have ≡ undone
+RedoFault undone TooLarge = ⊥
+RedoFault undone JournalFull = ⊥
+RedoFault undone (TooFew have) = ⊥
+RedoFault undone (LengthDiffers expected) = ⊥
+RedoFault undone (Damaged line) = ⊥
+RedoFault undone NoMemory = Unit {0}
+RedoFault undone DeviceFailed = Unit {0}
+RedoFault undone (RedoDamaged line) = Unit {0}
+RedoFault undone Interrupted = Unit {0}
+RedoFault undone Broken = Unit {0}

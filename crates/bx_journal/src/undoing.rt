@@ -1,30 +1,17 @@
 //! Taking changes back.
-ghost use Rattle.std.specs.Prelude.{◌≡◌, ◌↔◌, ◌+◌, ◌-◌, ◌<◌, ◌≤◌, [], List, ℕ, length, drop, true, false, All, IfOk, IfErr, OnOk, IsErrOf, Ok as Done};
-ghost use Rattle.bx_journal.specs.Images.{Images as Pictures, undo_alone};
+ghost use Rattle.std.specs.Prelude.{◌≡◌, ◌↔◌, ◌+◌, ◌<◌, ◌≤◌, List, ℕ, drop, true, false, IfOk, IfErr, OnOk, IsErrOf, Ok as Done};
+ghost use Rattle.bx_journal.specs.Images.{Images as Pictures, undo_of, undone_by};
 ghost use Rattle.bx_journal.specs.Machine.{UndoStep};
-ghost use Rattle.bx_journal.specs.Parsed.{AllKept, entries_of};
-ghost use Rattle.bx_journal.specs.Stack.{Recovers};
 ghost use Rattle.bx_journal.specs.Text.{Entry};
-ghost use Rattle.bx_journal.specs.Undoing.{AgainFault, HasCount, HasLeft, IsFinished, IsReadAgain};
+ghost use Rattle.bx_journal.specs.Undoing.{AgainFault, HasCount, HasLeft, IsFinished};
 
-use crate::again::{FinishedRead, read_again};
+use crate::again::read_again;
+use crate::taking::prepare_takens;
 use crate::undo::undo_entries;
-use crate::{EntryRead, Session, SessionFault};
+use crate::{Session, SessionFault};
 use bx_image::Device;
 use bx_store::TextStore;
-use bx_text::NoMemory;
 use std::alloc::Allocator;
-
-/// The greatest length that one of the entries restores.
-fn longest_of<A: Allocator>(entries: &[EntryRead<A>]) -> u64
-    ensures { All (λ e. e.kept.len ≤ result) entries.now }
-{
-    let mut longest = 0;
-    for entry in entries {
-        longest = longest.max(entry.kept.len);
-    }
-    longest
-}
 
 /// How many changes stand when so many are undone.
 #[inline]
@@ -35,41 +22,19 @@ fn count_left(count: u32, undone: u32) -> u32
     count - undone
 }
 
-/// Makes room for taking back the last k entries. It changes nothing.
-fn make_room<D: Device, T: TextStore, A: Allocator>(
-    device: &mut D,
-    store: &mut T,
-    read: &FinishedRead<A>,
-    k: u32,
-) -> Result<(), NoMemory>
-    requires few { k ≤ length read.now.entries.items }
-    ensures kept { (text : List ℕ) (count : ℕ) → IsReadAgain text read.now.entries.items count
-        → OnOk result (AllKept (D.room device.new) (drop (length read.now.entries.items - k) read.now.entries.items)) }
-    ensures image { D.honest device.old → D.image device.new ≡ D.image device.old }
-    ensures text { T.honest store.old → T.text store.new ≡ T.text store.old }
-    ensures device_honesty { D.honest device.new ↔ D.honest device.old }
-    ensures store_honesty { T.honest store.new ↔ T.honest store.old }
-    ensures device_failures { D.failures device.new ≡ D.failures device.old }
-    ensures store_failures { T.failures store.new ≡ T.failures store.old }
-{
-    let first = read.entries.len() - k as usize;
-    let (_, last) = read.entries.as_slice().split_at(first);
-    device.reserve(longest_of(last))?;
-    store.reserve(read.len)
-}
-
 impl<D: Device, T: TextStore, A: Allocator + Clone> Session<D, T, A> {
     ghost use Rattle.bx_journal.specs.Session.{HasUndone, IsReady, IsRedoSame, IsSame, IsUnfailed, SessionCounts, SessionFinds};
     ghost use Rattle.bx_journal.specs.Standing.{IsStanding};
     ghost use Rattle.bx_journal.specs.Calls.{AfterFault, RecoversBelow};
     ghost use Rattle.bx_journal.specs.Undoing.{IsOutOfStep, UndoFault};
 
-    /// Takes the last k changes back, the newest first, and answers how many are left. What was undone before is given
-    /// up, unless k is 0.
+    /// Takes the last k changes back, the newest first, and answers how many are left. Their images are then undone, and
+    /// can be made again; but an image of more than `MAX_LEN` bytes, and what was undone before it, is given up.
     ///
-    /// All memory is taken before the first write. The faults come in this order: `Broken`, `TooFew`, `DeviceFailed`
-    /// and `NoMemory` of reading, `Damaged` where the text was changed by others, `NoMemory` of reserving, and
-    /// `Interrupted` from the first write on. Each but the last changes nothing.
+    /// All memory is taken before the first write: it is in proportion to the journal's text and to the bytes that the
+    /// k changes wrote or added. The faults come in this order: `Broken`, `TooFew`, `DeviceFailed` and `NoMemory` of
+    /// reading, `Damaged` where the text was changed by others, `DeviceFailed` of the lengths, `NoMemory`, `DeviceFailed`
+    /// of reading the image, and `Interrupted` from the first write on. Each but the last changes nothing.
     pub fn undo(&mut self, k: u32) -> Result<u32, SessionFault>
         requires device_countable { D.failures self.old.device < u64.MAX }
         requires store_countable { T.failures self.old.store < u64.MAX }
@@ -86,11 +51,10 @@ impl<D: Device, T: TextStore, A: Allocator + Clone> Session<D, T, A> {
         ensures text { T.honest self.old.store → (entries : List Entry) → IsFinished (T.text self.old.store) entries
             → OnOk result (HasLeft (T.text self.old.store) (T.text self.new.store) (drop k entries)) }
 
-        // An undo of none leaves what is undone, and any other gives it up.
+        // The images that were taken back are undone, above those that were.
         ensures undone { D.honest self.old.device → T.honest self.old.store → T.honest self.old.redo_text → (s : Pictures)
             → IsStanding D.image T.text self.old s.stack → HasUndone D.image T.text self.old s.undone
-            → OnOk result (HasUndone D.image T.text self.new (undo_alone k s).undone) }
-        ensures emptied { T.honest self.old.redo_text → 1 ≤ k → OnOk result ((T.text self.new.redo_text ≡ []) × (self.new.undone ≡ 0)) }
+            → OnOk result (HasUndone D.image T.text self.new (undone_by k s.stack s.undone)) }
 
         // An interruption leaves the stack without some of the images, and another fault leaves all as it was.
         ensures fault { D.honest self.old.device → T.honest self.old.store → (stack : List (List ℕ)) → IsReady D.image T.text self.old stack
@@ -100,7 +64,7 @@ impl<D: Device, T: TextStore, A: Allocator + Clone> Session<D, T, A> {
         ensures refused { D.honest self.old.device → T.honest self.old.store → IfErr result (λ e. AfterFault e (Unit {0}) (IsSame D.image T.text self.old self.new)) }
         ensures finds { D.honest self.old.device → T.honest self.old.store → T.honest self.old.redo_text → (s : Pictures)
             → IsReady D.image T.text self.old s.stack → HasUndone D.image T.text self.old s.undone
-            → IfErr result (λ e. AfterFault e ((i : ℕ) × (i ≤ k) × SessionFinds D.image T.text self.new (undo_alone i s)) (Unit {0})) }
+            → IfErr result (λ e. AfterFault e ((i : ℕ) × (i ≤ k) × SessionFinds D.image T.text self.new (undo_of i s)) (Unit {0})) }
         ensures redo_same { T.honest self.old.redo_text → IfErr result (λ e. AfterFault e (Unit {0}) (IsRedoSame T.text self.old self.new)) }
         ensures breaks { IsErrOf result SessionFault.Interrupted → (self.new.is_broken ≡ true) × (self.new.count ≡ self.old.count) × (self.new.undone ≡ self.old.undone) }
 
@@ -127,18 +91,26 @@ impl<D: Device, T: TextStore, A: Allocator + Clone> Session<D, T, A> {
             return Err(SessionFault::TooFew { have: self.count });
         }
         let mut read = read_again(&self.alloc, &mut self.store, self.count)?;
-        make_room(&mut self.device, &mut self.store, &read, k)?;
+        let mut taking = prepare_takens(
+            &self.alloc,
+            &mut self.device,
+            &mut self.store,
+            &mut self.redo_text,
+            &read,
+            k,
+        )?;
         match undo_entries(
             &mut self.device,
             &mut self.store,
             &mut self.redo_text,
+            &mut taking.page,
             &mut read.entries,
-            k,
+            &mut taking.takens,
             self.undone,
         ) {
             Ok(undone) => {
-                self.undone = undone;
                 self.count = count_left(self.count, k);
+                self.undone = undone;
                 Ok(self.count)
             }
             Err(_) => {

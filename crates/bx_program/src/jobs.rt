@@ -85,6 +85,11 @@ where
             image,
             texts,
         } => undo(rt, *count, image, texts, out)?,
+        Job::Redo {
+            count,
+            image,
+            texts,
+        } => redo(rt, *count, image, texts, out)?,
         Job::Log { image, texts } => show_log(rt, image, texts, out)?,
     }
     Ok(None)
@@ -159,6 +164,25 @@ where
     let mut session = open_session(rt, image, texts, false)?;
     match command(rt, &mut session, asked)? {
         Reply::Undone { left } => show_number(out, left),
+        _ => Ok(()),
+    }
+}
+
+/// Makes undone changes again, and shows how many then stand.
+fn redo<R, W: Write>(
+    rt: &R,
+    count: u32,
+    image: &Name,
+    texts: &Texts,
+    out: &mut W,
+) -> Result<(), Fault>
+where
+    R: Files<File = File> + Eprint + AllocGlobal,
+{
+    let asked: Command = Command::Redo { j: count };
+    let mut session = open_session(rt, image, texts, false)?;
+    match command(rt, &mut session, asked)? {
+        Reply::Redone { changes } => show_number(out, changes),
         _ => Ok(()),
     }
 }

@@ -28,24 +28,17 @@ pub struct Texts {
     pub redo: Vec<u8>,
 }
 
-/// An image without changes and its redo text, and commands on them in order.
+/// An image without changes, and commands on it in order.
 #[derive(Drop)]
 pub struct Script<'a> {
     pub first: &'a [u8],
-    pub redo: &'a str,
     pub rows: Vec<Row<'a>>,
 }
 
 impl<'a> Script<'a> {
     pub fn new(alloc: Global, first: &'a [u8]) -> Self {
-        Script::with_redo(alloc, first, "")
-    }
-
-    /// A script that starts with this redo text.
-    pub fn with_redo(alloc: Global, first: &'a [u8], redo: &'a str) -> Self {
         Script {
             first,
-            redo,
             rows: Vec::new(alloc),
         }
     }
@@ -80,20 +73,20 @@ impl<'a> Script<'a> {
         Ok(())
     }
 
-    /// One more command, with the redo text that it leaves.
-    pub fn then_redo(
+    /// One more command, with the journal and the redo text that it leaves.
+    pub fn then_texts(
         &mut self,
         ask: Ask<'a>,
         reply: Reply,
         image: &'a [u8],
-        redo: &'a str,
+        texts: (&'a str, &'a str),
     ) -> Result<(), AllocError> {
         self.rows.push(Row {
             ask,
             reply,
             image,
-            text: None,
-            redo: Some(redo),
+            text: Some(texts.0),
+            redo: Some(texts.1),
         })?;
         Ok(())
     }
@@ -140,7 +133,7 @@ pub fn started<D: Device + Drop, T: TextStore + Drop, P: Place<D, T>>(
     place: &P,
     script: &Script<'_>,
 ) -> Result<Session<D, T>, Fail> {
-    let trio = place.trio(alloc, script.first, b"", script.redo.as_bytes())?;
+    let trio = place.trio(alloc, script.first, b"", b"")?;
     Ok(opened(alloc, trio)?.0)
 }
 

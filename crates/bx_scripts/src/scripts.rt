@@ -67,25 +67,38 @@ fn undone(left: u32) -> Reply {
     Reply::Undone { left }
 }
 
+fn redone(changes: u32) -> Reply {
+    Reply::Redone { changes }
+}
+
 fn too_few(have: u32) -> Reply {
     Reply::Refused(Fault::TooFew { have })
 }
 
-pub fn patch_and_undo(alloc: Global) -> Made {
-    let mut script = Script::new(alloc, b"ABCDEFGH");
+fn nothing_to_redo(have: u32) -> Reply {
+    Reply::Refused(Fault::NothingToRedo { have })
+}
+
+pub fn patch_undone_and_redone(alloc: Global) -> Made {
+    let (first, patched) = (b"ABCDEFGH", b"ABxyEFGH");
+    let mut script = Script::new(alloc, first);
     let dump = Ask::Revert("00000002: 7879\n");
-    script.then_text(dump, changed(1), b"ABxyEFGH", PATCHED)?;
-    script.then_text(Ask::Undo(1), undone(0), b"ABCDEFGH", "")?;
+    script.then_texts(dump, changed(1), patched, (PATCHED, ""))?;
+    script.then_texts(Ask::Undo(1), undone(0), first, ("", UNDONE_PATCH))?;
+    script.then_texts(Ask::Redo(1), redone(1), patched, (PATCHED, ""))?;
     Ok(script)
 }
 
 /// The same patch, where it was made before and taken back.
 pub fn patch_over_redo(alloc: Global) -> Made {
-    let mut script = Script::with_redo(alloc, b"ABCDEFGH", UNDONE_PATCH);
-    script.then_redo(Ask::Undo(0), undone(0), b"ABCDEFGH", UNDONE_PATCH)?;
+    let (first, patched) = (b"ABCDEFGH", b"ABxyEFGH");
+    let mut script = Script::new(alloc, first);
     let dump = Ask::Revert("00000002: 7879\n");
-    script.then_redo(dump, changed(1), b"ABxyEFGH", "")?;
-    script.then_redo(Ask::Undo(1), undone(0), b"ABCDEFGH", "")?;
+    script.then(dump, changed(1), patched)?;
+    script.then_texts(Ask::Undo(1), undone(0), first, ("", UNDONE_PATCH))?;
+    script.then_texts(Ask::Undo(0), undone(0), first, ("", UNDONE_PATCH))?;
+    script.then_texts(dump, changed(1), patched, (PATCHED, ""))?;
+    script.then_texts(Ask::Undo(1), undone(0), first, ("", UNDONE_PATCH))?;
     Ok(script)
 }
 
@@ -97,11 +110,48 @@ pub fn overlapping_lines(alloc: Global) -> Made {
     Ok(script)
 }
 
-pub fn gap_and_undo(alloc: Global) -> Made {
+pub fn gap_undone_and_redone(alloc: Global) -> Made {
     let mut script = Script::new(alloc, b"AB");
     let dump = Ask::Revert("00000005: 5a\n");
-    script.then_text(dump, changed(1), b"AB\0\0\0Z", GAPPED)?;
-    script.then_text(Ask::Undo(1), undone(0), b"AB", "")?;
+    let grown = b"AB\0\0\0Z";
+    script.then_text(dump, changed(1), grown, GAPPED)?;
+    script.then_texts(Ask::Undo(1), undone(0), b"AB", ("", UNDONE_GAP))?;
+    script.then_texts(Ask::Redo(1), redone(1), grown, (GAPPED, ""))?;
+    Ok(script)
+}
+
+pub fn three_undone_reopened_redone(alloc: Global) -> Made {
+    let mut script = Script::new(alloc, b"A");
+    script.then(Ask::Revert("0: 61"), changed(1), b"a")?;
+    script.then(Ask::Revert("0: 62"), changed(2), b"b")?;
+    script.then(Ask::Revert("0: 63"), changed(3), b"c")?;
+    script.then_texts(Ask::Undo(2), undone(1), b"a", (FIRST_PATCH, UNDONE_TWO))?;
+    script.then(Ask::Redo(1), redone(2), b"b")?;
+    script.then(Ask::Redo(2), nothing_to_redo(1), b"b")?;
+    script.then(Ask::Revert("0: 64"), changed(3), b"d")?;
+    script.then(Ask::Redo(1), nothing_to_redo(0), b"d")?;
+    Ok(script)
+}
+
+/// Undos and redos of more than one, over images of several lengths.
+pub fn lengths_undone_and_redone(alloc: Global) -> Made {
+    let mut script = Script::new(alloc, b"A");
+    script.then(Ask::Revert("0: 61"), changed(1), b"a")?;
+    script.then(Ask::Revert("0: 6221"), changed(2), b"b!")?;
+    script.then_text(Ask::Undo(2), undone(0), b"A", "")?;
+    script.then(Ask::Redo(2), redone(2), b"b!")?;
+    script.then(Ask::Undo(1), undone(1), b"a")?;
+    script.then(Ask::Revert("0: 6321"), changed(2), b"c!")?;
+    Ok(script)
+}
+
+pub fn redo_of_none(alloc: Global) -> Made {
+    let mut script = Script::new(alloc, b"A");
+    script.then_texts(Ask::Undo(0), undone(0), b"A", ("", ""))?;
+    script.then_texts(Ask::Redo(0), redone(0), b"A", ("", ""))?;
+    script.then_texts(Ask::Redo(1), nothing_to_redo(0), b"A", ("", ""))?;
+    script.then(Ask::Revert("0: 61"), changed(1), b"a")?;
+    script.then_texts(Ask::Redo(0), redone(1), b"a", (FIRST_PATCH, ""))?;
     Ok(script)
 }
 
@@ -142,16 +192,20 @@ pub fn bad_second_line(alloc: Global) -> Made {
     Ok(script)
 }
 
-/// What is refused leaves the redo text, an undo of nothing too; a change empties it.
+/// What is refused leaves the redo text, an undo and a redo of none too; a change empties it.
 pub fn refusals_keep_redo(alloc: Global) -> Made {
     let first = b"ABCDEFGH";
-    let mut script = Script::with_redo(alloc, first, UNDONE_PATCH);
+    let mut script = Script::new(alloc, first);
+    script.then(Ask::Revert("2: 7879"), changed(1), b"ABxyEFGH")?;
+    script.then_texts(Ask::Undo(1), undone(0), first, ("", UNDONE_PATCH))?;
     let odd = Reply::Refused(Fault::OddDigits { line: 1 });
     script.then(Ask::Plain("414", 0), odd, first)?;
     let too_large = Reply::Refused(Fault::TooLarge);
     script.then(Ask::Revert("ffffffffffff: 41"), too_large, first)?;
     script.then(Ask::Undo(1), too_few(0), first)?;
-    script.then_redo(Ask::Undo(0), undone(0), first, UNDONE_PATCH)?;
+    script.then(Ask::Redo(2), nothing_to_redo(1), first)?;
+    script.then_texts(Ask::Undo(0), undone(0), first, ("", UNDONE_PATCH))?;
+    script.then_texts(Ask::Redo(0), redone(0), first, ("", UNDONE_PATCH))?;
     script.then(Ask::Revert("0: 5a"), changed(1), b"ZBCDEFGH")?;
     Ok(script)
 }
@@ -189,6 +243,7 @@ pub fn dd_cuts_tail(alloc: Global) -> Made {
     let cut = Ask::Dd("obs=4 seek=1", b"xy");
     script.then_text(cut, copied(1, [0, 1, 0, 1], 0), b"0123xy", TAIL)?;
     script.then_text(Ask::Undo(1), undone(0), b"0123456789", "")?;
+    script.then_texts(Ask::Redo(1), redone(1), b"0123xy", (TAIL, ""))?;
     Ok(script)
 }
 
@@ -238,11 +293,10 @@ type Scripts = Vec<Script<'static>>;
 /// Dumps that are put onto images.
 fn dumps(alloc: Global) -> Result<Scripts, AllocError> {
     let mut scripts = Vec::new(alloc);
-    scripts.push(patch_and_undo(alloc)?)?;
     scripts.push(patch_over_redo(alloc)?)?;
     scripts.push(overlapping_lines(alloc)?)?;
-    scripts.push(gap_and_undo(alloc)?)?;
     scripts.push(three_patches_reopened(alloc)?)?;
+    scripts.push(three_undone_reopened_redone(alloc)?)?;
     scripts.push(too_many_undos(alloc)?)?;
     scripts.push(empty_dump(alloc)?)?;
     scripts.push(runs_out_of_order(alloc)?)?;
@@ -264,9 +318,20 @@ fn with_others(alloc: Global, scripts: Scripts) -> Result<Scripts, AllocError> {
     Ok(scripts)
 }
 
+/// Undos and redos.
+fn with_redos(alloc: Global, scripts: Scripts) -> Result<Scripts, AllocError> {
+    let mut scripts = scripts;
+    scripts.push(patch_undone_and_redone(alloc)?)?;
+    scripts.push(gap_undone_and_redone(alloc)?)?;
+    scripts.push(lengths_undone_and_redone(alloc)?)?;
+    scripts.push(redo_of_none(alloc)?)?;
+    Ok(scripts)
+}
+
 /// All that commands alone make.
 pub fn all(alloc: Global) -> Result<Scripts, AllocError> {
-    with_others(alloc, dumps(alloc)?)
+    let scripts = with_redos(alloc, dumps(alloc)?)?;
+    with_others(alloc, scripts)
 }
 
 pub fn base_then_gap(alloc: Global) -> Made {
@@ -296,18 +361,18 @@ pub fn cut_and_grown(alloc: Global) -> Made {
     let cut = Ask::Change(Some(3), &[(6, "Q")]);
     script.then(cut, changed(2), b"XX2\0\0\0Q")?;
     script.then(Ask::Undo(2), undone(0), first)?;
+    script.then(Ask::Redo(2), redone(2), b"XX2\0\0\0Q")?;
     Ok(script)
 }
 
 fn failing_dumps(alloc: Global) -> Result<Scripts, AllocError> {
     let mut scripts = Vec::new(alloc);
-    scripts.push(patch_and_undo(alloc)?)?;
     scripts.push(patch_over_redo(alloc)?)?;
     scripts.push(overlapping_lines(alloc)?)?;
-    scripts.push(gap_and_undo(alloc)?)?;
     scripts.push(three_patches_reopened(alloc)?)?;
+    scripts.push(three_undone_reopened_redone(alloc)?)?;
     scripts.push(empty_dump(alloc)?)?;
-    Ok(scripts)
+    with_redos(alloc, scripts)
 }
 
 fn with_failing_cuts(alloc: Global, scripts: Scripts) -> Result<Scripts, AllocError> {
@@ -320,7 +385,7 @@ fn with_failing_cuts(alloc: Global, scripts: Scripts) -> Result<Scripts, AllocEr
     Ok(scripts)
 }
 
-/// Those that run on devices that fail.
+/// Those that run on devices that fail. A change behind an undo or a redo leaves the same image where these were refused.
 pub fn failing(alloc: Global) -> Result<Scripts, AllocError> {
     with_failing_cuts(alloc, failing_dumps(alloc)?)
 }

@@ -26,6 +26,8 @@ pub enum Ask<'a> {
     Dd(&'a str, &'a [u8]),
     /// Takes so many changes back.
     Undo(u32),
+    /// Makes so many undone changes again.
+    Redo(u32),
     /// Cuts the image to so many bytes, or leaves it, and then writes each text at its place. It is a change, and no command.
     Change(Option<u32>, &'a [(u32, &'a str)]),
 }
@@ -69,6 +71,7 @@ pub fn command<'a, A: Allocator + Clone>(
             Ok(Command::Dd { operands, input })
         }
         Ask::Undo(k) => Ok(Command::Undo { k }),
+        Ask::Redo(j) => Ok(Command::Redo { j }),
         Ask::Change(..) => Err(Fault::Usage),
     }
 }

@@ -4,7 +4,6 @@ use crate::asserts::{assert_bytes, assert_reply};
 use bx_cli::{Fault, Reply};
 use bx_image::{FuseImage, MemImage, Part};
 use bx_journal::{How, Recovered, Session};
-use bx_scripts::judge::{RedoVerdict, judge_redo};
 use bx_scripts::model::Images;
 use bx_scripts::places::{Memory, Place, Trio};
 use bx_scripts::script::{Row, Script};
@@ -32,62 +31,66 @@ enum Course {
     Stopped,
 }
 
-/// The undone images that stand: their text, and how many they are.
-#[derive(Clone, Copy, PartialEq, Eq)]
-struct Undone<'a> {
-    text: &'a [u8],
-    count: u32,
-}
-
-const NOTHING: Undone<'static> = Undone {
-    text: b"",
-    count: 0,
-};
-
-/// The stacks that a run may leave: those of the images with at least so many changes. Where as many as `before` stand and
-/// nothing was recovered, these images are undone, else none.
+/// The images that a run may leave: those that stood before the command that was stopped in the middle, and how far it may have
+/// come. An undo and a redo may have moved some of the images, a change may have been made. Where something is recovered,
+/// nothing is undone any more.
 #[derive(Drop)]
 struct Standing<'a> {
     images: Images,
-    least: u32,
     course: Course,
-    before: u32,
-    undone: Undone<'a>,
+    /// How many changes stand at least, and at most.
+    least: u32,
+    most: u32,
+    /// The image of the change that was stopped.
+    changed: Option<&'a [u8]>,
 }
 
 impl<'a> Standing<'a> {
     /// What stands before the first command of a script.
     fn new(alloc: Global, script: &Script<'a>) -> Result<Self, AllocError> {
-        let text = script.redo.as_bytes();
-        let count = match judge_redo(alloc, script.first, text, 0)? {
-            RedoVerdict::Undone { count } => count,
-            RedoVerdict::Damaged { .. } => u32::MAX,
-        };
         Ok(Standing {
             images: Images::new(alloc, script.first)?,
-            least: 0,
             course: Course::Whole,
-            before: 0,
-            undone: Undone { text, count },
+            least: 0,
+            most: 0,
+            changed: None,
         })
     }
 
-    /// The undone images that opening is to find.
-    fn undone_for(&self, found: Recovered) -> Undone<'a> {
-        if found.how == How::Clean && found.changes == self.before {
-            self.undone
-        } else {
-            NOTHING
+    /// The command of a row was stopped in the middle.
+    fn stop(&mut self, row: &Row<'a>) {
+        self.course = Course::Stopped;
+        match row.ask {
+            Ask::Undo(k) => self.least = self.least.saturating_sub(k),
+            Ask::Redo(j) => self.most = self.most.saturating_add(j),
+            _ => {
+                self.most = self.most.saturating_add(1);
+                self.changed = Some(row.image);
+            }
         }
     }
 
     /// All changes of the images stand.
     fn settle(&mut self) {
         self.least = self.images.changes();
-        if self.before != self.least {
-            self.before = self.least;
-            self.undone = NOTHING;
+        self.most = self.least;
+    }
+
+    /// The images that opening is to find, where it finds so many changes.
+    fn found(&self, alloc: Global, found: Recovered) -> Result<Images, AllocError> {
+        let mut images = self.images.all(alloc)?;
+        let have = images.changes();
+        match self.changed {
+            Some(image) if found.changes > have => images.push(image.to_vec(alloc)?)?,
+            _ => {
+                let _ = images.redo(found.changes.saturating_sub(have))?;
+                let _ = images.undo(have.saturating_sub(found.changes))?;
+            }
         }
+        if found.how != How::Clean {
+            images.forget();
+        }
+        Ok(images)
     }
 }
 
@@ -170,75 +173,43 @@ fn unfused(trio: FusedTrio) -> MemTrio {
     )
 }
 
-/// A row that nothing stopped.
-fn follow_whole(
-    rt: &impl Abort,
-    alloc: Global,
-    images: &mut Images,
-    row: &Row<'_>,
-    reply: Reply,
-) -> Result<(), Fail> {
-    assert!(rt; reply == row.reply);
-    match reply {
-        Reply::Changed { .. } | Reply::Copied { .. } => {
-            images.push(row.image.to_vec(alloc)?)?;
-        }
-        Reply::Undone { left } => {
-            let _ = images.undo(images.changes().saturating_sub(left));
-        }
-        Reply::Refused(_) => {}
-    }
-    Ok(())
-}
-
-/// A row that was stopped in the middle. Answers how many changes stand at least.
-fn follow_stopped(alloc: Global, images: &mut Images, row: &Row<'_>) -> Result<u32, AllocError> {
-    let have = images.changes();
-    match row.ask {
-        Ask::Undo(k) => Ok(have.saturating_sub(k)),
+/// The reply to a row that nothing stops, and what it makes of the images.
+fn follow_row(alloc: Global, images: &mut Images, row: &Row<'_>) -> Result<Reply, AllocError> {
+    match (row.ask, row.reply) {
+        (Ask::Undo(k), _) => images.reply_to_undo(k),
+        (Ask::Redo(j), _) => images.reply_to_redo(j),
+        (_, Reply::Refused(_)) => Ok(row.reply),
         _ => {
             images.push(row.image.to_vec(alloc)?)?;
-            Ok(have)
+            Ok(row.reply)
         }
     }
 }
 
-/// A row behind one that was refused.
-fn follow_refused(rt: &impl Abort, images: &mut Images, reply: Reply) {
-    let have = images.changes();
-    match reply {
-        Reply::Undone { left } => assert!(rt; images.undo(have.saturating_sub(left))),
-        _ => assert!(rt; reply == Reply::Refused(Fault::TooFew { have })),
-    }
-}
-
-/// What the reply to a row makes of the images.
-fn follow(
+/// What the reply to a row makes of what stands.
+fn follow<'a>(
     rt: &impl Abort,
     alloc: Global,
-    standing: &mut Standing<'_>,
-    row: &Row<'_>,
+    standing: &mut Standing<'a>,
+    row: &Row<'a>,
     reply: Reply,
 ) -> Result<(), Fail> {
     match (standing.course, reply) {
-        (Course::Stopped, _) => {
-            assert!(rt; reply == Reply::Refused(Fault::Broken));
-            return Ok(());
+        (Course::Stopped, _) => assert!(rt; reply == Reply::Refused(Fault::Broken)),
+        (_, Reply::Refused(Fault::DeviceFailed)) => standing.course = Course::Refused,
+        (Course::Whole, Reply::Refused(Fault::Interrupted)) => standing.stop(row),
+        (course, _) => {
+            assert!(rt; course == Course::Refused || reply == row.reply);
+            assert!(rt; reply == follow_row(alloc, &mut standing.images, row)?);
+            standing.settle();
         }
-        (_, Reply::Refused(Fault::DeviceFailed)) => {
-            standing.course = Course::Refused;
-            return Ok(());
-        }
-        (Course::Refused, _) => follow_refused(rt, &mut standing.images, reply),
-        (_, Reply::Refused(Fault::Interrupted)) => {
-            standing.course = Course::Stopped;
-            standing.least = follow_stopped(alloc, &mut standing.images, row)?;
-            return Ok(());
-        }
-        _ => follow_whole(rt, alloc, &mut standing.images, row, reply)?,
     }
-    standing.settle();
     Ok(())
+}
+
+/// Whether a row is asked for. Behind a refusal a change would start from another image than the script's.
+fn is_asked(course: Course, ask: Ask<'_>) -> bool {
+    course != Course::Refused || matches!(ask, Ask::Undo(_) | Ask::Redo(_))
 }
 
 type FusedSession = Session<FuseImage<MemImage>, FuseText<MemText>>;
@@ -254,8 +225,10 @@ fn run_rows<'a>(
     let mut session = session;
     let mut standing = standing;
     for row in rows {
-        let reply = ask_for(alloc, &mut session, row.ask)?;
-        follow(rt, alloc, &mut standing, row, reply)?;
+        if is_asked(standing.course, row.ask) {
+            let reply = ask_for(alloc, &mut session, row.ask)?;
+            follow(rt, alloc, &mut standing, row, reply)?;
+        }
     }
     let trio = unfused(session.close());
     Ok(Left { trio, standing })
@@ -269,7 +242,7 @@ fn run_fused<'a>(
     fused: Fused,
 ) -> Result<Left<'a>, Fail> {
     let mut standing = Standing::new(alloc, script)?;
-    let trio = Memory.trio(alloc, script.first, b"", script.redo.as_bytes())?;
+    let trio = Memory.trio(alloc, script.first, b"", b"")?;
     match open(alloc, fused_trio(trio, fused)) {
         Ok((session, _)) => run_rows(rt, alloc, session, standing, script.rows.as_slice()),
         Err((device, store, redo_text, fault)) => {
@@ -283,92 +256,65 @@ fn run_fused<'a>(
 
 type MemSession = Session<MemImage, MemText>;
 
-/// Closes the session and opens it again: it has the newest image, each change, and this redo text.
+/// Closes the session and opens it again: it has the newest image, each change, and each undone one.
 fn again(
     rt: &impl Abort,
     alloc: Global,
     session: MemSession,
     images: &Images,
-    redo: &[u8],
 ) -> Result<MemSession, Fail> {
     let trio = session.close();
     assert_bytes(rt, trio.0.as_slice(), images.top());
-    assert_bytes(rt, trio.2.as_slice(), redo);
+    assert!(rt; trio.1.as_slice().is_empty() == (images.changes() == 0));
+    assert!(rt; trio.2.as_slice().is_empty() == (images.undone() == 0));
     let (session, found) = opened(alloc, trio)?;
-    assert!(rt; found.changes == images.changes());
+    assert!(rt; found.how == How::Clean);
+    assert!(rt; found.changes == images.changes() && found.undone == images.undone());
     Ok(session)
 }
 
-/// Takes the newest change back, where there is one.
-fn assert_undone(
-    rt: &impl Abort,
-    alloc: Global,
-    session: &mut MemSession,
-    images: &mut Images,
-) -> Result<(), Fail> {
-    if !images.undo(1) {
-        return Ok(());
-    }
-    let left = images.changes();
-    assert_reply(rt, alloc, session, Ask::Undo(1), Reply::Undone { left })
-}
-
-/// Takes the changes back one by one: each image is that of the list. The first has this redo text, and the others none.
+/// Makes the undone changes again one by one, and then takes all changes back: each image is that of the list.
 fn assert_stack(
     rt: &impl Abort,
     alloc: Global,
     session: MemSession,
     images: &mut Images,
-    redo: &[u8],
 ) -> Result<(), Fail> {
-    let mut session = again(rt, alloc, session, images, redo)?;
-    for _ in 0..images.changes() {
-        assert_undone(rt, alloc, &mut session, images)?;
-        session = again(rt, alloc, session, images, b"")?;
+    let mut session = again(rt, alloc, session, images)?;
+    for _ in 0..images.undone() {
+        let redone = images.reply_to_redo(1)?;
+        assert_reply(rt, alloc, &mut session, Ask::Redo(1), redone)?;
+        session = again(rt, alloc, session, images)?;
     }
-    let (_, store, _) = session.close();
-    assert!(rt; store.as_slice().is_empty());
+    for _ in 0..images.changes() {
+        let undone = images.reply_to_undo(1)?;
+        assert_reply(rt, alloc, &mut session, Ask::Undo(1), undone)?;
+        session = again(rt, alloc, session, images)?;
+    }
     Ok(())
 }
 
-/// What opening is to find.
-#[derive(Clone, Copy)]
-struct Expected<'a> {
-    changes: u32,
-    undone: Undone<'a>,
-}
-
-/// A session that was opened has this stack of the images, and these undone ones.
+/// A session that was opened has these images, and these undone ones.
 fn assert_found(
     rt: &impl Abort,
     alloc: Global,
     opened: (MemSession, Recovered),
-    images: &Images,
-    expected: Expected<'_>,
+    expected: &Images,
 ) -> Result<(), Fail> {
     let (session, found) = opened;
-    let mut stack = images.all(alloc)?;
-    let _ = stack.undo(stack.changes().saturating_sub(expected.changes));
-    assert!(rt; found.changes == expected.changes && stack.changes() == found.changes);
-    assert!(rt; found.undone == expected.undone.count);
-    assert_stack(rt, alloc, session, &mut stack, expected.undone.text)
+    assert!(rt; found.changes == expected.changes());
+    assert!(rt; found.undone == expected.undone());
+    assert_stack(rt, alloc, session, &mut expected.all(alloc)?)
 }
 
-/// Opens what was left: it stands for one of the stacks. Answers what was found.
-fn assert_recovers<'a>(
-    rt: &impl Abort,
-    alloc: Global,
-    left: &Left<'a>,
-) -> Result<Expected<'a>, Fail> {
+/// Opens what was left: it stands for images that the run may leave. Answers which.
+fn assert_recovers(rt: &impl Abort, alloc: Global, left: &Left<'_>) -> Result<Images, Fail> {
     let bytes = bytes_of(&left.trio);
     let (session, found) = opened(alloc, Memory.trio(alloc, bytes.0, bytes.1, bytes.2)?)?;
-    assert!(rt; left.standing.least <= found.changes);
-    let expected = Expected {
-        changes: found.changes,
-        undone: left.standing.undone_for(found),
-    };
-    let images = &left.standing.images;
-    assert_found(rt, alloc, (session, found), images, expected)?;
+    let standing = &left.standing;
+    assert!(rt; standing.least <= found.changes && found.changes <= standing.most);
+    let expected = standing.found(alloc, found)?;
+    assert_found(rt, alloc, (session, found), &expected)?;
     Ok(expected)
 }
 
@@ -421,8 +367,7 @@ fn stopped_opening(
     rt: &impl Abort,
     alloc: Global,
     bytes: Bytes<'_>,
-    images: &Images,
-    expected: Expected<'_>,
+    expected: &Images,
     fused: Fused,
 ) -> Result<Option<MemTrio>, Fail> {
     let (trio, stopped) = open_fused(rt, alloc, bytes, fused)?;
@@ -431,7 +376,7 @@ fn stopped_opening(
     }
     let left = bytes_of(&trio);
     let found = opened(alloc, Memory.trio(alloc, left.0, left.1, left.2)?)?;
-    assert_found(rt, alloc, found, images, expected)?;
+    assert_found(rt, alloc, found, expected)?;
     Ok(Some(trio))
 }
 
@@ -440,8 +385,7 @@ fn stop_at_each(
     rt: &impl Abort,
     alloc: Global,
     bytes: Bytes<'_>,
-    images: &Images,
-    expected: Expected<'_>,
+    expected: &Images,
     way: (Target, Calls),
     list: &mut Vec<MemTrio>,
 ) -> Result<u32, Fail> {
@@ -453,7 +397,7 @@ fn stop_at_each(
             calls,
             pass,
         };
-        let Some(trio) = stopped_opening(rt, alloc, bytes, images, expected, fused)? else {
+        let Some(trio) = stopped_opening(rt, alloc, bytes, expected, fused)? else {
             return Ok(stops);
         };
         list.push(trio)?;
@@ -467,13 +411,12 @@ fn stop_in_each_way(
     rt: &impl Abort,
     alloc: Global,
     bytes: Bytes<'_>,
-    images: &Images,
-    expected: Expected<'_>,
+    expected: &Images,
     list: &mut Vec<MemTrio>,
 ) -> Result<u32, Fail> {
     let mut stops = 0u32;
     for way in OPENINGS {
-        let more = stop_at_each(rt, alloc, bytes, images, expected, way, list)?;
+        let more = stop_at_each(rt, alloc, bytes, expected, way, list)?;
         stops = stops.saturating_add(more);
     }
     Ok(stops)
@@ -494,11 +437,10 @@ fn is_seen(seen: &[MemTrio], bytes: Bytes<'_>) -> bool {
 fn assert_openings(
     rt: &impl Abort,
     alloc: Global,
-    left: Left<'_>,
-    expected: Expected<'_>,
+    trio: MemTrio,
+    expected: &Images,
     seen: &mut Vec<MemTrio>,
 ) -> Result<u32, Fail> {
-    let Left { trio, standing } = left;
     let mut stops = 0u32;
     let mut list = Vec::new(alloc);
     list.push(trio)?;
@@ -508,8 +450,7 @@ fn assert_openings(
         };
         let bytes = bytes_of(&trio);
         if !is_seen(seen.as_slice(), bytes) {
-            let images = &standing.images;
-            let more = stop_in_each_way(rt, alloc, bytes, images, expected, &mut list)?;
+            let more = stop_in_each_way(rt, alloc, bytes, expected, &mut list)?;
             stops = stops.saturating_add(more);
             seen.push(trio)?;
         }
@@ -546,7 +487,7 @@ fn assert_stops(
         if left.standing.course == Course::Whole {
             return Ok(Stops { runs, openings });
         }
-        let more = assert_openings(rt, alloc, left, expected, seen)?;
+        let more = assert_openings(rt, alloc, left.trio, &expected, seen)?;
         openings = openings.saturating_add(more);
         runs = runs.saturating_add(1);
     }

@@ -166,8 +166,8 @@ fn large(alloc: Global) -> Result<String, AllocError> {
 
 type HeapSession<'a> = Session<MemImage, MemText, &'a LocalHeap>;
 
-/// A small change, a large one, and an undo.
-fn run_three<'a>(
+/// A small change, a large one, an undo and a redo.
+fn run_four<'a>(
     heap: &'a LocalHeap,
     session: &mut HeapSession<'a>,
     large: &str,
@@ -176,13 +176,20 @@ fn run_three<'a>(
         command(heap, Ask::Revert("0: 61\n"))?,
         command(heap, Ask::Revert(large))?,
         command(heap, Ask::Undo(1))?,
+        command(heap, Ask::Redo(1))?,
     ];
     Ok(run_all(heap, session, &mut list)?)
 }
 
-/// Whether a refused command leaves so many changes.
-fn is_refused(fault: Fault, have: u32) -> bool {
-    fault == Fault::TooFew { have } || fault == Fault::NoMemory
+/// Whether a refused command leaves these images.
+fn is_refused(fault: Fault, images: &Images) -> bool {
+    let few = Fault::TooFew {
+        have: images.changes(),
+    };
+    let nothing = Fault::NothingToRedo {
+        have: images.undone(),
+    };
+    fault == few || fault == nothing || fault == Fault::NoMemory
 }
 
 /// Follows a reply: a refused command leaves the images.
@@ -198,9 +205,10 @@ fn follow_one(
             images.push(image.to_vec(alloc)?)?;
             assert!(rt; number == images.changes());
         }
-        Reply::Undone { left } => assert!(rt; images.undo(1) && left == images.changes()),
+        Reply::Undone { left } => assert!(rt; images.undo(1)? && left == images.changes()),
+        Reply::Redone { changes } => assert!(rt; images.redo(1)? && changes == images.changes()),
         Reply::Copied { .. } => assert!(rt; false),
-        Reply::Refused(fault) => assert!(rt; is_refused(fault, images.changes())),
+        Reply::Refused(fault) => assert!(rt; is_refused(fault, images)),
     }
     Ok(())
 }
@@ -212,18 +220,19 @@ fn follow(
     images: &mut Images,
     replies: &[Reply],
 ) -> Result<(), Fail> {
-    for (reply, image) in replies.iter().zip([b"aBCDEFGH", b"bbbbbbbb", b"........"]) {
+    let changed = [b"aBCDEFGH", b"bbbbbbbb", b"........", b"........"];
+    for (reply, image) in replies.iter().zip(changed) {
         follow_one(rt, alloc, images, *reply, image)?;
     }
     Ok(())
 }
 
-/// What became of the three.
+/// What became of the four.
 #[derive(Clone, Copy)]
 enum Outcome {
     Nothing,
     Some,
-    /// The large change was refused, and the undo behind it was made.
+    /// The large change was refused, and the undo and the redo behind it were made.
     GoesOn,
     All,
 }
@@ -234,18 +243,20 @@ fn outcome_of(replies: &[Reply]) -> Outcome {
             Reply::Changed { .. },
             Reply::Changed { .. },
             Reply::Undone { .. },
+            Reply::Redone { .. },
         ] => Outcome::All,
         [
             Reply::Changed { .. },
             Reply::Refused(_),
             Reply::Undone { .. },
+            Reply::Redone { .. },
         ] => Outcome::GoesOn,
         _ => Outcome::Some,
     }
 }
 
-/// The three commands on a session: what became of them, and of the images.
-fn follow_three<'a>(
+/// The four commands on a session: what became of them, and of the images.
+fn follow_four<'a>(
     rt: &impl Abort,
     alloc: Global,
     heap: &'a LocalHeap,
@@ -253,7 +264,7 @@ fn follow_three<'a>(
     images: &mut Images,
     large: &str,
 ) -> Result<Outcome, Fail> {
-    match run_three(heap, session, large) {
+    match run_four(heap, session, large) {
         Ok(replies) => {
             follow(rt, alloc, images, replies.as_slice())?;
             Ok(outcome_of(replies.as_slice()))
@@ -262,8 +273,8 @@ fn follow_three<'a>(
     }
 }
 
-/// The three commands in a heap: the image that they leave is the newest of the images.
-fn three_in<'a>(
+/// The four commands in a heap: the image that they leave is the newest of the images.
+fn four_in<'a>(
     rt: &impl Abort,
     alloc: Global,
     heap: &'a LocalHeap,
@@ -275,17 +286,17 @@ fn three_in<'a>(
     let Ok((mut session, _)) = open(heap, trio) else {
         return Ok(Outcome::Nothing);
     };
-    let found = follow_three(rt, alloc, heap, &mut session, &mut images, large)?;
+    let found = follow_four(rt, alloc, heap, &mut session, &mut images, large)?;
     assert!(rt; session.changes() == images.changes());
     let (device, _, _) = session.close();
     assert!(rt; device.as_slice() == images.top());
     Ok(found)
 }
 
-/// The three commands in a heap of so many bytes, which all come back.
+/// The four commands in a heap of so many bytes, which all come back.
 fn in_heap(rt: &impl Abort, alloc: Global, bytes: usize, large: &str) -> Result<Outcome, Fail> {
     let heap = LocalHeap::new(alloc, bytes)?;
-    let found = three_in(rt, alloc, &heap, large)?;
+    let found = four_in(rt, alloc, &heap, large)?;
     assert!(rt; heap.used() == 0);
     Ok(found)
 }

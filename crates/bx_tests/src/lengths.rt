@@ -8,19 +8,29 @@ use std::alloc::Global;
 use std::process::Abort;
 use std::test::Fail;
 
-/// Writes so many bytes at 0 of 600 zeros, and takes it back.
+/// Writes so many bytes at 0 of 600 zeros, takes it back, makes it again and takes it back once more.
 fn write_and_undo(rt: &impl Abort, alloc: Global, digits: &str) -> Result<(), Fail> {
     let zeros = vec![in alloc; 0u8; 600]?;
+    let filled = vec![in alloc; b'Z'; digits.len() / 2]?;
     let image = MemImage::from_vec(zeros.as_slice().to_vec(alloc)?);
     let (mut session, _) = opened(alloc, (image, MemText::new(alloc), MemText::new(alloc)))?;
     let changed = Reply::Changed { number: 1 };
     assert_reply(rt, alloc, &mut session, Ask::Plain(digits, 0), changed)?;
     let undone = Reply::Undone { left: 0 };
     assert_reply(rt, alloc, &mut session, Ask::Undo(1), undone)?;
-    let (device, store, redo_text) = session.close();
+    let trio = session.close();
+    assert!(rt; trio.0.as_slice() == zeros.as_slice());
+    let (mut session, _) = opened(alloc, trio)?;
+    let redone = Reply::Redone { changes: 1 };
+    assert_reply(rt, alloc, &mut session, Ask::Redo(1), redone)?;
+    let trio = session.close();
+    assert!(rt; trio.0.as_slice().starts_with(filled.as_slice()));
+    assert!(rt; trio.2.as_slice().is_empty());
+    let (mut session, _) = opened(alloc, trio)?;
+    assert_reply(rt, alloc, &mut session, Ask::Undo(1), undone)?;
+    let (device, store, _) = session.close();
     assert!(rt; device.as_slice() == zeros.as_slice());
     assert!(rt; store.as_slice().is_empty());
-    assert!(rt; redo_text.as_slice().is_empty());
     Ok(())
 }
 

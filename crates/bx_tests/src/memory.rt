@@ -6,7 +6,7 @@ use bx_journal::{How, Recovered, Session, SessionFault};
 use bx_ration::{ALIGN, arena, squeeze, used};
 use bx_scripts::places::Trio;
 use bx_scripts::replies::copied;
-use bx_scripts::scripts::{OVERLAPPED, PATCHED, UNDONE_PATCH, UNDONE_TWO};
+use bx_scripts::scripts::{FIRST_PATCH, OVERLAPPED, PATCHED, UNDONE_GAP, UNDONE_PATCH, UNDONE_TWO};
 use bx_scripts::session::{Ask, command};
 use bx_store::MemText;
 use std::alloc::{AllocError, Global};
@@ -255,7 +255,7 @@ fn growths_of_an_undo(rt: HostRuntime) -> Result<(), Fail> {
         reply: Reply::Undone { left: 0 },
         left: b"ABCDEFGH",
     };
-    sweep_command(&rt, rt.alloc(), &undo, 3)?;
+    sweep_command(&rt, rt.alloc(), &undo, 6)?;
     // The image has to grow back.
     let cut = Case {
         image: b"A",
@@ -265,7 +265,39 @@ fn growths_of_an_undo(rt: HostRuntime) -> Result<(), Fail> {
         reply: Reply::Undone { left: 0 },
         left: b"A\0\0\0\0\0\0\0\0\0\0\0\0\0\0\0\0\0\0\0\0\0\0\0\0\0\0\0\0\0\0\0\0\0\0\0\0\0\0\0\0\0\0\0\0\0\0\0AB\0\0\0\0\0\0\0\0\0\0\0\0\0\0",
     };
-    sweep_command(&rt, rt.alloc(), &cut, 4)
+    sweep_command(&rt, rt.alloc(), &cut, 6)
+}
+
+#[test]
+fn growths_of_a_redo(rt: HostRuntime) -> Result<(), Fail> {
+    let redo = Case {
+        image: b"ABCDEFGH",
+        text: "",
+        redo: UNDONE_PATCH,
+        ask: Ask::Redo(1),
+        reply: Reply::Redone { changes: 1 },
+        left: b"ABxyEFGH",
+    };
+    sweep_command(&rt, rt.alloc(), &redo, 6)?;
+    let two = Case {
+        image: b"a",
+        text: FIRST_PATCH,
+        redo: UNDONE_TWO,
+        ask: Ask::Redo(2),
+        reply: Reply::Redone { changes: 3 },
+        left: b"c",
+    };
+    sweep_command(&rt, rt.alloc(), &two, 8)?;
+    // The image has to grow.
+    let gap = Case {
+        image: b"AB",
+        text: "",
+        redo: UNDONE_GAP,
+        ask: Ask::Redo(1),
+        reply: Reply::Redone { changes: 1 },
+        left: b"AB\0\0\0Z",
+    };
+    sweep_command(&rt, rt.alloc(), &gap, 5)
 }
 
 /// Opens a session and closes it, and tells what was found.

@@ -67,13 +67,14 @@ where
     Ok(())
 }
 
-// The input comes first, then the image, then the journal and the redo text; undo and log make no image and no journal, and
-// what was made is taken away where a later file is refused.
+// The input comes first, then the image, then the journal and the redo text; undo, redo and log make no image and no journal,
+// and what was made is taken away where a later file is refused.
 #[test]
 fn opens_in_order(rt: HostRuntime) -> Result<(), Fail> {
     let missing = Err(Fault::OpenFailed);
     ends(&rt, "xxd missing.file", missing)?;
     ends(&rt, "undo order.img", missing)?;
+    ends(&rt, "redo order.img", missing)?;
     ends(&rt, "log order.img", missing)?;
     ends(&rt, "revert -f missing.dump order.img", missing)?;
     is_missing(&rt, "order.img")?;
@@ -98,7 +99,7 @@ fn opens_in_order(rt: HostRuntime) -> Result<(), Fail> {
 #[test]
 fn redo_text_is_made(rt: HostRuntime) -> Result<(), Fail> {
     fs::write(&rt, "made.img", b"ABCD")?;
-    for line in ["undo made.img", "log made.img"] {
+    for line in ["undo made.img", "redo made.img", "log made.img"] {
         ends(&rt, line, Err(Fault::OpenFailed))?;
         is_missing(&rt, "made.img.bxj.redo")?;
     }
@@ -107,6 +108,7 @@ fn redo_text_is_made(rt: HostRuntime) -> Result<(), Fail> {
     let lines = [
         "log -J made.j made.img",
         "undo -k 0 -J made.j made.img",
+        "redo -k 0 -J made.j made.img",
         "revert -f made.dump -J made.j made.img",
         "dd if=made.dump of=made.img -J made.j",
     ];
@@ -138,6 +140,13 @@ fn patch_and_undo(rt: HostRuntime) -> Result<(), Fail> {
     ends(&rt, "undo patch.img", Ok(()))?;
     has_bytes(&rt, "patch.img", b"ABCDEFGH")?;
     has_len(&rt, "patch.img.bxj", 0)?;
+    has_len(&rt, "patch.img.bxj.redo", 134)?;
+    ends(&rt, "redo patch.img", Ok(()))?;
+    has_bytes(&rt, "patch.img", b"ABxyEFGH")?;
+    has_bytes(&rt, "patch.img.bxj", journal.as_bytes())?;
+    has_len(&rt, "patch.img.bxj.redo", 0)?;
+    let nothing = Fault::NothingToRedo { have: 0 };
+    ends(&rt, "redo patch.img", Err(nothing))?;
     remove(
         &rt,
         &[
@@ -252,6 +261,7 @@ fn two_sessions_at_once(rt: HostRuntime) -> Result<(), Fail> {
         "revert -f one.dump one.img",
         "dd if=one.dump of=one.img",
         "undo one.img",
+        "redo one.img",
         "log one.img",
         "revert -f one.dump -J other.bxj one.img",
         "revert -f one.dump -J one.img.bxj other.img",
@@ -293,6 +303,7 @@ fn one_file_by_two_names(rt: HostRuntime) -> Result<(), Fail> {
         "log -J one.hard one.img",
         "log -J one.soft one.img",
         "undo -J one.img one.soft",
+        "redo -J one.hard one.img",
         "undo -k 0 -J one.soft one.hard",
         "revert -f one.dump -J one.hard one.img",
         "dd if=one.dump of=one.img -J one.soft",
@@ -317,6 +328,7 @@ fn only_files_are_changed(rt: HostRuntime) -> Result<(), Fail> {
         "revert -f one.dump one.dir",
         "dd if=one.dump of=one.dir -J other.bxj",
         "undo -J one.img.bxj one.dir",
+        "redo -J one.img.bxj one.dir",
         "log -J one.img.bxj /dev/null",
         "dd if=one.dump of=/dev/null -J other.bxj",
         "revert -f one.dump -J one.dir one.img",
@@ -356,7 +368,11 @@ fn only_files_of_their_own_are_redo_texts(rt: HostRuntime) -> Result<(), Fail> {
     }
     symlink(&rt, "soft", "own.redo")?;
     fs::hard_link(&rt, "soft", "own")?;
-    let lines = ["log -J own one.img", "undo -J own one.img"];
+    let lines = [
+        "log -J own one.img",
+        "undo -J own one.img",
+        "redo -J own one.img",
+    ];
     are_refused(&rt, &lines, b"ABxyEFGH", STOPPED)?;
     has_bytes(&rt, "soft", STOPPED)?;
     fs::remove_dir(&rt, "dir.redo")?;
@@ -386,6 +402,7 @@ where
     let lines = [
         "log none.img",
         "undo -k 0 none.img",
+        "redo -k 0 none.img",
         "revert -f none.dump none.img",
         "dd if=none.dump of=none.img",
     ];

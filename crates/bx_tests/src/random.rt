@@ -1,4 +1,4 @@
-//! A long run of random commands, against a plain list of images.
+//! A long run of random commands, against plain lists of images.
 use crate::asserts::assert_reply;
 use crate::copies::copy;
 use crate::play::reopened;
@@ -95,15 +95,22 @@ fn undo<D: Device, T: TextStore>(
     images: &mut Images,
     session: &mut Session<D, T>,
 ) -> Result<(), Fail> {
-    let have = images.changes();
     let k = dice.roll(4).saturating_add(dice.roll(2) * dice.roll(4));
-    let expected = if images.undo(k) {
-        let left = images.changes();
-        Reply::Undone { left }
-    } else {
-        Reply::Refused(Fault::TooFew { have })
-    };
+    let expected = images.reply_to_undo(k)?;
     assert_reply(rt, alloc, session, Ask::Undo(k), expected)
+}
+
+/// A redo of some changes, at times of more than are undone.
+fn redo<D: Device, T: TextStore>(
+    rt: &impl Abort,
+    alloc: Global,
+    dice: &mut Dice,
+    images: &mut Images,
+    session: &mut Session<D, T>,
+) -> Result<(), Fail> {
+    let j = dice.roll(4);
+    let expected = images.reply_to_redo(j)?;
+    assert_reply(rt, alloc, session, Ask::Redo(j), expected)
 }
 
 /// A dump whose second line is bad.
@@ -126,16 +133,17 @@ fn one<D: Device, T: TextStore>(
     images: &mut Images,
     session: &mut Session<D, T>,
 ) -> Result<(), Fail> {
-    match dice.roll(13) {
-        0..=3 => revert(rt, alloc, dice, images, session),
-        4..=5 => plain(rt, alloc, dice, images, session),
-        6..=8 => undo(rt, alloc, dice, images, session),
-        9..=11 => copy(rt, alloc, dice, images, session),
+    match dice.roll(19) {
+        0..=2 => revert(rt, alloc, dice, images, session),
+        3..=4 => plain(rt, alloc, dice, images, session),
+        5..=9 => undo(rt, alloc, dice, images, session),
+        10..=14 => redo(rt, alloc, dice, images, session),
+        15..=17 => copy(rt, alloc, dice, images, session),
         _ => faulty(rt, alloc, dice, session),
     }
 }
 
-/// Takes the changes back one by one, down to the first image.
+/// Takes the changes back one by one, down to the first image, and makes all again at once.
 fn unwind<D: Device + Drop, T: TextStore + Drop, P: Place<D, T>>(
     rt: &impl Abort,
     alloc: Global,
@@ -145,20 +153,15 @@ fn unwind<D: Device + Drop, T: TextStore + Drop, P: Place<D, T>>(
 ) -> Result<(), Fail> {
     let mut session = session;
     for _ in 0..images.changes() {
-        let _ = images.undo(1);
-        let left = images.changes();
-        let undone = Reply::Undone { left };
+        let undone = images.reply_to_undo(1)?;
         assert_reply(rt, alloc, &mut session, Ask::Undo(1), undone)?;
         session = reopened(rt, alloc, place, session, images.top(), (None, None))?;
     }
-    let _session = reopened(
-        rt,
-        alloc,
-        place,
-        session,
-        images.top(),
-        (Some(b""), Some(b"")),
-    )?;
+    session = reopened(rt, alloc, place, session, images.top(), (Some(b""), None))?;
+    let all = images.undone();
+    let redone = images.reply_to_redo(all)?;
+    assert_reply(rt, alloc, &mut session, Ask::Redo(all), redone)?;
+    let _session = reopened(rt, alloc, place, session, images.top(), (None, Some(b"")))?;
     Ok(())
 }
 
@@ -175,6 +178,7 @@ fn run_long<D: Device + Drop, T: TextStore + Drop, P: Place<D, T>>(
     for _ in 0..COMMANDS {
         one(rt, alloc, &mut dice, &mut images, &mut session)?;
         assert_eq!(rt; session.changes(), images.changes());
+        assert_eq!(rt; session.undone(), images.undone());
         if dice.roll(3) == 0 {
             session = reopened(rt, alloc, place, session, images.top(), (None, None))?;
         }

@@ -1,5 +1,5 @@
 //! Texts that are damaged, cut off, or told of another image.
-use crate::journal::script::assert_run;
+use crate::journal::script::{Bytes, assert_run};
 use crate::journal::tools::PATCHED;
 use bx_journal::{How, Recovered, SessionFault};
 use std::fs::File;
@@ -18,8 +18,8 @@ fn assert_refused<R>(
 where
     R: Files<File = File> + AllocGlobal + Abort,
 {
-    let pair = (image, journal);
-    assert_run(rt, name, pair, Err(fault), &[], pair)
+    let bytes: Bytes<'_> = (image, journal, b"");
+    assert_run(rt, name, bytes, Err(fault), &[], bytes)
 }
 
 /// Opening leaves this image and no journal.
@@ -38,8 +38,8 @@ where
         changes: 0,
         undone: 0,
     });
-    let name = "assert_recovers";
-    assert_run(rt, name, (bytes, journal), found, &[], (image, b""))
+    let (start, end): (Bytes<'_>, Bytes<'_>) = ((bytes, journal, b""), (image, b"", b""));
+    assert_run(rt, "assert_recovers", start, found, &[], end)
 }
 
 #[test]

@@ -1,7 +1,7 @@
 //! Devices that fail on purpose.
 use crate::journal::script::{
     Held, Step, assert_held, assert_pair, clean, clean_with, held_of, on_memory, pair_of, sit,
-    writes,
+    undoes, writes,
 };
 use crate::journal::tools::{PATCHED, UNDONE, image, text};
 use crate::shared::front;
@@ -82,11 +82,12 @@ fn reopened(
     left: &Held,
     how: How,
     changes: u32,
+    undone: u32,
 ) -> Result<Held, Fail> {
     let found = Recovered {
         how,
         changes,
-        undone: 0,
+        undone,
     };
     on_memory(alloc, rt, left, Ok(found), &[])
 }
@@ -99,7 +100,7 @@ fn assert_found(
     found: (How, u32),
     end: (&[u8], &[u8]),
 ) -> Result<(), Fail> {
-    let opened = reopened(alloc, rt, left, found.0, found.1)?;
+    let opened = reopened(alloc, rt, left, found.0, found.1, 0)?;
     assert_pair(rt, &opened, end.0, end.1);
     Ok(())
 }
@@ -159,7 +160,8 @@ fn stopped(alloc: Global, rt: &impl Abort, pass: u64) -> Result<Held, Fail> {
     with_text(alloc, rt, three.image.as_slice(), fused, clean(3), &[undo])
 }
 
-// Opening finds so many changes and leaves this image, where the undo stopped at a cut.
+// Opening finds so many changes, of three in all, and leaves this image, where the undo stopped at a cut. The other ones are
+// undone, unless something was recovered.
 fn assert_stopped(
     alloc: Global,
     rt: &impl Abort,
@@ -169,7 +171,8 @@ fn assert_stopped(
     image: &[u8],
 ) -> Result<(), Fail> {
     let left = stopped(alloc, rt, pass)?;
-    let opened = reopened(alloc, rt, &left, how, changes)?;
+    let undone = if how == How::Clean { 1 } else { 0 };
+    let opened = reopened(alloc, rt, &left, how, changes, undone)?;
     assert!(rt; opened.image.as_slice() == image);
     Ok(())
 }
@@ -245,7 +248,10 @@ fn reads_fail_first(rt: HostRuntime) -> Result<(), Fail> {
     text_read_fails(rt.alloc(), &rt)?;
     redo_read_fails(rt.alloc(), &rt)?;
     length_read_fails(rt.alloc(), &rt, 0)?;
-    length_read_fails(rt.alloc(), &rt, 1)
+    length_read_fails(rt.alloc(), &rt, 1)?;
+    let start = half_undone(rt.alloc(), &rt)?;
+    later_read_fails(rt.alloc(), &rt, &start, false)?;
+    later_read_fails(rt.alloc(), &rt, &start, true)
 }
 
 fn image_read_fails(alloc: Global, rt: &impl Abort) -> Result<(), Fail> {
@@ -287,6 +293,80 @@ fn length_read_fails(alloc: Global, rt: &impl Abort, pass: u64) -> Result<(), Fa
     let refused = Err(SessionFault::DeviceFailed);
     let left = with_image(alloc, rt, fused, PATCHED, UNDONE, refused, &[])?;
     assert_held(rt, &left, b"ABxyEFGH", PATCHED, UNDONE);
+    Ok(())
+}
+
+// Four patches, of which two are taken back.
+fn half_undone(alloc: Global, rt: &impl Abort) -> Result<Held, Fail> {
+    let start = pair_of(alloc, b"A", b"")?;
+    let steps = [
+        writes(0, b"a", 1),
+        writes(0, b"b", 2),
+        writes(0, b"c", 3),
+        writes(0, b"d", 4),
+        undoes(2, 2),
+    ];
+    on_memory(alloc, rt, &start, clean(0), &steps)
+}
+
+/// What a session leaves whose image, journal and redo text pass so many reads each.
+fn with_reads(
+    alloc: Global,
+    rt: &impl Abort,
+    start: &Held,
+    passes: (u64, u64, u64),
+    step: Step<'_>,
+) -> Result<Held, Fail> {
+    let image = FuseImage::on_reads(image(alloc, start.image.as_slice())?, passes.0);
+    let journal = FuseText::on_reads(text(alloc, start.journal.as_slice())?, passes.1);
+    let redo_text = FuseText::on_reads(text(alloc, start.redo.as_slice())?, passes.2);
+    let trio = (image, journal, redo_text);
+    let (image, journal, redo_text) = sit(alloc, rt, trio, clean_with(2, 2), &[step])?;
+    let (image, journal) = (image.into_inner(), journal.into_inner());
+    let redo_text = redo_text.into_inner();
+    Ok(held_of(
+        alloc,
+        image.as_slice(),
+        journal.as_slice(),
+        redo_text.as_slice(),
+    )?)
+}
+
+// An undo or a redo of two.
+fn two(is_redo: bool, answer: Result<u32, SessionFault>) -> Step<'static> {
+    let count = 2;
+    if is_redo {
+        Step::Redo { count, answer }
+    } else {
+        Step::Undo { count, answer }
+    }
+}
+
+// The text that is moved from is read, then the lengths of the image and of the other text, then the bytes that will be
+// overwritten: each is refused, and changes nothing. Between the two changes the image is read again. Opening asked for the
+// image's length twice, and read both texts.
+fn later_read_fails(
+    alloc: Global,
+    rt: &impl Abort,
+    start: &Held,
+    is_redo: bool,
+) -> Result<(), Fail> {
+    const NONE: u64 = u64::MAX;
+    let refused = two(is_redo, FAILED);
+    for passes in [
+        (2, NONE, NONE),
+        (3, NONE, NONE),
+        (NONE, 1, NONE),
+        (NONE, NONE, 1),
+    ] {
+        let left = with_reads(alloc, rt, start, passes, refused)?;
+        let (image, journal) = (start.image.as_slice(), start.journal.as_slice());
+        assert_held(rt, &left, image, journal, start.redo.as_slice());
+    }
+    let left = with_reads(alloc, rt, start, (4, 2, 2), two(is_redo, INTERRUPTED))?;
+    let (changes, undone, all) = if is_redo { (3, 1, 4) } else { (1, 3, 0) };
+    let _opened = reopened(alloc, rt, &left, How::Clean, changes, undone)?;
+    let _whole = with_reads(alloc, rt, start, (5, 2, 2), two(is_redo, Ok(all)))?;
     Ok(())
 }
 

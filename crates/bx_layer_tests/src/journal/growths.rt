@@ -12,7 +12,7 @@ use std::alloc::{AllocError, Global};
 use std::process::Abort;
 use std::test::Fail;
 
-const MOST_WORDS: usize = 200;
+const MOST_WORDS: usize = 600;
 
 /// The call whose growth was refused.
 #[derive(Clone, Copy)]
@@ -22,6 +22,7 @@ enum Refused {
     Changing,
     Listing,
     Undoing,
+    Redoing,
     None,
 }
 
@@ -117,7 +118,24 @@ fn undoing<'a>(
     Ok(true)
 }
 
-// Opens, changes, lists and undoes with memory for some of it. What is refused changes nothing.
+// Makes all changes again; tells whether it was refused.
+fn redoing<'a>(
+    rt: &impl Abort,
+    bump: &'a Bump,
+    session: &mut Arena<'a>,
+    all: u32,
+) -> Result<bool, Fail> {
+    let Err(fault) = session.redo(all) else {
+        return Ok(false);
+    };
+    assert!(rt; is_no_memory(fault));
+    assert_rows(rt, bump, session, 0)?;
+    assert!(rt; session.undone() == all);
+    assert!(rt; session.redo(all)? == all);
+    Ok(true)
+}
+
+// Opens, changes, lists, undoes and makes again with memory for some of it. What is refused changes nothing.
 fn run<'a>(rt: &impl Abort, alloc: Global, bump: &'a Bump) -> Result<Refused, Fail> {
     let Some(mut session) = opening(rt, alloc, bump)? else {
         return Ok(Refused::Opening);
@@ -134,6 +152,9 @@ fn run<'a>(rt: &impl Abort, alloc: Global, bump: &'a Bump) -> Result<Refused, Fa
     if undoing(rt, bump, &mut session, 2)? {
         return Ok(Refused::Undoing);
     }
+    if redoing(rt, bump, &mut session, 2)? {
+        return Ok(Refused::Redoing);
+    }
     Ok(Refused::None)
 }
 
@@ -142,26 +163,29 @@ fn growths_refused_in_turn(rt: HostRuntime) -> Result<(), Fail> {
     let mut opening = 0u32;
     let mut changing = 0u32;
     let mut later = 0u32;
+    let mut redoing = 0u32;
     for words in 0..MOST_WORDS {
         let bump = ration(rt.alloc(), words * 8)?;
         match run(&rt, rt.alloc(), &bump)? {
             Refused::Opening => opening = opening.saturating_add(1),
             Refused::Changing => changing = changing.saturating_add(1),
             Refused::Listing | Refused::Undoing => later = later.saturating_add(1),
+            Refused::Redoing => redoing = redoing.saturating_add(1),
             Refused::Building | Refused::None => {}
         }
     }
     println!(rt; "{opening} of opening, {changing} of changing, {later} of listing and undoing")?;
-    assert!(rt; opening > 0 && changing > 0 && later > 0);
+    println!(rt; "{redoing} of making again")?;
+    assert!(rt; opening > 0 && changing > 0 && later > 0 && redoing > 0);
     Ok(())
 }
 
-// The image before the one change of the test below, and no texts.
-fn assert_first(rt: &impl Abort, session: Arena<'_>) {
+// The image before the one change of the test below, no journal, and a redo text as long as the journal was.
+fn assert_first(rt: &impl Abort, session: Arena<'_>, changed: &Held) {
     let (device, store, redo_text) = session.close();
     assert_bytes(rt, device.as_slice(), &[b'A'; 160]);
     assert_bytes(rt, store.as_slice(), b"");
-    assert_bytes(rt, redo_text.as_slice(), b"");
+    assert!(rt; redo_text.as_slice().len() == changed.journal.len());
 }
 
 // Opens a pair of one change and undoes that, with so much memory. Tells whether undoing was refused.
@@ -174,7 +198,7 @@ fn undoing_one(rt: &impl Abort, alloc: Global, bytes: usize, changed: &Held) -> 
     };
     let refused = undoing(rt, &bump, &mut session, 1)?;
     if refused {
-        assert_first(rt, session);
+        assert_first(rt, session, changed);
     }
     Ok(refused)
 }
@@ -185,7 +209,7 @@ fn growths_of_a_long_run(rt: HostRuntime) -> Result<(), Fail> {
     let steps = [writes(0, &[b'y'; 160], 1)];
     let changed = on_memory(rt.alloc(), &rt, &start, clean(0), &steps)?;
     let mut refused = 0u32;
-    for words in 0..2 * MOST_WORDS {
+    for words in 0..MOST_WORDS {
         if undoing_one(&rt, rt.alloc(), words * 8, &changed)? {
             refused = refused.saturating_add(1);
         }

@@ -1,6 +1,11 @@
 //! Redo texts that opening finds beside an image and a journal.
-use crate::journal::script::{Step, assert_held, clean_with, held_of, on_both, on_memory, writes};
-use crate::journal::tools::{PATCHED, PATCHED_FIRST, UNDONE, entries_of_nothing};
+use crate::journal::script::{
+    Bytes, Step, assert_held, assert_run, clean_with, held_of, on_both, on_memory, redoes, undoes,
+    writes,
+};
+use crate::journal::tools::{
+    ONE, PATCHED, PATCHED_FIRST, UNDONE, UNDONE_GAP, UNDONE_TWO, entries_of_nothing,
+};
 use crate::shared::front;
 use bx_journal::{How, Recovered, SessionFault};
 use std::alloc::{AllocError, Global};
@@ -9,18 +14,6 @@ use std::process::Abort;
 use std::rt::Files;
 use std::test::Fail;
 
-// The journal of one byte at 0 of `A`.
-const ONE: &[u8] =
-    b"change2 00000001 0000000000000001\n00000000: 41                                       A\nsave 00000001\ndone2 00000001 0000000000000001\n";
-
-// The redo text of two patches at 0, once they are taken back from `c` to `a`.
-const UNDONE_TWO: &[u8] =
-    b"change2 00000001 0000000000000001\n00000000: 63                                       c\nsave 00000001\ndone2 00000001 0000000000000001\nchange2 00000002 0000000000000001\n00000000: 62                                       b\nsave 00000002\ndone2 00000002 0000000000000001\n";
-
-// The redo text of a byte at 5 of `AB`, once it is taken back.
-const UNDONE_GAP: &[u8] =
-    b"change2 00000001 0000000000000006\n00000002: 0000 005a                                ...Z\nsave 00000001\ndone2 00000001 0000000000000002\n";
-
 // An entry of the first form behind one of the second.
 const SECOND_THEN_FIRST: &[u8] =
     b"change2 00000001 0000000000000001\nsave 00000001\ndone2 00000001 0000000000000001\nchange 00000002 00000001\nsave 00000002\ndone 00000002\n";
@@ -28,9 +21,6 @@ const SECOND_THEN_FIRST: &[u8] =
 // The second entry of the journal of a patch, of one byte at 0.
 const SECOND: &[u8] =
     b"change2 00000002 0000000000000008\n00000000: 41                                       A\nsave 00000002\ndone2 00000002 0000000000000008\n";
-
-// An image, its journal and its redo text.
-type Bytes<'a> = (&'a [u8], &'a [u8], &'a [u8]);
 
 // Opening answers this, and changes nothing.
 fn assert_opens<R>(
@@ -229,49 +219,49 @@ fn redo_text_of_too_many(rt: HostRuntime) -> Result<(), Fail> {
     assert_counted(&rt, journal.as_slice(), full.as_slice(), last)
 }
 
-// A call on a patched image with its redo text: the redo text is then so, and image and journal are as they were or as they have
-// to be.
+// The redo text of the patch, with the patch below it taken back too.
+const UNDONE_BOTH: &[u8] =
+    b"change2 00000001 0000000000000008\n00000002: 7879                                     xy\nsave 00000001\ndone2 00000001 0000000000000008\nchange2 00000002 0000000000000008\n00000002: 7879                                     xy\nsave 00000002\ndone2 00000002 0000000000000008\n";
+
+// A call on a patched image with its redo text: the three are then so.
 fn assert_call<R>(rt: &R, name: &str, step: Step<'_>, left: Bytes<'_>) -> Result<(), Fail>
 where
     R: Files<File = File> + AllocGlobal + Abort,
 {
-    let start = held_of(rt.alloc(), b"ABxyEFGH", PATCHED, UNDONE)?;
-    let held = on_both(rt, name, &start, clean_with(1, 1), &[step])?;
-    assert_held(rt, &held, left.0, left.1, left.2);
-    Ok(())
+    let start: Bytes<'_> = (b"ABxyEFGH", PATCHED, UNDONE);
+    assert_run(rt, name, start, clean_with(1, 1), &[step], left)
 }
 
+// What is refused and what is made of none leaves the redo text. An undo adds to it, and a change empties it.
 #[test]
 fn redo_text_kept_and_emptied(rt: HostRuntime) -> Result<(), Fail> {
     let name = "redo_text_kept_and_emptied";
     let same: Bytes<'_> = (b"ABxyEFGH", PATCHED, UNDONE);
     assert_call(&rt, name, Step::List { rows: 1 }, same)?;
-    let count = 0;
-    assert_call(
-        &rt,
-        name,
-        Step::Undo {
-            count,
-            answer: Ok(1),
-        },
-        same,
-    )?;
+    assert_call(&rt, name, undoes(0, 1), same)?;
+    assert_call(&rt, name, redoes(0, 1), same)?;
     let count = 2;
     let answer = Err(SessionFault::TooFew { have: 1 });
     assert_call(&rt, name, Step::Undo { count, answer }, same)?;
-    let count = 1;
-    let undone: Bytes<'_> = (b"ABCDEFGH", b"", b"");
-    assert_call(
-        &rt,
-        name,
-        Step::Undo {
-            count,
-            answer: Ok(0),
-        },
-        undone,
-    )?;
+    let answer = Err(SessionFault::NothingToRedo { have: 1 });
+    assert_call(&rt, name, Step::Redo { count, answer }, same)?;
+    let undone: Bytes<'_> = (b"ABCDEFGH", b"", UNDONE_BOTH);
+    assert_call(&rt, name, undoes(1, 0), undone)?;
     let mut journal = PATCHED.to_vec(rt.alloc())?;
     journal.extend_from_slice(SECOND)?;
     let changed: Bytes<'_> = (b"ZBxyEFGH", journal.as_slice(), b"");
     assert_call(&rt, name, writes(0, b"Z", 2), changed)
+}
+
+// An entry of the first form comes back as one of the second.
+#[test]
+fn undo_of_first_form(rt: HostRuntime) -> Result<(), Fail> {
+    let name = "undo_of_first_form";
+    let first: Bytes<'_> = (b"ABxyEFGH", PATCHED_FIRST, b"");
+    let undone: Bytes<'_> = (b"ABCDEFGH", b"", UNDONE);
+    let second: Bytes<'_> = (b"ABxyEFGH", PATCHED, b"");
+    assert_run(&rt, name, first, clean_with(1, 0), &[undoes(1, 0)], undone)?;
+    assert_run(&rt, name, undone, clean_with(0, 1), &[redoes(1, 1)], second)?;
+    let steps = [undoes(1, 0), redoes(1, 1)];
+    assert_run(&rt, name, first, clean_with(1, 0), &steps, second)
 }

@@ -1,7 +1,10 @@
 //! Changes, undoing and opening, over memory and over files.
-use crate::journal::script::{Step, assert_pair, assert_run, clean, on_both, pair_of, writes};
+use crate::journal::script::{
+    Bytes, Held, Step, assert_held, assert_run, clean, clean_with, on_both, pair_of, redoes,
+    undoes, writes,
+};
 use crate::journal::tools::{
-    PATCHED, PATCHED_FIRST, UNDONE, entries_of_nothing, nothing, open, over, text,
+    PATCHED, PATCHED_FIRST, UNDONE, UNDONE_GAP, entries_of_nothing, nothing, open, over, text,
 };
 use crate::shared::assert_bytes;
 use bumpalo::Bump;
@@ -11,21 +14,23 @@ use bx_ration::ration;
 use std::process::Abort;
 use std::test::Fail;
 
-fn undoes(count: u32, left: u32) -> Step<'static> {
-    Step::Undo {
-        count,
-        answer: Ok(left),
-    }
-}
-
 #[test]
 fn patch_and_undo(rt: HostRuntime) -> Result<(), Fail> {
     let name = "patch_and_undo";
     assert_eq!(rt; PATCHED.len(), 134);
-    let first: (&[u8], &[u8]) = (b"ABCDEFGH", b"");
-    let patched: (&[u8], &[u8]) = (b"ABxyEFGH", PATCHED);
+    let first: Bytes<'_> = (b"ABCDEFGH", b"", b"");
+    let patched: Bytes<'_> = (b"ABxyEFGH", PATCHED, b"");
+    let undone: Bytes<'_> = (b"ABCDEFGH", b"", UNDONE);
     assert_run(&rt, name, first, clean(0), &[writes(2, b"xy", 1)], patched)?;
-    assert_run(&rt, name, patched, clean(1), &[undoes(1, 0)], first)
+    assert_run(&rt, name, patched, clean(1), &[undoes(1, 0)], undone)?;
+    assert_run(
+        &rt,
+        name,
+        undone,
+        clean_with(0, 1),
+        &[redoes(1, 1)],
+        patched,
+    )
 }
 
 // The row of the patch.
@@ -51,10 +56,12 @@ fn gap_and_undo(rt: HostRuntime) -> Result<(), Fail> {
     let name = "gap_and_undo";
     let journal =
         b"change2 00000001 0000000000000002\nsave 00000001\ndone2 00000001 0000000000000006\n";
-    let first: (&[u8], &[u8]) = (b"AB", b"");
-    let grown: (&[u8], &[u8]) = (b"AB\0\0\0Z", journal);
+    let first: Bytes<'_> = (b"AB", b"", b"");
+    let grown: Bytes<'_> = (b"AB\0\0\0Z", journal, b"");
+    let undone: Bytes<'_> = (b"AB", b"", UNDONE_GAP);
     assert_run(&rt, name, first, clean(0), &[writes(5, b"Z", 1)], grown)?;
-    assert_run(&rt, name, grown, clean(1), &[undoes(1, 0)], first)
+    assert_run(&rt, name, grown, clean(1), &[undoes(1, 0)], undone)?;
+    assert_run(&rt, name, undone, clean_with(0, 1), &[redoes(1, 1)], grown)
 }
 
 #[test]
@@ -70,6 +77,17 @@ fn three_patches_reopened(rt: HostRuntime) -> Result<(), Fail> {
     Ok(())
 }
 
+// The same bytes.
+fn assert_same(rt: &impl Abort, held: &Held, other: &Held) {
+    assert_held(
+        rt,
+        held,
+        other.image.as_slice(),
+        other.journal.as_slice(),
+        other.redo.as_slice(),
+    );
+}
+
 #[test]
 fn long_runs_and_undo(rt: HostRuntime) -> Result<(), Fail> {
     let name = "long_runs_and_undo";
@@ -79,7 +97,11 @@ fn long_runs_and_undo(rt: HostRuntime) -> Result<(), Fail> {
     assert_eq!(rt; changed.journal.len(), 1304);
     let steps = [Step::List { rows: 2 }, undoes(1, 1), undoes(1, 0)];
     let undone = on_both(&rt, name, &changed, clean(2), &steps)?;
-    assert_pair(&rt, &undone, &[b'A'; 160], b"");
+    assert!(rt; undone.image.as_slice() == [b'A'; 160].as_slice());
+    assert!(rt; undone.journal.is_empty() && undone.redo.len() == 1304);
+    let steps = [redoes(1, 1), redoes(1, 2)];
+    let again = on_both(&rt, name, &undone, clean_with(0, 2), &steps)?;
+    assert_same(&rt, &again, &changed);
     Ok(())
 }
 
@@ -87,12 +109,17 @@ fn long_runs_and_undo(rt: HostRuntime) -> Result<(), Fail> {
 const SHORT_WITHIN: &[u8] =
     b"change2 00000001 0000000000000038\n00000000: 4141 4141 4141 4141 4141 4141 4141 4141  AAAAAAAAAAAAAAAA\n00000010: 4141 4141 4141 4141                      AAAAAAAA\n00000018: 4141 4141 4141 4141 4141 4141 4141 4141  AAAAAAAAAAAAAAAA\n00000028: 4141 4141 4141 4141 4141 4141 4141 4141  AAAAAAAAAAAAAAAA\nsave 00000001\ndone2 00000001 0000000000000038\n";
 
+// The redo text of that change, once it is taken back.
+const UNDONE_RUN: &[u8] =
+    b"change2 00000001 0000000000000038\n00000000: 4242 4242 4242 4242 4242 4242 4242 4242  BBBBBBBBBBBBBBBB\n00000010: 4242 4242 4242 4242 4242 4242 4242 4242  BBBBBBBBBBBBBBBB\n00000020: 4242 4242 4242 4242 4242 4242 4242 4242  BBBBBBBBBBBBBBBB\n00000030: 4242 4242 4242 4242                      BBBBBBBB\nsave 00000001\ndone2 00000001 0000000000000038\n";
+
 #[test]
 fn short_line_within_a_run(rt: HostRuntime) -> Result<(), Fail> {
     let name = "short_line_within_a_run";
-    let changed: (&[u8], &[u8]) = (&[b'B'; 56], SHORT_WITHIN);
+    let changed: Bytes<'_> = (&[b'B'; 56], SHORT_WITHIN, b"");
+    let undone: Bytes<'_> = (&[b'A'; 56], b"", UNDONE_RUN);
     let steps = [Step::List { rows: 1 }, undoes(1, 0)];
-    assert_run(&rt, name, changed, clean(1), &steps, (&[b'A'; 56], b""))
+    assert_run(&rt, name, changed, clean(1), &steps, undone)
 }
 
 #[test]
@@ -102,7 +129,7 @@ fn too_many_undos(rt: HostRuntime) -> Result<(), Fail> {
         answer: Err(SessionFault::TooFew { have: 1 }),
     };
     let steps = [refused, undoes(0, 1)];
-    let patched: (&[u8], &[u8]) = (b"ABxyEFGH", PATCHED);
+    let patched: Bytes<'_> = (b"ABxyEFGH", PATCHED, b"");
     assert_run(&rt, "too_many_undos", patched, clean(1), &steps, patched)
 }
 
@@ -113,7 +140,11 @@ fn old_journal_under_new_entry(rt: HostRuntime) -> Result<(), Fail> {
     let changed = on_both(&rt, name, &start, clean(1), &[writes(0, b"Z", 2)])?;
     assert_eq!(rt; changed.journal.len(), 240);
     let undone = on_both(&rt, name, &changed, clean(2), &[undoes(2, 0)])?;
-    assert_pair(&rt, &undone, b"ABCDEFGH", b"");
+    assert!(rt; undone.image.as_slice() == b"ABCDEFGH".as_slice());
+    assert!(rt; undone.journal.is_empty() && undone.redo.len() == 267);
+    let again = on_both(&rt, name, &undone, clean_with(0, 2), &[redoes(2, 2)])?;
+    assert!(rt; again.image.as_slice() == b"ZBxyEFGH".as_slice());
+    assert!(rt; again.journal.len() == 267 && again.redo.is_empty());
     Ok(())
 }
 
@@ -121,15 +152,15 @@ fn old_journal_under_new_entry(rt: HostRuntime) -> Result<(), Fail> {
 fn old_form_grows_image_on_undo(rt: HostRuntime) -> Result<(), Fail> {
     let name = "old_form_grows_image_on_undo";
     let journal = b"change 00000001 00000005\nsave 00000001\ndone 00000001\n";
-    let grown: (&[u8], &[u8]) = (b"AB\0\0\0", b"");
-    assert_run(
-        &rt,
-        name,
-        (b"AB", journal),
-        clean(1),
-        &[undoes(1, 0)],
-        grown,
-    )
+    let redo =
+        b"change2 00000001 0000000000000002\nsave 00000001\ndone2 00000001 0000000000000005\n";
+    let cut: Bytes<'_> = (b"AB", journal, b"");
+    let grown: Bytes<'_> = (b"AB\0\0\0", b"", redo);
+    assert_run(&rt, name, cut, clean(1), &[undoes(1, 0)], grown)?;
+    let journal =
+        b"change2 00000001 0000000000000005\n00000002: 0000 00                                  ...\nsave 00000001\ndone2 00000001 0000000000000002\n";
+    let again: Bytes<'_> = (b"AB", journal, b"");
+    assert_run(&rt, name, grown, clean_with(0, 1), &[redoes(1, 1)], again)
 }
 
 // Opens a pair that is to be refused for want of memory, with the image in an arena of a few bytes.

@@ -21,6 +21,10 @@ pub enum Step<'a> {
         count: u32,
         answer: Result<u32, SessionFault>,
     },
+    Redo {
+        count: u32,
+        answer: Result<u32, SessionFault>,
+    },
     /// The list of changes has so many rows.
     List {
         rows: u32,
@@ -35,6 +39,25 @@ pub fn writes(at: u64, bytes: &[u8], number: u32) -> Step<'_> {
         answer: Ok(number),
     }
 }
+
+/// An undo of so many changes, which leaves so many.
+pub fn undoes(count: u32, left: u32) -> Step<'static> {
+    Step::Undo {
+        count,
+        answer: Ok(left),
+    }
+}
+
+/// A redo of so many changes, behind which so many stand.
+pub fn redoes(count: u32, changes: u32) -> Step<'static> {
+    Step::Redo {
+        count,
+        answer: Ok(changes),
+    }
+}
+
+/// The bytes of an image, of its journal and of its redo text, which a test compares with.
+pub type Bytes<'a> = (&'a [u8], &'a [u8], &'a [u8]);
 
 /// The bytes of an image, of its journal and of its redo text.
 #[derive(Drop)]
@@ -100,6 +123,7 @@ fn is_right<D: Device, T: TextStore>(
             Ok(session.perform(&write(alloc, at, bytes)?) == answer)
         }
         Step::Undo { count, answer } => Ok(session.undo(count) == answer),
+        Step::Redo { count, answer } => Ok(session.redo(count) == answer),
         Step::List { rows } => {
             let listed = session.log()?.len();
             Ok(session.changes() == rows && listed == rows as usize)
@@ -240,20 +264,20 @@ where
     Ok(left)
 }
 
-/// The session over both, from these bytes to those, with nothing undone.
+/// The session over both, from these bytes to those.
 pub fn assert_run<R>(
     rt: &R,
     name: &str,
-    start: (&[u8], &[u8]),
+    start: Bytes<'_>,
     found: Result<Recovered, SessionFault>,
     steps: &[Step<'_>],
-    end: (&[u8], &[u8]),
+    end: Bytes<'_>,
 ) -> Result<(), Fail>
 where
     R: Files<File = File> + AllocGlobal + Abort,
 {
-    let start = pair_of(rt.alloc(), start.0, start.1)?;
+    let start = held_of(rt.alloc(), start.0, start.1, start.2)?;
     let left = on_both(rt, name, &start, found, steps)?;
-    assert_pair(rt, &left, end.0, end.1);
+    assert_held(rt, &left, end.0, end.1, end.2);
     Ok(())
 }

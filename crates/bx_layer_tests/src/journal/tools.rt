@@ -21,6 +21,18 @@ pub const PATCHED_FIRST: &[u8] =
 pub const UNDONE: &[u8] =
     b"change2 00000001 0000000000000008\n00000002: 7879                                     xy\nsave 00000001\ndone2 00000001 0000000000000008\n";
 
+/// The journal of one byte at 0 of `A`.
+pub const ONE: &[u8] =
+    b"change2 00000001 0000000000000001\n00000000: 41                                       A\nsave 00000001\ndone2 00000001 0000000000000001\n";
+
+/// The redo text of two patches at 0, once they are taken back from `c` to `a`.
+pub const UNDONE_TWO: &[u8] =
+    b"change2 00000001 0000000000000001\n00000000: 63                                       c\nsave 00000001\ndone2 00000001 0000000000000001\nchange2 00000002 0000000000000001\n00000000: 62                                       b\nsave 00000002\ndone2 00000002 0000000000000001\n";
+
+/// The redo text of a byte at 5 of `AB`, once it is taken back.
+pub const UNDONE_GAP: &[u8] =
+    b"change2 00000001 0000000000000006\n00000002: 0000 005a                                ...Z\nsave 00000001\ndone2 00000001 0000000000000002\n";
+
 /// A change of one write.
 pub fn write(alloc: Global, at: u64, bytes: &[u8]) -> Result<Change, AllocError> {
     let bytes = Bytes::from_vec(bytes.to_vec(alloc)?);

@@ -7,7 +7,8 @@ returns-in-Ok g c =
     record {
       obeys = undo_obeys g.D.Device.honest g.T.TextStore.honest g.D.Device.image g.T.TextStore.text g.D.Device.failures g.T.TextStore.failures
           c.args.session.now c.undo.new.self c.args.k c.in-Ok.left
-          e.accepted e.sound e.broken e.device_honesty e.store_honesty e.redo_honesty e.no_failure;
+          (record { broken = e.broken; unfailed = e.no_failure; device_honesty = e.device_honesty; store_honesty = e.store_honesty; redo_honesty = e.redo_honesty })
+          e.accepted e.sound e.undone;
     }
 
 pub returns-in-Err : goal.returns-in-Err
@@ -16,5 +17,6 @@ returns-in-Err g c =
     record {
       obeys = kept_obeys g.D.Device.honest g.T.TextStore.honest g.D.Device.image g.T.TextStore.text g.D.Device.failures g.T.TextStore.failures
           c.args.session.now c.undo.new.self c.args.k c.in-Err.fault c.from.result c.from.ensures
-          e.fault e.broken e.few e.kind e.undamaged e.refused e.breaks e.redo_same e.device_honesty e.store_honesty e.redo_honesty e.counts;
+          (record { broken = e.broken; same = e.refused; redo_same = e.redo_same; breaks = e.breaks; device_honesty = e.device_honesty; store_honesty = e.store_honesty; redo_honesty = e.redo_honesty })
+          e.counts e.few e.kind e.undamaged e.finds;
     }

@@ -12,7 +12,7 @@ use Rattle.bx_journal.specs.declared.version.Version.TheVariants.{Second}
 use Rattle.bx_journal.proofs.ChangeSteps.{ends_of}
 use Rattle.bx_journal.proofs.Phases.{open_recovers}
 use Rattle.bx_journal.proofs.Sharper.{either_of}
-use Rattle.bx_journal.proofs.TrioLemmas.{before_stops, within_old, last_stops}
+use Rattle.bx_journal.proofs.StopLemmas.{before_stops, within_old, last_stops}
 use Rattle.bx_journal.proofs.steps.write_entry.Goals as goal
 
 always_err : {T E P : Type 0} (r : Result T E) → P → OnErr r P

@@ -1,16 +1,21 @@
-use Rattle.std.proofs.Common.{◌≡◌, ℕ, suc, Some, List, length, drop, refl, ap, sym, ◌∙◌, subst, arith, length-drop}
+use Rattle.std.proofs.Common.{◌≡◌, ◌≤◌, ◌-◌, ℕ, suc, Some, List, length, drop, refl, ap, sym, ◌∙◌, subst, arith, length-drop}
+use Rattle.std.specs.Prelude.{reverse}
 use Rattle.std.proofs.lemmas.Grind.{common_steps}
 use Rattle.bx_journal.specs.declared.fault.SessionFault.TheVariants.{Damaged}
+use Rattle.bx_journal.specs.Calls.{RecoversBelow}
+use Rattle.bx_journal.specs.Images.{undo_of}
 use Rattle.bx_journal.specs.Machine.{changes_of}
 use Rattle.bx_journal.specs.Phase.{IsAtRest}
-use Rattle.bx_journal.specs.Redo.{IsRedoOf}
-use Rattle.bx_journal.proofs.AloneLemmas.{alone_keeps}
-use Rattle.bx_journal.specs.Parsed.{entries_of}
+use Rattle.bx_journal.specs.Redo.{Finds, IsRedoOf}
+use Rattle.bx_journal.specs.Parsed.{AllKept, entries_of}
 use Rattle.bx_journal.specs.Stack.{StandsFor}
 use Rattle.bx_journal.specs.Text.{Entry, Between, Reading}
+use Rattle.bx_journal.specs.Takens.{AreReady}
+use Rattle.bx_journal.specs.Turns.{AreStanding}
 use Rattle.bx_journal.specs.Undoing.{AgainFault, HasLeft, IsFinished, IsOutOfStep}
 use Rattle.bx_journal.proofs.ReadLemmas.{length-entries_of}
 use Rattle.bx_journal.proofs.AgainLemmas.{in_step}
+use Rattle.bx_journal.proofs.TakingLemmas.{redo_moved, changes_left}
 use Rattle.bx_journal.proofs.session.Session.undo.Goals as goal
 
 pub returns-in_err-read-clause-undamaged : goal.returns-in_err-read-clause-undamaged
@@ -28,30 +33,39 @@ returns-in_err-read-clause-damaged g c =
     grind (arith, common_steps, out))
 
 pub undo_entries-requires-clause-kept : goal.undo_entries-requires-clause-kept
-undo_entries-requires-clause-kept g c = c.in_ok-make_room.ensures.kept c.in_ok-read.ensures.read.text c.self.inside.count c.in_ok-read.ensures.read.read
+undo_entries-requires-clause-kept g c =
+    let es = c.in_ok-read.read.entries.items in
+    subst (λ n. AllKept (g.D.Device.room c.prepare_takens.new.device) (drop (length es - n) es)) (sym c.in_ok-taking.ensures.count)
+    (c.in_ok-taking.ensures.kept c.in_ok-read.ensures.read.text c.self.inside.count c.in_ok-read.ensures.read.read)
 
 pub undo_entries-requires-clause-read : goal.undo_entries-requires-clause-read
 undo_entries-requires-clause-read g c =
     let again = c.in_ok-read.ensures.read in record {
       text = again.text;
       is = λ th.
-          let before = c.make_room.ensures.store_honesty.0 th in
-          c.make_room.ensures.text before ∙ c.read_again.ensures.text (c.read_again.ensures.honesty.0 before) ∙ again.is (c.read_again.ensures.honesty.0 before);
+          let before = c.prepare_takens.ensures.from_honesty.0 th in
+          c.prepare_takens.ensures.from_text before ∙ c.read_again.ensures.text (c.read_again.ensures.honesty.0 before) ∙ again.is (c.read_again.ensures.honesty.0 before);
       mark = again.read.mark;
       marked = again.read.marked;
     }
+
+pub undo_entries-requires-clause-ready : goal.undo_entries-requires-clause-ready
+undo_entries-requires-clause-ready g c dh =
+    let before = c.prepare_takens.ensures.device_honesty.0 dh in
+    subst (λ x. AreReady x (reverse c.in_ok-read.read.entries.items) (reverse c.in_ok-taking.taking.takens.items)) (sym (c.prepare_takens.ensures.image before)) (c.in_ok-taking.ensures.filled before)
 
 pub returns-in-Ok-clause-accepted : goal.returns-in-Ok-clause-accepted
 returns-in-Ok-clause-accepted g c =
     rw (← c.self.view_is) (λ dh th stack standing.
     let counted : length stack ≡ suc c.self.inside.count = standing.count in
-    let image : g.D.Device.image c.make_room.new.device ≡ g.D.Device.image c.self.inside.device = c.make_room.ensures.image dh in
-    let text : g.T.TextStore.text c.make_room.new.store ≡ g.T.TextStore.text c.self.inside.store = c.make_room.ensures.text (c.read_again.ensures.honesty.1 th) ∙ c.read_again.ensures.text th in
-    let stands : StandsFor (g.T.TextStore.text c.make_room.new.store) (g.D.Device.image c.make_room.new.device) stack =
-    subst (λ t. StandsFor t (g.D.Device.image c.make_room.new.device) stack) (sym text) (subst (λ x. StandsFor (g.T.TextStore.text c.self.inside.store) x stack) (sym image) standing.stands) in (
+    let image : g.D.Device.image c.prepare_takens.new.device ≡ g.D.Device.image c.self.inside.device = c.prepare_takens.ensures.image dh in
+    let text : g.T.TextStore.text c.prepare_takens.new.from ≡ g.T.TextStore.text c.self.inside.store = c.prepare_takens.ensures.from_text (c.read_again.ensures.honesty.1 th) ∙ c.read_again.ensures.text th in
+    let stands : StandsFor (g.T.TextStore.text c.prepare_takens.new.from) (g.D.Device.image c.prepare_takens.new.device) stack =
+    subst (λ t. StandsFor t (g.D.Device.image c.prepare_takens.new.device) stack) (sym text) (subst (λ x. StandsFor (g.T.TextStore.text c.self.inside.store) x stack) (sym image) standing.stands) in (
       (omega (arith, counted), omega (arith, counted), refl),
       record {
-        stands = c.in-Ok.ensures.stands (c.make_room.ensures.device_honesty.1 dh) (c.make_room.ensures.store_honesty.1 (c.read_again.ensures.honesty.1 th)) stack stands;
+        stands = subst (λ n. StandsFor (g.T.TextStore.text c.undo_entries.new.store) (g.D.Device.image c.undo_entries.new.device) (drop n stack)) c.in_ok-taking.ensures.count
+            (c.in-Ok.ensures.stands (c.prepare_takens.ensures.device_honesty.1 dh) (c.prepare_takens.ensures.from_honesty.1 (c.read_again.ensures.honesty.1 th)) stack stands);
         count = omega (arith, counted, length-drop c.args.k stack);
         whole = standing.whole;
       },
@@ -60,12 +74,13 @@ returns-in-Ok-clause-accepted g c =
 pub returns-in-Ok-clause-sound : goal.returns-in-Ok-clause-sound
 returns-in-Ok-clause-sound g c =
     rw (← c.self.view_is) (λ dh th stack ready.
-    let image : g.D.Device.image c.make_room.new.device ≡ g.D.Device.image c.self.inside.device = c.make_room.ensures.image dh in
-    let text : g.T.TextStore.text c.make_room.new.store ≡ g.T.TextStore.text c.self.inside.store = c.make_room.ensures.text (c.read_again.ensures.honesty.1 th) ∙ c.read_again.ensures.text th in
-    let rest : IsAtRest (g.T.TextStore.text c.make_room.new.store) (g.D.Device.image c.make_room.new.device) stack =
-    subst (λ t. IsAtRest t (g.D.Device.image c.make_room.new.device) stack) (sym text) (subst (λ x. IsAtRest (g.T.TextStore.text c.self.inside.store) x stack) (sym image) ready.rest) in
+    let image : g.D.Device.image c.prepare_takens.new.device ≡ g.D.Device.image c.self.inside.device = c.prepare_takens.ensures.image dh in
+    let text : g.T.TextStore.text c.prepare_takens.new.from ≡ g.T.TextStore.text c.self.inside.store = c.prepare_takens.ensures.from_text (c.read_again.ensures.honesty.1 th) ∙ c.read_again.ensures.text th in
+    let rest : IsAtRest (g.T.TextStore.text c.prepare_takens.new.from) (g.D.Device.image c.prepare_takens.new.device) stack =
+    subst (λ t. IsAtRest t (g.D.Device.image c.prepare_takens.new.device) stack) (sym text) (subst (λ x. IsAtRest (g.T.TextStore.text c.self.inside.store) x stack) (sym image) ready.rest) in
     record {
-      rest = c.in-Ok.ensures.ok (c.make_room.ensures.device_honesty.1 dh) (c.make_room.ensures.store_honesty.1 (c.read_again.ensures.honesty.1 th)) stack rest;
+      rest = subst (λ n. IsAtRest (g.T.TextStore.text c.undo_entries.new.store) (g.D.Device.image c.undo_entries.new.device) (drop n stack)) c.in_ok-taking.ensures.count
+          (c.in-Ok.ensures.ok (c.prepare_takens.ensures.device_honesty.1 dh) (c.prepare_takens.ensures.from_honesty.1 (c.read_again.ensures.honesty.1 th)) stack rest);
       count = omega (arith, ready.count, length-drop c.args.k stack);
       whole = ready.whole;
     })
@@ -82,13 +97,14 @@ returns-in-Ok-clause-whole g c =
 pub returns-in-Ok-clause-text : goal.returns-in-Ok-clause-text
 returns-in-Ok-clause-text g c =
     rw (← c.self.view_is) (λ th entries finished.
-    let text : g.T.TextStore.text c.make_room.new.store ≡ g.T.TextStore.text c.self.inside.store = c.make_room.ensures.text (c.read_again.ensures.honesty.1 th) ∙ c.read_again.ensures.text th in
+    let text : g.T.TextStore.text c.prepare_takens.new.from ≡ g.T.TextStore.text c.self.inside.store = c.prepare_takens.ensures.from_text (c.read_again.ensures.honesty.1 th) ∙ c.read_again.ensures.text th in
     let read : IsFinished (g.T.TextStore.text c.self.inside.store) (entries_of c.in_ok-read.read.entries.items) =
     subst (λ t. IsFinished t (entries_of c.in_ok-read.read.entries.items)) (sym (c.in_ok-read.ensures.read.is th)) c.in_ok-read.ensures.read.read.finished in
     let same : entries_of c.in_ok-read.read.entries.items ≡ entries = finished_same (g.T.TextStore.text c.self.inside.store) (entries_of c.in_ok-read.read.entries.items) entries read finished in
     subst (λ (es : List Entry). HasLeft (g.T.TextStore.text c.self.inside.store) (g.T.TextStore.text c.undo_entries.new.store) (drop c.args.k es)) same
     (subst (λ t. HasLeft t (g.T.TextStore.text c.undo_entries.new.store) (drop c.args.k (entries_of c.in_ok-read.read.entries.items))) text
-    (c.in-Ok.ensures.left (c.make_room.ensures.store_honesty.1 (c.read_again.ensures.honesty.1 th)))))
+    (subst (λ n. HasLeft (g.T.TextStore.text c.prepare_takens.new.from) (g.T.TextStore.text c.undo_entries.new.store) (drop n (entries_of c.in_ok-read.read.entries.items))) c.in_ok-taking.ensures.count
+    (c.in-Ok.ensures.left (c.prepare_takens.ensures.from_honesty.1 (c.read_again.ensures.honesty.1 th))))))
   where
     some_same : {A : Type 0} (x y : A) → Some x ≡ Some y → x ≡ y
     some_same x y e = cc
@@ -100,35 +116,44 @@ returns-in-Ok-clause-text g c =
 pub returns-clause-fault : goal.returns-clause-fault
 returns-clause-fault g c =
     rw (← c.self.view_is) (λ dh th stack ready.
-    let image : g.D.Device.image c.make_room.new.device ≡ g.D.Device.image c.self.inside.device = c.make_room.ensures.image dh in
-    let text : g.T.TextStore.text c.make_room.new.store ≡ g.T.TextStore.text c.self.inside.store = c.make_room.ensures.text (c.read_again.ensures.honesty.1 th) ∙ c.read_again.ensures.text th in
-    let rest : IsAtRest (g.T.TextStore.text c.make_room.new.store) (g.D.Device.image c.make_room.new.device) stack =
-    subst (λ t. IsAtRest t (g.D.Device.image c.make_room.new.device) stack) (sym text) (subst (λ x. IsAtRest (g.T.TextStore.text c.self.inside.store) x stack) (sym image) ready.rest) in
-    c.in-Err.ensures.fault (c.make_room.ensures.device_honesty.1 dh) (c.make_room.ensures.store_honesty.1 (c.read_again.ensures.honesty.1 th)) stack rest)
+    let image : g.D.Device.image c.prepare_takens.new.device ≡ g.D.Device.image c.self.inside.device = c.prepare_takens.ensures.image dh in
+    let text : g.T.TextStore.text c.prepare_takens.new.from ≡ g.T.TextStore.text c.self.inside.store = c.prepare_takens.ensures.from_text (c.read_again.ensures.honesty.1 th) ∙ c.read_again.ensures.text th in
+    let rest : IsAtRest (g.T.TextStore.text c.prepare_takens.new.from) (g.D.Device.image c.prepare_takens.new.device) stack =
+    subst (λ t. IsAtRest t (g.D.Device.image c.prepare_takens.new.device) stack) (sym text) (subst (λ x. IsAtRest (g.T.TextStore.text c.self.inside.store) x stack) (sym image) ready.rest) in
+    subst (RecoversBelow (g.T.TextStore.text c.undo_entries.new.store) (g.D.Device.image c.undo_entries.new.device) stack) c.in_ok-taking.ensures.count
+    (c.in-Err.ensures.fault (c.prepare_takens.ensures.device_honesty.1 dh) (c.prepare_takens.ensures.from_honesty.1 (c.read_again.ensures.honesty.1 th)) stack rest))
 
 pub returns-in-Ok-clause-undone : goal.returns-in-Ok-clause-undone
 returns-in-Ok-clause-undone g c =
     rw (← c.self.view_is) (λ dh th rh s standing has.
-    let x : List ℕ = g.D.Device.image c.self.inside.device in
+    let x : List ℕ = g.D.Device.image c.prepare_takens.new.device in
     let y : List ℕ = g.D.Device.image c.undo_entries.new.device in
-    let redo : List ℕ = g.T.TextStore.text c.self.inside.redo_text in
+    let text : List ℕ = g.T.TextStore.text c.prepare_takens.new.from in
+    let redo : List ℕ = g.T.TextStore.text c.prepare_takens.new.to in
+    let new : List ℕ = g.T.TextStore.text c.undo_entries.new.store in
     let redo_new : List ℕ = g.T.TextStore.text c.undo_entries.new.redo_text in
-    let image : g.D.Device.image c.make_room.new.device ≡ x = c.make_room.ensures.image dh in
-    let same : c.args.k ≡ 0 → (y ≡ x) × (redo_new ≡ redo) =
-    λ none. let both = c.in-Ok.ensures.none none in (ap g.D.Device.image both.0 ∙ image, ap g.T.TextStore.text both.1) in
-    let kept = alone_keeps redo x redo_new y s c.args.k c.self.inside.count c.count_left-self-inside.result c.self.inside.undone c.in-Ok.undone c.count_left-self-inside.ensures has.redo has.counted same (c.in-Ok.ensures.emptied rh) c.in-Ok.ensures.none_undone c.in-Ok.ensures.cleared in
-    record { redo = kept.0; counted = kept.1 })
+    let image : x ≡ g.D.Device.image c.self.inside.device = c.prepare_takens.ensures.image dh in
+    let same : text ≡ g.T.TextStore.text c.self.inside.store = c.prepare_takens.ensures.from_text (c.read_again.ensures.honesty.1 th) ∙ c.read_again.ensures.text th in
+    let redo_same : redo ≡ g.T.TextStore.text c.self.inside.redo_text = c.prepare_takens.ensures.to_text rh in
+    let stands : StandsFor text x s.stack = subst (λ t. StandsFor t x s.stack) (sym same) (subst (λ z. StandsFor (g.T.TextStore.text c.self.inside.store) z s.stack) (sym image) standing.stands) in
+    let kept : IsRedoOf redo x (changes_of s.stack) s.undone = redo_moved (g.T.TextStore.text c.self.inside.redo_text) (g.D.Device.image c.self.inside.device) redo x c.self.inside.count s standing.count redo_same image has.redo in
+    let done : (c.in-Ok.undone ≡ length (undo_of c.args.k s).undone) × AreStanding new y redo_new (undo_of c.args.k s) =
+    subst (λ n. (c.in-Ok.undone ≡ length (undo_of n s).undone) × AreStanding new y redo_new (undo_of n s)) c.in_ok-taking.ensures.count
+    (c.in-Ok.ensures.images (c.prepare_takens.ensures.device_honesty.1 dh) (c.prepare_takens.ensures.from_honesty.1 (c.read_again.ensures.honesty.1 th)) (c.prepare_takens.ensures.to_honesty.1 rh) s (record { stands = stands; undone = kept }) has.counted) in
+    let left : changes_of (drop c.args.k s.stack) ≡ c.count_left-self-inside.result = changes_left s.stack c.self.inside.count c.args.k c.count_left-self-inside.result standing.count c.count_left-self-inside.ensures in
+    record { redo = subst (λ n. IsRedoOf redo_new y n (undo_of c.args.k s).undone) left done.1.undone; counted = done.0 })
 
 pub returns-clause-finds : goal.returns-clause-finds
 returns-clause-finds g c =
     rw (← c.self.view_is) (λ dh th rh s ready has.
-    let x : List ℕ = g.D.Device.image c.make_room.new.device in
-    let redo : List ℕ = g.T.TextStore.text c.self.inside.redo_text in
-    let image : x ≡ g.D.Device.image c.self.inside.device = c.make_room.ensures.image dh in
-    let text : g.T.TextStore.text c.make_room.new.store ≡ g.T.TextStore.text c.self.inside.store = c.make_room.ensures.text (c.read_again.ensures.honesty.1 th) ∙ c.read_again.ensures.text th in
-    let rest : IsAtRest (g.T.TextStore.text c.make_room.new.store) x s.stack =
-    subst (λ t. IsAtRest t x s.stack) (sym text) (subst (λ z. IsAtRest (g.T.TextStore.text c.self.inside.store) z s.stack) (sym image) ready.rest) in
-    let counted : c.self.inside.count ≡ changes_of s.stack = omega (arith, ready.count) in
-    let kept : IsRedoOf redo x (changes_of s.stack) s.undone =
-    subst (λ n. IsRedoOf redo x n s.undone) counted (subst (λ z. IsRedoOf redo z c.self.inside.count s.undone) (sym image) has.redo) in
-    c.in-Err.ensures.finds (c.make_room.ensures.device_honesty.1 dh) (c.make_room.ensures.store_honesty.1 (c.read_again.ensures.honesty.1 th)) rh s (record { rest = rest; undone = kept }))
+    let x : List ℕ = g.D.Device.image c.prepare_takens.new.device in
+    let y : List ℕ = g.D.Device.image c.undo_entries.new.device in
+    let text : List ℕ = g.T.TextStore.text c.prepare_takens.new.from in
+    let redo : List ℕ = g.T.TextStore.text c.prepare_takens.new.to in
+    let image : x ≡ g.D.Device.image c.self.inside.device = c.prepare_takens.ensures.image dh in
+    let same : text ≡ g.T.TextStore.text c.self.inside.store = c.prepare_takens.ensures.from_text (c.read_again.ensures.honesty.1 th) ∙ c.read_again.ensures.text th in
+    let redo_same : redo ≡ g.T.TextStore.text c.self.inside.redo_text = c.prepare_takens.ensures.to_text rh in
+    let rest : IsAtRest text x s.stack = subst (λ t. IsAtRest t x s.stack) (sym same) (subst (λ z. IsAtRest (g.T.TextStore.text c.self.inside.store) z s.stack) (sym image) ready.rest) in
+    let kept : IsRedoOf redo x (changes_of s.stack) s.undone = redo_moved (g.T.TextStore.text c.self.inside.redo_text) (g.D.Device.image c.self.inside.device) redo x c.self.inside.count s ready.count redo_same image has.redo in
+    subst (λ n. (i : ℕ) × (i ≤ n) × Finds (g.T.TextStore.text c.undo_entries.new.store) y (g.T.TextStore.text c.undo_entries.new.redo_text) (undo_of i s)) c.in_ok-taking.ensures.count
+    (c.in-Err.ensures.finds (c.prepare_takens.ensures.device_honesty.1 dh) (c.prepare_takens.ensures.from_honesty.1 (c.read_again.ensures.honesty.1 th)) (c.prepare_takens.ensures.to_honesty.1 rh) s (record { rest = rest; undone = kept }) has.counted))

@@ -4,7 +4,7 @@ use Rattle.std.proofs.lemmas.Grind.{common_steps}
 use Rattle.std.proofs.lemmas.List.{take_all}
 use Rattle.bx_journal.specs.declared.reader.EntryRead.{EntryRead}
 use Rattle.bx_journal.proofs.AgainLemmas.{longest_more}
-use Rattle.bx_journal.proofs.undoing.longest_of.Goals as goal
+use Rattle.bx_journal.proofs.taking.longest_of.Goals as goal
 
 pub loop-entry-preserved : goal.loop-entry-preserved
 loop-entry-preserved g c =

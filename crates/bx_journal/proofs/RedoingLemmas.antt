@@ -1,0 +1,52 @@
+-- A redo text that is read again, and what redoing leaves.
+use Rattle.std.proofs.Common.{◌≡◌, ℕ, zero, suc, ◌+◌, ◌≤◌, List, [], ◌∷◌, length, ◌∙◌, subst, inl, inr, arith}
+use Rattle.bx_journal.specs.declared.fault.SessionFault.{SessionFault}
+use Rattle.bx_journal.specs.declared.fault.SessionFault.TheVariants.{NoMemory, TooLarge, DeviceFailed, Damaged, TooFew, JournalFull, Interrupted, Broken, LengthDiffers, NothingToRedo, RedoDamaged}
+use Rattle.bx_journal.specs.Images.{Images, redo_of, redone_by}
+use Rattle.bx_journal.specs.Opening.{FaultCounts}
+use Rattle.bx_journal.specs.Text.{Between}
+use Rattle.bx_journal.specs.Undoing.{AgainFault, HasCount, RedoAgainFault, redo_fault}
+use Rattle.bx_journal.proofs.Judged.{undamaged}
+
+pub redo_again : (honest : Type 0) (text : List ℕ) (count : ℕ) (e : SessionFault) → AgainFault honest text count e → RedoAgainFault honest text count (redo_fault e)
+redo_again honest text count NoMemory h = h
+redo_again honest text count DeviceFailed h = h
+redo_again honest text count (Damaged line) h = h
+redo_again honest text count TooLarge h = absurd h
+redo_again honest text count (TooFew have) h = absurd h
+redo_again honest text count JournalFull h = absurd h
+redo_again honest text count Interrupted h = absurd h
+redo_again honest text count Broken h = absurd h
+redo_again honest text count (LengthDiffers expected) h = absurd h
+redo_again honest text count (NothingToRedo have) h = absurd h
+redo_again honest text count (RedoDamaged line) h = absurd h
+
+pub redo_counts : (e : SessionFault) (t u : ℕ) → FaultCounts e 0 t 0 u → FaultCounts (redo_fault e) 0 t 0 u
+redo_counts NoMemory t u h = h
+redo_counts TooLarge t u h = h
+redo_counts DeviceFailed t u h = h
+redo_counts JournalFull t u h = h
+redo_counts Interrupted t u h = h
+redo_counts Broken t u h = h
+redo_counts (TooFew have) t u h = h
+redo_counts (LengthDiffers expected) t u h = h
+redo_counts (NothingToRedo have) t u h = h
+redo_counts (RedoDamaged line) t u h = h
+redo_counts (Damaged line) t u h = h
+
+-- a redo text of so many finished entries alone isn't called damaged
+pub redo_in_step : (honest : Type 0) (text : List ℕ) (count : ℕ) (e : SessionFault) → honest → HasCount text count → RedoAgainFault honest text count e → (line : ℕ) → e ≡ RedoDamaged line → ⊥
+redo_in_step honest text count e th has h line is =
+    elim (subst (RedoAgainFault honest text count) is h th) [
+      | inl damage ↦ undamaged text line (record { entries = has.0; stage = Between }, has.1.reads) damage
+      | inr apart ↦ apart.2 has
+    ]
+
+-- how long the stack is behind a redo
+pub length_redone : (j : ℕ) (s : Images) → j ≤ length s.undone → length (redo_of j s).stack ≡ length s.stack + j
+length_redone j s few = by_list j s.undone s.stack few
+  where
+    by_list : (k : ℕ) (u stack : List (List ℕ)) → k ≤ length u → length (redone_by k u stack) ≡ length stack + k
+    by_list zero u stack few = omega arith
+    by_list (suc k) [] stack few = absurd (omega (arith, few))
+    by_list (suc k) (x ∷ u) stack few = by_list k u (x ∷ stack) (omega (arith, few)) ∙ omega arith

@@ -1,0 +1,56 @@
+-- What some undos, or some redos, take before their first write.
+use Rattle.std.proofs.Common.{◌≡◌, ℕ, zero, suc, ◌+◌, ◌<◌, List, [], ◌∷◌, ◌++◌, length, take, drop, refl, ap, sym, ◌∙◌, subst, arith, length-drop, length-append}
+use Rattle.std.specs.Prelude.{reverse, slice_index_or}
+use Rattle.std.proofs.lemmas.List.{take_more}
+use Rattle.bx_image.specs.declared.record.Saved.{Saved}
+use Rattle.bx_image.specs.Change.{AllWithin}
+use Rattle.bx_journal.specs.Kept.{kept_of}
+use Rattle.bx_journal.specs.Entry.{head_text, end_text}
+use Rattle.bx_journal.specs.Images.{Images}
+use Rattle.bx_journal.specs.Machine.{changes_of}
+use Rattle.bx_journal.specs.Redo.{IsRedoOf}
+use Rattle.bx_journal.specs.declared.reader.EntryRead.{EntryRead}
+use Rattle.bx_journal.specs.Takens.{IsZeros, AreZeros, AllShaped, entries_len, length_at}
+use Rattle.bx_journal.proofs.Shapes.{end_long}
+use Rattle.bx_journal.proofs.TakenLemmas.{reverse_last, len_pop}
+
+-- a redo text and an image that are as they were
+pub redo_moved : (redo x redo_now x_now : List ℕ) (count : ℕ) (s : Images) → length s.stack ≡ suc count → redo_now ≡ redo → x_now ≡ x → IsRedoOf redo x count s.undone → IsRedoOf redo_now x_now (changes_of s.stack) s.undone
+redo_moved redo x redo_now x_now count s counted redo_same x_same is =
+    let many : count ≡ changes_of s.stack = omega (arith, counted) in
+    subst (λ n. IsRedoOf redo_now x_now n s.undone) many (subst (λ r. IsRedoOf r x_now count s.undone) (sym redo_same) (subst (λ z. IsRedoOf redo z count s.undone) (sym x_same) is))
+
+pub changes_left : (stack : List (List ℕ)) (count k left : ℕ) → length stack ≡ suc count → left + k ≡ count → changes_of (drop k stack) ≡ left
+changes_left stack count k left counted is = omega (arith, counted, is, length-drop k stack)
+
+-- the length at an entry is the one that it restores
+length_here : {A : Type 0} (es : List (EntryRead A)) (place len : ℕ) (d : EntryRead A) → place < length es → length_at (drop place es) len ≡ (slice_index_or es place d).kept.len
+length_here [] place len d inside = absurd (omega (arith, inside))
+length_here (e ∷ es) zero len d inside = refl
+length_here (e ∷ es) (suc place) len d inside = length_here es place len d (omega (arith, inside))
+
+-- a record more, for the next entry
+pub zeros_push : {A : Type 0} (len : ℕ) (es : List (EntryRead A)) (ts : List (Saved A)) (place : ℕ) (d : EntryRead A) (t : Saved A) → place < length es
+    → AreZeros (length_at (drop place es) len) (reverse (take place es)) (reverse ts) → IsZeros (length_at (drop (place + 1) es) len) (slice_index_or es place d) t
+    → AreZeros (length_at (drop (place + 1) es) len) (reverse (take (place + 1) es)) (reverse (ts ++ t ∷ []))
+zeros_push len es ts place d t inside all one =
+    let e = slice_index_or es place d in
+    let above : ℕ = length_at (drop (place + 1) es) len in
+    let more : reverse (take (place + 1) es) ≡ e ∷ reverse (take place es) = ap reverse (take_more es place d inside) ∙ reverse_last (take place es) e in
+    let rest : AreZeros e.kept.len (reverse (take place es)) (reverse ts) = subst (λ n. AreZeros n (reverse (take place es)) (reverse ts)) (length_here es place len d inside) all in
+    subst (λ fs. AreZeros above fs (reverse (ts ++ t ∷ []))) (sym more) (subst (λ us. AreZeros above (e ∷ reverse (take place es)) us) (sym (reverse_last ts t)) (one, rest))
+
+pub shaped_push : {A : Type 0} (ts : List (Saved A)) (t : Saved A) → AllShaped ts → AllWithin t.len t.runs → AllShaped (ts ++ t ∷ [])
+shaped_push [] t all within = (within, tt)
+shaped_push (u ∷ ts) t all within = (all.0, shaped_push ts t all.1 within)
+
+pub shaped_at : {A : Type 0} (ts : List (Saved A)) (i : ℕ) (d : Saved A) → i < length ts → AllShaped ts → AllWithin (slice_index_or ts i d).len (slice_index_or ts i d).runs
+shaped_at [] i d inside all = absurd (omega (arith, inside))
+shaped_at (t ∷ ts) zero d inside all = all.0
+shaped_at (t ∷ ts) (suc i) d inside all = shaped_at ts i d (omega (arith, inside)) all.1
+
+-- the entry of one record more
+pub len_more : {A : Type 0} (ts : List (Saved A)) (i : ℕ) (d : Saved A) → i < length ts → entries_len (take (i + 1) ts) ≡ entries_len (take i ts) + length (head_text 0 (kept_of (slice_index_or ts i d))) + 32
+len_more ts i d inside =
+    let t = slice_index_or ts i d in
+    omega (arith, ap entries_len (take_more ts i d inside), len_pop (take i ts) t, length-append (head_text 0 (kept_of t)) (end_text 0 0), end_long 0 0)

@@ -1,0 +1,171 @@
+use Rattle.std.proofs.Common.{◌≡◌, ◌≤◌, ◌+◌, ◌-◌, ℕ, suc, Some, List, length, drop, refl, ap, sym, ◌∙◌, subst, arith, length-drop}
+use Rattle.std.specs.Prelude.{reverse}
+use Rattle.std.proofs.lemmas.Grind.{common_steps}
+use Rattle.bx_journal.specs.declared.fault.SessionFault.TheVariants.{RedoDamaged}
+use Rattle.bx_journal.specs.Images.{redo_of}
+use Rattle.bx_journal.specs.Machine.{changes_of}
+use Rattle.bx_journal.specs.Parsed.{AllKept, entries_of}
+use Rattle.bx_journal.specs.Phase.{IsAtRest}
+use Rattle.bx_journal.specs.Redo.{Finds, IsRedoOf}
+use Rattle.bx_journal.specs.Stack.{StandsFor}
+use Rattle.bx_journal.specs.Takens.{AreReady}
+use Rattle.bx_journal.specs.Text.{Entry, Between, Reading, IsPrefix}
+use Rattle.bx_journal.specs.Turns.{AreAtRest, AreStanding}
+use Rattle.bx_journal.specs.Undoing.{HasLeft, IsFinished, IsOutOfStep, RedoAgainFault}
+use Rattle.bx_journal.proofs.ReadLemmas.{length-entries_of}
+use Rattle.bx_journal.proofs.RedoingLemmas.{redo_in_step, length_redone}
+use Rattle.bx_journal.proofs.TakingLemmas.{redo_moved}
+use Rattle.bx_journal.proofs.session.Session.redo.Goals as goal
+
+pub returns-in_err-read-clause-undamaged : goal.returns-in_err-read-clause-undamaged
+returns-in_err-read-clause-undamaged g c =
+    rw (← c.self.view_is) (λ rh has.
+    let none : (line : ℕ) → c.in_err-read.field-0.0 ≡ RedoDamaged line → ⊥ =
+    redo_in_step (g.T.TextStore.honest c.self.inside.redo_text) (g.T.TextStore.text c.self.inside.redo_text) c.self.inside.undone c.in_err-read.field-0.0 rh has c.in_err-read.ensures.fault in
+    grind (arith, common_steps, none))
+
+pub returns-in_err-read-clause-damaged : goal.returns-in_err-read-clause-damaged
+returns-in_err-read-clause-damaged g c =
+    rw (← c.self.view_is) (λ rh.
+    let out : (line : ℕ) → c.in_err-read.field-0.0 ≡ RedoDamaged line → IsOutOfStep (g.T.TextStore.text c.self.inside.redo_text) c.self.inside.undone line =
+    λ line is. subst (RedoAgainFault (g.T.TextStore.honest c.self.inside.redo_text) (g.T.TextStore.text c.self.inside.redo_text) c.self.inside.undone) is c.in_err-read.ensures.fault rh in
+    grind (arith, common_steps, out))
+
+pub redo_entries-requires-clause-kept : goal.redo_entries-requires-clause-kept
+redo_entries-requires-clause-kept g c =
+    let es = c.in_ok-read.read.entries.items in
+    subst (λ n. AllKept (g.D.Device.room c.prepare_takens.new.device) (drop (length es - n) es)) (sym c.in_ok-taking.ensures.count)
+    (c.in_ok-taking.ensures.kept c.in_ok-read.ensures.read.text c.self.inside.undone c.in_ok-read.ensures.read.read)
+
+pub redo_entries-requires-clause-read : goal.redo_entries-requires-clause-read
+redo_entries-requires-clause-read g c =
+    let again = c.in_ok-read.ensures.read in record {
+      text = again.text;
+      is = λ rh.
+          let before = c.prepare_takens.ensures.from_honesty.0 rh in
+          c.prepare_takens.ensures.from_text before ∙ c.read_undone.ensures.text (c.read_undone.ensures.honesty.0 before) ∙ again.is (c.read_undone.ensures.honesty.0 before);
+      mark = again.read.mark;
+      marked = again.read.marked;
+    }
+
+pub redo_entries-requires-clause-ready : goal.redo_entries-requires-clause-ready
+redo_entries-requires-clause-ready g c dh =
+    let before = c.prepare_takens.ensures.device_honesty.0 dh in
+    subst (λ x. AreReady x (reverse c.in_ok-read.read.entries.items) (reverse c.in_ok-taking.taking.takens.items)) (sym (c.prepare_takens.ensures.image before)) (c.in_ok-taking.ensures.filled before)
+
+pub redo_entries-requires-clause-fits : goal.redo_entries-requires-clause-fits
+redo_entries-requires-clause-fits g c th = c.in_ok-taking.ensures.roomed (c.prepare_takens.ensures.to_honesty.0 th)
+
+pub returns-in-Ok-clause-accepted : goal.returns-in-Ok-clause-accepted
+returns-in-Ok-clause-accepted g c =
+    rw (← c.self.view_is) (λ dh th rh s standing has.
+    let x : List ℕ = g.D.Device.image c.prepare_takens.new.device in
+    let y : List ℕ = g.D.Device.image c.redo_entries.new.device in
+    let text : List ℕ = g.T.TextStore.text c.prepare_takens.new.to in
+    let redo : List ℕ = g.T.TextStore.text c.prepare_takens.new.from in
+    let new : List ℕ = g.T.TextStore.text c.redo_entries.new.store in
+    let redo_new : List ℕ = g.T.TextStore.text c.redo_entries.new.redo_text in
+    let image : x ≡ g.D.Device.image c.self.inside.device = c.prepare_takens.ensures.image dh in
+    let same : text ≡ g.T.TextStore.text c.self.inside.store = c.prepare_takens.ensures.to_text th in
+    let redo_same : redo ≡ g.T.TextStore.text c.self.inside.redo_text = c.prepare_takens.ensures.from_text (c.read_undone.ensures.honesty.1 rh) ∙ c.read_undone.ensures.text rh in
+    let d = c.prepare_takens.ensures.device_honesty.1 dh in
+    let t = c.prepare_takens.ensures.to_honesty.1 th in
+    let r = c.prepare_takens.ensures.from_honesty.1 (c.read_undone.ensures.honesty.1 rh) in
+    let kept : IsRedoOf redo x (changes_of s.stack) s.undone = redo_moved (g.T.TextStore.text c.self.inside.redo_text) (g.D.Device.image c.self.inside.device) redo x c.self.inside.count s standing.count redo_same image has.redo in
+    let stands : StandsFor text x s.stack = subst (λ z. StandsFor z x s.stack) (sym same) (subst (λ z. StandsFor (g.T.TextStore.text c.self.inside.store) z s.stack) (sym image) standing.stands) in
+    let counted : c.self.inside.count ≡ changes_of s.stack = omega (arith, standing.count) in
+    let few : c.args.j ≤ length s.undone = omega (arith, has.counted, c.undone_left-self-inside.ensures) in
+    let long : length (redo_of c.args.j s).stack ≡ suc (c.self.inside.count + c.args.j) = omega (arith, length_redone c.args.j s few, standing.count) in
+    let n : c.in-Ok.count ≡ c.self.inside.count + c.args.j = omega (arith, c.in-Ok.ensures.number, c.in_ok-taking.ensures.count) in
+    let many : changes_of (redo_of c.args.j s).stack ≡ c.in-Ok.count = omega (arith, long, n) in
+    let rest : length (redo_of c.args.j s).undone ≡ c.undone_left-self-inside.result = omega (arith, length-drop c.args.j s.undone, has.counted, c.undone_left-self-inside.ensures) in
+    let found : AreStanding new y redo_new (redo_of c.args.j s) = subst (λ k. AreStanding new y redo_new (redo_of k s)) c.in_ok-taking.ensures.count
+    (c.in-Ok.ensures.images d t r s (record { stands = stands; undone = kept }) counted) in (
+      (few, n ∙ ap (λ m. m + c.args.j) counted, refl),
+      record { stands = found.stands; count = omega (arith, long, n); whole = standing.whole },
+      record { redo = subst (λ m. IsRedoOf redo_new y m (redo_of c.args.j s).undone) many found.undone; counted = sym rest },
+    ))
+
+pub returns-in-Ok-clause-sound : goal.returns-in-Ok-clause-sound
+returns-in-Ok-clause-sound g c =
+    rw (← c.self.view_is) (λ dh th rh s ready has.
+    let x : List ℕ = g.D.Device.image c.prepare_takens.new.device in
+    let y : List ℕ = g.D.Device.image c.redo_entries.new.device in
+    let text : List ℕ = g.T.TextStore.text c.prepare_takens.new.to in
+    let redo : List ℕ = g.T.TextStore.text c.prepare_takens.new.from in
+    let new : List ℕ = g.T.TextStore.text c.redo_entries.new.store in
+    let redo_new : List ℕ = g.T.TextStore.text c.redo_entries.new.redo_text in
+    let image : x ≡ g.D.Device.image c.self.inside.device = c.prepare_takens.ensures.image dh in
+    let same : text ≡ g.T.TextStore.text c.self.inside.store = c.prepare_takens.ensures.to_text th in
+    let redo_same : redo ≡ g.T.TextStore.text c.self.inside.redo_text = c.prepare_takens.ensures.from_text (c.read_undone.ensures.honesty.1 rh) ∙ c.read_undone.ensures.text rh in
+    let d = c.prepare_takens.ensures.device_honesty.1 dh in
+    let t = c.prepare_takens.ensures.to_honesty.1 th in
+    let r = c.prepare_takens.ensures.from_honesty.1 (c.read_undone.ensures.honesty.1 rh) in
+    let kept : IsRedoOf redo x (changes_of s.stack) s.undone = redo_moved (g.T.TextStore.text c.self.inside.redo_text) (g.D.Device.image c.self.inside.device) redo x c.self.inside.count s ready.count redo_same image has.redo in
+    let at : IsAtRest text x s.stack = subst (λ z. IsAtRest z x s.stack) (sym same) (subst (λ z. IsAtRest (g.T.TextStore.text c.self.inside.store) z s.stack) (sym image) ready.rest) in
+    let counted : c.self.inside.count ≡ changes_of s.stack = omega (arith, ready.count) in
+    let few : c.args.j ≤ length s.undone = omega (arith, has.counted, c.undone_left-self-inside.ensures) in
+    let long : length (redo_of c.args.j s).stack ≡ suc (c.self.inside.count + c.args.j) = omega (arith, length_redone c.args.j s few, ready.count) in
+    let n : c.in-Ok.count ≡ c.self.inside.count + c.args.j = omega (arith, c.in-Ok.ensures.number, c.in_ok-taking.ensures.count) in
+    let many : changes_of (redo_of c.args.j s).stack ≡ c.in-Ok.count = omega (arith, long, n) in
+    let rest : length (redo_of c.args.j s).undone ≡ c.undone_left-self-inside.result = omega (arith, length-drop c.args.j s.undone, has.counted, c.undone_left-self-inside.ensures) in
+    let found : AreAtRest new y redo_new (redo_of c.args.j s) = subst (λ k. AreAtRest new y redo_new (redo_of k s)) c.in_ok-taking.ensures.count
+    (c.in-Ok.ensures.found d t r s (record { rest = at; undone = kept }) counted) in (
+      record { rest = found.rest; count = omega (arith, long, n); whole = ready.whole },
+      record { redo = subst (λ m. IsRedoOf redo_new y m (redo_of c.args.j s).undone) many found.undone; counted = sym rest },
+    ))
+
+pub returns-in-Ok-clause-whole : goal.returns-in-Ok-clause-whole
+returns-in-Ok-clause-whole g c =
+    rw (← c.self.view_is) (λ rh.
+    let read = c.in_ok-read.ensures.read.read in (
+      entries_of c.in_ok-read.read.entries.items,
+      subst (λ t. IsFinished t (entries_of c.in_ok-read.read.entries.items)) (sym (c.in_ok-read.ensures.read.is rh)) read.finished,
+      length-entries_of c.in_ok-read.read.entries.items ∙ read.counted,
+    ))
+
+pub returns-in-Ok-clause-text : goal.returns-in-Ok-clause-text
+returns-in-Ok-clause-text g c =
+    rw (← c.self.view_is) (λ rh entries finished.
+    let es : List Entry = entries_of c.in_ok-read.read.entries.items in
+    let redo : List ℕ = g.T.TextStore.text c.self.inside.redo_text in
+    let redo_new : List ℕ = g.T.TextStore.text c.redo_entries.new.redo_text in
+    let text : g.T.TextStore.text c.prepare_takens.new.from ≡ redo = c.prepare_takens.ensures.from_text (c.read_undone.ensures.honesty.1 rh) ∙ c.read_undone.ensures.text rh in
+    let read : IsFinished redo es = subst (λ t. IsFinished t es) (sym (c.in_ok-read.ensures.read.is rh)) c.in_ok-read.ensures.read.read.finished in
+    subst (λ (fs : List Entry). HasLeft redo redo_new (drop c.args.j fs)) (finished_same redo es entries read finished)
+    (subst (λ t. HasLeft t redo_new (drop c.args.j es)) text
+    (subst (λ n. HasLeft (g.T.TextStore.text c.prepare_takens.new.from) redo_new (drop n es)) c.in_ok-taking.ensures.count
+    (c.in-Ok.ensures.left (c.prepare_takens.ensures.from_honesty.1 (c.read_undone.ensures.honesty.1 rh))))))
+  where
+    some_same : {A : Type 0} (x y : A) → Some x ≡ Some y → x ≡ y
+    some_same x y e = cc
+
+    finished_same : (text : List ℕ) (es fs : List Entry) → IsFinished text es → IsFinished text fs → es ≡ fs
+    finished_same text es fs one other =
+        ap (λ (r : Reading). r.entries) (some_same (record { entries = es; stage = Between }) (record { entries = fs; stage = Between }) (sym one.reads.lines ∙ other.reads.lines))
+
+pub returns-in-Ok-clause-front : goal.returns-in-Ok-clause-front
+returns-in-Ok-clause-front g c =
+    rw (← c.self.view_is) (λ th.
+    subst (λ t. IsPrefix t (g.T.TextStore.text c.redo_entries.new.store)) (c.prepare_takens.ensures.to_text th) (c.in-Ok.ensures.front (c.prepare_takens.ensures.to_honesty.1 th)))
+
+pub returns-clause-finds : goal.returns-clause-finds
+returns-clause-finds g c =
+    rw (← c.self.view_is) (λ dh th rh s ready has.
+    let x : List ℕ = g.D.Device.image c.prepare_takens.new.device in
+    let y : List ℕ = g.D.Device.image c.redo_entries.new.device in
+    let text : List ℕ = g.T.TextStore.text c.prepare_takens.new.to in
+    let redo : List ℕ = g.T.TextStore.text c.prepare_takens.new.from in
+    let new : List ℕ = g.T.TextStore.text c.redo_entries.new.store in
+    let redo_new : List ℕ = g.T.TextStore.text c.redo_entries.new.redo_text in
+    let image : x ≡ g.D.Device.image c.self.inside.device = c.prepare_takens.ensures.image dh in
+    let same : text ≡ g.T.TextStore.text c.self.inside.store = c.prepare_takens.ensures.to_text th in
+    let redo_same : redo ≡ g.T.TextStore.text c.self.inside.redo_text = c.prepare_takens.ensures.from_text (c.read_undone.ensures.honesty.1 rh) ∙ c.read_undone.ensures.text rh in
+    let d = c.prepare_takens.ensures.device_honesty.1 dh in
+    let t = c.prepare_takens.ensures.to_honesty.1 th in
+    let r = c.prepare_takens.ensures.from_honesty.1 (c.read_undone.ensures.honesty.1 rh) in
+    let kept : IsRedoOf redo x (changes_of s.stack) s.undone = redo_moved (g.T.TextStore.text c.self.inside.redo_text) (g.D.Device.image c.self.inside.device) redo x c.self.inside.count s ready.count redo_same image has.redo in
+    let at : IsAtRest text x s.stack = subst (λ z. IsAtRest z x s.stack) (sym same) (subst (λ z. IsAtRest (g.T.TextStore.text c.self.inside.store) z s.stack) (sym image) ready.rest) in
+    let counted : c.self.inside.count ≡ changes_of s.stack = omega (arith, ready.count) in
+    subst (λ n. (i : ℕ) × (i ≤ n) × Finds new y redo_new (redo_of i s)) c.in_ok-taking.ensures.count
+    (c.in-Err.ensures.finds d t r s (record { rest = at; undone = kept }) counted))
