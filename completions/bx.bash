@@ -28,7 +28,7 @@ _bx_dd() {
 
 _bx() {
     local cur=${COMP_WORDS[COMP_CWORD]} prev=${COMP_WORDS[COMP_CWORD - 1]} command=${COMP_WORDS[1]}
-    local commands='xxd od hexdump strings dd revert undo log' options
+    local commands='xxd od hexdump strings dd revert undo redo log' options
     COMPREPLY=()
     if ((COMP_CWORD == 1)); then
         _bx_offer -W "$commands help -h --help -V --version" -- "$cur"
@@ -45,7 +45,7 @@ _bx() {
     strings) options='-a -n -t' ;;
     dd) options='-J' ;;
     revert) options='-J -f -p -s' ;;
-    undo) options='-J -k' ;;
+    undo | redo) options='-J -k' ;;
     log) options='-J' ;;
     *) return ;;
     esac
@@ -53,7 +53,7 @@ _bx() {
     od:-A) _bx_offer -W 'd o x n' -- "$cur" ;;
     od:-t) _bx_offer -W 'c d1 d2 d4 d8 o1 o2 o4 o8 u1 u2 u4 u8 x1 x2 x4 x8' -- "$cur" ;;
     strings:-t) _bx_offer -W 'd o x' -- "$cur" ;;
-    xxd:-[cglos] | od:-[jN] | hexdump:-[ns] | strings:-n | revert:-s | undo:-k) ;;
+    xxd:-[cglos] | od:-[jN] | hexdump:-[ns] | strings:-n | revert:-s | undo:-k | redo:-k) ;;
     *)
         if [[ $cur == -* ]]; then
             _bx_offer -W "$options -h --help" -- "$cur"

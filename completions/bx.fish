@@ -1,5 +1,5 @@
 # Completion of bx for fish.
-set -l commands xxd od hexdump strings dd revert undo log
+set -l commands xxd od hexdump strings dd revert undo redo log
 set -l none "not __fish_seen_subcommand_from $commands help"
 
 complete -c bx -f
@@ -13,11 +13,12 @@ complete -c bx -n $none -a strings -d 'Show the printable runs of a file'
 complete -c bx -n $none -a dd -d 'Copy and convert bytes'
 complete -c bx -n $none -a revert -d 'Write the bytes of a dump onto an image'
 complete -c bx -n $none -a undo -d 'Take the last changes of an image back'
+complete -c bx -n $none -a redo -d 'Make the last undone changes of an image again'
 complete -c bx -n $none -a log -d 'List the changes of an image'
 complete -c bx -n $none -a help -d 'Show the help of a command'
 complete -c bx -n '__fish_seen_subcommand_from help' -a "$commands"
 
-complete -c bx -n "__fish_seen_subcommand_from xxd od hexdump strings revert undo log" -F
+complete -c bx -n "__fish_seen_subcommand_from xxd od hexdump strings revert undo redo log" -F
 
 complete -c bx -n '__fish_seen_subcommand_from xxd' -s b -d 'Eight binary digits for each byte'
 complete -c bx -n '__fish_seen_subcommand_from xxd' -s c -x -d 'Bytes on a line, 1 to 256'
@@ -60,5 +61,7 @@ complete -c bx -n '__fish_seen_subcommand_from revert' -s s -x -d 'Bytes to add 
 
 complete -c bx -n '__fish_seen_subcommand_from undo' -s J -r -F -d 'Journal of the image'
 complete -c bx -n '__fish_seen_subcommand_from undo' -s k -x -d 'Changes to take back, 0 to 65535'
+complete -c bx -n '__fish_seen_subcommand_from redo' -s J -r -F -d 'Journal of the image'
+complete -c bx -n '__fish_seen_subcommand_from redo' -s k -x -d 'Changes to make again, 0 to 65535'
 
 complete -c bx -n '__fish_seen_subcommand_from log' -s J -r -F -d 'Journal of the image'
