@@ -19,6 +19,7 @@ fn name_of(job: &Job) -> &'static str {
         Job::Dd(_) => "dd",
         Job::Revert(_) => "revert",
         Job::Undo { .. } => "undo",
+        Job::Redo { .. } => "redo",
         Job::Log { .. } => "log",
         Job::Help { .. } => "help",
     }
@@ -217,6 +218,8 @@ fn field_of(alloc: Global, job: &Job, name: &str) -> Field {
         Job::Revert(job) => revert_field(alloc, job, name),
         Job::Undo { count, .. } if name == "count" => number(alloc, *count as u64),
         Job::Undo { image, texts, .. } => image_field(alloc, image, texts, name),
+        Job::Redo { count, .. } if name == "count" => number(alloc, *count as u64),
+        Job::Redo { image, texts, .. } => image_field(alloc, image, texts, name),
         Job::Log { image, texts } => image_field(alloc, image, texts, name),
         Job::Help { .. } => Ok(None),
     }
