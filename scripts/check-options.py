@@ -17,7 +17,7 @@ import subprocess
 import sys
 import tempfile
 
-COMMANDS = ["xxd", "od", "hexdump", "strings", "dd", "revert", "undo", "log"]
+COMMANDS = ["xxd", "od", "hexdump", "strings", "dd", "revert", "undo", "redo", "log"]
 VALUES = ["1", "x", "x1", "other"]
 OPERANDS = ["if", "of", "ibs", "obs", "bs", "cbs", "skip", "seek", "count", "conv", "files", "status", "iflag", "oflag"]
 WORDS = ["block", "unblock", "lcase", "ucase", "swab", "sync", "notrunc", "noerror", "fdatasync", "fsync", "ascii",
@@ -51,7 +51,7 @@ class Program:
 
     def options(self, command):
         """Each option letter, and whether it has a value. The option stands last, so that a value is missed."""
-        front = [command] + (["image"] if command in ("revert", "undo", "log") else [])
+        front = [command] + (["image"] if command in ("revert", "undo", "redo", "log") else [])
         found = {}
         for letter in string.ascii_letters + string.digits:
             if letter == "h":
