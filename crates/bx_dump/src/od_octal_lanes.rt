@@ -52,7 +52,8 @@ fn middle_digits(bytes: u8x16) -> u8x16
 /// A space and the digits of each value, and spaces.
 #[inline(always)]
 fn cells_of(bytes: u8x16) -> u8x64
-    ensures { take 56 result ≡ by_twos octal_cells bytes }
+    ensures size { length result ≡ 64 }
+    ensures text { take 56 result ≡ by_twos octal_cells bytes }
 {
     let sides: u8x32 = digits_of_both(bytes, 0, 7).shuffle(
         digits_of_both(bytes, 3, 4),
