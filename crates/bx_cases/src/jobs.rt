@@ -19,6 +19,7 @@ fn name_of(job: &Job) -> &'static str {
         Job::Dd(_) => "dd",
         Job::Revert(_) => "revert",
         Job::Undo { .. } => "undo",
+        Job::Redo { .. } => "redo",
         Job::Log { .. } => "log",
         Job::Help { .. } => "help",
     }
@@ -206,6 +207,14 @@ fn image_field(alloc: Global, image: &Name, texts: &Texts, name: &str) -> Field 
     }
 }
 
+/// The same beside a count of changes.
+fn counted_field(alloc: Global, count: u32, image: &Name, texts: &Texts, name: &str) -> Field {
+    if name == "count" {
+        return number(alloc, count as u64);
+    }
+    image_field(alloc, image, texts, name)
+}
+
 /// The field of this name.
 fn field_of(alloc: Global, job: &Job, name: &str) -> Field {
     match job {
@@ -215,8 +224,16 @@ fn field_of(alloc: Global, job: &Job, name: &str) -> Field {
         Job::Strings(job) => strings_field(alloc, job, name),
         Job::Dd(job) => dd_field(alloc, job, name),
         Job::Revert(job) => revert_field(alloc, job, name),
-        Job::Undo { count, .. } if name == "count" => number(alloc, *count as u64),
-        Job::Undo { image, texts, .. } => image_field(alloc, image, texts, name),
+        Job::Undo {
+            count,
+            image,
+            texts,
+        }
+        | Job::Redo {
+            count,
+            image,
+            texts,
+        } => counted_field(alloc, *count, image, texts, name),
         Job::Log { image, texts } => image_field(alloc, image, texts, name),
         Job::Help { .. } => Ok(None),
     }

@@ -1,12 +1,12 @@
 //! Cases with each growth refused in turn.
 use crate::answers::{refused, same_opening, same_refusal, same_reply};
 use crate::commands::{begun, play_row};
-use crate::outcome::{Wrong, same_bytes};
+use crate::outcome::{Wrong, differs, same_bytes};
 use crate::places::Memory;
 use crate::sessions::{MemDevices, MemSession, Texts, ask_for, close, in_memory, open};
 use crate::tally::{Failure, at};
 use bumpalo::Bump;
-use bx_case_files::{Ask, CommandsCase, Found, Row, TextCase};
+use bx_case_files::{Ask, CommandsCase, Found, Opening, Row, TextCase};
 use bx_cli::{Fault, Reply};
 use bx_ration::{arena, squeeze, used};
 use std::alloc::{Allocator, Global};
@@ -181,20 +181,18 @@ fn squeezed_opening<'a>(
     Ok(Some(taken))
 }
 
+/// Opening found this, where the case tells an opening or a fault.
+fn same_found(alloc: Global, wanted: &Found, found: Opening) -> Result<(), Wrong> {
+    match wanted {
+        Found::Opened(wanted) => same_opening(alloc, *wanted, found),
+        Found::Refused(text) => Err(differs(alloc, "opening", text.as_str(), "no fault")),
+    }
+}
+
 /// Opening answered what the case tells.
-pub fn found_so(
-    alloc: Global,
-    wanted: &Found,
-    found: Result<bx_case_files::Opening, Fault>,
-) -> Result<(), Wrong> {
-    match (wanted, found) {
-        (Found::Opened(wanted), Ok(found)) => same_opening(alloc, *wanted, found),
-        (Found::Refused(text), Ok(_)) => Err(crate::outcome::differs(
-            alloc,
-            "opening",
-            text.as_str(),
-            "no fault",
-        )),
-        (wanted, Err(fault)) => same_refusal(alloc, wanted, fault),
+pub fn found_so(alloc: Global, wanted: &Found, found: Result<Opening, Fault>) -> Result<(), Wrong> {
+    match found {
+        Ok(found) => same_found(alloc, wanted, found),
+        Err(fault) => same_refusal(alloc, wanted, fault),
     }
 }
