@@ -7,6 +7,7 @@ mod files;
 mod fused;
 mod growths;
 mod history;
+mod hunt;
 mod jobs;
 mod judged;
 mod openings;
@@ -19,6 +20,7 @@ mod streams;
 mod sweeps;
 mod tally;
 mod texts;
+mod weight;
 mod words;
 
 use std::env;

@@ -10,6 +10,7 @@ use crate::sessions::{
     Fused, FusedDevices, FusedSession, Held, ask_for, close, held_fused, in_fused, open,
 };
 use crate::tally::{Failure, at};
+use crate::weight::{opening_step, stop_step};
 use bx_case_files::{Ask, CommandsCase, Row};
 use bx_cli::Fault;
 use std::alloc::Global;
@@ -103,7 +104,7 @@ fn one_stop(
     Ok(1)
 }
 
-/// Stops a case in one way at each call. Tells how often.
+/// Stops a case in one way at each call, or one in so many. Tells how often.
 fn stop_kind(
     alloc: Global,
     case: &CommandsCase,
@@ -112,8 +113,10 @@ fn stop_kind(
     with_openings: bool,
     seen: &mut Vec<Held>,
 ) -> Result<u32, Failure> {
+    let step = step_of(case, with_openings);
     let mut stops = 0u32;
-    for pass in 0..MOST_CALLS {
+    for turn in 0..MOST_CALLS {
+        let pass = place_of(kind, step, turn);
         match one_stop(alloc, case, first, fused(kind, pass), with_openings, seen) {
             Ok(0) => break,
             Ok(more) => stops = stops.saturating_add(more),
@@ -123,13 +126,31 @@ fn stop_kind(
     Ok(stops)
 }
 
+/// Of the calls of a case one in so many fails.
+fn step_of(case: &CommandsCase, with_openings: bool) -> u64 {
+    if with_openings {
+        opening_step(case)
+    } else {
+        stop_step(case)
+    }
+}
+
+/// The call that fails at this turn. Each way begins at another.
+fn place_of(kind: u32, step: u64, turn: u64) -> u64 {
+    let first = match (kind as u64).checked_rem(step) {
+        Some(first) => first,
+        None => 0,
+    };
+    turn.saturating_mul(step).saturating_add(first)
+}
+
 /// How a failure names the call: its way and device, and how many calls came before.
 fn call_of(kind: u32, pass: u64) -> u32 {
     kind.saturating_mul(100_000)
         .saturating_add(pass.min(99_999) as u32)
 }
 
-/// Stops a case at each call of each device, and with openings also the opening of what is left. Tells how often.
+/// Stops a case at the calls of each device, and with openings also the opening of what is left. Tells how often.
 pub fn play_stops(alloc: Global, case: &CommandsCase, with_openings: bool) -> Result<u32, Failure> {
     let first = match first_of(alloc, case) {
         Ok(first) => first,

@@ -8,7 +8,7 @@ use crate::outcome::{Wrong, differs, same_bytes};
 use crate::places::{Files, Memory, Pages, Place};
 use crate::sessions::{Held, Texts, contents, held_of, in_memory, open};
 use crate::tally::{Failure, at};
-use bx_case_files::{Found, Opening, TextCase};
+use bx_case_files::TextCase;
 use bx_image::Device;
 use bx_store::TextStore;
 use std::alloc::Global;
@@ -36,28 +36,12 @@ pub fn play_text(rt: &HostRuntime, case: &TextCase, sweep: usize) -> Result<u32,
         4 => opening_growths(alloc, case, texts_of(case)),
         5 => stopped(alloc, case),
         6 => fronts(alloc, texts_of(case)),
-        _ => each_byte(alloc, case),
+        _ => changed_bytes(alloc, texts_of(case)),
     };
     match played {
         Ok(plays) => Ok(plays),
         Err(wrong) => Err(at(0, wrong)),
     }
-}
-
-/// Clean texts of at most so many bytes have each byte made each other one; others have it changed in three ways.
-const SHORT: usize = 140;
-
-/// Opens the text with each byte changed.
-fn each_byte(alloc: Global, case: &TextCase) -> Result<u32, Wrong> {
-    let is_clean = matches!(&case.found, Found::Opened(Opening::Clean { .. }));
-    if !is_clean || case.journal.len() > SHORT || case.redo.len() > SHORT {
-        return changed_bytes(alloc, texts_of(case), &[1, 32, 128]);
-    }
-    let mut turns = Vec::new(alloc);
-    for turn in 1..=255u8 {
-        turns.push(turn)?;
-    }
-    changed_bytes(alloc, texts_of(case), turns.as_slice())
 }
 
 /// What is opened.
