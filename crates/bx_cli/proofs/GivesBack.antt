@@ -1,5 +1,5 @@
 -- What accepted changes put onto a stack, an undo of as many takes off.
-use Rattle.std.proofs.Common.{◌≡◌, ◌≤◌, inl, inr, ℕ, ◌+◌, ◌-◌, zero, suc, Bool, true, false, if◌then◌else◌, nat_le, length-drop, Option, None, Some, Result, Ok, Err, List, [], ◌∷◌, ◌++◌, length, drop, refl, sym, ap, ◌∙◌, subst, arith, All}
+use Rattle.std.proofs.Common.{◌≡◌, ◌≤◌, inl, inr, ℕ, ◌+◌, zero, suc, Bool, true, false, if◌then◌else◌, nat_le, length-drop, Option, None, Some, Result, Ok, Err, List, [], ◌∷◌, length, drop, refl, sym, ap, ◌∙◌, subst, arith, All}
 use Rattle.std.proofs.lemmas.List.{drop-drop}
 use Rattle.bx_image.specs.declared.change.Change.{Change}
 use Rattle.bx_image.specs.declared.change.TheConstants.{MAX_LEN}
@@ -16,8 +16,8 @@ use Rattle.bx_cli.specs.Standing.{Standing, PerformFrom, RedoFrom, UndoFrom}
 use Rattle.bx_dd.specs.declared.counts.Counts.{Counts}
 use Rattle.bx_dd.specs.declared.fault.DdFault.{DdFault}
 use Rattle.bx_cli.specs.declared.changes.DdChange.{DdChange}
-use Rattle.bx_cli.specs.Fault.{of_dd, of_read, of_session}
-use Rattle.bx_cli.specs.Run.{changed, redone, undone, RefusesStep, ChangeStep, ReadStep, DdStep, CommandStep, StackStep, StackRun}
+use Rattle.bx_cli.specs.Fault.{of_dd, of_read}
+use Rattle.bx_cli.specs.Run.{changed, redone, undone, ChangeStep, ReadStep, DdStep, CommandStep, StackStep, StackRun}
 use Rattle.bx_cli.specs.Command.{dump_change, plain_change}
 use Rattle.bx_read.specs.Plain.{plain_answer}
 use Rattle.bx_read.specs.Text.{dump_pieces}
@@ -204,9 +204,9 @@ redo_puts_back k left changes start now after (Ok n) (Ok m) undo_told p redo_tol
 redo_puts_back k left changes start now after (Err e) s undo_told p redo_told q = absurd (subst IsUndone undo_told tt)
 redo_puts_back k left changes start now after (Ok n) (Err e) undo_told p redo_told q = absurd (subst IsRedone redo_told tt)
 
-pub redo_gives_back : {R A : Type 0} (remaining : R → Option (List ℕ)) (start undone after : Images) (k left changes : ℕ)
+pub redo_gives_back : {R : Type 0} (A : Type 0) (remaining : R → Option (List ℕ)) (start undone after : Images) (k left changes : ℕ)
     → StackStep {R = R} {A = A} remaining start (Undo k) (Undone left) undone
     → StackStep {R = R} {A = A} remaining undone (Redo k) (Redone changes) after
     → (after ≡ start) × (changes ≡ changes_of start.stack)
-redo_gives_back remaining start undone after k left changes undo redo =
+redo_gives_back A remaining start undone after k left changes undo redo =
     redo_puts_back k left changes start undone after undo.0.0 redo.0.0 undo.0.1 undo.0.2 redo.0.1 redo.0.2

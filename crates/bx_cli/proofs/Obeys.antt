@@ -1,5 +1,5 @@
 -- Commands that are refused before the session is called, and commands that the session answers, obey their steps.
-use Rattle.std.proofs.Common.{◌≡◌, ◌↔◌, ◌⊎◌, ◌≤◌, ◌<◌, inl, inr, ℕ, true, false, Option, Result, Ok, Err, List, [], ◌∷◌, drop, length, refl, sym, ◌∙◌, ap, subst, arith}
+use Rattle.std.proofs.Common.{◌≡◌, ◌↔◌, ◌≤◌, ◌<◌, inl, inr, ℕ, true, false, Option, Result, Ok, Err, List, [], ◌∷◌, drop, length, refl, sym, ◌∙◌, ap, subst, arith}
 use Rattle.std.specs.Result.{IsErrOf}
 use Rattle.bx_dd.specs.declared.counts.Counts.{Counts}
 use Rattle.bx_dd.specs.declared.fault.DdFault.{DdFault}
@@ -23,8 +23,8 @@ use Rattle.bx_cli.specs.declared.command.Reply.TheVariants.{Refused, Undone, Red
 use Rattle.bx_cli.specs.declared.fault.Fault.{Fault}
 use Rattle.bx_cli.specs.Fault.{of_dd, of_read, of_session}
 use Rattle.bx_cli.specs.Obeys.{Obeys}
-use Rattle.bx_cli.specs.Refusal.{IsOwnFault, IsOwnRefusal, IsWholeRefusal}
-use Rattle.bx_cli.specs.Run.{changed, made_reply, redone, undone, HasFailed, Unfailed, StandsThen, ChangeStep, UndoesStep, RedoesStep, ReadStep, DdStep}
+use Rattle.bx_cli.specs.Refusal.{IsOwnFault, IsWholeRefusal}
+use Rattle.bx_cli.specs.Run.{changed, made_reply, redone, undone, HasFailed, Unfailed, ChangeStep, UndoesStep, RedoesStep, ReadStep, DdStep}
 use Rattle.bx_cli.specs.Standing.{CountsOn, HoldsAt, PerformFrom, RedoFrom, Shows, Standing, UndoFrom}
 use Rattle.bx_cli.proofs.Refusals.{IsNoRefusal, after_same, is_interrupted, made_no_refusal, no_failure, no_own, no_whole, redo_same_here, same_here, session_not_own, unfailed_whole, whole_goes_on}
 use Rattle.bx_cli.proofs.Stays.{holds_same, ready_shows, shows_same}

@@ -1,5 +1,5 @@
 -- A session whose devices, counts and flag are as they were stands where it stood.
-use Rattle.std.proofs.Common.{◌≡◌, ◌↔◌, ℕ, suc, List, sym, ◌∙◌, ap, subst}
+use Rattle.std.proofs.Common.{◌↔◌, ℕ, suc, List, sym, ◌∙◌, ap, subst}
 use Rattle.bx_journal.specs.Images.{Images}
 use Rattle.bx_journal.specs.Phase.{IsAtRest}
 use Rattle.bx_journal.specs.Redo.{Finds, IsRedoOf}

@@ -28,3 +28,9 @@ returns-in-Dd g c =
           (λ before after step. (g.R.Read.remaining made.new.input, (made.result, (made.ensures, step))))
           c.run_dd.ensures.obeys);
     }
+
+pub returns-in-Undo : goal.returns-in-Undo
+returns-in-Undo g c = record { obeys = rw c.in-Undo.is c.run_undo.ensures.obeys }
+
+pub returns-in-Redo : goal.returns-in-Redo
+returns-in-Redo g c = record { obeys = rw c.in-Redo.is c.run_redo.ensures.obeys }
