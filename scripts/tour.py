@@ -37,8 +37,10 @@ def outputs(commands, bx, folder):
     os.mkdir(os.path.join(folder, "work"))
     script = "".join(f"{command}\nstatus=$?; echo '{END}'; (exit $status)\n" for command in commands)
     env = {**os.environ, "LC_ALL": "C", "PATH": os.path.join(folder, "bin") + ":" + os.environ["PATH"]}
-    done = subprocess.run(["bash"], input=script, stdout=subprocess.PIPE, stderr=subprocess.STDOUT,
-                          cwd=os.path.join(folder, "work"), env=env, text=True, timeout=120)
+    with open(os.path.join(folder, "commands"), "w", encoding="utf-8") as out:
+        out.write(script)
+    done = subprocess.run(["bash", os.path.join(folder, "commands")], stdin=subprocess.DEVNULL, stdout=subprocess.PIPE,
+                          stderr=subprocess.STDOUT, cwd=os.path.join(folder, "work"), env=env, text=True, timeout=120)
     return [part.splitlines() for part in done.stdout.split(END + "\n")[:-1]]
 
 
