@@ -13,6 +13,7 @@ mod od_dump;
 mod od_hexadecimal;
 mod od_lines;
 mod od_octal;
+mod od_octal_lanes;
 mod od_options;
 mod od_values;
 mod pages;

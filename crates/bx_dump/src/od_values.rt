@@ -6,6 +6,7 @@ ghost use Rattle.bx_dump.specs.Od.{value_of, width_of, field_width, field_text, 
 use crate::od_bytes::char_of;
 use crate::od_digits::put_number;
 use crate::od_hexadecimal::put_hexadecimal_line;
+use crate::od_octal_lanes::put_octal_twos;
 use crate::od_options::{Kind, NumForm, Size};
 
 /// The value of bytes of which the lowest comes first.
@@ -165,14 +166,7 @@ fn put_octal_line(text: &mut [u8], size: Size, bytes: &[u8; 16]) -> usize
             },
             bytes,
         ),
-        Size::Two => put_whole(
-            text,
-            Kind::Number {
-                form: NumForm::Octal,
-                size: Size::Two,
-            },
-            bytes,
-        ),
+        Size::Two => put_octal_twos(text, bytes),
         Size::Four => put_whole(
             text,
             Kind::Number {
