@@ -350,6 +350,17 @@ streams() {
         [ "$status" = 1 ] && grep -q '^bx: write failed after [0-9]* bytes$' err && well=1
         say "$well" "$command to a full device" "status $status, $(tail -n 1 err)"
     done
+    fresh ABxyEFGH text
+    timeout 60 "$bx" dd if=bytes > out 2> /dev/full < /dev/null
+    status=$?
+    well=0
+    [ "$status" = 1 ] && cmp -s out bytes && well=1
+    say "$well" "dd with its report to a full device" "status $status"
+    timeout 60 "$bx" dd if=bytes of=img > out 2> /dev/full < /dev/null
+    status=$?
+    well=0
+    [ "$status" = 0 ] && cmp -s img bytes && well=1
+    say "$well" "dd of= with its report to a full device" "status $status"
     for command in "xxd zeros" "od -v zeros" "hexdump -C -v zeros" "xxd -p zeros" "strings text_bytes"; do
         # shellcheck disable=SC2086
         { timeout 60 "$bx" $command 2> err; echo $? > status; } | head -c 10 > /dev/null
@@ -383,8 +394,8 @@ run_closed() { # run_closed NUMBERS ARG ..
     )
 }
 
-# One command under one set of closed streams. NEEDS has a 0 where it reads standard input, and a 1 where it writes to standard
-# output; `out2` and `err2` are what it writes with all three open, and `after` is what it leaves.
+# One command under one set of closed streams. NEEDS has a 0 where it reads standard input, a 1 where it writes to standard
+# output, and a 2 where it fails without standard error; `out2` and `err2` are what it writes with all three open, and `after` is what it leaves.
 closed_case() { # closed_case NUMBERS NEEDS IMAGE ARG ..
     local numbers=$1 needs=$2 image=$3 status want=0 message='' well=1
     shift 3
@@ -396,6 +407,7 @@ closed_case() { # closed_case NUMBERS NEEDS IMAGE ARG ..
     case $numbers$needs in
         *0*0*) want=1 message='bx: read failed' ;;
         *1*1*) want=1 message='bx: write failed after 0 bytes' ;;
+        *2*2*) want=1 ;;
     esac
     [ "$status" = "$want" ] || well=0
     case $message in
@@ -443,9 +455,9 @@ closed_streams() {
     closed_command 1 ABxyEFGH redo -k 0 img
     closed_command 1 ABxyEFGH log img
     closed_command 1 ABxyEFGH xxd img
-    closed_command 1 ABxyEFGH dd if=img
+    closed_command 12 ABxyEFGH dd if=img
     closed_command 01 ABxyEFGH xxd
-    closed_command 01 ABxyEFGH dd
+    closed_command 012 ABxyEFGH dd
     printf '41 4\n2' > input
     closed_command 0 ABxyEFGH revert -p -s 1 img
 }

@@ -48,14 +48,18 @@ where
         &mut session,
         Command::Dd { operands, input },
     )? {
-        tell(rt, &counts);
+        // One that can't be made or written is no fault: what it tells of is done.
+        let _ = tell(rt, &counts, 0);
     }
     Ok(())
 }
 
-/// dd's report, on standard error. One that can't be made or written is no fault, since what it tells of is done.
-pub fn tell<R: Eprint + AllocGlobal>(rt: &R, counts: &Counts) {
-    if let Ok(text) = report(rt.alloc(), counts) {
-        let _ = eprint!(rt; "{}", str::from_utf8(text.as_slice()).unwrap_or(""));
+/// dd's report, on standard error. `written` bytes went to standard output before, and a write fault tells them: how much of
+/// the report went out isn't known.
+pub fn tell<R: Eprint + AllocGlobal>(rt: &R, counts: &Counts, written: u64) -> Result<(), Fault> {
+    let text = report(rt.alloc(), counts)?;
+    match eprint!(rt; "{}", str::from_utf8(text.as_slice()).unwrap_or("")) {
+        Ok(()) => Ok(()),
+        Err(_) => Err(Fault::WriteFailed { written }),
     }
 }

@@ -62,7 +62,7 @@ where
         });
     }
     if let Some(counts) = counts {
-        tell(rt, &counts);
+        tell(rt, &counts, out.written)?;
     }
     Ok(())
 }
