@@ -7,3 +7,4 @@ pub mod PiecesLemmas
 pub mod NumberLemmas
 pub mod LaneLemmas
 pub mod NumberLaws
+pub mod SizeLaws

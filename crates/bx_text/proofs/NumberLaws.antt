@@ -14,7 +14,7 @@ use Rattle.bx_text.specs.declared.number.SizeStyle.{SizeStyle}
 use Rattle.bx_text.specs.Number.{digit_count, units_of, with_suffix, some_digits, after_zero, prefixed}
 use Rattle.bx_text.specs.NumberGrammar.{IsAmount, IsDecimal, IsHexadecimal, IsOctal, NumberHasForm}
 
-unmapped : {A B : Type 0} (f : A → B) (o : Option A) (y : B) → option_map f o ≡ Some y → (x : A) × (o ≡ Some x) × (f x ≡ y)
+pub unmapped : {A B : Type 0} (f : A → B) (o : Option A) (y : B) → option_map f o ≡ Some y → (x : A) × (o ≡ Some x) × (f x ≡ y)
 unmapped f None y h = cc
 unmapped f (Some x) y h = (x, refl, cc h)
 
@@ -64,14 +64,14 @@ amount_read style base least text n is =
     behind : (xs ys : List ℕ) → drop (length xs) (xs ++ ys) ≡ ys
     behind xs ys = let e : length xs + 0 ≡ length xs = omega arith in ap (λ k. drop k (xs ++ ys)) (sym e) ∙ drop-append-add xs ys 0
 
-some_of : (style : SizeStyle) (base : ℕ) (text : List ℕ) (n : ℕ) → base ≤ 36 → some_digits style base text ≡ Some n → IsAmount style base 1 text n
+pub some_of : (style : SizeStyle) (base : ℕ) (text : List ℕ) (n : ℕ) → base ≤ 36 → some_digits style base text ≡ Some n → IsAmount style base 1 text n
 some_of style base text n few h = by_count (eqb (digit_count base text) 0) refl h
   where
     by_count : (b : Bool) → eqb (digit_count base text) 0 ≡ b → cond b None (with_suffix style base text) ≡ Some n → IsAmount style base 1 text n
     by_count true e g = cc g
     by_count false e g = amount_of style base text n 1 few (omega (arith, eqb-false (digit_count base text) 0 e)) g
 
-some_read : (style : SizeStyle) (base : ℕ) (text : List ℕ) (n : ℕ) → IsAmount style base 1 text n → some_digits style base text ≡ Some n
+pub some_read : (style : SizeStyle) (base : ℕ) (text : List ℕ) (n : ℕ) → IsAmount style base 1 text n → some_digits style base text ≡ Some n
 some_read style base text n is =
     let read = amount_read style base 1 text n is in
     let e : eqb (digit_count base text) 0 ≡ false = ne_eqb (digit_count base text) 0 (λ z. absurd (omega (arith, read.1, z))) in

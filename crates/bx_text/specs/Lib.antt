@@ -10,3 +10,4 @@ pub mod InPieces
 pub mod Number
 pub mod Capped
 pub mod NumberGrammar
+pub mod SizeGrammar

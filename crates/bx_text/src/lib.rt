@@ -21,7 +21,7 @@ pub use fast::{put_address, put_full_line, put_text};
 pub use fault::{IoFault, NoMemory};
 pub use field::{Field, ShortText, dec_field, hex_digit, hex_field, oct_field};
 pub use fold::{Fold, Show};
-pub use laws::number_has_form;
+pub use laws::{number_has_form, size_has_form};
 pub use line::{LineText, blank, push_text, xxd_line};
 pub use number::{SizeFault, SizeStyle};
 pub use numbers::{read_hex, read_size};
