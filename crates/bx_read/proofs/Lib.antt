@@ -16,3 +16,4 @@ pub mod FullLemmas
 pub mod FullLines
 pub mod RowsLemmas
 pub mod FaultLemmas
+pub mod PairLaws

@@ -22,10 +22,10 @@ hex-space c is =
     rw (other, low, above) refl
 
 -- a byte that isn't white space stays
-keep : (c : ℕ) (rest : List ℕ) → is_space c ≡ false → without_space (c ∷ rest) ≡ c ∷ without_space rest
+pub keep : (c : ℕ) (rest : List ℕ) → is_space c ≡ false → without_space (c ∷ rest) ≡ c ∷ without_space rest
 keep c rest e = rw e refl
 
-leave : (c : ℕ) (rest : List ℕ) → is_space c ≡ true → without_space (c ∷ rest) ≡ without_space rest
+pub leave : (c : ℕ) (rest : List ℕ) → is_space c ≡ true → without_space (c ∷ rest) ≡ without_space rest
 leave c rest e = rw e refl
 
 prefix_more : (c : ℕ) (text : List ℕ) → is_space c ≡ true → prefix_len is_space (c ∷ text) ≡ suc (prefix_len is_space text)
@@ -60,7 +60,7 @@ end_step text n e whole = ap hex_bytes (none_of text (sym e ∙ whole))
 hex_bytes-none : (c d : ℕ) (rest : List ℕ) → (is_hex c && is_hex d) ≡ false → hex_bytes (c ∷ d ∷ rest) ≡ None
 hex_bytes-none c d rest e = rw e refl
 
-hex_bytes-some : (c d : ℕ) (rest : List ℕ) → (is_hex c && is_hex d) ≡ true → hex_bytes (c ∷ d ∷ rest) ≡ option_map (λ more. pair_value c d ∷ more) (hex_bytes rest)
+pub hex_bytes-some : (c d : ℕ) (rest : List ℕ) → (is_hex c && is_hex d) ≡ true → hex_bytes (c ∷ d ∷ rest) ≡ option_map (λ more. pair_value c d ∷ more) (hex_bytes rest)
 hex_bytes-some c d rest e = rw e refl
 
 -- behind a first byte

@@ -9,4 +9,5 @@ pub mod Full
 pub mod Plain
 pub mod Steps
 pub mod Laws
+pub mod PairGrammar
 pub mod FaultTable

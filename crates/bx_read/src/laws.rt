@@ -1,6 +1,7 @@
 //! Laws of the format, over its definitions alone.
 ghost use Rattle.bx_read.specs.FaultTable.{FaultIsOfLine};
 ghost use Rattle.bx_read.specs.Laws.{LineIsUnique, TextIsUnique, PiecesAreFew, DumpLineReadsBack, WrittenLineReadsBack};
+ghost use Rattle.bx_read.specs.PairGrammar.{PairsHaveForm, PlainHasForm};
 
 /// No line gives two different pairs of an address and bytes.
 pub fn line_is_unique()
@@ -32,4 +33,15 @@ pub fn dump_line_reads_back()
 /// bytes. It has at most 75 bytes, all of them printing ones, and no newline; no front of it begins with an `s`.
 pub fn written_line_reads_back()
     ensures { WrittenLineReadsBack }
+{}
+
+/// A text reads as the bytes of a line exactly where it is a pair of digits for each of them, at least one, with nothing or one
+/// space between two.
+pub fn pairs_have_form()
+    ensures { PairsHaveForm }
+{}
+
+/// A plain text reads as bytes exactly where it is two digits for each of them, with white space before, between and behind.
+pub fn plain_has_form()
+    ensures { PlainHasForm }
 {}

@@ -15,8 +15,8 @@ pub use dump::read_dump;
 pub use fault::ReadFault;
 pub use full::{FullLine, full_text};
 pub use laws::{
-    dump_line_reads_back, fault_is_of_line, line_is_unique, pieces_are_few, text_is_unique,
-    written_line_reads_back,
+    dump_line_reads_back, fault_is_of_line, line_is_unique, pairs_have_form, pieces_are_few,
+    plain_has_form, text_is_unique, written_line_reads_back,
 };
 pub use line::Line;
 pub use lines::DumpLines;
