@@ -15,5 +15,5 @@ pub mod LaneLemmas
 pub mod FullLemmas
 pub mod FullLines
 pub mod RowsLemmas
-pub mod FaultLemmas
 pub mod PairLaws
+pub mod FaultLemmas

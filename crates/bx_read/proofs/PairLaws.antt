@@ -51,7 +51,7 @@ pairs_form (high ∷ low ∷ next ∷ rest) bytes h =
         (put high low (32 ∷ []) rest more digits (inr refl) (spaced read))
     go false e more digits read spaced joined = put high low [] (next ∷ rest) more digits (inl refl) (joined read)
 
-digit_no_space : (c : ℕ) → is_hex c ≡ true → c ≡ 32 → ⊥
+pub digit_no_space : (c : ℕ) → is_hex c ≡ true → c ≡ 32 → ⊥
 digit_no_space c is e = false≢true (subst (λ d. is_hex d ≡ true) e is)
 
 pairs_read : (bytes text : List ℕ) → ArePairs bytes text → pairs_of text ≡ Some bytes

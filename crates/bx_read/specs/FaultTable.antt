@@ -1,9 +1,10 @@
 -- Which fault a line of a dump has: that of the first part that isn't as it has to be.
-use Rattle.std.specs.Prelude.{◌≡◌, ◌≢◌, ◌⊎◌, ℕ, ◌^◌, ◌<◌, ◌≤◌, false, List, [], ◌∷◌, ◌++◌, length, slice_index, All, IsTrue, None, Some, Err}
+use Rattle.std.specs.Prelude.{◌≡◌, ◌≢◌, ◌⊎◌, ◌↔◌, ℕ, ◌^◌, ◌<◌, ◌≤◌, false, List, [], ◌∷◌, ◌++◌, length, slice_index, All, IsTrue, Err}
 use Rattle.std.specs.Str.Parse.{digits_value}
-use Rattle.bx_read.specs.Digits.{is_hex, pairs_of, data_of}
+use Rattle.bx_read.specs.Digits.{is_hex}
 use Rattle.bx_read.specs.Grammar.{EndsData}
 use Rattle.bx_read.specs.Line.{read_line}
+use Rattle.bx_read.specs.PairGrammar.{ArePairs}
 use Rattle.bx_read.specs.declared.fault.ReadFault.{ReadFault}
 use Rattle.bx_read.specs.declared.fault.ReadFault.TheVariants.{NoMemory, BadAddress, MissingColon, BadPair, NoData, TooWide, AddressTooLarge, OddDigits}
 
@@ -19,14 +20,18 @@ pub record HasAddress (text digits rest : List ℕ) : Type 0 where
   pub some : 0 < length digits
   pub few : length digits ≤ 16
 
--- what follows the colon doesn't begin with a space, or is a space and no pairs
-abbrev pub IsNoPairs : List ℕ → Type 0
-IsNoPairs tail = ((c : ℕ) × (rest : List ℕ) × (tail ≡ c ∷ rest) × (c ≢ 32)) ⊎ ((body : List ℕ) × (tail ≡ 32 ∷ body) × (pairs_of (data_of body) ≡ None))
+-- The text is pairs for these bytes and what may follow them.
+abbrev pub HasData : List ℕ → List ℕ → Type 0
+HasData body bytes = (hex tail : List ℕ) × (body ≡ hex ++ tail) × ArePairs bytes hex × EndsData tail
 
--- a space and pairs follow the colon
+-- What follows the colon isn't nothing, one space, or two spaces and anything, and it isn't a space and pairs.
+abbrev pub IsNoPairs : List ℕ → Type 0
+IsNoPairs tail = (EndsData tail → ⊥) × ((body bytes : List ℕ) → tail ≡ 32 ∷ body → HasData body bytes → ⊥)
+
+-- A space and pairs follow the colon.
 pub record HasPairs (text digits body bytes : List ℕ) : Type 0 where
   pub address : HasAddress text digits (58 ∷ 32 ∷ body)
-  pub pairs : pairs_of (data_of body) ≡ Some bytes
+  pub pairs : HasData body bytes
 
 -- The fault of the line of this number.
 abbrev pub IsFaultOf : ℕ → List ℕ → ReadFault → Type 0
@@ -41,6 +46,6 @@ IsFaultOf number text (AddressTooLarge n) =
 IsFaultOf number text NoMemory = ⊥
 IsFaultOf number text (OddDigits n) = ⊥
 
--- A line that isn't read has the fault that is answered.
+-- A fault is answered of a line exactly where it is the line's.
 abbrev pub FaultIsOfLine : Type 0
-FaultIsOfLine = (number : ℕ) (text : List ℕ) (fault : ReadFault) → read_line number text ≡ Err fault → IsFaultOf number text fault
+FaultIsOfLine = (number : ℕ) (text : List ℕ) (fault : ReadFault) → read_line number text ≡ Err fault ↔ IsFaultOf number text fault
