@@ -71,12 +71,17 @@ def read_specs(root):
 
 
 def exports_of(root, crate):
-    text = (root / "crates" / crate / "src" / "lib.rt").read_text()
-    names = set()
-    for match in re.finditer(r"^pub use [\w:]+::(\{[^}]*\}|\w+);", text, re.M):
-        names |= set(NAME.findall(match.group(1)))
-    for match in re.finditer(r"^pub mod (\w+);", text, re.M):
-        names.add("mod " + match.group(1))
+    """what the crate's root exports, by itself and by its public modules, which are named too: `mod PATH`"""
+    names, todo = set(), [("lib", "")]
+    while todo:
+        file, below = todo.pop()
+        path = root / "crates" / crate / "src" / f"{file}.rt"
+        text = path.read_text()
+        for match in re.finditer(r"^pub use [\w:]+::(\{[^}]*\}|\w+);", text, re.M):
+            names |= set(NAME.findall(match.group(1)))
+        for match in re.finditer(r"^pub mod (\w+);", text, re.M):
+            names.add("mod " + below + match.group(1))
+            todo.append((below + match.group(1), below + match.group(1) + "/"))
     return names
 
 
@@ -116,10 +121,11 @@ def methods_of(body):
 def public_names(root, crate):
     """the specs that the public contracts of a crate name"""
     exports, named = exports_of(root, crate), set()
-    for path in sorted((root / "crates" / crate / "src").rglob("*.rt")):
+    folder = root / "crates" / crate / "src"
+    for path in sorted(folder.rglob("*.rt")):
         text = path.read_text()
         known = imports_of(text)
-        module = "mod " + path.stem
+        module = "mod " + str(path.relative_to(folder).with_suffix(""))
         for access, kind, rest in items_of(text):
             name = NAME.search(re.sub(r"^<[^>]*>", "", rest.strip()))
             shown = access == "pub " and name and (name.group() in exports or module in exports)
