@@ -1,11 +1,10 @@
 -- Pairs of digits are what their form says.
-use Rattle.std.proofs.Common.{◌≡◌, ◌↔◌, ◌⊎◌, ℕ, zero, suc, ◌+◌, ◌*◌, ◌<◌, Bool, true, false, ◌&&◌, cond, eqb, Option, None, Some, Result, Ok, Err, List, [], ◌∷◌, ◌++◌, length, get_or, All, refl, arith, sym, ap, subst, ◌∙◌, inl, inr, ⊎_elim, append-nil}
+use Rattle.std.proofs.Common.{◌≡◌, ◌⊎◌, ℕ, zero, suc, Bool, true, false, ◌&&◌, cond, eqb, Option, None, Some, Ok, List, [], ◌∷◌, ◌++◌, All, refl, arith, sym, ap, subst, ◌∙◌, inl, inr, ⊎_elim, append-nil}
 use Rattle.std.specs.Option.{option_map}
 use Rattle.std.proofs.lemmas.Bool.{eqb-true, false≢true}
 use Rattle.bx_read.specs.Digits.{is_hex, pairs_of, pair_value}
-use Rattle.bx_read.specs.Plain.{is_space, without_space, hex_bytes, plain_bytes, plain_fault, bad_line, bytes_or_fault, plain_answer}
+use Rattle.bx_read.specs.Plain.{is_space, without_space, hex_bytes, plain_bytes, bytes_or_fault}
 use Rattle.bx_read.specs.PairGrammar.{WritesByte, ArePairs, PairsHaveForm, IsBlank, IsPlain, PlainHasForm}
-use Rattle.bx_read.specs.declared.fault.ReadFault.{ReadFault}
 use Rattle.bx_read.proofs.GrammarLemmas.{and_true, guard_some, first_digit}
 use Rattle.bx_read.proofs.PairsLemmas.{pairs_of-last, pairs_of-space, pairs_of-next}
 use Rattle.bx_read.proofs.PlainLemmas.{hex-space, keep, leave, hex_bytes-some}

@@ -1,5 +1,5 @@
 -- Which fault a line of a dump has: that of the first part that isn't as it has to be.
-use Rattle.std.specs.Prelude.{◌≡◌, ◌≢◌, ◌⊎◌, ◌↔◌, ℕ, ◌^◌, ◌<◌, ◌≤◌, false, List, [], ◌∷◌, ◌++◌, length, slice_index, All, IsTrue, Err}
+use Rattle.std.specs.Prelude.{◌≡◌, ◌≢◌, ◌⊎◌, ◌↔◌, ℕ, ◌^◌, ◌<◌, ◌≤◌, false, List, ◌∷◌, ◌++◌, length, slice_index, All, IsTrue, Err}
 use Rattle.std.specs.Str.Parse.{digits_value}
 use Rattle.bx_read.specs.Digits.{is_hex}
 use Rattle.bx_read.specs.Grammar.{EndsData}

@@ -1,5 +1,5 @@
 -- A size is what its form says.
-use Rattle.std.proofs.Common.{◌≡◌, ◌↔◌, ◌⊎◌, ℕ, suc, ◌+◌, ◌*◌, ◌<◌, ◌≤◌, Bool, true, false, cond, eqb, leb, Option, None, Some, Result, Ok, Err, List, [], ◌∷◌, ◌++◌, length, get_or, All, append_assoc, append-nil, refl, arith, sym, ap, subst, ◌∙◌, inl, inr, ⊎_elim}
+use Rattle.std.proofs.Common.{◌≡◌, ◌↔◌, ℕ, suc, ◌*◌, ◌<◌, ◌≤◌, Bool, true, false, cond, eqb, leb, Option, None, Some, Result, Ok, Err, List, [], ◌∷◌, ◌++◌, get_or, All, append_assoc, append-nil, refl, arith, sym, ap, subst, ◌∙◌}
 use Rattle.std.specs.Char.{is_digit}
 use Rattle.std.specs.Option.{option_map, option_and_then}
 use Rattle.std.proofs.lemmas.Bool.{eqb-true, ne_eqb, le-leb, lt-leb, leb-true, leb-false, false≢true}
@@ -7,9 +7,9 @@ use Rattle.bx_text.specs.declared.number.SizeStyle.{SizeStyle}
 use Rattle.bx_text.specs.declared.number.SizeStyle.TheVariants.{Count, Bare, Product}
 use Rattle.bx_text.specs.declared.number.SizeFault.{SizeFault}
 use Rattle.bx_text.specs.declared.number.SizeFault.TheVariants.{Bad, TooLarge}
-use Rattle.bx_text.specs.Number.{unit_of, units_of, some_digits, in_first, factors_of, product_of, size_value, greatest, within, read_size}
+use Rattle.bx_text.specs.Number.{unit_of, units_of, some_digits, in_first, factors_of, product_of, size_value, greatest, within}
 use Rattle.bx_text.specs.NumberGrammar.{IsAmount}
-use Rattle.bx_text.specs.SizeGrammar.{with_x, AreFactors, IsProduct, IsSize, SizeHasForm}
+use Rattle.bx_text.specs.SizeGrammar.{with_x, AreFactors, IsSize, SizeHasForm}
 use Rattle.bx_text.proofs.NumberLaws.{number_has_form, unmapped, some_of, some_read}
 
 -- ---- the parts between letters x
