@@ -15,7 +15,9 @@ mod spans;
 pub use bx_text::NoMemory;
 pub use change::{Change, MAX_LEN, apply, check};
 pub use device::{Device, DeviceFailed, ImageFault, TooLarge};
-pub use file::{FileImage, RandomAccess, Stop, counted, read_full, resize_to, size_of, write_full};
+pub use file::{
+    FileImage, RandomAccess, Stop, SystemFile, counted, read_full, resize_to, size_of, write_full,
+};
 pub use filling::{room, room_to_restore};
 pub use fuse::{Fuse, FuseImage, Part};
 pub use laws::{law_place, law_restore, law_runs};

@@ -5,14 +5,13 @@ ghost use Rattle.bx_image.specs.Device.{GoesOn};
 ghost use Rattle.bx_store.specs.Store.{IsPartlyAppended, has_failed};
 
 use crate::{DeviceFailed, MOST, NoMemory, TextFault, TextStore};
-use bx_image::{RandomAccess, counted, read_full, resize_to, size_of, write_full};
+use bx_image::{RandomAccess, SystemFile, counted, read_full, resize_to, size_of, write_full};
 use std::alloc::Allocator;
-use std::fs::File;
 
 /// A text in a file, appended at the file's end. It is honest where the file is, counts its failures
 /// from 0, and takes no memory but for what `read_all` answers.
 #[derive(Drop)]
-pub struct FileText<F: RandomAccess = File> {
+pub struct FileText<F: RandomAccess = SystemFile> {
     file: F,
     failures: u64,
 }
@@ -25,6 +24,14 @@ impl<F: RandomAccess> FileText<F> {
         ensures failures { ⟦<FileText<F> as TextStore>⟧.failures result ≡ 0 }
     {
         FileText { file, failures: 0 }
+    }
+
+    /// The file that has the text.
+    pub fn file(&self) -> &F
+        ensures text { F.content result.now ≡ ⟦<FileText<F> as TextStore>⟧.text self.now }
+        ensures honest { F.honest result.now ↔ ⟦<FileText<F> as TextStore>⟧.honest self.now }
+    {
+        &self.file
     }
 }
 
