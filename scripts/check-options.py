@@ -141,7 +141,7 @@ def fault_texts(source):
 
 def sources():
     """The code and the definitions of all crates."""
-    files = glob.glob("crates/*/src/**/*.rt", recursive=True) + glob.glob("crates/*/specs/*.antt") + ["crates.txt"]
+    files = glob.glob("crates/*/src/**/*.rt", recursive=True) + glob.glob("crates/*/specs/**/*.antt", recursive=True) + ["crates.txt"]
     return "\n".join(read(name) for name in files)
 
 
