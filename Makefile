@@ -4,7 +4,7 @@ man = $(DESTDIR)$(PREFIX)/share/man/man1
 bash = $(DESTDIR)$(PREFIX)/share/bash-completion/completions
 fish = $(DESTDIR)$(PREFIX)/share/fish/vendor_completions.d
 zsh = $(DESTDIR)$(PREFIX)/share/zsh/$(if $(filter /usr,$(PREFIX)),vendor-completions,site-functions)
-.PHONY: all look test install uninstall package tour pictures check-docs compare cases record hostile bench clean
+.PHONY: all look test install uninstall package check-package tour pictures check-docs check-completions compare cases record hostile bench clean
 
 all: bx
 
@@ -36,6 +36,10 @@ uninstall:
 package: all
 	scripts/package.sh bx package
 
+# The package, installed, upgraded and removed in a root of its own. As root, or by fakeroot; it needs lintian.
+check-package: all
+	scripts/check-package.sh bx
+
 # What follows is run by hand and is no part of the gate.
 
 # The commands of README.md and of the recipes, and what they write.
@@ -46,11 +50,16 @@ tour: all
 # The pictures of docs/pictures, each drawn from what its commands write.
 pictures: all
 	scripts/picture.py --bx ./bx docs/pictures/session.txt docs/pictures/session.svg
+	scripts/states.py --bx ./bx docs/pictures/states.svg
 
 # The options of bx beside those of its help, man page, completions and README.md.
 check-docs: all
 	scripts/check-options.py --bx ./bx
 	scripts/believe.py
+
+# What bash, zsh and fish offer, where they are installed.
+check-completions:
+	scripts/check-completions.py
 
 # The real tools beside bx, on random inputs and options.
 compare: all

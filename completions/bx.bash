@@ -1,42 +1,61 @@
 # Completion of bx for bash.
 
-# Offers what compgen gives for its words, with spaces in names kept.
-_bx_offer() { mapfile -t COMPREPLY < <(compgen "$@"); }
+# Offers what begins with what was typed: of some words, or of the names of files.
+_bx_words() { mapfile -t COMPREPLY < <(compgen -P "$lead" -W "$1" -- "$cur"); }
+_bx_files() {
+    compopt -o filenames 2> /dev/null
+    mapfile -t COMPREPLY < <(compgen -P "$lead" -f -- "$cur")
+}
 
-# The operands of dd. Where '=' cuts words, the operand's name stands one or two words back.
+# The names of dd's operands that weren't given, each with its '='.
+_bx_operands() {
+    local names='if= of= ibs= obs= bs= cbs= skip= seek= count= conv=' line=" ${COMP_WORDS[*]:2}" name left=''
+    line=${line// =/=}
+    for name in $names; do
+        [[ $line == *" $name"* ]] || left+=" $name"
+    done
+    compopt -o nospace 2> /dev/null
+    _bx_words "$left"
+}
+
+# The conversions that weren't given. More may follow behind a comma.
+_bx_conversions() {
+    local word left=''
+    for word in block unblock lcase ucase swab sync notrunc; do
+        [[ ,$cur, == *",$word,"* ]] || left+=" $word"
+    done
+    [[ $cur == *,* ]] && lead=$lead${cur%,*},
+    cur=${cur##*,}
+    compopt -o nospace 2> /dev/null
+    _bx_words "$left"
+}
+
+# An operand of dd. Where '=' cuts words, its name stands one or two words back.
 _bx_dd() {
-    local name='' lead=''
+    local name=''
     case $cur in
     =) name=$prev cur='' ;;
-    *=*) name=${cur%%=*} lead=${cur%%=*}= ;;
+    *=*) name=${cur%%=*} lead=${cur%%=*}= cur=${cur#*=} ;;
     *) [[ $prev == '=' ]] && name=${COMP_WORDS[COMP_CWORD - 2]} ;;
     esac
-    cur=${cur#"$lead"}
     case $name in
-    if | of) _bx_offer -P "$lead" -f -- "$cur" ;;
-    conv)
-        compopt -o nospace 2> /dev/null
-        [[ $cur == *,* ]] && lead=$lead${cur%,*},
-        _bx_offer -P "$lead" -W 'block unblock lcase ucase swab sync notrunc' -- "${cur##*,}"
-        ;;
-    '')
-        compopt -o nospace 2> /dev/null
-        _bx_offer -W 'if= of= ibs= obs= bs= cbs= skip= seek= count= conv=' -- "$cur"
-        ;;
+    if | of) _bx_files ;;
+    conv) _bx_conversions ;;
+    '') _bx_operands ;;
     esac
 }
 
 _bx() {
-    local cur=${COMP_WORDS[COMP_CWORD]} prev=${COMP_WORDS[COMP_CWORD - 1]} command=${COMP_WORDS[1]}
+    local cur=${COMP_WORDS[COMP_CWORD]} prev=${COMP_WORDS[COMP_CWORD - 1]} command=${COMP_WORDS[1]} lead=''
     local commands='xxd od hexdump strings dd revert undo redo log' options
     COMPREPLY=()
     if ((COMP_CWORD == 1)); then
-        _bx_offer -W "$commands help -h --help -V --version" -- "$cur"
+        _bx_words "$commands help -h --help -V --version"
         return
     fi
     case $command in
     help)
-        _bx_offer -W "$commands" -- "$cur"
+        _bx_words "$commands"
         return
         ;;
     xxd) options='-b -c -g -i -l -o -p -s -u' ;;
@@ -50,20 +69,19 @@ _bx() {
     *) return ;;
     esac
     case $command:$prev in
-    od:-A) _bx_offer -W 'd o x n' -- "$cur" ;;
-    od:-t) _bx_offer -W 'c d1 d2 d4 d8 o1 o2 o4 o8 u1 u2 u4 u8 x1 x2 x4 x8' -- "$cur" ;;
-    strings:-t) _bx_offer -W 'd o x' -- "$cur" ;;
+    od:-A) _bx_words 'd o x n' ;;
+    od:-t) _bx_words 'c d1 d2 d4 d8 o1 o2 o4 o8 u1 u2 u4 u8 x1 x2 x4 x8' ;;
+    strings:-t) _bx_words 'd o x' ;;
     xxd:-[cglos] | od:-[jN] | hexdump:-[ns] | strings:-n | revert:-s | undo:-k | redo:-k) ;;
+    *:-J | revert:-f) _bx_files ;;
     *)
-        if [[ $cur == -* ]]; then
-            _bx_offer -W "$options -h --help" -- "$cur"
-        elif [[ $command == dd && $prev != -J ]]; then
-            _bx_dd
-        else
-            _bx_offer -f -- "$cur"
-        fi
+        case $command:$cur in
+        *:-*) _bx_words "$options -h --help" ;;
+        dd:*) _bx_dd ;;
+        *) _bx_files ;;
+        esac
         ;;
     esac
 }
 
-complete -o filenames -F _bx bx
+complete -F _bx bx

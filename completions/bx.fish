@@ -1,4 +1,29 @@
 # Completion of bx for fish.
+
+# An operand of dd: a name that wasn't given with its '=', or a value that can be known.
+function __bx_operand
+    set -l token (commandline -ct)
+    switch $token
+        case 'conv=*'
+            set -l front (string replace -r '^(conv=(?:.*,)?).*' '$1' -- $token)
+            set -l given (string split , -- (string sub -s 6 -- $token))
+            for word in block unblock lcase ucase swab sync notrunc
+                contains -- $word $given; or echo $front$word
+            end
+        case 'if=*' 'of=*'
+            set -l name (string sub -l 3 -- $token)
+            __fish_complete_path (string sub -s 4 -- $token) | string replace -r '^' $name
+        case '*=*'
+        case '*'
+            set -l given (commandline -opc | string match -r '^[a-z]+=')
+            for operand in if=\t'File to read' of=\t'Image to change' ibs=\t'Bytes of an input block' \
+                obs=\t'Bytes of an output block' bs=\t'Bytes of both blocks' cbs=\t'Bytes of a record' \
+                skip=\t'Input blocks to skip' seek=\t'Output blocks to skip' count=\t'Most input blocks' conv=\tConversions
+                contains -- (string replace -r '\t.*' '' -- $operand) $given; or echo $operand
+            end
+    end
+end
+
 set -l commands xxd od hexdump strings dd revert undo redo log
 set -l none "not __fish_seen_subcommand_from $commands help"
 
@@ -52,7 +77,7 @@ complete -c bx -n '__fish_seen_subcommand_from strings' -s n -x -d 'Least bytes 
 complete -c bx -n '__fish_seen_subcommand_from strings' -s t -x -a 'd o x' -d 'Show where each run begins'
 
 complete -c bx -n '__fish_seen_subcommand_from dd' -s J -r -F -d 'Journal of the image'
-complete -c bx -n '__fish_seen_subcommand_from dd' -a 'if= of= ibs= obs= bs= cbs= skip= seek= count= conv='
+complete -c bx -n '__fish_seen_subcommand_from dd' -a '(__bx_operand)'
 
 complete -c bx -n '__fish_seen_subcommand_from revert' -s J -r -F -d 'Journal of the image'
 complete -c bx -n '__fish_seen_subcommand_from revert' -s f -r -F -d 'File to read the dump from'

@@ -188,8 +188,8 @@ def main():
             report.same("operands in bx dd --help", operands, set(re.findall(r"^  (\w+)=", bx.run("dd", "--help").stdout, re.M)) & set(OPERANDS))
             report.same("operands in the man page", operands, set(re.findall(r"^\.It Cm (\w+)=", man, re.M)))
             for name, text in (("bx.bash", bash), ("_bx", zsh), ("bx.fish", fish)):
-                report.same(f"operands in {name}", operands, set(re.findall(r"\b(\w+)=(?=[ '\[])", text)) & set(OPERANDS))
-            for name, text in (("bx.bash", bash), ("_bx", zsh)):
+                report.same(f"operands in {name}", operands, set(re.findall(r"\b(\w+)=(?=[ ':\\])", text)) & set(OPERANDS))
+            for name, text in (("bx.bash", bash), ("_bx", zsh), ("bx.fish", fish)):
                 report.same(f"words of conv in {name}", words, {w for w in WORDS if re.search(rf"\b{w}\b", text)})
     faults = fault_texts(read("crates/bx_cli/src/fault.rt"))
     table = {int(n): text for n, text in re.findall(r"^\| (\d+) \| `(.*?)` \|$", read("docs/FORMATS.md"), re.M)}

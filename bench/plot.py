@@ -1,0 +1,112 @@
+#!/usr/bin/python3
+"""Draws what bench/run.sh measured, and writes its numbers into docs/SPEED.md.
+
+Usage: bench/plot.py [RUN [PAGE [PICTURE]]]
+
+RUN is bench/out/run.tsv by default, PAGE docs/SPEED.md and PICTURE docs/pictures/speed.svg. Of PAGE the part between its two
+marks is written again. It needs matplotlib (Debian: python3-matplotlib).
+"""
+import html
+import os
+import sys
+
+TOP = os.path.join(os.path.dirname(os.path.abspath(__file__)), "..")
+BEGIN, END = "<!-- written by bench/plot.py -->", "<!-- up to here -->"
+FIELDS = ["group", "name", "beside", "goal", "ours", "there", "cat", "our_memory", "their_memory", "same"]
+SLOWER, FASTER = "#c2703d", "#3d6b99"
+
+
+def read(name):
+    """What the run tells of itself, and its rows."""
+    notes, rows = [], []
+    with open(name, encoding="utf-8") as run:
+        for line in run.read().splitlines():
+            if line.startswith("# "):
+                notes.append(line[2:])
+            else:
+                rows.append(dict(zip(FIELDS, line.split("\t"), strict=True)))
+    for row in rows:
+        row["ratio"] = int(row["there"]) / max(int(row["ours"]), 1)
+    return notes, rows
+
+
+def milliseconds(us):
+    return "" if us == "-" else f"{int(us) / 1000:,.1f}"
+
+
+def mebibytes(kib):
+    return "" if kib == "-" else f"{int(kib) / 1024:,.1f}"
+
+
+def times(ratio):
+    return f"{ratio:.2f}" if ratio < 10 else f"{ratio:.0f}"
+
+
+def cell(text):
+    return html.escape(text, quote=False).replace("|", "\\|")
+
+
+def table(rows):
+    """The rows as a table of Markdown, with a part for each group."""
+    lines = []
+    for group in dict.fromkeys(row["group"] for row in rows):
+        lines += ["", f"### {group[0].upper()}{group[1:]}", "",
+                  "| `bx` | Beside | `bx`, ms | There, ms | Times as fast | `cat` of the text, ms | `bx`, MiB | There, MiB | Same bytes |",
+                  "|---|---|---:|---:|---:|---:|---:|---:|---|"]
+        for row in (row for row in rows if row["group"] == group):
+            said = [cell(row["name"]), cell(row["beside"]), milliseconds(row["ours"]), milliseconds(row["there"]), times(row["ratio"]),
+                    milliseconds(row["cat"]), mebibytes(row["our_memory"]), mebibytes(row["their_memory"]),
+                    "" if row["same"] == "-" else row["same"]]
+            lines.append(f"| {' | '.join(said)} |")
+    return lines
+
+
+def draw(rows, picture):
+    """A bar for each row: how many times as fast as what stands beside it, where 1 is as fast."""
+    import matplotlib
+    matplotlib.use("svg")
+    from matplotlib import pyplot
+    matplotlib.rcParams.update({"svg.hashsalt": "bx", "svg.fonttype": "none", "font.size": 9, "font.family": "DejaVu Sans"})
+    shown = list(reversed(rows))
+    figure, axes = pyplot.subplots(figsize=(9.5, 0.6 + 0.23 * len(shown)))
+    places = range(len(shown))
+    axes.barh(places, [row["ratio"] - 1 for row in shown], left=1, height=0.7,
+              color=[FASTER if row["ratio"] >= 1 else SLOWER for row in shown])
+    axes.set_xscale("log")
+    low, high = min(row["ratio"] for row in shown), max(row["ratio"] for row in shown)
+    axes.set_xlim(min(low / 2, 0.5), max(high * 2, 2))
+    axes.axvline(1, color="#3c3836", linewidth=0.8)
+    axes.set_yticks(list(places), [f"{row['name']}   beside   {row['beside']}" for row in shown])
+    axes.set_ylim(-0.7, len(shown) - 0.3)
+    for place, row in zip(places, shown):
+        axes.annotate(times(row["ratio"]), (row["ratio"], place), xytext=(4 if row["ratio"] >= 1 else -4, 0), textcoords="offset points",
+                      va="center", ha="left" if row["ratio"] >= 1 else "right", fontsize=8)
+    for number, row in enumerate(shown[:-1]):
+        if row["group"] != shown[number + 1]["group"]:
+            axes.axhline(number + 0.5, color="#a89984", linewidth=0.6)
+    axes.set_xlabel("times as fast as what stands beside it; 1 is as fast")
+    axes.xaxis.set_major_formatter("{x:g}")
+    for side in ("top", "right"):
+        axes.spines[side].set_visible(False)
+    figure.patch.set_facecolor("white")
+    figure.savefig(picture, format="svg", bbox_inches="tight", metadata={"Date": None})
+
+
+def main():
+    run, page, picture = (sys.argv[1:] + [None] * 3)[:3]
+    run = run or os.path.join(TOP, "bench/out/run.tsv")
+    page = page or os.path.join(TOP, "docs/SPEED.md")
+    picture = picture or os.path.join(TOP, "docs/pictures/speed.svg")
+    notes, rows = read(run)
+    draw(rows, picture)
+    with open(page, encoding="utf-8") as text:
+        front, rest = text.read().split(BEGIN)
+    back = rest.split(END)[1]
+    shown = os.path.relpath(picture, os.path.dirname(page))
+    lines = ["", f"![How many times as fast each row is]({shown})", "", *(f"- {cell(note)}" for note in notes), *table(rows), ""]
+    with open(page, "w", encoding="utf-8") as text:
+        text.write(front + BEGIN + "\n".join(lines) + "\n" + END + back)
+
+
+if __name__ == "__main__":
+    main()
