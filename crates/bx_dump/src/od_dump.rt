@@ -3,7 +3,7 @@ ghost use Rattle.std.specs.Prelude.{◌≡◌, ℕ, ◌+◌, ◌^◌, ◌<◌, �
 ghost use Rattle.bx_text.specs.Fold.{folded};
 ghost use Rattle.bx_dump.specs.Od.{od_line, od_text};
 ghost use Rattle.bx_dump.specs.OdDump.{FailsBehind, Reaches, StopsShort, StopsOd};
-ghost use Rattle.bx_dump.specs.Pages.{WritesPart, WritesRest, WritesFrontOf, Skips, capped, part_of};
+ghost use Rattle.bx_dump.specs.Pages.{WritesPart, WritesRest, WritesFrontBut, Skips, capped, part_of};
 
 use crate::folded::FoldedPages;
 use crate::od_lines::{OdLines, end_line};
@@ -43,7 +43,7 @@ fn dump_lines<R: Read, W: Write>(
     requires limit { meter.old.limit ≡ 2 ^ 40 }
     requires block { length block.old ≡ BLOCK }
     ensures ok { IfOk result (λ part. WritesRest (folded (od_line o.now.address o.now.kind) o.now.all o.now.skip) meter.old.taken o.now.limit (R.remaining r.old) (R.remaining r.new) (W.contents w.old) (W.contents w.new) part.read part.written) }
-    ensures err { IfErr result (WritesFrontOf (λ input. folded (od_line o.now.address o.now.kind) o.now.all o.now.skip (capped o.now.limit input)) 0 o.now.limit meter.old.taken 0 (R.remaining r.old) (R.remaining r.new) (W.contents w.old) (W.contents w.new)) }
+    ensures err { IfErr result (WritesFrontBut 0 (λ input. folded (od_line o.now.address o.now.kind) o.now.all o.now.skip (capped o.now.limit input)) 0 o.now.limit meter.old.taken 0 (R.remaining r.old) (R.remaining r.new) (W.contents w.old) (W.contents w.new)) }
     ensures few { IfOk result (λ part. part.written ≤ 2 ^ 60) }
     ensures count { IfOk result (λ part. part.read ≤ 2 ^ 40) }
 {

@@ -1,7 +1,7 @@
 //! xxd's dump.
 ghost use Rattle.std.specs.Prelude.{◌≡◌, ℕ, ◌+◌, ◌*◌, ◌^◌, ◌<◌, ◌≤◌, length, IfOk, IfErr};
 ghost use Rattle.bx_dump.specs.Lines.{in_lines};
-ghost use Rattle.bx_dump.specs.Pages.{WritesPart, WritesFrontOf, part_of};
+ghost use Rattle.bx_dump.specs.Pages.{WritesPart, WritesFrontBut, WritesFrontOf, part_of};
 ghost use Rattle.bx_dump.specs.Rows.{plain_line};
 ghost use Rattle.bx_dump.specs.Styles.{group_of, include_items, named_text, styled, xxd_text, IsCountable};
 ghost use Rattle.bx_dump.specs.Xxd.{columns_line};
@@ -27,7 +27,7 @@ pub fn dump_lines<R: Read, W: Write, F: LineForm + Drop>(
     requires start { start ≤ 2 ^ 63 }
     requires before { before ≤ 2 ^ 63 }
     ensures ok { IfOk result (λ part. WritesPart (λ input. in_lines (F.line form) (F.cols form) start (part_of o.now.seek o.now.limit input)) o.now.seek o.now.limit (R.remaining r.old) (R.remaining r.new) (W.contents w.old) (W.contents w.new) part.read part.written) }
-    ensures err { IfErr result (WritesFrontOf (λ input. in_lines (F.line form) (F.cols form) start (part_of o.now.seek o.now.limit input)) o.now.seek o.now.limit 0 before (R.remaining r.old) (R.remaining r.new) (W.contents w.old) (W.contents w.new)) }
+    ensures err { IfErr result (WritesFrontBut 0 (λ input. in_lines (F.line form) (F.cols form) start (part_of o.now.seek o.now.limit input)) o.now.seek o.now.limit 0 before (R.remaining r.old) (R.remaining r.new) (W.contents w.old) (W.contents w.new)) }
     ensures few { IfOk result (λ part. part.written ≤ 2 ^ 60) }
 {
     let mut lines = Lines::new(form, start);
@@ -91,7 +91,7 @@ fn dump_items<R: Read, W: Write>(
     requires few { o.now.cols ≤ 256 }
     requires before { before ≤ 2 ^ 62 + 64 }
     ensures ok { IfOk result (λ part. WritesPart (λ input. include_items o.now.cols (part_of o.now.seek o.now.limit input)) o.now.seek o.now.limit (R.remaining r.old) (R.remaining r.new) (W.contents w.old) (W.contents w.new) part.read part.written) }
-    ensures err { IfErr result (WritesFrontOf (λ input. include_items o.now.cols (part_of o.now.seek o.now.limit input)) o.now.seek o.now.limit 0 before (R.remaining r.old) (R.remaining r.new) (W.contents w.old) (W.contents w.new)) }
+    ensures err { IfErr result (WritesFrontBut (2 ^ 6) (λ input. include_items o.now.cols (part_of o.now.seek o.now.limit input)) o.now.seek o.now.limit 0 before (R.remaining r.old) (R.remaining r.new) (W.contents w.old) (W.contents w.new)) }
     ensures few { IfOk result (λ part. part.written ≤ 2 ^ 60 + 1) }
 {
     let lines = match dump_lines(r, w, Items::new(o.cols as usize), 0, o, before) {
