@@ -186,5 +186,6 @@ front_known least o r0 r1 w0 w1 fault some d =
       rw e d.4,
       cause_longer fault (length d.0) d.1 _ _ more d.5,
       keeps_along fault 0 (2 ^ 7) d.1 d.1 (scan_text least o 0 []) (strings_text least o) d.0
-          (λ xs few. omega (arith, few, ap length (strings_is least o xs some), length-append (scan_text least o 0 [] xs) (end_text least (scan_run [] xs)), end_few least (scan_run [] xs))) d.6,
+          (λ xs few. omega (arith, few, ap length (strings_is least o xs some), length-append (scan_text least o 0 [] xs) (end_text least (scan_run [] xs)), end_few least (scan_run [] xs), ap length (strings_is least o [] some),
+              length-append (scan_text least o 0 [] []) (end_text least (scan_run [] [])))) d.6,
     )

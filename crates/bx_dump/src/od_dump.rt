@@ -61,7 +61,7 @@ fn dump_lines<R: Read, W: Write>(
 /// dumped. An input that ends before `skip` bytes is `SkipPastEnd`, and then nothing is written. The input may have 2^40
 /// bytes, those included that are skipped, and no more of it is read than is needed. Nothing is flushed. After another fault
 /// a front of the text of the bytes that were read was written; `WriteFailed` counts it, and comes only behind the bytes
-/// that are skipped.
+/// that are skipped, with at most 2^14 bytes read ahead of it.
 pub fn od<R: Read, W: Write>(r: &mut R, w: &mut W, o: &OdOptions) -> Result<u64, IoFault>
     requires skip { o.now.skip ≤ 2 ^ 62 }
     ensures ok { IfOk result (λ n. (written : ℕ) × WritesPart (λ input. od_text o.now.address o.now.kind o.now.all o.now.skip (part_of o.now.skip o.now.limit input)) o.now.skip o.now.limit (R.remaining r.old) (R.remaining r.new) (W.contents w.old) (W.contents w.new) n written) }

@@ -372,7 +372,7 @@ fn scan_pages<R: Read, W: Write>(
 /// asked behind its place, and answers how many bytes were read.
 ///
 /// The input may have 2^40 bytes. Nothing is allocated or flushed. After a fault a front of the text of the bytes that
-/// were read was written; `WriteFailed` counts it.
+/// were read was written; `WriteFailed` counts it, and at most 2^14 bytes were read ahead of it.
 pub fn strings<R: Read, W: Write>(r: &mut R, w: &mut W, o: &StringsOptions) -> Result<u64, IoFault>
     requires some { 0 < o.now.least }
     requires few { o.now.least ≤ 4096 }

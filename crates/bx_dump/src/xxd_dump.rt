@@ -182,8 +182,8 @@ fn dump_styled<R: Read, W: Write>(r: &mut R, w: &mut W, o: &XxdOptions) -> Resul
 ///
 /// A seek past the end of the input gives no bytes. The input may have 2^40 bytes, those included that are skipped, and no
 /// more of it is read than is needed. Nothing is flushed. After a fault a front of the text of the bytes that were read
-/// was written; `WriteFailed` counts it. `upper` has no effect on `Bits` and `Include`, nor have `group` and `shift` on
-/// `Plain` and `Include`.
+/// was written; `WriteFailed` counts it, and at most 2^14 bytes were read ahead of it. `upper` has no effect on `Bits`
+/// and `Include`, nor have `group` and `shift` on `Plain` and `Include`.
 pub fn xxd<R: Read, W: Write>(r: &mut R, w: &mut W, o: &XxdOptions) -> Result<u64, IoFault>
     requires some { 0 < o.now.cols }
     requires few { o.now.cols ≤ 256 }

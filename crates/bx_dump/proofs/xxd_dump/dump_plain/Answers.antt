@@ -12,5 +12,5 @@ returns-clause-err g c =
     let form = c.new.result in
     let text = λ (xs : List ℕ). in_lines (plain_line form.upper) form.cols 0 (part_of o.seek o.limit xs) in
     let other = λ (xs : List ℕ). in_lines (plain_line o.upper) o.cols 0 (part_of o.seek o.limit xs) in
-    let same : (xs : List ℕ) → text xs ≡ other xs = λ xs. rw c.new.ensures refl in
+    let same : (xs : List ℕ) → text xs ≡ other xs = λ xs. rw (c.new.ensures.cols, c.new.ensures.upper) refl in
     err_along c.dump_lines.result _ _ (λ e p. front_along 0 (2 ^ 7) text other o.seek o.limit 0 0 _ _ _ _ e same (omega arith) p) c.dump_lines.ensures.err
