@@ -420,8 +420,10 @@ pub operands_have_form : OperandsHaveForm
 operands_have_form words =
     let is = first_is [] words in (
       (to_sound (first_fault [] words) (AreSoundBehind [] words) (IsFirstBehind [] words) is, all_sound [] words),
-      λ fault. (to_fault (first_fault [] words) (AreSoundBehind [] words) (IsFirstBehind [] words) is fault,
-        λ first. ap (first_fault []) first.3 ∙ first_read [] first.0 first.1 first.2 fault first.4 first.5),
+      λ fault. (
+        to_fault (first_fault [] words) (AreSoundBehind [] words) (IsFirstBehind [] words) is fault,
+        λ first. ap (first_fault []) first.3 ∙ first_read [] first.0 first.1 first.2 fault first.4 first.5,
+      ),
     )
 
 -- ---- what is asked for

@@ -177,8 +177,7 @@ front_known least o r0 r1 w0 w1 fault some d =
     let tail = end_text least (scan_run [] d.0) in
     let is = strings_is least o d.0 some in
     let e : take d.1 (strings_text least o d.0) ≡ take d.1 text = ap (take d.1) is ∙ take-append-le d.1 text tail d.3 in
-    let more : length text ≤ length (strings_text least o d.0) = omega (arith, ap length is, length-append text tail) in
-    (
+    let more : length text ≤ length (strings_text least o d.0) = omega (arith, ap length is, length-append text tail) in (
       d.0,
       d.1,
       d.2,
@@ -186,6 +185,13 @@ front_known least o r0 r1 w0 w1 fault some d =
       rw e d.4,
       cause_longer fault (length d.0) d.1 _ _ more d.5,
       keeps_along fault 0 (2 ^ 7) d.1 d.1 (scan_text least o 0 []) (strings_text least o) d.0
-          (λ xs few. omega (arith, few, ap length (strings_is least o xs some), length-append (scan_text least o 0 [] xs) (end_text least (scan_run [] xs)), end_few least (scan_run [] xs), ap length (strings_is least o [] some),
-              length-append (scan_text least o 0 [] []) (end_text least (scan_run [] [])))) d.6,
+          (λ xs few. omega (
+            arith,
+            few,
+            ap length (strings_is least o xs some),
+            length-append (scan_text least o 0 [] xs) (end_text least (scan_run [] xs)),
+            end_few least (scan_run [] xs),
+            ap length (strings_is least o [] some),
+            length-append (scan_text least o 0 [] []) (end_text least (scan_run [] [])),
+          )) d.6,
     )

@@ -45,8 +45,12 @@ returns-in-Err-dump_lines-clause-err g c =
     let other = λ (xs : List ℕ). od_text o.address o.kind o.all o.skip (part_of o.skip o.limit xs) in
     let rest = rw c.in_default.ensures.open.1 at c.in-Err-dump_lines.ensures.err in
     inr (front_then 0 (2 ^ 7) text other o.skip o.limit 0 0 _ _ _ _ c.in-Err-dump_lines.fault (λ xs. (od_end o.address (o.skip + length (part_of o.skip o.limit xs)), refl))
-    (λ xs. omega (arith, od_end_few o.address (o.skip + length (part_of o.skip o.limit xs)), length-append (text xs) (od_end o.address (o.skip + length (part_of o.skip o.limit xs))),
-        length-append (text []) (od_end o.address (o.skip + length (part_of o.skip o.limit [])))))
+    (λ xs. omega (
+      arith,
+      od_end_few o.address (o.skip + length (part_of o.skip o.limit xs)),
+      length-append (text xs) (od_end o.address (o.skip + length (part_of o.skip o.limit xs))),
+      length-append (text []) (od_end o.address (o.skip + length (part_of o.skip o.limit []))),
+    ))
     (front_behind 0 lines o.skip o.limit 0 _ _ _ _ _ c.in-Err-dump_lines.fault c.in_default.ensures.ok rest))
 
 pub returns-in-Err-emit_after-clause-err : goal.returns-in-Err-emit_after-clause-err

@@ -1,4 +1,4 @@
-use Rattle.std.proofs.Common.{◌≡◌, ℕ, ◌+◌, ◌^◌, List, refl, arith}
+use Rattle.std.proofs.Common.{◌≡◌, ℕ, ◌^◌, List, refl, arith}
 use Rattle.bx_dump.specs.Lines.{in_lines}
 use Rattle.bx_dump.specs.Pages.{part_of}
 use Rattle.bx_dump.specs.Rows.{plain_line}
