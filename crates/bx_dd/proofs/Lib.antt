@@ -7,3 +7,4 @@ pub mod PlanLemmas
 pub mod WholeLemmas
 mod Rows
 pub mod LawLemmas
+pub mod OperandLaws

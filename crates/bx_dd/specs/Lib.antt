@@ -7,3 +7,4 @@ pub mod Number
 pub mod Operands
 pub mod Parsing
 pub mod Laws
+pub mod OperandGrammar

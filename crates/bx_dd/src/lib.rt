@@ -20,7 +20,10 @@ pub use copying::transfer;
 pub use counts::{Counts, Transfer, report};
 pub use fault::DdFault;
 pub use form::{Form, Letters, Shape};
-pub use laws::{first_fault_is_first, swap_turns_lowest_bit};
+pub use laws::{
+    first_fault_is_first, operand_has_form, operands_have_form, swap_turns_lowest_bit,
+    words_are_asked_for,
+};
 pub use parsing::parse;
 pub use plan::Plan;
 pub use whole::convert_whole;

@@ -1,5 +1,5 @@
 -- What a dump of a part leaves where it stops or ends.
-use Rattle.std.proofs.Common.{◌≡◌, ℕ, ◌+◌, ◌-◌, ◌^◌, ◌<◌, ◌≤◌, true, false, List, [], ◌++◌, length, take, drop, Option, None, Some, IfSome, refl, sym, ap, ◌∙◌, arith, length-append, inl, inr, ⊎_elim}
+use Rattle.std.proofs.Common.{◌≡◌, ℕ, ◌+◌, ◌-◌, ◌^◌, ◌<◌, ◌≤◌, true, false, List, [], ◌++◌, length, take, drop, Option, None, Some, IfSome, refl, sym, ap, ◌∙◌, arith, length-append, append_assoc, inl, inr, ⊎_elim}
 use Rattle.std.specs.Io.KnownBytes.{Appends, Consumes, IsAtEnd}
 use Rattle.std.proofs.lemmas.List.{take-append-le, take_all, take_at, drop_all}
 use Rattle.std.proofs.Math.Seq.{take-append-add, drop-append-add}
@@ -8,9 +8,9 @@ use Rattle.bx_text.specs.declared.fault.IoFault.TheVariants.{NoMemory, ReadFaile
 use Rattle.bx_text.specs.Stream.{StopsIn, IsReadCause}
 use Rattle.bx_text.specs.Writing.{WritesFront}
 use Rattle.bx_text.proofs.KnownLemmas.{Appends-trans, Consumes-trans, Appends-nil, Consumes-nil}
-use Rattle.bx_dump.specs.Dumped.{IsDumpFault}
-use Rattle.bx_dump.proofs.DumpLemmas.{cause_longer}
-use Rattle.bx_dump.specs.Pages.{WritesPart, WritesRest, WritesFrontOf, Skips, StopsAt, part_of, capped, IsLast, IsEndOf}
+use Rattle.bx_dump.specs.Dumped.{IsDumpFault, KeepsUp}
+use Rattle.bx_dump.proofs.DumpLemmas.{cause_longer, keeps_read, keeps_along, keeps_whole}
+use Rattle.bx_dump.specs.Pages.{WritesPart, WritesRest, WritesFrontBut, Skips, StopsAt, part_of, capped, IsLast, IsEndOf}
 
 -- more bytes were read before the fault
 cause_after : (fault : IoFault) (less wanted taken n : ℕ) → taken ≤ 2 ^ 40 → taken + less ≤ wanted → IsReadCause fault less (2 ^ 40 - taken) n →
@@ -82,7 +82,7 @@ capped_all (Some most) xs within = take_all most xs within
 -- the reader stopped
 pub rest_read_stop : (text : List ℕ → List ℕ) (limit : Option ℕ) (before : ℕ) (r0 r1 r2 w0 w1 : Option (List ℕ)) (input : List ℕ) (from taken less : ℕ) (fault : IoFault) →
     from + length input ≡ taken → taken ≤ 2 ^ 40 → IfSome limit (λ most. length input + less ≤ most) → ((more : List ℕ) → (rest : List ℕ) × (text (input ++ more) ≡ text input ++ rest)) →
-    Consumes r0 r1 input → Appends w0 w1 (text input) → StopsIn r1 r2 less (2 ^ 40 - taken) fault → WritesFrontOf (λ xs. text (capped limit xs)) 0 limit from before r0 r2 w0 w1 fault
+    Consumes r0 r1 input → Appends w0 w1 (text input) → StopsIn r1 r2 less (2 ^ 40 - taken) fault → WritesFrontBut 0 (λ xs. text (capped limit xs)) 0 limit from before r0 r2 w0 w1 fault
 rest_read_stop text limit before r0 r1 r2 w0 w1 input from taken less fault len few within goes reads writes stop =
     let cut = capped_more limit input stop.0 (within_along limit (length input + less) (length input) (omega arith) within) in
     let more = goes cut.0 in
@@ -98,28 +98,34 @@ rest_read_stop text limit before r0 r1 r2 w0 w1 input from taken less fault len 
       within = omega (arith, ap length is, length-append (text input) more.0);
       appended = rw front writes;
       cause = rw all (dump_cause fault (taken + less) (taken + length stop.0) (before + length (text input)) _ (cause_after fault less (taken + less) taken (length stop.0) few (omega arith) stop.2));
+      ahead = keeps_read fault less (2 ^ 40 - taken) (length stop.0) 0 (length (text input)) (λ xs. text (capped limit xs)) (input ++ stop.0) stop.2;
     }
 
 -- the writer stopped
-pub rest_write_stop : (text : List ℕ → List ℕ) (limit : Option ℕ) (from before : ℕ) (r0 r1 w0 w1 w2 : Option (List ℕ)) (old input page : List ℕ) (written : ℕ) (fault : IoFault) →
-    Consumes r0 r1 input → from + length input ≤ 2 ^ 40 → IfSome limit (λ most. length input ≤ most) → Appends w0 w1 old → length old ≡ written → text input ≡ old ++ page →
-    WritesFront (before + written) w1 w2 page fault → WritesFrontOf (λ xs. text (capped limit xs)) 0 limit from before r0 r1 w0 w2 fault
-rest_write_stop text limit from before r0 r1 w0 w1 w2 old input page written (WriteFailed n) reads few within writes len is stop =
+pub rest_write_stop : (text : List ℕ → List ℕ) (limit : Option ℕ) (from before : ℕ) (r0 r1 w0 w1 w2 : Option (List ℕ)) (front last page : List ℕ) (written : ℕ) (fault : IoFault) →
+    Consumes r0 r1 (front ++ last) → from + length (front ++ last) ≤ 2 ^ 40 → length last ≤ 2 ^ 14 → IfSome limit (λ most. length (front ++ last) ≤ most) → Appends w0 w1 (text front) →
+    length (text front) ≡ written → text (front ++ last) ≡ text front ++ page → WritesFront (before + written) w1 w2 page fault →
+    WritesFrontBut 0 (λ xs. text (capped limit xs)) 0 limit from before r0 r1 w0 w2 fault
+rest_write_stop text limit from before r0 r1 w0 w1 w2 front last page written (WriteFailed n) reads few block within writes len is stop =
+    let input = front ++ last in
+    let old = text front in
     let same : text (capped limit input) ≡ old ++ page = ap text (capped_all limit input within) ∙ is in
-    let front : take (written + stop.0) (text (capped limit input)) ≡ old ++ take stop.0 page =
-    rw (same, ← len) (take-append-add old page stop.0) in record {
+    let begun : take (written + stop.0) (text (capped limit input)) ≡ old ++ take stop.0 page =
+    rw (same, ← len) (take-append-add old page stop.0) in
+    let known : text (capped limit front) ≡ old = ap text (capped_all limit front (within_along limit (length input) (length front) (omega (arith, length-append front last)) within)) in record {
       input = input;
       written = written + stop.0;
       consumed = reads;
       asked = asked_behind limit 0 (length input) (length input) (omega arith) within;
       within = omega (arith, ap length same, length-append old page, stop.2);
-      appended = rw front (Appends-trans w0 w1 w2 old (take stop.0 page) writes stop.3);
+      appended = rw begun (Appends-trans w0 w1 w2 old (take stop.0 page) writes stop.3);
       cause = (omega (arith, stop.1), omega (arith, ap length same, length-append old page, stop.2), few);
+      ahead = (front, last, refl, block, omega (arith, ap length known, len));
     }
-rest_write_stop text limit from before r0 r1 w0 w1 w2 old input page written NoMemory reads few within writes len is stop = absurd stop
-rest_write_stop text limit from before r0 r1 w0 w1 w2 old input page written ReadFailed reads few within writes len is stop = absurd stop
-rest_write_stop text limit from before r0 r1 w0 w1 w2 old input page written InputTooLong reads few within writes len is stop = absurd stop
-rest_write_stop text limit from before r0 r1 w0 w1 w2 old input page written SkipPastEnd reads few within writes len is stop = absurd stop
+rest_write_stop text limit from before r0 r1 w0 w1 w2 front last page written NoMemory reads few block within writes len is stop = absurd stop
+rest_write_stop text limit from before r0 r1 w0 w1 w2 front last page written ReadFailed reads few block within writes len is stop = absurd stop
+rest_write_stop text limit from before r0 r1 w0 w1 w2 front last page written InputTooLong reads few block within writes len is stop = absurd stop
+rest_write_stop text limit from before r0 r1 w0 w1 w2 front last page written SkipPastEnd reads few block within writes len is stop = absurd stop
 
 -- the end of the input, or of what may be dumped
 pub last_at_end : (limit : Option ℕ) (n : ℕ) (r : Option (List ℕ)) → IfSome limit (λ most. n ≤ most) → IsAtEnd r → IsLast limit n r
@@ -142,6 +148,9 @@ part_none skip (Some most) xs short = ap (take most) (drop_all skip xs short) �
   where
     none : (n : ℕ) → take {A = ℕ} n [] ≡ []
     none n = take_all {A = ℕ} n [] (omega arith)
+
+pub part_empty : (skip : ℕ) (limit : Option ℕ) → part_of skip limit [] ≡ []
+part_empty skip limit = part_none skip limit [] (omega arith)
 
 last_within : (limit : Option ℕ) (n : ℕ) (r : Option (List ℕ)) → IsLast limit n r → IfSome limit (λ most. n ≤ most)
 last_within None n r p = tt
@@ -189,9 +198,9 @@ part_short text skip limit r0 r1 w empty front =
     }
 
 -- a fault among the bytes to skip
-pub front_skip : (text : List ℕ → List ℕ) (skip : ℕ) (limit : Option ℕ) (before : ℕ) (r0 r1 w : Option (List ℕ)) (fault : IoFault) → StopsAt skip (2 ^ 40) r0 r1 fault →
-    WritesFrontOf text skip limit 0 before r0 r1 w w fault
-front_skip text skip limit before r0 r1 w fault stop =
+pub front_skip : (slack : ℕ) (text : List ℕ → List ℕ) (skip : ℕ) (limit : Option ℕ) (before : ℕ) (r0 r1 w : Option (List ℕ)) (fault : IoFault) → StopsAt skip (2 ^ 40) r0 r1 fault →
+    WritesFrontBut slack text skip limit 0 before r0 r1 w w fault
+front_skip slack text skip limit before r0 r1 w fault stop =
     let none : take 0 (text stop.input) ≡ [] = refl in
     let zero_more : 0 + length stop.input ≡ length stop.input = omega arith in record {
       input = stop.input;
@@ -201,12 +210,32 @@ front_skip text skip limit before r0 r1 w fault stop =
       within = omega arith;
       appended = Appends-nil w;
       cause = rw zero_more (dump_cause fault skip (length stop.input) (before + 0) _ stop.cause);
+      ahead = keeps_read fault skip (2 ^ 40) (length stop.input) slack 0 text stop.input stop.cause;
     }
 
+-- a block ahead, behind them
+keeps_behind : (slack : ℕ) (text : List ℕ → List ℕ) (skip : ℕ) (limit : Option ℕ) (skipped input : List ℕ) (written : ℕ) (fault : IoFault) → length skipped ≡ skip →
+    KeepsUp slack (λ xs. text (capped limit xs)) input written fault → KeepsUp slack (λ xs. text (part_of skip limit xs)) (skipped ++ input) written fault
+keeps_behind slack text skip limit skipped input written (WriteFailed n) len p =
+    let same : text (part_of skip limit (skipped ++ p.0)) ≡ text (capped limit p.0) = ap text (part_behind skip limit skipped p.0 len) in
+    let none : capped limit [] ≡ part_of skip limit [] = part_none 0 limit [] (omega arith) ∙ sym (part_none skip limit [] (omega arith)) in
+    let empty : text (capped limit []) ≡ text (part_of skip limit []) = ap text none in (
+      skipped ++ p.0,
+      p.1,
+      ap (λ xs. skipped ++ xs) p.2 ∙ sym (append_assoc skipped p.0 p.1),
+      p.3,
+      omega (arith, p.4, ap length same, ap length empty),
+    )
+keeps_behind slack text skip limit skipped input written NoMemory len p = tt
+keeps_behind slack text skip limit skipped input written ReadFailed len p = tt
+keeps_behind slack text skip limit skipped input written InputTooLong len p = tt
+keeps_behind slack text skip limit skipped input written SkipPastEnd len p = tt
+
 -- a fault after them
-pub front_behind : (text : List ℕ → List ℕ) (skip : ℕ) (limit : Option ℕ) (before : ℕ) (r0 r1 r2 w0 w1 : Option (List ℕ)) (fault : IoFault) → Skips true skip r0 r1 →
-    WritesFrontOf (λ xs. text (capped limit xs)) 0 limit skip before r1 r2 w0 w1 fault → WritesFrontOf (λ xs. text (part_of skip limit xs)) skip limit 0 before r0 r2 w0 w1 fault
-front_behind text skip limit before r0 r1 r2 w0 w1 fault front rest =
+pub front_behind : (slack : ℕ) (text : List ℕ → List ℕ) (skip : ℕ) (limit : Option ℕ) (before : ℕ) (r0 r1 r2 w0 w1 : Option (List ℕ)) (fault : IoFault) → Skips true skip r0 r1 →
+    WritesFrontBut slack (λ xs. text (capped limit xs)) 0 limit skip before r1 r2 w0 w1 fault →
+    WritesFrontBut slack (λ xs. text (part_of skip limit xs)) skip limit 0 before r0 r2 w0 w1 fault
+front_behind slack text skip limit before r0 r1 r2 w0 w1 fault front rest =
     let len = front.whole refl in
     let same : text (part_of skip limit (front.input ++ rest.input)) ≡ text (capped limit rest.input) = ap text (part_behind skip limit front.input rest.input len) in
     let count : 0 + length (front.input ++ rest.input) ≡ skip + length rest.input = omega (arith, length-append front.input rest.input) in record {
@@ -217,6 +246,7 @@ front_behind text skip limit before r0 r1 r2 w0 w1 fault front rest =
       within = rw same rest.within;
       appended = rw same rest.appended;
       cause = rw (count, same) rest.cause;
+      ahead = keeps_behind slack text skip limit front.input rest.input rest.written fault len rest.ahead;
     }
 
 -- where two texts are the same, so are the dumps
@@ -233,9 +263,9 @@ part_along text other skip limit r0 r1 w0 w1 read written same d =
       long = rw e d.long;
     }
 
-pub front_along : (text other : List ℕ → List ℕ) (skip : ℕ) (limit : Option ℕ) (from before : ℕ) (r0 r1 w0 w1 : Option (List ℕ)) (fault : IoFault) → ((xs : List ℕ) → text xs ≡ other xs) →
-    WritesFrontOf text skip limit from before r0 r1 w0 w1 fault → WritesFrontOf other skip limit from before r0 r1 w0 w1 fault
-front_along text other skip limit from before r0 r1 w0 w1 fault same d =
+pub front_along : (slack wide : ℕ) (text other : List ℕ → List ℕ) (skip : ℕ) (limit : Option ℕ) (from before : ℕ) (r0 r1 w0 w1 : Option (List ℕ)) (fault : IoFault) → ((xs : List ℕ) → text xs ≡ other xs) →
+    slack ≤ wide → WritesFrontBut slack text skip limit from before r0 r1 w0 w1 fault → WritesFrontBut wide other skip limit from before r0 r1 w0 w1 fault
+front_along slack wide text other skip limit from before r0 r1 w0 w1 fault same wider d =
     let e : other d.input ≡ text d.input = sym (same d.input) in record {
       input = d.input;
       written = d.written;
@@ -244,6 +274,7 @@ front_along text other skip limit from before r0 r1 w0 w1 fault same d =
       within = rw e d.within;
       appended = rw e d.appended;
       cause = rw e d.cause;
+      ahead = keeps_along fault slack wide d.written d.written text other d.input (λ front few. omega (arith, few, wider, ap length (same front), ap length (same []))) d.ahead;
     }
 
 -- A text behind the dump: `last` where so many bytes were dumped.
@@ -261,8 +292,9 @@ module _ (text other : List ℕ → List ℕ) (skip : ℕ) (limit : Option ℕ) 
         long = omega (arith, ap length e, length-append (text d.input) last, d.long);
       }
 
-  pub stop_then : (before : ℕ) (fault : IoFault) → WritesFront (before + written) w1 w2 last fault → WritesFrontOf other skip limit 0 before r0 r1 w0 w2 fault
-  stop_then before (WriteFailed n) stop =
+  pub stop_then : (slack before : ℕ) (fault : IoFault) → length last ≤ length (other []) + slack → WritesFront (before + written) w1 w2 last fault →
+      WritesFrontBut slack other skip limit 0 before r0 r1 w0 w2 fault
+  stop_then slack before (WriteFailed n) short stop =
       let e = is d.input d.dumped in
       let front : take (written + stop.0) (other d.input) ≡ text d.input ++ take stop.0 last =
       rw (e, ← d.long) (take-append-add (text d.input) last stop.0) in record {
@@ -273,16 +305,18 @@ module _ (text other : List ℕ → List ℕ) (skip : ℕ) (limit : Option ℕ) 
         within = omega (arith, ap length e, length-append (text d.input) last, stop.2, d.long);
         appended = rw front (Appends-trans w0 w1 w2 (text d.input) (take stop.0 last) d.appended stop.3);
         cause = (omega (arith, stop.1), omega (arith, ap length e, length-append (text d.input) last, stop.2, d.long), omega (arith, d.few));
+        ahead = keeps_whole slack (written + stop.0) other d.input n (omega (arith, short, ap length e, length-append (text d.input) last, d.long));
       }
-  stop_then before NoMemory stop = absurd stop
-  stop_then before ReadFailed stop = absurd stop
-  stop_then before InputTooLong stop = absurd stop
-  stop_then before SkipPastEnd stop = absurd stop
+  stop_then slack before NoMemory short stop = absurd stop
+  stop_then slack before ReadFailed short stop = absurd stop
+  stop_then slack before InputTooLong short stop = absurd stop
+  stop_then slack before SkipPastEnd short stop = absurd stop
 
 -- a front of a text is one of a longer text
-pub front_then : (text other : List ℕ → List ℕ) (skip : ℕ) (limit : Option ℕ) (from before : ℕ) (r0 r1 w0 w1 : Option (List ℕ)) (fault : IoFault) → ((xs : List ℕ) → (rest : List ℕ) × (other xs ≡ text xs ++ rest)) →
-    WritesFrontOf text skip limit from before r0 r1 w0 w1 fault → WritesFrontOf other skip limit from before r0 r1 w0 w1 fault
-front_then text other skip limit from before r0 r1 w0 w1 fault is d =
+pub front_then : (slack wide : ℕ) (text other : List ℕ → List ℕ) (skip : ℕ) (limit : Option ℕ) (from before : ℕ) (r0 r1 w0 w1 : Option (List ℕ)) (fault : IoFault) → ((xs : List ℕ) → (rest : List ℕ) × (other xs ≡ text xs ++ rest)) →
+    ((xs : List ℕ) → length (other xs) + length (text []) + slack ≤ length (text xs) + length (other []) + wide) → WritesFrontBut slack text skip limit from before r0 r1 w0 w1 fault →
+    WritesFrontBut wide other skip limit from before r0 r1 w0 w1 fault
+front_then slack wide text other skip limit from before r0 r1 w0 w1 fault is short d =
     let more = is d.input in
     let front : take d.written (other d.input) ≡ take d.written (text d.input) = ap (take d.written) more.1 ∙ take-append-le d.written (text d.input) more.0 d.within in record {
       input = d.input;
@@ -292,6 +326,8 @@ front_then text other skip limit from before r0 r1 w0 w1 fault is d =
       within = omega (arith, d.within, ap length more.1, length-append (text d.input) more.0);
       appended = rw front d.appended;
       cause = cause_longer fault (from + length d.input) (before + d.written) _ _ (omega (arith, ap length more.1, length-append (text d.input) more.0)) d.cause;
+      ahead = keeps_along fault slack wide d.written d.written text other d.input
+          (λ xs few. omega (arith, few, short xs)) d.ahead;
     }
 
 -- a text in front of the dump
@@ -307,9 +343,9 @@ part_after text skip limit r0 r1 w0 w1 w2 read written head writes d = record {
   long = omega (arith, length-append head (text d.input), d.long);
 }
 
-pub front_after : (text : List ℕ → List ℕ) (skip : ℕ) (limit : Option ℕ) (r0 r1 w0 w1 w2 : Option (List ℕ)) (from before all : ℕ) (head : List ℕ) (fault : IoFault) → all ≡ before + length head → Appends w0 w1 head →
-    WritesFrontOf text skip limit from all r0 r1 w1 w2 fault → WritesFrontOf (λ xs. head ++ text xs) skip limit from before r0 r1 w0 w2 fault
-front_after text skip limit r0 r1 w0 w1 w2 from before all head fault is writes d =
+pub front_after : (slack : ℕ) (text : List ℕ → List ℕ) (skip : ℕ) (limit : Option ℕ) (r0 r1 w0 w1 w2 : Option (List ℕ)) (from before all : ℕ) (head : List ℕ) (fault : IoFault) → all ≡ before + length head → Appends w0 w1 head →
+    WritesFrontBut slack text skip limit from all r0 r1 w1 w2 fault → WritesFrontBut slack (λ xs. head ++ text xs) skip limit from before r0 r1 w0 w2 fault
+front_after slack text skip limit r0 r1 w0 w1 w2 from before all head fault is writes d =
     let front : take (length head + d.written) (head ++ text d.input) ≡ head ++ take d.written (text d.input) = take-append-add head (text d.input) d.written in
     let count : all + d.written ≡ before + (length head + d.written) = omega arith in
     let size : all + length (text d.input) ≡ before + length (head ++ text d.input) = omega (arith, length-append head (text d.input)) in record {
@@ -320,12 +356,14 @@ front_after text skip limit r0 r1 w0 w1 w2 from before all head fault is writes 
       within = omega (arith, length-append head (text d.input), d.within);
       appended = rw front (Appends-trans w0 w1 w2 head (take d.written (text d.input)) writes d.appended);
       cause = rw (← count, ← size) d.cause;
+      ahead = keeps_along fault slack slack d.written (length head + d.written) text (λ xs. head ++ text xs) d.input
+          (λ xs few. omega (arith, few, length-append head (text xs), length-append head (text []))) d.ahead;
     }
 
 -- the text in front was not written whole
-pub front_head : (text : List ℕ → List ℕ) (skip : ℕ) (limit : Option ℕ) (r w0 w1 : Option (List ℕ)) (before : ℕ) (head : List ℕ) (fault : IoFault) → WritesFront before w0 w1 head fault →
-    WritesFrontOf (λ xs. head ++ text xs) skip limit 0 before r r w0 w1 fault
-front_head text skip limit r w0 w1 before head (WriteFailed n) stop =
+pub front_head : (slack : ℕ) (text : List ℕ → List ℕ) (skip : ℕ) (limit : Option ℕ) (r w0 w1 : Option (List ℕ)) (before : ℕ) (head : List ℕ) (fault : IoFault) → WritesFront before w0 w1 head fault →
+    WritesFrontBut slack (λ xs. head ++ text xs) skip limit 0 before r r w0 w1 fault
+front_head slack text skip limit r w0 w1 before head (WriteFailed n) stop =
     let front : take stop.0 (head ++ text []) ≡ take stop.0 head = take-append-le stop.0 head (text []) (omega (arith, stop.2)) in record {
       input = [];
       written = stop.0;
@@ -334,8 +372,9 @@ front_head text skip limit r w0 w1 before head (WriteFailed n) stop =
       within = omega (arith, length-append head (text []), stop.2);
       appended = rw front stop.3;
       cause = (stop.1, omega (arith, length-append head (text []), stop.2), omega arith);
+      ahead = keeps_whole slack stop.0 (λ xs. head ++ text xs) [] n (omega arith);
     }
-front_head text skip limit r w0 w1 before head NoMemory stop = absurd stop
-front_head text skip limit r w0 w1 before head ReadFailed stop = absurd stop
-front_head text skip limit r w0 w1 before head InputTooLong stop = absurd stop
-front_head text skip limit r w0 w1 before head SkipPastEnd stop = absurd stop
+front_head slack text skip limit r w0 w1 before head NoMemory stop = absurd stop
+front_head slack text skip limit r w0 w1 before head ReadFailed stop = absurd stop
+front_head slack text skip limit r w0 w1 before head InputTooLong stop = absurd stop
+front_head slack text skip limit r w0 w1 before head SkipPastEnd stop = absurd stop

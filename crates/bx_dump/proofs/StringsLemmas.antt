@@ -1,5 +1,5 @@
 -- The runs by position are what the scan gives.
-use Rattle.std.proofs.Common.{◌≡◌, ℕ, zero, suc, ◌+◌, ◌-◌, ◌<◌, ◌≤◌, Bool, true, false, List, [], ◌∷◌, ◌++◌, length, take, refl, sym, ap, ◌∙◌, arith, append_assoc, append-nil, length-append, inl, inr}
+use Rattle.std.proofs.Common.{◌≡◌, ℕ, zero, suc, ◌+◌, ◌-◌, ◌^◌, ◌<◌, ◌≤◌, Bool, true, false, List, [], ◌∷◌, ◌++◌, length, take, refl, sym, ap, ◌∙◌, arith, append_assoc, append-nil, length-append, inl, inr}
 use Rattle.std.specs.Prelude.{nat_lt, nat_le, ◌==◌, codes, if◌then◌else◌}
 use Rattle.std.specs.List.{prefix_len}
 use Rattle.std.proofs.lemmas.Bool.{cases_lt, cases_eq, eq-eqb, ne_eqb}
@@ -8,8 +8,8 @@ use Rattle.bx_text.proofs.RangeLemmas.{flat_map_along}
 use Rattle.std.specs.Prelude.{Option}
 use Rattle.std.proofs.lemmas.List.{take-append-le}
 use Rattle.bx_text.specs.declared.fault.IoFault.{IoFault}
-use Rattle.bx_dump.specs.Dumped.{DumpsFront}
-use Rattle.bx_dump.proofs.DumpLemmas.{cause_longer}
+use Rattle.bx_dump.specs.Dumped.{DumpsFront, DumpsFrontBut}
+use Rattle.bx_dump.proofs.DumpLemmas.{cause_longer, keeps_along}
 use Rattle.bx_dump.proofs.ScanLemmas.{both}
 use Rattle.bx_dump.specs.declared.od_options.Address.{Address}
 use Rattle.bx_text.specs.Ascii.{is_printable}
@@ -162,13 +162,36 @@ scans least o (c ∷ cs) some =
 pub strings_is : (least : ℕ) (o : Address) (x : List ℕ) → 0 < least → strings_text least o x ≡ scan_text least o 0 [] x ++ end_text least (scan_run [] x)
 strings_is least o x some = sym ((scans least o x some).0 0)
 
+end_few : (least : ℕ) (run : List ℕ) → length (end_text least run) ≤ 1
+end_few least run = go (nat_le least (length run)) refl
+  where
+    go : (b : Bool) → nat_le least (length run) ≡ b → length (end_text least run) ≤ 1
+    go true e = rw e (omega arith)
+    go false e = rw e (omega arith)
+
 -- a front of what is known is a front of the whole
 pub front_known : (least : ℕ) (o : Address) (r0 r1 w0 w1 : Option (List ℕ)) (fault : IoFault) → 0 < least →
-    DumpsFront (scan_text least o 0 []) r0 r1 w0 w1 fault → DumpsFront (strings_text least o) r0 r1 w0 w1 fault
+    DumpsFrontBut 0 (scan_text least o 0 []) r0 r1 w0 w1 fault → DumpsFront (strings_text least o) r0 r1 w0 w1 fault
 front_known least o r0 r1 w0 w1 fault some d =
     let text = scan_text least o 0 [] d.0 in
     let tail = end_text least (scan_run [] d.0) in
     let is = strings_is least o d.0 some in
     let e : take d.1 (strings_text least o d.0) ≡ take d.1 text = ap (take d.1) is ∙ take-append-le d.1 text tail d.3 in
-    let more : length text ≤ length (strings_text least o d.0) = omega (arith, ap length is, length-append text tail) in
-    (d.0, d.1, d.2, omega (arith, d.3, more), rw e d.4, cause_longer fault (length d.0) d.1 _ _ more d.5)
+    let more : length text ≤ length (strings_text least o d.0) = omega (arith, ap length is, length-append text tail) in (
+      d.0,
+      d.1,
+      d.2,
+      omega (arith, d.3, more),
+      rw e d.4,
+      cause_longer fault (length d.0) d.1 _ _ more d.5,
+      keeps_along fault 0 (2 ^ 7) d.1 d.1 (scan_text least o 0 []) (strings_text least o) d.0
+          (λ xs few. omega (
+            arith,
+            few,
+            ap length (strings_is least o xs some),
+            length-append (scan_text least o 0 [] xs) (end_text least (scan_run [] xs)),
+            end_few least (scan_run [] xs),
+            ap length (strings_is least o [] some),
+            length-append (scan_text least o 0 [] []) (end_text least (scan_run [] [])),
+          )) d.6,
+    )

@@ -3,7 +3,7 @@ use Rattle.std.specs.Prelude.{◌≡◌, ℕ, ◌+◌, ◌^◌, ◌<◌, ◌≤�
 use Rattle.std.specs.Io.KnownBytes.{Appends, Consumes, IsAtEnd}
 use Rattle.bx_text.specs.declared.fault.IoFault.{IoFault}
 use Rattle.bx_text.specs.Stream.{IsReadCause}
-use Rattle.bx_dump.specs.Dumped.{IsDumpFault}
+use Rattle.bx_dump.specs.Dumped.{IsDumpFault, KeepsUp}
 
 -- at most so many of the bytes
 abbrev pub capped : Option ℕ → List ℕ → List ℕ
@@ -45,8 +45,8 @@ pub record WritesRest (text : List ℕ → List ℕ) (from : ℕ) (limit : Optio
   pub long : length (text input) ≡ written
 
 -- Some input was read after `from` bytes, no more of it than skip and limit ask for, and a front of its text was written
--- after `before` bytes, which the fault counts too.
-pub record WritesFrontOf (text : List ℕ → List ℕ) (skip : ℕ) (limit : Option ℕ) (from before : ℕ) (r0 r1 w0 w1 : Option (List ℕ)) (fault : IoFault) : Type 0 where
+-- after `before` bytes, which the fault counts too; reading is no more than a block ahead.
+pub record WritesFrontBut (slack : ℕ) (text : List ℕ → List ℕ) (skip : ℕ) (limit : Option ℕ) (from before : ℕ) (r0 r1 w0 w1 : Option (List ℕ)) (fault : IoFault) : Type 0 where
   pub input : List ℕ
   pub written : ℕ
   pub consumed : Consumes r0 r1 input
@@ -54,6 +54,11 @@ pub record WritesFrontOf (text : List ℕ → List ℕ) (skip : ℕ) (limit : Op
   pub within : written ≤ length (text input)
   pub appended : Appends w0 w1 (take written (text input))
   pub cause : IsDumpFault fault (from + length input) (before + written) (before + length (text input))
+  pub ahead : KeepsUp slack text input written fault
+
+-- The same, where what a text ends with has no more than 2^7 bytes.
+abbrev pub WritesFrontOf : (List ℕ → List ℕ) → ℕ → Option ℕ → ℕ → ℕ → Option (List ℕ) → Option (List ℕ) → Option (List ℕ) → Option (List ℕ) → IoFault → Type 0
+WritesFrontOf text skip limit from before r0 r1 w0 w1 fault = WritesFrontBut (2 ^ 7) text skip limit from before r0 r1 w0 w1 fault
 
 -- Bytes were skipped: all that were asked for, or fewer up to the input's end.
 pub record Skips (all : Bool) (count : ℕ) (r0 r1 : Option (List ℕ)) : Type 0 where

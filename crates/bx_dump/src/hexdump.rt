@@ -111,7 +111,7 @@ pub struct HexdumpOptions {
 /// Addresses count from the input's start. Where no byte is dumped nothing is written: for an empty input, a limit of 0, and
 /// a skip to the end of the input or past it. The input may have 2^40 bytes, those included that are skipped, and no more of
 /// it is read than is needed. Nothing is flushed. After a fault a front of the text of the bytes that were read was written;
-/// `WriteFailed` counts it.
+/// `WriteFailed` counts it, and at most 2^14 bytes were read ahead of it.
 pub fn hexdump_c<R: Read, W: Write>(
     r: &mut R,
     w: &mut W,

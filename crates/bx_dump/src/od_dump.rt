@@ -3,7 +3,7 @@ ghost use Rattle.std.specs.Prelude.{◌≡◌, ℕ, ◌+◌, ◌^◌, ◌<◌, �
 ghost use Rattle.bx_text.specs.Fold.{folded};
 ghost use Rattle.bx_dump.specs.Od.{od_line, od_text};
 ghost use Rattle.bx_dump.specs.OdDump.{FailsBehind, Reaches, StopsShort, StopsOd};
-ghost use Rattle.bx_dump.specs.Pages.{WritesPart, WritesRest, WritesFrontOf, Skips, capped, part_of};
+ghost use Rattle.bx_dump.specs.Pages.{WritesPart, WritesRest, WritesFrontBut, Skips, capped, part_of};
 
 use crate::folded::FoldedPages;
 use crate::od_lines::{OdLines, end_line};
@@ -43,7 +43,7 @@ fn dump_lines<R: Read, W: Write>(
     requires limit { meter.old.limit ≡ 2 ^ 40 }
     requires block { length block.old ≡ BLOCK }
     ensures ok { IfOk result (λ part. WritesRest (folded (od_line o.now.address o.now.kind) o.now.all o.now.skip) meter.old.taken o.now.limit (R.remaining r.old) (R.remaining r.new) (W.contents w.old) (W.contents w.new) part.read part.written) }
-    ensures err { IfErr result (WritesFrontOf (λ input. folded (od_line o.now.address o.now.kind) o.now.all o.now.skip (capped o.now.limit input)) 0 o.now.limit meter.old.taken 0 (R.remaining r.old) (R.remaining r.new) (W.contents w.old) (W.contents w.new)) }
+    ensures err { IfErr result (WritesFrontBut 0 (λ input. folded (od_line o.now.address o.now.kind) o.now.all o.now.skip (capped o.now.limit input)) 0 o.now.limit meter.old.taken 0 (R.remaining r.old) (R.remaining r.new) (W.contents w.old) (W.contents w.new)) }
     ensures few { IfOk result (λ part. part.written ≤ 2 ^ 60) }
     ensures count { IfOk result (λ part. part.read ≤ 2 ^ 40) }
 {
@@ -61,7 +61,7 @@ fn dump_lines<R: Read, W: Write>(
 /// dumped. An input that ends before `skip` bytes is `SkipPastEnd`, and then nothing is written. The input may have 2^40
 /// bytes, those included that are skipped, and no more of it is read than is needed. Nothing is flushed. After another fault
 /// a front of the text of the bytes that were read was written; `WriteFailed` counts it, and comes only behind the bytes
-/// that are skipped.
+/// that are skipped, with at most 2^14 bytes read ahead of it.
 pub fn od<R: Read, W: Write>(r: &mut R, w: &mut W, o: &OdOptions) -> Result<u64, IoFault>
     requires skip { o.now.skip ≤ 2 ^ 62 }
     ensures ok { IfOk result (λ n. (written : ℕ) × WritesPart (λ input. od_text o.now.address o.now.kind o.now.all o.now.skip (part_of o.now.skip o.now.limit input)) o.now.skip o.now.limit (R.remaining r.old) (R.remaining r.new) (W.contents w.old) (W.contents w.new) n written) }

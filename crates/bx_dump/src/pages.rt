@@ -1,6 +1,6 @@
 //! Dumps of inputs, a page of text at a time.
 ghost use Rattle.std.specs.Prelude.{◌≡◌, ℕ, ◌+◌, ◌-◌, ◌*◌, ◌^◌, ◌<◌, ◌≤◌, true, List, [], ◌++◌, length, take, Option, IfOk, IfErr, IfSome, Some};
-ghost use Rattle.bx_dump.specs.Pages.{WritesPart, WritesRest, WritesFrontOf, Skips, StopsAt, part_of, capped};
+ghost use Rattle.bx_dump.specs.Pages.{WritesPart, WritesRest, WritesFrontBut, Skips, StopsAt, part_of, capped};
 
 use bx_text::{IoFault, Meter, State, emit_after};
 use std::io::{Read, Write};
@@ -115,7 +115,7 @@ pub fn dump_pages<R: Read, W: Write, P: Pages>(
     requires seen { P.Seen pages.old [] }
     requires empty { P.written pages.old [] ≡ [] }
     ensures ok { IfOk result (λ part. WritesRest (P.written pages.old) meter.old.taken limit (R.remaining r.old) (R.remaining r.new) (W.contents w.old) (W.contents w.new) part.read part.written) }
-    ensures err { IfErr result (WritesFrontOf (λ input. P.written pages.old (capped limit input)) 0 limit meter.old.taken before (R.remaining r.old) (R.remaining r.new) (W.contents w.old) (W.contents w.new)) }
+    ensures err { IfErr result (WritesFrontBut 0 (λ input. P.written pages.old (capped limit input)) 0 limit meter.old.taken before (R.remaining r.old) (R.remaining r.new) (W.contents w.old) (W.contents w.new)) }
     ensures few { IfOk result (λ part. part.written ≤ 2 ^ 60) }
     ensures count { IfOk result (λ part. part.read ≤ 2 ^ 40) }
 {
@@ -156,7 +156,7 @@ pub fn dump_part<R: Read, W: Write, P: Pages>(
     requires seen { P.Seen pages.old [] }
     requires empty { P.written pages.old [] ≡ [] }
     ensures ok { IfOk result (λ part. WritesPart (λ input. P.written pages.old (part_of from limit input)) from limit (R.remaining r.old) (R.remaining r.new) (W.contents w.old) (W.contents w.new) part.read part.written) }
-    ensures err { IfErr result (WritesFrontOf (λ input. P.written pages.old (part_of from limit input)) from limit 0 before (R.remaining r.old) (R.remaining r.new) (W.contents w.old) (W.contents w.new)) }
+    ensures err { IfErr result (WritesFrontBut 0 (λ input. P.written pages.old (part_of from limit input)) from limit 0 before (R.remaining r.old) (R.remaining r.new) (W.contents w.old) (W.contents w.new)) }
     ensures few { IfOk result (λ part. part.written ≤ 2 ^ 60) }
     ensures count { IfOk result (λ part. part.read ≤ 2 ^ 40) }
 {

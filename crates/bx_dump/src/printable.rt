@@ -1,7 +1,7 @@
 //! The printable runs of an input.
 ghost use Rattle.std.specs.Prelude.{◌≡◌, ℕ, ◌+◌, ◌-◌, ◌*◌, ◌^◌, ◌<◌, ◌≤◌, [], List, ◌++◌, length, take, drop, not, IfOk, IfErr};
 ghost use Rattle.std.specs.List.{prefix_len};
-ghost use Rattle.bx_dump.specs.Dumped.{DumpsAll, DumpsFront};
+ghost use Rattle.bx_dump.specs.Dumped.{DumpsAll, DumpsFront, DumpsFrontBut};
 ghost use Rattle.bx_dump.specs.Scan.{scan_text, scan_run, IsKept, ScansAll, pending, cost_of, end_text, AllPrint, EndsQuiet, IsQuiet};
 ghost use Rattle.bx_text.specs.Ascii.{is_printable};
 ghost use Rattle.bx_dump.specs.Strings.{place_text, strings_text};
@@ -338,10 +338,11 @@ fn scan_pages<R: Read, W: Write>(
     requires size { length runs.old.kept ≡ 4096 }
     requires fresh { runs.old.count ≡ 0 }
     requires block { 3584 ≤ length block.old }
+    requires most { length block.old ≤ 2 ^ 14 }
     requires page { length page.old ≡ 98304 }
     requires room { 4096 + 32 + cost_of runs.old.offsets * length block.old ≤ 98304 }
     ensures ok { IfOk result (λ d. ScansAll runs.old.least runs.old.offsets runs.new.count runs.new.kept (R.remaining r.old) (R.remaining r.new) (W.contents w.old) (W.contents w.new) d.read d.written) }
-    ensures err { IfErr result (DumpsFront (scan_text runs.old.least runs.old.offsets 0 []) (R.remaining r.old) (R.remaining r.new) (W.contents w.old) (W.contents w.new)) }
+    ensures err { IfErr result (DumpsFrontBut 0 (scan_text runs.old.least runs.old.offsets 0 []) (R.remaining r.old) (R.remaining r.new) (W.contents w.old) (W.contents w.new)) }
     ensures least { runs.new.least ≡ runs.old.least }
     ensures few { IfOk result (λ d. d.written ≤ 2 ^ 46) }
 {
@@ -371,7 +372,7 @@ fn scan_pages<R: Read, W: Write>(
 /// asked behind its place, and answers how many bytes were read.
 ///
 /// The input may have 2^40 bytes. Nothing is allocated or flushed. After a fault a front of the text of the bytes that
-/// were read was written; `WriteFailed` counts it.
+/// were read was written; `WriteFailed` counts it, and at most 2^14 bytes were read ahead of it.
 pub fn strings<R: Read, W: Write>(r: &mut R, w: &mut W, o: &StringsOptions) -> Result<u64, IoFault>
     requires some { 0 < o.now.least }
     requires few { o.now.least ≤ 4096 }

@@ -1,7 +1,7 @@
 //! xxd's dump.
 ghost use Rattle.std.specs.Prelude.{◌≡◌, ℕ, ◌+◌, ◌*◌, ◌^◌, ◌<◌, ◌≤◌, length, IfOk, IfErr};
 ghost use Rattle.bx_dump.specs.Lines.{in_lines};
-ghost use Rattle.bx_dump.specs.Pages.{WritesPart, WritesFrontOf, part_of};
+ghost use Rattle.bx_dump.specs.Pages.{WritesPart, WritesFrontBut, WritesFrontOf, part_of};
 ghost use Rattle.bx_dump.specs.Rows.{plain_line};
 ghost use Rattle.bx_dump.specs.Styles.{group_of, include_items, named_text, styled, xxd_text, IsCountable};
 ghost use Rattle.bx_dump.specs.Xxd.{columns_line};
@@ -27,7 +27,7 @@ pub fn dump_lines<R: Read, W: Write, F: LineForm + Drop>(
     requires start { start ≤ 2 ^ 63 }
     requires before { before ≤ 2 ^ 63 }
     ensures ok { IfOk result (λ part. WritesPart (λ input. in_lines (F.line form) (F.cols form) start (part_of o.now.seek o.now.limit input)) o.now.seek o.now.limit (R.remaining r.old) (R.remaining r.new) (W.contents w.old) (W.contents w.new) part.read part.written) }
-    ensures err { IfErr result (WritesFrontOf (λ input. in_lines (F.line form) (F.cols form) start (part_of o.now.seek o.now.limit input)) o.now.seek o.now.limit 0 before (R.remaining r.old) (R.remaining r.new) (W.contents w.old) (W.contents w.new)) }
+    ensures err { IfErr result (WritesFrontBut 0 (λ input. in_lines (F.line form) (F.cols form) start (part_of o.now.seek o.now.limit input)) o.now.seek o.now.limit 0 before (R.remaining r.old) (R.remaining r.new) (W.contents w.old) (W.contents w.new)) }
     ensures few { IfOk result (λ part. part.written ≤ 2 ^ 60) }
 {
     let mut lines = Lines::new(form, start);
@@ -91,7 +91,7 @@ fn dump_items<R: Read, W: Write>(
     requires few { o.now.cols ≤ 256 }
     requires before { before ≤ 2 ^ 62 + 64 }
     ensures ok { IfOk result (λ part. WritesPart (λ input. include_items o.now.cols (part_of o.now.seek o.now.limit input)) o.now.seek o.now.limit (R.remaining r.old) (R.remaining r.new) (W.contents w.old) (W.contents w.new) part.read part.written) }
-    ensures err { IfErr result (WritesFrontOf (λ input. include_items o.now.cols (part_of o.now.seek o.now.limit input)) o.now.seek o.now.limit 0 before (R.remaining r.old) (R.remaining r.new) (W.contents w.old) (W.contents w.new)) }
+    ensures err { IfErr result (WritesFrontBut (2 ^ 6) (λ input. include_items o.now.cols (part_of o.now.seek o.now.limit input)) o.now.seek o.now.limit 0 before (R.remaining r.old) (R.remaining r.new) (W.contents w.old) (W.contents w.new)) }
     ensures few { IfOk result (λ part. part.written ≤ 2 ^ 60 + 1) }
 {
     let lines = match dump_lines(r, w, Items::new(o.cols as usize), 0, o, before) {
@@ -182,8 +182,8 @@ fn dump_styled<R: Read, W: Write>(r: &mut R, w: &mut W, o: &XxdOptions) -> Resul
 ///
 /// A seek past the end of the input gives no bytes. The input may have 2^40 bytes, those included that are skipped, and no
 /// more of it is read than is needed. Nothing is flushed. After a fault a front of the text of the bytes that were read
-/// was written; `WriteFailed` counts it. `upper` has no effect on `Bits` and `Include`, nor have `group` and `shift` on
-/// `Plain` and `Include`.
+/// was written; `WriteFailed` counts it, and at most 2^14 bytes were read ahead of it. `upper` has no effect on `Bits`
+/// and `Include`, nor have `group` and `shift` on `Plain` and `Include`.
 pub fn xxd<R: Read, W: Write>(r: &mut R, w: &mut W, o: &XxdOptions) -> Result<u64, IoFault>
     requires some { 0 < o.now.cols }
     requires few { o.now.cols ≤ 256 }

@@ -1,4 +1,4 @@
-use Rattle.std.proofs.Common.{◌≡◌, ℕ, ◌+◌, true, Option, List, ◌++◌, length, arith, refl, ap, inl, inr}
+use Rattle.std.proofs.Common.{◌≡◌, ℕ, ◌+◌, ◌^◌, true, Option, List, [], ◌++◌, length, arith, refl, ap, inl, inr}
 use Rattle.std.proofs.lemmas.List.{length-append}
 use Rattle.bx_text.proofs.KnownLemmas.{Consumes-trans}
 use Rattle.bx_text.specs.Fold.{folded}
@@ -8,6 +8,7 @@ use Rattle.bx_text.specs.declared.fault.IoFault.{IoFault}
 use Rattle.bx_text.specs.declared.fault.IoFault.TheVariants.{NoMemory, ReadFailed, WriteFailed, InputTooLong, SkipPastEnd}
 use Rattle.bx_dump.specs.OdDump.{FailsBehind, Reaches, StopsShort}
 use Rattle.bx_dump.specs.Pages.{Skips, part_of}
+use Rattle.bx_dump.proofs.EndLemmas.{od_end_few}
 use Rattle.bx_dump.proofs.PagesLemmas.{part_whole, part_then, stop_then, front_then, front_behind}
 use Rattle.bx_dump.proofs.od_dump.od.Goals as goal
 
@@ -43,8 +44,14 @@ returns-in-Err-dump_lines-clause-err g c =
     let text = λ (xs : List ℕ). lines (part_of o.skip o.limit xs) in
     let other = λ (xs : List ℕ). od_text o.address o.kind o.all o.skip (part_of o.skip o.limit xs) in
     let rest = rw c.in_default.ensures.open.1 at c.in-Err-dump_lines.ensures.err in
-    inr (front_then text other o.skip o.limit 0 0 _ _ _ _ c.in-Err-dump_lines.fault (λ xs. (od_end o.address (o.skip + length (part_of o.skip o.limit xs)), refl))
-    (front_behind lines o.skip o.limit 0 _ _ _ _ _ c.in-Err-dump_lines.fault c.in_default.ensures.ok rest))
+    inr (front_then 0 (2 ^ 7) text other o.skip o.limit 0 0 _ _ _ _ c.in-Err-dump_lines.fault (λ xs. (od_end o.address (o.skip + length (part_of o.skip o.limit xs)), refl))
+    (λ xs. omega (
+      arith,
+      od_end_few o.address (o.skip + length (part_of o.skip o.limit xs)),
+      length-append (text xs) (od_end o.address (o.skip + length (part_of o.skip o.limit xs))),
+      length-append (text []) (od_end o.address (o.skip + length (part_of o.skip o.limit []))),
+    ))
+    (front_behind 0 lines o.skip o.limit 0 _ _ _ _ _ c.in-Err-dump_lines.fault c.in_default.ensures.ok rest))
 
 pub returns-in-Err-emit_after-clause-err : goal.returns-in-Err-emit_after-clause-err
 returns-in-Err-emit_after-clause-err g c =
@@ -57,7 +64,7 @@ returns-in-Err-emit_after-clause-err g c =
     let line = rw (c.as_bytes.ensures.value, c.end_line-end.ensures) at c.in-Err-emit_after.ensures.err in
     let none : 0 + done.written ≡ done.written = omega arith in
     inr (stop_then text other o.skip o.limit _ _ _ _ _ done.read done.written (od_end o.address (o.skip + done.read))
-    (λ xs e. ap (λ n. text xs ++ od_end o.address (o.skip + n)) e) whole 0 c.in-Err-emit_after.fault (rw none line))
+    (λ xs e. ap (λ n. text xs ++ od_end o.address (o.skip + n)) e) whole (2 ^ 7) 0 c.in-Err-emit_after.fault (omega (arith, od_end_few o.address (o.skip + done.read))) (rw none line))
 
 pub returns-clause-ok : goal.returns-clause-ok
 returns-clause-ok g c =

@@ -14,4 +14,4 @@ returns-clause-err g c =
     let text = g.P.Pages.written c.args.pages.now in
     let taken = (c.in-Ok-true.ensures.open c.in-Ok-true.field-0-test).1 in
     let stop = rw taken at c.dump_pages.ensures.err in
-    err_along c.dump_pages.result _ _ (λ e p. front_behind text c.args.from c.args.limit c.args.before _ _ _ _ _ e front p) stop
+    err_along c.dump_pages.result _ _ (λ e p. front_behind 0 text c.args.from c.args.limit c.args.before _ _ _ _ _ e front p) stop

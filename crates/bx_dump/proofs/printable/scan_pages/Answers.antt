@@ -51,8 +51,9 @@ returns-in-Err-emit_after-clause-err g c =
     let fill = c.in-Ok.ensures in
     let few : length (now.0 ++ chunk) ≤ 2 ^ 40 =
     omega (arith, length-append now.0 chunk, length-take-le c.in-Ok.n c.fill.new.buf (omega (arith, fill.bound)), now.1, fill.taken, fill.limit, before.limit, c.fill.new.self.within) in
-    write_stop (scan_text runs.least runs.offsets 0 []) _ _ _ _ _ (scan_text runs.least runs.offsets 0 [] now.0) (now.0 ++ chunk) page c.loop-n.written c.in-Err-emit_after.fault
-    (Consumes-trans _ _ _ _ _ now.2 fill.bytes) few now.3 now.4 is c.in-Err-emit_after.ensures.err
+    let block : length chunk ≤ 2 ^ 14 = omega (arith, length-take-le c.in-Ok.n c.fill.new.buf (omega (arith, fill.bound)), fill.bound, c.fill.auto.buf, before.block, c.requires.most) in
+    write_stop 0 (scan_text runs.least runs.offsets 0 []) _ _ _ _ _ (scan_text runs.least runs.offsets 0 [] now.0) now.0 chunk page c.loop-n.written c.in-Err-emit_after.fault
+    (Consumes-trans _ _ _ _ _ now.2 fill.bytes) few block (omega (arith, now.4)) now.3 now.4 is c.in-Err-emit_after.ensures.err
 
 pub returns-then-n-block-clause-ok : goal.returns-then-n-block-clause-ok
 returns-then-n-block-clause-ok g c =

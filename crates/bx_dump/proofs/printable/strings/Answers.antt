@@ -1,4 +1,4 @@
-use Rattle.std.proofs.Common.{◌≡◌, [], ◌∷◌, ◌+◌, ◌<◌, ◌≤◌, ℕ, List, ◌++◌, length, arith, ap, ◌∙◌, append-nil}
+use Rattle.std.proofs.Common.{◌≡◌, [], ◌∷◌, ◌+◌, ◌<◌, ◌≤◌, ◌^◌, ℕ, List, ◌++◌, length, arith, ap, ◌∙◌, append-nil}
 use Rattle.std.specs.Prelude.{nat_le, true, false, refl}
 use Rattle.std.proofs.lemmas.Bool.Decides.{nat_tests}
 use Rattle.std.proofs.lemmas.List.{length-append}
@@ -56,5 +56,7 @@ returns-in-Err-emit_after-clause-err g c =
     let long = d.run.long (omega (arith, c.if-runs.false, c.in-Ok.ensures.least, c.new-runs.ensures.least)) in
     let e : strings_text o.least o.offsets d.input ≡ scan_text o.least o.offsets 0 [] d.input ++ 10 ∷ [] =
     strings_is o.least o.offsets d.input c.requires.some ∙ ap (λ t. scan_text o.least o.offsets 0 [] d.input ++ t) (long_end o.least (scan_run [] d.input) long) in
-    write_stop (strings_text o.least o.offsets) _ _ _ _ _ (scan_text o.least o.offsets 0 [] d.input) d.input (10 ∷ []) c.in-Ok.done.written c.in-Err-emit_after.fault
-    d.consumed (omega (arith, d.long, d.few)) d.appended d.size e c.in-Err-emit_after.ensures.err
+    let none : d.input ++ [] ≡ d.input = append-nil d.input in
+    write_stop (2 ^ 7) (strings_text o.least o.offsets) _ _ _ _ _ (scan_text o.least o.offsets 0 [] d.input) d.input [] (10 ∷ []) c.in-Ok.done.written c.in-Err-emit_after.fault
+    (rw none d.consumed) (rw none (omega (arith, d.long, d.few))) (omega arith)
+    (omega (arith, ap length e, length-append (scan_text o.least o.offsets 0 [] d.input) (10 ∷ []), d.size)) d.appended d.size (rw none e) c.in-Err-emit_after.ensures.err

@@ -1,4 +1,4 @@
-use Rattle.std.proofs.Common.{◌≡◌, ℕ, ◌+◌, List, refl}
+use Rattle.std.proofs.Common.{◌≡◌, ℕ, ◌+◌, ◌^◌, List, refl, arith}
 use Rattle.bx_dump.specs.Lines.{in_lines}
 use Rattle.bx_dump.specs.Pages.{part_of}
 use Rattle.bx_dump.specs.Styles.{group_of}
@@ -27,4 +27,4 @@ returns-clause-err g c =
     let other = λ (xs : List ℕ). in_lines (columns_line c.args.digits o.cols (group_of o.cols o.group)) o.cols start (part_of o.seek o.limit xs) in
     let made = c.new-form.ensures in
     let same : (xs : List ℕ) → text xs ≡ other xs = λ xs. rw (made.digits, made.cols, made.group, c.group_len-group.ensures.value) refl in
-    err_along c.dump_lines.result _ _ (λ e p. front_along text other o.seek o.limit 0 0 _ _ _ _ e same p) c.dump_lines.ensures.err
+    err_along c.dump_lines.result _ _ (λ e p. front_along 0 (2 ^ 7) text other o.seek o.limit 0 0 _ _ _ _ e same (omega arith) p) c.dump_lines.ensures.err

@@ -1,0 +1,80 @@
+-- What operands of dd look like, which fault one has, and what they ask for.
+use Rattle.std.specs.Prelude.{◌≡◌, ◌≢◌, ◌↔◌, ◌⊎◌, ℕ, ◌+◌, ◌-◌, ◌^◌, ◌<◌, ◌≤◌, true, List, [], ◌∷◌, ◌++◌, length, codes, All, IsTrue, None, Some}
+use Rattle.bx_text.specs.SizeGrammar.{IsProduct}
+use Rattle.bx_dd.specs.declared.fault.DdFault.{DdFault}
+use Rattle.bx_dd.specs.declared.fault.DdFault.TheVariants.{UnknownOperand, BadNumber, NumberTooLarge, ZeroSize, Repeated}
+use Rattle.bx_dd.specs.declared.operands.Kind.{Kind}
+use Rattle.bx_dd.specs.declared.operands.Kind.TheVariants.{File, Size, Number, Conversions}
+use Rattle.bx_dd.specs.Operands.{kind_of, parts_of, is_conversion, operand_fault, first_fault, given, number_given, converts}
+
+-- The word is a name, the first `=` in it, and a value.
+abbrev pub IsOperand : List ℕ → List ℕ → List ℕ → Type 0
+IsOperand word name value = (word ≡ name ++ 61 ∷ value) × All (λ b. b ≢ 61) name
+
+-- One of the words is an operand of this name.
+abbrev pub IsAmong : List ℕ → List (List ℕ) → Type 0
+IsAmong name words = (front rest : List (List ℕ)) × (word value : List ℕ) × (words ≡ front ++ word ∷ rest) × IsOperand word name value
+
+-- Each word of the value of `conv` is a conversion.
+abbrev pub AreConversions : List ℕ → Type 0
+AreConversions value = All (λ part. IsTrue (is_conversion part)) (parts_of value)
+
+-- The value is one of its kind: a name, a size, a number, or conversions.
+abbrev pub IsSoundValue : Kind → List ℕ → Type 0
+IsSoundValue File value = value ≢ []
+IsSoundValue (Size most) value = (n : ℕ) × IsProduct value n × (0 < n) × (n ≤ most) × (n ≤ 2 ^ 40 - 1)
+IsSoundValue Number value = (n : ℕ) × IsProduct value n × (n ≤ 2 ^ 40 - 1)
+IsSoundValue Conversions value = AreConversions value
+
+-- The fault of a value that isn't, at this place.
+abbrev pub IsValueFault : ℕ → Kind → List ℕ → DdFault → Type 0
+IsValueFault at File value fault = (fault ≡ UnknownOperand at) × (value ≡ [])
+IsValueFault at (Size most) value fault =
+    ((fault ≡ BadNumber at) × ((n : ℕ) → IsProduct value n → ⊥))
+    ⊎ (((fault ≡ NumberTooLarge at) × ((n : ℕ) × IsProduct value n × ((most < n) ⊎ (2 ^ 40 - 1 < n)))) ⊎ ((fault ≡ ZeroSize at) × IsProduct value 0))
+IsValueFault at Number value fault =
+    ((fault ≡ BadNumber at) × ((n : ℕ) → IsProduct value n → ⊥)) ⊎ ((fault ≡ NumberTooLarge at) × ((n : ℕ) × IsProduct value n × (2 ^ 40 - 1 < n)))
+IsValueFault at Conversions value fault = (fault ≡ UnknownOperand at) × (AreConversions value → ⊥)
+
+-- The word is an operand of a known name that wasn't given before, and its value is sound.
+abbrev pub IsSoundBehind : List (List ℕ) → List ℕ → Type 0
+IsSoundBehind before word =
+    (name value : List ℕ) × (kind : Kind) × IsOperand word name value × (kind_of name ≡ Some kind) × (IsAmong name before → ⊥) × IsSoundValue kind value
+
+-- The fault of a word behind others: it is no operand of a known name; or its name was given before; or its value is at fault.
+abbrev pub IsFaultBehind : List (List ℕ) → List ℕ → DdFault → Type 0
+IsFaultBehind before word fault =
+    ((fault ≡ UnknownOperand (length before + 1)) × ((name value : List ℕ) → (kind : Kind) → IsOperand word name value → kind_of name ≡ Some kind → ⊥))
+    ⊎ ((name value : List ℕ) × (kind : Kind) × IsOperand word name value × (kind_of name ≡ Some kind)
+    × (((fault ≡ Repeated (length before + 1)) × IsAmong name before) ⊎ ((IsAmong name before → ⊥) × IsValueFault (length before + 1) kind value fault)))
+
+-- A word has no fault exactly where it is sound, and this fault exactly where it is its.
+abbrev pub OperandHasForm : Type 0
+OperandHasForm = (before : List (List ℕ)) (word : List ℕ) →
+    (operand_fault before word ≡ None ↔ IsSoundBehind before word) × ((fault : DdFault) → operand_fault before word ≡ Some fault ↔ IsFaultBehind before word fault)
+
+-- Each of the words is sound behind those before it.
+abbrev pub AreSoundBehind : List (List ℕ) → List (List ℕ) → Type 0
+AreSoundBehind before [] = Unit {0}
+AreSoundBehind before (word ∷ words) = IsSoundBehind before word × AreSoundBehind (before ++ word ∷ []) words
+
+-- The words have no fault one by one exactly where each is sound, and this fault exactly where it is that of a word behind sound ones.
+abbrev pub OperandsHaveForm : Type 0
+OperandsHaveForm = (words : List (List ℕ)) →
+    (first_fault [] words ≡ None ↔ AreSoundBehind [] words)
+    × ((fault : DdFault) → first_fault [] words ≡ Some fault
+    ↔ ((front rest : List (List ℕ)) × (word : List ℕ) × (words ≡ front ++ word ∷ rest) × AreSoundBehind [] front × IsFaultBehind front word fault))
+
+-- The first operand of this name has this value.
+abbrev pub Says : List (List ℕ) → List ℕ → List ℕ → Type 0
+Says words name value =
+    (front rest : List (List ℕ)) × (word : List ℕ) × (words ≡ front ++ word ∷ rest) × IsOperand word name value × (IsAmong name front → ⊥)
+
+-- What is asked for is what the words say: the value of a name, its number, and each conversion.
+abbrev pub WordsAreAskedFor : Type 0
+WordsAreAskedFor = (words : List (List ℕ)) (name : List ℕ) →
+    ((value : List ℕ) → given name words ≡ Some value ↔ Says words name value)
+    × (given name words ≡ None ↔ (IsAmong name words → ⊥))
+    × ((n : ℕ) → number_given name words ≡ Some n ↔ ((value : List ℕ) × Says words name value × IsProduct value n × (n ≤ 2 ^ 40 - 1)))
+    × ((part : List ℕ) → part ≢ [] → converts part words ≡ true
+    ↔ ((value : List ℕ) × (front rest : List (List ℕ)) × Says words (codes "conv") value × (parts_of value ≡ front ++ part ∷ rest)))
