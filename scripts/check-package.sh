@@ -8,10 +8,9 @@ work=$(mktemp -d); trap 'rm -rf "$work"' EXIT; chmod 755 "$work"; root=$work/roo
 fail() { echo "$1"; exit 1; }
 command -v lintian > /dev/null || fail 'lintian is missing'
 
-"$here/package.sh" "$bx" "$work/new" > "$work/made"
+"$here/package.sh" "$bx" "$work/new" > "$work/made" || { cat "$work/made"; fail 'no package is made, or lintian finds an error'; }
+sed '$d' "$work/made"
 new=$(tail -n 1 "$work/made"); version=$(dpkg-deb -f "$new" Version)
-lintian --fail-on error "$new" > "$work/lint" || { cat "$work/lint"; fail 'lintian finds errors'; }
-cat "$work/lint"
 
 # An older one, with a file that the newer one doesn't have.
 dpkg-deb -R "$new" "$work/tree"
