@@ -24,7 +24,7 @@ pub record HasAddress (text digits rest : List ℕ) : Type 0 where
 abbrev pub HasData : List ℕ → List ℕ → Type 0
 HasData body bytes = (hex tail : List ℕ) × (body ≡ hex ++ tail) × ArePairs bytes hex × EndsData tail
 
--- What follows the colon is none of the ends of data, and no space and pairs.
+-- What follows the colon isn't nothing, one space, or two spaces and anything, and it isn't a space and pairs.
 abbrev pub IsNoPairs : List ℕ → Type 0
 IsNoPairs tail = (EndsData tail → ⊥) × ((body bytes : List ℕ) → tail ≡ 32 ∷ body → HasData body bytes → ⊥)
 
