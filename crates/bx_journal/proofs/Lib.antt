@@ -64,3 +64,4 @@ pub mod RecoverLemmas
 pub mod Refused
 pub mod JudgeLemmas
 pub mod OpenedLemmas
+pub mod LeftLemmas

@@ -20,6 +20,10 @@ pub record IsSame {D T : Type 0} (image : D → List ℕ) (text : T → List ℕ
   pub count : new.count ≡ old.count
   pub broken : new.is_broken ≡ old.is_broken
 
+-- the counts of changes and of undone changes, and whether it is broken, are as they were
+abbrev pub IsUnmoved : {D T : Type 0} → SessionView D T → SessionView D T → Type 0
+IsUnmoved old new = (new.count ≡ old.count) × (new.undone ≡ old.undone) × (new.is_broken ≡ old.is_broken)
+
 -- the session's redo text and image stand for the undone images
 pub record HasUndone {D T : Type 0} (image : D → List ℕ) (text : T → List ℕ) (s : SessionView D T) (undone : List (List ℕ)) : Type 0 where
   pub redo : IsRedoOf (text s.redo_text) (image s.device) s.count undone

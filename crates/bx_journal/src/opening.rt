@@ -18,6 +18,7 @@ impl<D: Device, T: TextStore, A: Allocator + Clone> Session<D, T, A> {
     ghost use Rattle.bx_journal.specs.Standing.{IsStanding};
     ghost use Rattle.bx_journal.specs.Calls.{AfterFault, Differs, OpenFault};
     ghost use Rattle.bx_journal.specs.Opening.{ThreeCounts, IsOpened, RefusesLength, RefusesText};
+    ghost use Rattle.bx_journal.specs.Undoing.{HasLeft};
 
     /// Opens an image with its journal and its redo text. An unfinished entry is dropped, or its change is taken back;
     /// the redo text is then emptied first. An `Err` hands all three back.
@@ -42,6 +43,7 @@ impl<D: Device, T: TextStore, A: Allocator + Clone> Session<D, T, A> {
             → IfOk result (λ o. IsOpened (T.text store) (D.image device) r (T.text o.0.store) (D.image o.0.device) o.1.how o.1.changes) }
         ensures standing { D.honest device → T.honest store → (r : Reading) → Reads (T.text store) r
             → IfOk result (λ o. IsStanding D.image T.text o.0 (recovered r (D.image device))) }
+        ensures left { T.honest store → (r : Reading) → Reads (T.text store) r → IfOk result (λ o. HasLeft (T.text store) (T.text o.0.store) r.entries) }
         ensures fresh { IfOk result (λ o. (o.0.count ≡ o.1.changes) × (o.0.undone ≡ o.1.undone) × (o.0.is_broken ≡ false)) }
         ensures clean { D.honest device → T.honest store → IfOk result (λ o. o.1.how ≡ How.Clean → (T.text o.0.store ≡ T.text store) × (D.image o.0.device ≡ D.image device)) }
 

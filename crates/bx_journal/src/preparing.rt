@@ -45,6 +45,7 @@ pub fn prepare_change<D: Device, T: TextStore, A: Allocator + Clone>(
     ensures image_room { OnOk result (length (effect change.now []) ≤ D.room device.new) }
     ensures text_room { T.honest store.old → IfOk result (λ p. length (T.text store.new) + length (head_text number (kept_of p.kept)) + length p.end ≤ T.room store.new) }
     ensures large { D.honest device.old → IsErrOf result SessionFault.TooLarge → Fits change.now (length (D.image device.old)) MAX_LEN → ⊥ }
+    ensures fitting { D.honest device.old → IsErrOf result SessionFault.NoMemory → Fits change.now (length (D.image device.old)) MAX_LEN }
     ensures kind { IfErr result PrepareFault }
     ensures image { D.honest device.old → D.image device.new ≡ D.image device.old }
     ensures text { T.honest store.old → T.text store.new ≡ T.text store.old }

@@ -71,7 +71,7 @@ fn undone_left(undone: u32, made: u32) -> u32
 }
 
 impl<D: Device, T: TextStore, A: Allocator + Clone> Session<D, T, A> {
-    ghost use Rattle.bx_journal.specs.Session.{HasUndone, IsReady, IsRedoSame, IsSame, IsUnfailed, SessionCounts, SessionFinds};
+    ghost use Rattle.bx_journal.specs.Session.{HasUndone, IsReady, IsRedoSame, IsSame, IsUnfailed, IsUnmoved, SessionCounts, SessionFinds};
     ghost use Rattle.bx_journal.specs.Standing.{IsStanding};
     ghost use Rattle.bx_journal.specs.Calls.{AfterFault};
     ghost use Rattle.bx_journal.specs.Undoing.{IsOutOfStep, RedoFault};
@@ -108,11 +108,13 @@ impl<D: Device, T: TextStore, A: Allocator + Clone> Session<D, T, A> {
             → IfErr result (λ e. AfterFault e ((i : ℕ) × (i ≤ j) × SessionFinds D.image T.text self.new (redo_of i s)) (Unit {0})) }
         ensures refused { D.honest self.old.device → T.honest self.old.store → IfErr result (λ e. AfterFault e (Unit {0}) (IsSame D.image T.text self.old self.new)) }
         ensures redo_same { T.honest self.old.redo_text → IfErr result (λ e. AfterFault e (Unit {0}) (IsRedoSame T.text self.old self.new)) }
+        ensures unmoved { IfErr result (λ e. AfterFault e (Unit {0}) (IsUnmoved self.old self.new)) }
         ensures breaks { IsErrOf result SessionFault.Interrupted → (self.new.is_broken ≡ true) × (self.new.count ≡ self.old.count) × (self.new.undone ≡ self.old.undone) }
 
         ensures kind { IfErr result (RedoFault self.old.undone) }
         ensures broken { (self.old.is_broken ≡ true) ↔ IsErrOf result SessionFault.Broken }
         ensures untouched { IsErrOf result SessionFault.Broken → (self.new.device ≡ self.old.device) × (self.new.store ≡ self.old.store) × (self.new.redo_text ≡ self.old.redo_text) }
+        ensures same { IsErrOf result SessionFault.Broken → self.new ≡ self.old }
         ensures nothing { ((self.old.is_broken ≡ false) × (self.old.undone < j)) ↔ IsErrOf result (SessionFault.NothingToRedo self.old.undone) }
 
         // The redo text is called damaged exactly where it isn't so many finished entries alone.

@@ -41,7 +41,7 @@ impl<D: Device, T: TextStore, A: Allocator> Model for Session<D, T, A> {
 
 impl<D: Device, T: TextStore, A: Allocator + Clone> Session<D, T, A> {
     ghost use Rattle.bx_journal.specs.Calls.{AfterFault};
-    ghost use Rattle.bx_journal.specs.Session.{FindsEither, HasUndone, IsReady, IsRedoSame, IsSame, IsUnfailed, SessionCounts};
+    ghost use Rattle.bx_journal.specs.Session.{FindsEither, HasUndone, IsReady, IsRedoSame, IsSame, IsUnfailed, IsUnmoved, SessionCounts};
     ghost use Rattle.bx_journal.specs.Standing.{IsStanding, PerformFault};
 
     /// Changes the image, and answers the change's number, which is how many changes then stand. What was undone is
@@ -81,13 +81,17 @@ impl<D: Device, T: TextStore, A: Allocator + Clone> Session<D, T, A> {
             → IsReady D.image T.text self.old s.stack → HasUndone D.image T.text self.old s.undone
             → IfErr result (λ e. AfterFault e (FindsEither D.image T.text self.new s (change_to (effect change.now (top s.stack)) s)) (Unit {0})) }
         ensures redo_same { T.honest self.old.redo_text → IfErr result (λ e. AfterFault e (Unit {0}) (IsRedoSame T.text self.old self.new)) }
+        ensures unmoved { IfErr result (λ e. AfterFault e (Unit {0}) (IsUnmoved self.old self.new)) }
         ensures breaks { IsErrOf result SessionFault.Interrupted → (self.new.is_broken ≡ true) × (self.new.count ≡ self.old.count) × (self.new.undone ≡ self.old.undone) }
 
         ensures kind { IfErr result PerformFault }
         ensures broken { (self.old.is_broken ≡ true) ↔ IsErrOf result SessionFault.Broken }
         ensures untouched { IsErrOf result SessionFault.Broken → (self.new.device ≡ self.old.device) × (self.new.store ≡ self.old.store) × (self.new.redo_text ≡ self.old.redo_text) }
+        ensures same { IsErrOf result SessionFault.Broken → self.new ≡ self.old }
         ensures full { IsErrOf result SessionFault.JournalFull ↔ ((self.old.is_broken ≡ false) × (65535 ≤ self.old.count)) }
         ensures large { D.honest self.old.device → IsErrOf result SessionFault.TooLarge → Fits change.now (length (D.image self.old.device)) MAX_LEN → ⊥ }
+        ensures fits { D.honest self.old.device → IsErrOf result SessionFault.NoMemory → Fits change.now (length (D.image self.old.device)) MAX_LEN }
+        ensures fitted { D.honest self.old.device → IsErrOf result SessionFault.Interrupted → Fits change.now (length (D.image self.old.device)) MAX_LEN }
         ensures device_honesty { D.honest self.new.device ↔ D.honest self.old.device }
         ensures store_honesty { T.honest self.new.store ↔ T.honest self.old.store }
         ensures redo_honesty { T.honest self.new.redo_text ↔ T.honest self.old.redo_text }

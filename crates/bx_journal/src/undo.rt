@@ -1,21 +1,21 @@
 //! Taking entries back: the newest, or some of them one after another.
-ghost use Rattle.std.specs.Prelude.{◌≡◌, ◌↔◌, ◌⊎◌, ◌+◌, ◌-◌, ◌<◌, ◌≤◌, [], ◌∷◌, ◌++◌, map, List, ℕ, length, take, drop, reverse, nat_le, vec_capacity, if◌then◌else◌, IfOk, OnOk, OnErr, is_err};
-ghost use Rattle.bx_image.specs.Change.{AllWithin, restore};
-ghost use Rattle.bx_image.specs.Device.{GoesOn};
+ghost use Rattle.std.specs.Prelude.{◌≡◌, ◌↔◌, ◌⊎◌, ◌+◌, ◌-◌, ◌<◌, ◌≤◌, [], ◌∷◌, ◌++◌, map, List, ℕ, length, take, drop, reverse, nat_le, vec_capacity, if◌then◌else◌, IfOk, OnOk, OnErr};
+ghost use Rattle.bx_image.specs.Change.{AllWithin, Covers, IsAsGood, restore};
 ghost use Rattle.bx_journal.specs.declared.version.Version.{Version as Form};
 ghost use Rattle.bx_journal.specs.Entry.{entry_text};
 ghost use Rattle.bx_journal.specs.Images.{Images as Pictures, undo_of};
 ghost use Rattle.bx_journal.specs.Kept.{run_of, kept_of};
-ghost use Rattle.bx_journal.specs.Opening.{OneMoreOfThree};
+ghost use Rattle.bx_journal.specs.Opening.{OneMore, OneMoreOfThree};
 ghost use Rattle.bx_journal.specs.Parsed.{AllKept, entries_of};
 ghost use Rattle.bx_journal.specs.Phase.{IsAtRest, IsOpen, RecoversEither};
-ghost use Rattle.bx_journal.specs.Redo.{Finds, LeavesEither, RecoversOpen};
+ghost use Rattle.bx_journal.specs.Redo.{Finds, LeavesEither};
 ghost use Rattle.bx_journal.specs.Stack.{Recovers, StandsFor};
-ghost use Rattle.bx_journal.specs.Step.{HasTail, TakesBack};
+ghost use Rattle.bx_journal.specs.Step.{TakesBack};
 ghost use Rattle.bx_journal.specs.Takens.{AreReady, AllShaped, entries_len};
-ghost use Rattle.bx_journal.specs.Text.{Ending, Entry};
+ghost use Rattle.bx_journal.specs.Text.{Entry};
 ghost use Rattle.bx_journal.specs.Turns.{AreAtRest, AreStanding, kept_text, side_of};
 ghost use Rattle.bx_journal.specs.Undoing.{AreReadFrom, HasLeft};
+ghost use Rattle.bx_store.specs.Store.{IsPartlyCut};
 
 use crate::EntryRead;
 use crate::filling::fill_last;
@@ -26,21 +26,86 @@ use bx_image::{Device, DeviceFailed, MAX_LEN, Saved};
 use bx_store::TextStore;
 use std::alloc::Allocator;
 
-/// Cuts off the line that ends the newest entry. The pair is then open on that entry.
-pub fn cut_end<T: TextStore>(store: &mut T, saved: u64) -> Result<(), DeviceFailed>
-    requires countable { T.failures store.old < u64.MAX }
-    requires within_text { T.honest store.old → saved ≤ length (T.text store.old) }
-    ensures ok { T.honest store.old → (x : List ℕ) (below : List (List ℕ)) (v : Form) (e : Entry) (begins : ℕ)
-        → TakesBack (T.text store.old) x below v e begins saved → OnOk result (IsOpen v e.saved (T.text store.new) x below) }
-    ensures tail { T.honest store.old → (x : List ℕ) (below : List (List ℕ)) (v : Form) (e : Entry) (begins : ℕ)
-        → (t : TakesBack (T.text store.old) x below v e begins saved)
-        → OnOk result (HasTail (T.text store.new) x below t.entries (Ending v e.saved) begins) }
-    ensures fault { T.honest store.old → (x : List ℕ) (below : List (List ℕ)) (v : Form) (e : Entry) (begins : ℕ)
-        → TakesBack (T.text store.old) x below v e begins saved → OnErr result (Recovers (T.text store.new) x (x ∷ below) ⊎ RecoversOpen (T.text store.new) x below) }
-    ensures text { T.honest store.old → OnOk result (T.text store.new ≡ take saved (T.text store.old)) }
-    ensures goes_on { GoesOn T.honest T.room T.failures (is_err result) store.old store.new }
+/// Restores the image, and keeps the image that is undone. Whatever it answers, a pair that is open on what is
+/// restored stays open.
+fn change_undone<D: Device, T: TextStore, A: Allocator>(
+    device: &mut D,
+    redo_text: &mut T,
+    page: &mut Vec<u8, A>,
+    number: u32,
+    taken: &Saved<A>,
+    kept: Saved<A>,
+) -> Result<(), DeviceFailed>
+    requires device_countable { D.failures device.old < u64.MAX }
+    requires redo_countable { T.failures redo_text.old < u64.MAX }
+    requires within { AllWithin kept.len (map run_of kept.runs) }
+    requires image_room { kept.len ≤ D.room device.old }
+    requires taken_within { AllWithin taken.now.len taken.now.runs }
+    requires fits { T.honest redo_text.old → length (T.text redo_text.old) + length (entry_text number (kept_of taken.now) kept.len) ≤ T.room redo_text.old }
+    requires empty { page.old.items ≡ [] }
+    requires page_room { 82 ≤ vec_capacity page.old }
+    ensures phase { D.honest device.old → (v : Form) (text : List ℕ) (stack : List (List ℕ)) → IsOpen v (kept_of kept) text (D.image device.old) stack
+        → IsOpen v (kept_of kept) text (D.image device.new) stack }
+    ensures again { D.honest device.old → Covers (kept_of kept) (D.image device.old) → IsAsGood (kept_of kept) (D.image device.old) (D.image device.new) }
+    ensures image { D.honest device.old → OnOk result (D.image device.new ≡ restore (kept_of kept) (D.image device.old)) }
+    ensures redo { T.honest redo_text.old → OnOk result (T.text redo_text.new ≡ kept_text (T.text redo_text.old) (kept_of taken.now) number kept.len) }
+    ensures emptied { OnOk result (page.new.items ≡ []) }
+    ensures page_kept { vec_capacity page.old ≤ vec_capacity page.new }
+    ensures room { D.room device.old ≤ D.room device.new }
+    ensures redo_room { T.room redo_text.old ≤ T.room redo_text.new }
+    ensures device_honesty { D.honest device.new ↔ D.honest device.old }
+    ensures redo_honesty { T.honest redo_text.new ↔ T.honest redo_text.old }
+    ensures no_failure { OnOk result ((D.failures device.new ≡ D.failures device.old) × (T.failures redo_text.new ≡ T.failures redo_text.old)) }
+    ensures failure { OnErr result (OneMore (D.failures device.old) (T.failures redo_text.old) (D.failures device.new) (T.failures redo_text.new)) }
 {
-    store.cut(saved)
+    let after = kept.len;
+    restore_image(device, kept)?;
+    keep_undone(redo_text, page, number, taken, after)
+}
+
+/// Cuts off the line that ends the newest entry, and only then touches image and redo text: restores the image, and
+/// keeps the image that is undone.
+fn open_and_change<D: Device, T: TextStore, A: Allocator>(
+    device: &mut D,
+    store: &mut T,
+    redo_text: &mut T,
+    page: &mut Vec<u8, A>,
+    number: u32,
+    taken: &Saved<A>,
+    kept: Saved<A>,
+    saved: u64,
+) -> Result<(), DeviceFailed>
+    requires device_countable { D.failures device.old < u64.MAX }
+    requires store_countable { T.failures store.old < u64.MAX }
+    requires redo_countable { T.failures redo_text.old < u64.MAX }
+    requires within_text { T.honest store.old → saved ≤ length (T.text store.old) }
+    requires within { AllWithin kept.len (map run_of kept.runs) }
+    requires image_room { kept.len ≤ D.room device.old }
+    requires taken_within { AllWithin taken.now.len taken.now.runs }
+    requires fits { T.honest redo_text.old → length (T.text redo_text.old) + length (entry_text number (kept_of taken.now) kept.len) ≤ T.room redo_text.old }
+    requires empty { page.old.items ≡ [] }
+    requires page_room { 82 ≤ vec_capacity page.old }
+    ensures order { T.honest store.old → OnErr result (((device.new ≡ device.old) × (redo_text.new ≡ redo_text.old) × IsPartlyCut saved (T.text store.old) (T.text store.new))
+        ⊎ (T.text store.new ≡ take saved (T.text store.old))) }
+    ensures phase { D.honest device.old → (v : Form) (text : List ℕ) (stack : List (List ℕ)) → IsOpen v (kept_of kept) text (D.image device.old) stack
+        → IsOpen v (kept_of kept) text (D.image device.new) stack }
+    ensures again { D.honest device.old → Covers (kept_of kept) (D.image device.old) → OnOk result (IsAsGood (kept_of kept) (D.image device.old) (D.image device.new)) }
+    ensures image { D.honest device.old → OnOk result (D.image device.new ≡ restore (kept_of kept) (D.image device.old)) }
+    ensures text { T.honest store.old → OnOk result (T.text store.new ≡ take saved (T.text store.old)) }
+    ensures redo { T.honest redo_text.old → OnOk result (T.text redo_text.new ≡ kept_text (T.text redo_text.old) (kept_of taken.now) number kept.len) }
+    ensures emptied { OnOk result (page.new.items ≡ []) }
+    ensures page_kept { vec_capacity page.old ≤ vec_capacity page.new }
+    ensures room { D.room device.old ≤ D.room device.new }
+    ensures redo_room { T.room redo_text.old ≤ T.room redo_text.new }
+    ensures device_honesty { D.honest device.new ↔ D.honest device.old }
+    ensures store_honesty { T.honest store.new ↔ T.honest store.old }
+    ensures redo_honesty { T.honest redo_text.new ↔ T.honest redo_text.old }
+    ensures no_failure { OnOk result ((D.failures device.new ≡ D.failures device.old) × (T.failures store.new ≡ T.failures store.old) × (T.failures redo_text.new ≡ T.failures redo_text.old)) }
+    ensures failure { OnErr result (OneMoreOfThree (D.failures device.old) (T.failures store.old) (T.failures redo_text.old) (D.failures device.new) (T.failures store.new) (T.failures redo_text.new)) }
+{
+    store.cut(saved)?;
+    change_undone(device, redo_text, page, number, taken, kept)?;
+    Ok(())
 }
 
 /// Takes the newest entry back: cuts the line that ends it, restores the image, keeps the image that is undone, and
@@ -91,10 +156,7 @@ pub fn undo_entry<D: Device, T: TextStore, A: Allocator>(
     ensures no_failure { OnOk result ((D.failures device.new ≡ D.failures device.old) × (T.failures store.new ≡ T.failures store.old) × (T.failures redo_text.new ≡ T.failures redo_text.old)) }
     ensures failure { OnErr result (OneMoreOfThree (D.failures device.old) (T.failures store.old) (T.failures redo_text.old) (D.failures device.new) (T.failures store.new) (T.failures redo_text.new)) }
 {
-    let after = kept.len;
-    cut_end(store, saved)?;
-    restore_image(device, kept)?;
-    keep_undone(redo_text, page, number, taken, after)?;
+    open_and_change(device, store, redo_text, page, number, taken, kept, saved)?;
     drop_tail(store, begins)
 }
 

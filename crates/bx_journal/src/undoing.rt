@@ -23,7 +23,7 @@ fn count_left(count: u32, undone: u32) -> u32
 }
 
 impl<D: Device, T: TextStore, A: Allocator + Clone> Session<D, T, A> {
-    ghost use Rattle.bx_journal.specs.Session.{HasUndone, IsReady, IsRedoSame, IsSame, IsUnfailed, SessionCounts, SessionFinds};
+    ghost use Rattle.bx_journal.specs.Session.{HasUndone, IsReady, IsRedoSame, IsSame, IsUnfailed, IsUnmoved, SessionCounts, SessionFinds};
     ghost use Rattle.bx_journal.specs.Standing.{IsStanding};
     ghost use Rattle.bx_journal.specs.Calls.{AfterFault, RecoversBelow};
     ghost use Rattle.bx_journal.specs.Undoing.{IsOutOfStep, UndoFault};
@@ -66,11 +66,13 @@ impl<D: Device, T: TextStore, A: Allocator + Clone> Session<D, T, A> {
             → IsReady D.image T.text self.old s.stack → HasUndone D.image T.text self.old s.undone
             → IfErr result (λ e. AfterFault e ((i : ℕ) × (i ≤ k) × SessionFinds D.image T.text self.new (undo_of i s)) (Unit {0})) }
         ensures redo_same { T.honest self.old.redo_text → IfErr result (λ e. AfterFault e (Unit {0}) (IsRedoSame T.text self.old self.new)) }
+        ensures unmoved { IfErr result (λ e. AfterFault e (Unit {0}) (IsUnmoved self.old self.new)) }
         ensures breaks { IsErrOf result SessionFault.Interrupted → (self.new.is_broken ≡ true) × (self.new.count ≡ self.old.count) × (self.new.undone ≡ self.old.undone) }
 
         ensures kind { IfErr result (UndoFault self.old.count) }
         ensures broken { (self.old.is_broken ≡ true) ↔ IsErrOf result SessionFault.Broken }
         ensures untouched { IsErrOf result SessionFault.Broken → (self.new.device ≡ self.old.device) × (self.new.store ≡ self.old.store) × (self.new.redo_text ≡ self.old.redo_text) }
+        ensures same { IsErrOf result SessionFault.Broken → self.new ≡ self.old }
         ensures few { ((self.old.is_broken ≡ false) × (self.old.count < k)) ↔ IsErrOf result (SessionFault.TooFew self.old.count) }
 
         // The text is called damaged exactly where it isn't so many finished entries alone.

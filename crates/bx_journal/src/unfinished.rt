@@ -11,6 +11,7 @@ ghost use Rattle.bx_journal.specs.Recovery.{HasUndoneCount, IsUnfinishedIn, Keep
 ghost use Rattle.bx_journal.specs.Redo.{Finds, IsClean, RefusesRedoAt};
 ghost use Rattle.bx_journal.specs.Stack.{HaveLengths, Recovers, image_at};
 ghost use Rattle.bx_journal.specs.Text.{IsAccepted, IsDamagedAt, Reading, Reads};
+ghost use Rattle.bx_journal.specs.Undoing.{HasLeft};
 
 use crate::finished::open_finished;
 use crate::found::{Found, read_text};
@@ -81,6 +82,7 @@ fn cut_unfinished<D: Device, T: TextStore, A: Allocator>(
     requires room { HasRoomFor journal.stage (D.room device.old) }
     ensures opened { D.honest device.old → T.honest store.old → HaveLengths (entries_of journal.entries.items) (image_at (stage_of journal.stage) (D.image device.old))
         → IfOk result (λ o. IsOpened (T.text store.old) (D.image device.old) (reading_of journal.entries.items journal.stage) (T.text store.new) (D.image device.new) o.how o.changes) }
+    ensures left { T.honest store.old → OnOk result (HasLeft (T.text store.old) (T.text store.new) (entries_of journal.entries.items)) }
     ensures unclean { IfOk result (λ o. (o.how ≡ How.Clean → ⊥) × (o.undone ≡ 0)) }
     ensures keeps { D.honest device.old → T.honest store.old → (stack : List (List ℕ)) → Recovers (T.text store.old) (D.image device.old) stack
         → OnOk result (IsAtRest (T.text store.new) (D.image device.new) stack) }
@@ -143,6 +145,7 @@ fn finish<D: Device, T: TextStore, A: Allocator>(
     requires room { HasRoomFor journal.stage (D.room device.old) }
     ensures opened { D.honest device.old → T.honest store.old → HaveLengths (entries_of journal.entries.items) (image_at (stage_of journal.stage) (D.image device.old))
         → IfOk result (λ o. IsOpened (T.text store.old) (D.image device.old) (reading_of journal.entries.items journal.stage) (T.text store.new) (D.image device.new) o.how o.changes) }
+    ensures left { T.honest store.old → OnOk result (HasLeft (T.text store.old) (T.text store.new) (entries_of journal.entries.items)) }
     ensures unclean { IfOk result (λ o. (o.how ≡ How.Clean → ⊥) × (o.undone ≡ 0)) }
     ensures keeps { D.honest device.old → T.honest store.old → (stack : List (List ℕ)) → Recovers (T.text store.old) (D.image device.old) stack
         → OnOk result (IsAtRest (T.text store.new) (D.image device.new) stack) }
@@ -174,6 +177,7 @@ pub fn recover_read<D: Device, T: TextStore, A: Allocator>(
     requires read { IsUnfinishedIn (T.honest store.old) (T.text store.old) journal }
     ensures opened { D.honest device.old → T.honest store.old → (r : Reading) → Reads (T.text store.old) r
         → IfOk result (λ o. IsOpened (T.text store.old) (D.image device.old) r (T.text store.new) (D.image device.new) o.how o.changes) }
+    ensures left { T.honest store.old → (r : Reading) → Reads (T.text store.old) r → OnOk result (HasLeft (T.text store.old) (T.text store.new) r.entries) }
     ensures unclean { IfOk result (λ o. (o.how ≡ How.Clean → ⊥) × (o.undone ≡ 0)) }
     ensures sum { IfOk result (λ o. o.changes + o.undone ≤ 65535) }
     ensures faults { D.honest device.old → T.honest store.old → (r : Reading) → Reads (T.text store.old) r → IfErr result (OpenFault r (D.image device.old)) }
@@ -218,6 +222,7 @@ pub fn recover<D: Device, T: TextStore, A: Allocator + Clone>(
     requires redo_countable { T.failures redo_text.old < u64.MAX }
     ensures opened { D.honest device.old → T.honest store.old → (r : Reading) → Reads (T.text store.old) r
         → IfOk result (λ o. IsOpened (T.text store.old) (D.image device.old) r (T.text store.new) (D.image device.new) o.how o.changes) }
+    ensures left { T.honest store.old → (r : Reading) → Reads (T.text store.old) r → OnOk result (HasLeft (T.text store.old) (T.text store.new) r.entries) }
     ensures clean { D.honest device.old → T.honest store.old → IfOk result (λ o. o.how ≡ How.Clean → (T.text store.new ≡ T.text store.old) × (D.image device.new ≡ D.image device.old)) }
     ensures accepted { T.honest store.old → OnOk result (IsAccepted (T.text store.old)) }
     ensures damaged { T.honest store.old → IfErr result (λ e. (line : ℕ) → e ≡ SessionFault.Damaged line → IsDamagedAt (T.text store.old) line) }

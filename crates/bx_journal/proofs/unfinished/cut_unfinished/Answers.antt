@@ -5,6 +5,7 @@ use Rattle.bx_journal.specs.Text.{Between}
 use Rattle.bx_journal.proofs.TailLemmas.{tail_at, ending_within}
 use Rattle.bx_journal.proofs.RecoverLemmas.{ending_begins}
 use Rattle.bx_journal.proofs.OpenLemmas.{opened_dropped, opened_saving, opened_ending}
+use Rattle.bx_journal.proofs.LeftLemmas.{left_at_stage}
 use Rattle.bx_journal.proofs.unfinished.cut_unfinished.Goals as goal
 
 always_err : {T E P : Type 0} (r : Result T E) → P → OnErr r P
@@ -58,3 +59,18 @@ returns-in_err-drop_tail-in-Between-clause-keeps_err g c dh th stack rec =
 pub take_back-requires-clause-within_text : goal.take_back-requires-clause-within_text
 take_back-requires-clause-within_text g c th =
     ending_begins (g.T.TextStore.text c.args.store.now) c.requires.read.text c.args.journal _ _ _ _ c.requires.read.read c.in-Ending.is (c.requires.read.is th)
+
+pub returns-in-Between-clause-left : goal.returns-in-Between-clause-left
+returns-in-Between-clause-left g c th =
+    left_at_stage (g.T.TextStore.text c.args.store.now) c.requires.read.text (g.T.TextStore.text c.drop_tail.new.store) c.args.journal BetweenRead
+    c.requires.read.read c.in-Between.is (c.requires.read.is th) (c.in_ok-drop_tail-in-Between.ensures.text th)
+
+pub returns-in-Saving-clause-left : goal.returns-in-Saving-clause-left
+returns-in-Saving-clause-left g c th =
+    left_at_stage (g.T.TextStore.text c.args.store.now) c.requires.read.text (g.T.TextStore.text c.drop_tail-in-Saving.new.store) c.args.journal _
+    c.requires.read.read c.in-Saving.is (c.requires.read.is th) (c.in_ok-drop_tail-in-Saving.ensures.text th)
+
+pub returns-clause-left : goal.returns-clause-left
+returns-clause-left g c th =
+    left_at_stage (g.T.TextStore.text c.args.store.now) c.requires.read.text (g.T.TextStore.text c.take_back.new.store) c.args.journal _
+    c.requires.read.read c.in-Ending.is (c.requires.read.is th) (c.in_ok-take_back-in-Ending.ensures.text th)

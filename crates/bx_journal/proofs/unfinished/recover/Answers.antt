@@ -5,6 +5,7 @@ use Rattle.bx_journal.specs.Phase.{IsAtRest}
 use Rattle.bx_journal.specs.Stack.{Recovers}
 use Rattle.bx_journal.specs.Text.{Between}
 use Rattle.bx_journal.proofs.OpenedLemmas.{emptied_keeps, emptied_undone, err_then, find_opens, find_redo, find_refuses, finished_kept, finished_opened, finished_stack, finished_unfit, found_counted, found_few, found_read, found_unclean, recover_kind, unfinished_finds}
+use Rattle.bx_journal.proofs.LeftLemmas.{left_whole}
 use Rattle.bx_journal.proofs.TallyLemmas.{counted_rest, ok_always}
 use Rattle.bx_journal.proofs.unfinished.recover.Goals as goal
 
@@ -26,6 +27,12 @@ returns-in-Finished-clause-opened g c dh th r reads =
     let is = found_counted (g.T.TextStore.honest c.args.store.now) text c.in-Ok.found c.in-Finished.counted c.in-Ok.ensures.found c.in-Finished.is th in
     finished_opened text (g.D.Device.image c.args.device.now) c.in-Finished.counted.count c.in-Finished.counted.told is c.open_finished.result _ _ r reads
     (c.read_text.ensures.text th) (c.open_finished.ensures.image dh) c.open_finished.ensures.clean (c.open_finished.ensures.same_length dh)
+
+pub returns-in-Finished-clause-left : goal.returns-in-Finished-clause-left
+returns-in-Finished-clause-left g c th r reads =
+    let text : List ℕ = g.T.TextStore.text c.args.store.now in
+    let is = found_counted (g.T.TextStore.honest c.args.store.now) text c.in-Ok.found c.in-Finished.counted c.in-Ok.ensures.found c.in-Finished.is th in
+    ok_always c.open_finished.result (left_whole text _ c.in-Finished.counted.count c.in-Finished.counted.told r is reads (c.read_text.ensures.text th))
 
 pub returns-in-Finished-clause-keeps : goal.returns-in-Finished-clause-keeps
 returns-in-Finished-clause-keeps g c dh th stack rec =

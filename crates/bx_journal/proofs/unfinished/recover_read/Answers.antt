@@ -7,6 +7,7 @@ use Rattle.bx_journal.specs.Parsed.{entries_of, stage_of, reading_of}
 use Rattle.bx_journal.proofs.OpenLemmas.{counted_of, read_once, look_opens, look_refuses, after_same, same_lengths}
 use Rattle.bx_journal.proofs.ReadLoop.{marked_few}
 use Rattle.bx_journal.proofs.RecoverLemmas.{counts_among, look_kind}
+use Rattle.bx_journal.specs.Undoing.{HasLeft}
 use Rattle.bx_journal.proofs.unfinished.recover_read.Goals as goal
 
 pub returns-in-Err-clause-faults : goal.returns-in-Err-clause-faults
@@ -89,3 +90,8 @@ returns-in-Err-finish-clause-device_honesty g c =
 pub returns-in-Ok-clause-device_honesty : goal.returns-in-Ok-clause-device_honesty
 returns-in-Ok-clause-device_honesty g c =
     (λ h. c.prepare.ensures.honesty.0 (c.finish.ensures.device_honesty.0 h), λ h. c.finish.ensures.device_honesty.1 (c.prepare.ensures.honesty.1 h))
+
+pub returns-in-Ok-clause-left : goal.returns-in-Ok-clause-left
+returns-in-Ok-clause-left g c th r reads =
+    let same : reading_of c.args.journal.entries.items c.args.journal.stage ≡ r = read_once (g.T.TextStore.text c.args.store.now) c.requires.read.text c.args.journal r c.requires.read.read (c.requires.read.is th) reads in
+    subst (λ (q : Reading). HasLeft (g.T.TextStore.text c.args.store.now) (g.T.TextStore.text c.finish.new.store) q.entries) same (c.in-Ok.ensures.left th)

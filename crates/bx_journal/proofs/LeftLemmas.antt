@@ -1,0 +1,38 @@
+-- What opening leaves of a journal's text: a front of it, which is its finished entries alone.
+use Rattle.std.proofs.Common.{◌≡◌, ℕ, List, [], ◌++◌, take, drop, refl, ap, sym, ◌∙◌, subst, inl, Option, Some, append-nil}
+use Rattle.std.proofs.lemmas.List.{take-append-drop}
+use Rattle.bx_journal.specs.declared.journal.JournalRead.{JournalRead}
+use Rattle.bx_journal.specs.declared.reader.StageRead.{StageRead}
+use Rattle.bx_journal.specs.Text.{Entry, Between, Reading, Reads, IsRest, split}
+use Rattle.bx_journal.specs.Mark.{IsMark}
+use Rattle.bx_journal.specs.Journal.{HasRead}
+use Rattle.bx_journal.specs.Parsed.{IsMarked, entries_of, stage_of, reading_of}
+use Rattle.bx_journal.specs.Tally.{IsCounted}
+use Rattle.bx_journal.specs.Undoing.{IsFinished, HasLeft}
+use Rattle.bx_journal.proofs.TailLemmas.{begins_at, begin_mark}
+
+-- the text was cut where what is unfinished begins
+pub left_at_stage : {A : Type 0} → (text bytes new : List ℕ) (j : JournalRead A) (stage : StageRead A) → HasRead bytes j → j.stage ≡ stage → text ≡ bytes → new ≡ take (begins_at stage j.whole) text
+    → HasLeft text new (entries_of j.entries.items)
+left_at_stage text bytes new j stage read is same cut =
+    let es : List Entry = entries_of j.entries.items in
+    let n : ℕ = begins_at stage j.whole in
+    let marked : IsMarked bytes j.entries.items stage j.whole = subst (λ s. IsMarked bytes j.entries.items s j.whole) is read.places.marked in
+    let here : IsMark bytes j.whole (reading_of j.entries.items stage) = subst (λ s. IsMark bytes j.whole (reading_of j.entries.items s)) is read.places.mark in
+    let mark : IsMark bytes n (record { entries = es; stage = Between }) = begin_mark bytes j.entries.items stage j.whole here marked in
+    let reads : Reads (take n bytes) (record { entries = es; stage = Between }) = record { lines = mark.lines; rest = subst (IsRest es Between) (sym mark.whole) (inl refl) } in
+    let finished : IsFinished (take n bytes) es = record { reads = reads; whole = mark.whole } in
+    record {
+      front = (drop n text, sym (take-append-drop n text) ∙ ap (λ t. t ++ drop n text) (sym cut));
+      finished = subst (λ t. IsFinished t es) (sym (cut ∙ ap (take n) same)) finished;
+    }
+
+one_reading : {A : Type 0} (x y : A) → Some x ≡ Some y → x ≡ y
+one_reading x y e = cc
+
+-- the text was finished entries alone, and stayed
+pub left_whole : (text new : List ℕ) (count : ℕ) (told : Option ℕ) (r : Reading) → IsCounted text count told → Reads text r → new ≡ text → HasLeft text new r.entries
+left_whole text new count told r c reads same =
+    let is : record { entries = c.entries; stage = Between } ≡ r = one_reading (record { entries = c.entries; stage = Between }) r (sym c.finished.reads.lines ∙ reads.lines) in
+    let left : HasLeft text text r.entries = subst (λ (q : Reading). HasLeft text text q.entries) is (record { front = ([], sym (append-nil text)); finished = c.finished }) in
+    subst (λ t. HasLeft text t r.entries) (sym same) left
