@@ -4,7 +4,7 @@ man = $(DESTDIR)$(PREFIX)/share/man/man1
 bash = $(DESTDIR)$(PREFIX)/share/bash-completion/completions
 fish = $(DESTDIR)$(PREFIX)/share/fish/vendor_completions.d
 zsh = $(DESTDIR)$(PREFIX)/share/zsh/$(if $(filter /usr,$(PREFIX)),vendor-completions,site-functions)
-.PHONY: all look test install uninstall package check-package tour pictures check-docs check-completions compare cases record hostile bench clean
+.PHONY: all look test install uninstall package tour pictures check-docs compare cases record hostile bench clean
 
 all: bx
 
@@ -35,6 +35,8 @@ uninstall:
 # A Debian package, in the folder package.
 package: all
 	scripts/package.sh bx package
+
+.PHONY: check-package check-completions
 
 # The package, installed, upgraded and removed in a root of its own. As root, or by fakeroot; it needs lintian.
 check-package: all

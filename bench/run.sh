@@ -130,6 +130,7 @@ if "$BX" dd --help > /dev/null 2>&1; then
   row "$S" 1 'dd conv=block'      'dd conv=block'           -- "$BX" dd if=text conv=block cbs=80 -- dd if=text conv=block cbs=80
   row "$S" 1 'dd conv=unblock'    'dd conv=unblock'         -- "$BX" dd if=random conv=unblock cbs=80 -- dd if=random conv=unblock cbs=80
 fi
+# Further rows of dd, where there are some: bench/dd.sh is read here, and writes them by `row "$S" GOAL NAME BESIDE -- OURS -- REAL`.
 if [ -f "$top/bench/dd.sh" ]; then . "$top/bench/dd.sh"; fi
 
 # Changes of an image: a dump of less bytes written onto an image, taken back and made again, and opening beside a full journal.
