@@ -4,7 +4,7 @@ man = $(DESTDIR)$(PREFIX)/share/man/man1
 bash = $(DESTDIR)$(PREFIX)/share/bash-completion/completions
 fish = $(DESTDIR)$(PREFIX)/share/fish/vendor_completions.d
 zsh = $(DESTDIR)$(PREFIX)/share/zsh/$(if $(filter /usr,$(PREFIX)),vendor-completions,site-functions)
-.PHONY: all look test install uninstall package tour pictures check-docs compare cases record hostile bench clean
+.PHONY: all look test install uninstall package tour pictures check-docs compare cases record hostile hints bench clean
 
 all: bx
 
@@ -79,6 +79,10 @@ record:
 # memory request, read and write failing in turn.
 hostile: all
 	scripts/hostile.sh ./bx
+
+# What standard error gets at each fault, on a terminal and in a pipe.
+hints: all
+	scripts/hints.py --bx ./bx
 
 bench: all
 	bench/run.sh

@@ -2,6 +2,7 @@
 #![tactic(auto)]
 
 use bx_cli::Fault;
+use std::io::IsTerminal;
 use std::process::ExitCode;
 
 /// 2 where the words are wrong, and 1 at any other fault.
@@ -10,11 +11,9 @@ fn status(fault: Fault) -> u8 {
 }
 
 fn main(rt: HostRuntime) -> ExitCode {
-    match bx_program::run(&rt) {
+    let person = rt.stderr().is_terminal();
+    match bx_program::run(&rt, person) {
         Ok(()) => ExitCode::SUCCESS,
-        Err(fault) => {
-            let _ = eprintln!(rt; "bx: {fault}");
-            ExitCode::from(status(fault))
-        }
+        Err(fault) => ExitCode::from(status(fault)),
     }
 }

@@ -2,6 +2,7 @@ pub mod Command
 pub mod Copy
 pub mod CopyOut
 pub mod Fault
+pub mod Hint
 pub mod Job
 pub mod Standing
 pub mod Run

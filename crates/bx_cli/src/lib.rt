@@ -5,6 +5,7 @@ mod changes;
 mod command;
 mod dump;
 mod fault;
+mod hint;
 mod job;
 mod laws;
 mod listing;
@@ -15,6 +16,7 @@ mod run;
 pub use command::{Command, Reply};
 pub use dump::{Done, run_dump};
 pub use fault::Fault;
+pub use hint::{Known, Misuse, hint_text, misuse_of};
 pub use job::{DdJob, HexdumpJob, Job, OdJob, RevertJob, StringsJob, Texts, XxdJob, XxdLook};
 pub use laws::{
     normal_text_reads_back, normal_text_reverts, redo_gives_back, runs_join, undo_gives_back,

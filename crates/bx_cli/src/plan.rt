@@ -15,12 +15,12 @@ const MOST_COLUMNS: u64 = 256;
 
 const MOST_NUMBER: u64 = 1 << 62;
 
-const MOST_LEAST: u64 = 4096;
+pub(crate) const MOST_LEAST: u64 = 4096;
 
-const MOST_STEPS: u64 = 65_535;
+pub(crate) const MOST_STEPS: u64 = 65_535;
 
-/// The job that the words ask for; the words are those behind the program's name.
-pub fn plan_words(alloc: Global, words: &Words) -> Result<Job, Fault> {
+/// The words as clap takes them, behind the program's name.
+pub(crate) fn words_of(alloc: Global, words: &Words) -> Result<Vec<&str>, Fault> {
     let mut texts = Vec::new(alloc);
     texts.push("bx").map_err(|_| Fault::NoMemory)?;
     for i in 0..words.len() {
@@ -28,6 +28,12 @@ pub fn plan_words(alloc: Global, words: &Words) -> Result<Job, Fault> {
             texts.push(word).map_err(|_| Fault::NoMemory)?;
         }
     }
+    Ok(texts)
+}
+
+/// The job that the words ask for; the words are those behind the program's name.
+pub fn plan_words(alloc: Global, words: &Words) -> Result<Job, Fault> {
+    let texts = words_of(alloc, words)?;
     let command = program(alloc)?;
     let matches = match command.try_get_matches_from(texts.as_slice()) {
         Ok(matches) => matches,
@@ -68,7 +74,7 @@ fn job_of(alloc: Global, name: &str, inner: &ArgMatches<'_>) -> Result<Job, Faul
     }
 }
 
-fn number(m: &ArgMatches<'_>, id: &str, style: SizeStyle) -> Result<Option<u64>, Fault>
+pub(crate) fn number(m: &ArgMatches<'_>, id: &str, style: SizeStyle) -> Result<Option<u64>, Fault>
     ensures { IfOk result (λ o. IfSome o (λ n. n ≤ 2 ^ 62)) }
 {
     match m.get_str(id) {
@@ -91,7 +97,7 @@ fn number_or(m: &ArgMatches<'_>, id: &str, style: SizeStyle, default: u64) -> Re
 }
 
 // A number of decimal digits alone.
-fn count_or(m: &ArgMatches<'_>, id: &str, default: u64, most: u64) -> Result<u64, Fault>
+pub(crate) fn count_or(m: &ArgMatches<'_>, id: &str, default: u64, most: u64) -> Result<u64, Fault>
     requires { default ≤ most }
     ensures { IfOk result (λ n. n ≤ most) }
 {
@@ -143,7 +149,7 @@ fn texts_of(alloc: Global, m: &ArgMatches<'_>, image: &str) -> Result<Texts, Fau
     })
 }
 
-fn radix(text: Option<&str>, none: Address, with_n: bool) -> Result<Address, Fault> {
+pub(crate) fn radix(text: Option<&str>, none: Address, with_n: bool) -> Result<Address, Fault> {
     match text {
         None => Ok(none),
         Some("d") => Ok(Address::Decimal),
@@ -177,7 +183,7 @@ fn kind_word(text: &str) -> Result<Kind, Fault> {
     Ok(Kind::Number { form, size })
 }
 
-fn kind(m: &ArgMatches<'_>) -> Result<Kind, Fault> {
+pub(crate) fn kind(m: &ArgMatches<'_>) -> Result<Kind, Fault> {
     if let Some(text) = m.get_str("kind") {
         return kind_word(text);
     }
@@ -203,7 +209,7 @@ fn od(alloc: Global, m: &ArgMatches<'_>) -> Result<Job, Fault> {
     }))
 }
 
-fn columns(m: &ArgMatches<'_>, default: u64) -> Result<u16, Fault>
+pub(crate) fn columns(m: &ArgMatches<'_>, default: u64) -> Result<u16, Fault>
     requires least { 1 ≤ default }
     requires most { default ≤ 256 }
     ensures { IfOk result (λ n. (1 ≤ n) × (n ≤ 256)) }

@@ -2,7 +2,7 @@
 ghost use Rattle.std.specs.Prelude.{◌≡◌, ◌↔◌};
 
 use crate::shared::new_file;
-use bx_image::Part;
+use bx_image::{Part, SystemFile};
 use bx_store::{DeviceFailed, FileText, FuseText, MemText, NoMemory, TextFault, TextStore};
 use linked_list_allocator::LocalHeap;
 use std::alloc::{Allocator, Global};
@@ -224,9 +224,9 @@ fn assert_closed<T: TextStore>(rt: &impl Abort, alloc: Global, store: &mut T) {
 #[test]
 fn text_in_a_file(rt: HostRuntime) -> Result<(), Fail> {
     let name = "bx_store_text_in_a_file.tmp";
-    let mut text = FileText::new(new_file(&rt, name)?);
+    let mut text = FileText::new(SystemFile::new(new_file(&rt, name)?));
     assert_written(&rt, rt.alloc(), &mut text);
-    let mut closed = FileText::new(File::open(&rt, name)?);
+    let mut closed = FileText::new(SystemFile::new(File::open(&rt, name)?));
     assert_closed(&rt, rt.alloc(), &mut closed);
     fs::remove_file(&rt, name)?;
     Ok(())

@@ -1,6 +1,7 @@
 //! dd.
 use crate::files::input;
-use crate::images::{command, open_session};
+use crate::images::{finish, open_session};
+use crate::stopped::{Noted, STANDARD_INPUT, Stopped};
 use bx_cli::{Command, DdJob, Fault, Reply, Texts};
 use bx_dd::{Counts, report};
 use bx_text::{Name, Words};
@@ -11,14 +12,19 @@ use std::rt::Files;
 
 /// Puts what the operands make of the input onto the image, and tells the counts. The input is opened first, and read whole
 /// before the image is written: they may be one file.
-pub fn copy_onto<R>(rt: &R, dd: &DdJob, image: &Name, texts: &Texts) -> Result<(), Fault>
+pub fn copy_onto<'a, R>(
+    rt: &R,
+    dd: &'a DdJob,
+    image: &'a Name,
+    texts: &'a Texts,
+) -> Result<(), Stopped<'a>>
 where
     R: Files<File = File> + Input + Eprint + AllocGlobal,
 {
     let operands = same_words(rt.alloc(), &dd.operands)?;
     match &dd.plan.input {
-        Some(name) => copy_from(rt, operands, image, texts, input(rt, name)?),
-        None => copy_from(rt, operands, image, texts, rt.reader()),
+        Some(name) => copy_from(rt, operands, image, texts, name.as_str(), input(rt, name)?),
+        None => copy_from(rt, operands, image, texts, STANDARD_INPUT, rt.reader()),
     }
 }
 
@@ -32,26 +38,32 @@ fn same_words(alloc: Global, words: &Words) -> Result<Words, Fault> {
     Ok(same)
 }
 
-fn copy_from<R, I: Read + Drop>(
+fn copy_from<'a, R, I: Read + Drop>(
     rt: &R,
     operands: Words,
-    image: &Name,
-    texts: &Texts,
+    image: &'a Name,
+    texts: &'a Texts,
+    from: &'a str,
     input: I,
-) -> Result<(), Fault>
+) -> Result<(), Stopped<'a>>
 where
     R: Files<File = File> + Eprint + AllocGlobal,
 {
-    let mut session = open_session(rt, image, texts, true)?;
-    if let Reply::Copied { counts, .. } = command(
-        rt,
-        &mut session,
-        Command::Dd { operands, input },
-    )? {
-        // One that can't be made or written is no fault: what it tells of is done.
-        let _ = tell(rt, &counts, 0);
+    let session = open_session(rt, image, texts, true)?;
+    let mut input = Noted::new(input);
+    let asked = Command::Dd {
+        operands,
+        input: &mut input,
+    };
+    match finish(rt, session, asked, image, texts) {
+        Ok(Reply::Copied { counts, .. }) => {
+            // One that can't be made or written is no fault: what it tells of is done.
+            let _ = tell(rt, &counts, 0);
+            Ok(())
+        }
+        Ok(_) => Ok(()),
+        Err(stopped) => Err(stopped.on_input(from, input.error)),
     }
-    Ok(())
 }
 
 /// dd's report, on standard error. `written` bytes went to standard output before, and a write fault tells them: how much of

@@ -1,5 +1,6 @@
 //! The files that a job names.
-use bx_cli::{Fault, Texts};
+use crate::stopped::Stopped;
+use bx_cli::Texts;
 use bx_text::Name;
 use std::fs::{self, File, Metadata, TryLockError};
 use std::io::{self, ErrorKind};
@@ -7,8 +8,11 @@ use std::os::unix::fs::{FileTypeExt, MetadataExt};
 use std::rt::Files;
 
 /// A file that is only read.
-pub fn input<R: Files<File = File>>(rt: &R, name: &Name) -> Result<File, Fault> {
-    File::open(rt, name.as_str()).map_err(|_| Fault::OpenFailed)
+pub fn input<'a, R: Files<File = File>>(rt: &R, name: &'a Name) -> Result<File, Stopped<'a>> {
+    match File::open(rt, name.as_str()) {
+        Ok(file) => Ok(file),
+        Err(error) => Err(Stopped::unopened(name.as_str(), error)),
+    }
 }
 
 /// What stands in a file that is changed.
@@ -26,6 +30,14 @@ impl Holds {
         let kind = file.file_type();
         kind.is_file() || (self == Holds::Image && kind.is_block_device())
     }
+
+    /// What is said of a file that can't hold it.
+    fn unsuited(self) -> &'static str {
+        match self {
+            Holds::Image => "it is no regular file and no block device",
+            Holds::Text => "it is no regular file",
+        }
+    }
 }
 
 /// A file that is open to be changed, is what it has to be, and is locked.
@@ -38,16 +50,27 @@ struct Opened<'a> {
 
 /// What stands under a name, links followed. None is a file that is missing and may be made. It is asked before any file is
 /// opened, since to open a pipe or a device may already do something to it.
-fn look<R>(rt: &R, name: &str, make: bool, holds: Holds) -> Result<Option<Metadata>, Fault>
+fn look<'a, R>(
+    rt: &R,
+    name: &'a str,
+    make: bool,
+    holds: Holds,
+) -> Result<Option<Metadata>, Stopped<'a>>
 where
     R: Files<File = File>,
 {
     match fs::metadata(rt, name) {
         Ok(file) if holds.suits(&file) => Ok(Some(file)),
-        Err(e) if make && e.kind() == ErrorKind::NotFound => Ok(None),
-        _ => Err(Fault::OpenFailed),
+        Ok(_) => Err(Stopped::refused(name, holds.unsuited())),
+        Err(e) if e.kind() != ErrorKind::NotFound => Err(Stopped::unopened(name, e)),
+        Err(_) if make => Ok(None),
+        Err(_) if holds == Holds::Text => Err(Stopped::refused(name, NO_JOURNAL)),
+        Err(e) => Err(Stopped::unopened(name, e)),
     }
 }
+
+/// What is said of a journal that is missing and isn't to be made.
+const NO_JOURNAL: &str = "there is no journal yet, so no change; bx revert and bx dd make one";
 
 /// Opens a file to be read and written, and says whether it was made.
 fn open_or_make<R>(rt: &R, name: &str, make: bool) -> io::Result<(File, bool)>
@@ -71,11 +94,15 @@ where
 
 /// Locks a file, without waiting, up to its closing. A lock belongs to one opening, so a file that this run has open under
 /// another name is refused like one that another program holds. Where the file system has no locks it goes on without.
-fn lock(file: &File) -> Result<(), Fault> {
+fn lock<'a>(file: &File, name: &'a str) -> Result<(), Stopped<'a>> {
     match file.try_lock() {
         Ok(()) => Ok(()),
         Err(TryLockError::Error(e)) if e.kind() == ErrorKind::Unsupported => Ok(()),
-        Err(_) => Err(Fault::OpenFailed),
+        Err(TryLockError::Error(e)) => Err(Stopped::unopened(name, e)),
+        Err(TryLockError::WouldBlock) => Err(Stopped::refused(
+            name,
+            "another program has it locked, or it is one of the others by another name",
+        )),
     }
 }
 
@@ -97,15 +124,19 @@ where
 
 impl<'a> Opened<'a> {
     /// Opens a file, locks it, and looks at it again.
-    fn new<R>(rt: &R, name: &'a str, make: bool, holds: Holds) -> Result<Opened<'a>, Fault>
+    fn new<R>(rt: &R, name: &'a str, make: bool, holds: Holds) -> Result<Opened<'a>, Stopped<'a>>
     where
         R: Files<File = File>,
     {
-        let (file, made) = open_or_make(rt, name, make).map_err(|_| Fault::OpenFailed)?;
-        lock(&file)?;
+        let (file, made) = match open_or_make(rt, name, make) {
+            Ok(opened) => opened,
+            Err(error) => return Err(Stopped::unopened(name, error)),
+        };
+        lock(&file, name)?;
         match is_in_place(rt, name, &file, holds) {
             Ok(true) => Ok(Opened { file, name, made }),
-            _ => Err(Fault::OpenFailed),
+            Ok(false) => Err(Stopped::refused(name, "another file has its name now")),
+            Err(error) => Err(Stopped::unopened(name, error)),
         }
     }
 
@@ -139,13 +170,21 @@ pub struct SessionFiles {
 }
 
 /// Looks at all three before one is opened. What is no file of its kind, or is missing and isn't to be made, is refused here.
-fn look_at_all<R>(rt: &R, image: &Name, texts: &Texts, make: bool) -> Result<(), Fault>
+fn look_at_all<'a, R>(
+    rt: &R,
+    image: &'a Name,
+    texts: &'a Texts,
+    make: bool,
+) -> Result<(), Stopped<'a>>
 where
     R: Files<File = File>,
 {
     let found = look(rt, image.as_str(), make, Holds::Image)?;
     if is_journal_missing(&found, image.as_str(), texts.journal.as_str()) {
-        return Err(Fault::OpenFailed);
+        return Err(Stopped::refused(
+            image.as_str(),
+            "a block device wants -J and a journal elsewhere",
+        ));
     }
     look(rt, texts.journal.as_str(), make, Holds::Text)?;
     look(rt, texts.redo.as_str(), true, Holds::Text)?;
@@ -153,16 +192,16 @@ where
 }
 
 /// The journal, and then the redo text. A journal that was made is taken away again where the redo text is refused.
-fn open_texts<R>(rt: &R, texts: &Texts, make: bool) -> Result<(File, File), Fault>
+fn open_texts<'a, R>(rt: &R, texts: &'a Texts, make: bool) -> Result<(File, File), Stopped<'a>>
 where
     R: Files<File = File>,
 {
     let journal = Opened::new(rt, texts.journal.as_str(), make, Holds::Text)?;
     match Opened::new(rt, texts.redo.as_str(), true, Holds::Text) {
         Ok(redo) => Ok((journal.file, redo.file)),
-        Err(fault) => {
+        Err(stopped) => {
             journal.unmake(rt);
-            Err(fault)
+            Err(stopped)
         }
     }
 }
@@ -176,12 +215,12 @@ where
 /// device either), or is locked by another program or under another name, and where a block device has no journal of another
 /// name than `IMAGE.bxj`. No file is then changed, and none is made, but for an empty one behind a link that led to no file,
 /// or whose place could not be looked at again.
-pub fn trio<R: Files<File = File>>(
+pub fn trio<'a, R: Files<File = File>>(
     rt: &R,
-    image: &Name,
-    texts: &Texts,
+    image: &'a Name,
+    texts: &'a Texts,
     make: bool,
-) -> Result<SessionFiles, Fault> {
+) -> Result<SessionFiles, Stopped<'a>> {
     look_at_all(rt, image, texts, make)?;
     let image = Opened::new(rt, image.as_str(), make, Holds::Image)?;
     match open_texts(rt, texts, make) {
@@ -190,9 +229,9 @@ pub fn trio<R: Files<File = File>>(
             journal,
             redo,
         }),
-        Err(fault) => {
+        Err(stopped) => {
             image.unmake(rt);
-            Err(fault)
+            Err(stopped)
         }
     }
 }

@@ -3,8 +3,9 @@ ghost use Rattle.std.specs.Prelude.{◌≡◌, ◌≤◌, ◌^◌, IfOk};
 ghost use Rattle.bx_cli.specs.Command.{IsNear};
 
 use crate::files::trio;
+use crate::stopped::{Devices, Stopped};
 use bx_cli::{Command, Fault, Reply, Texts, log_text, run_all};
-use bx_image::{Device, FileImage};
+use bx_image::{Device, FileImage, SystemFile};
 use bx_journal::{How, Session};
 use bx_store::{FileText, TextStore};
 use bx_text::Name;
@@ -15,12 +16,12 @@ use std::rt::Files;
 type FileSession = Session<FileImage, FileText>;
 
 /// Opens the image and its texts, and says on standard error what was recovered. The files are locked up to the session's end.
-pub fn open_session<R>(
+pub fn open_session<'a, R>(
     rt: &R,
-    image: &Name,
-    texts: &Texts,
+    image: &'a Name,
+    texts: &'a Texts,
     make: bool,
-) -> Result<FileSession, Fault>
+) -> Result<FileSession, Stopped<'a>>
 where
     R: Files<File = File> + Eprint + AllocGlobal,
     ensures device { IfOk result (λ s. ⟦<FileImage as Device>⟧.failures s.device ≡ 0) }
@@ -28,12 +29,16 @@ where
     ensures redo_text { IfOk result (λ s. ⟦<FileText as TextStore>⟧.failures s.redo_text ≡ 0) }
 {
     let files = trio(rt, image, texts, make)?;
-    let device = FileImage::new(files.image);
-    let store = FileText::new(files.journal);
-    let opened = Session::open(rt.alloc(), device, store, FileText::new(files.redo));
-    let (session, found) = match opened {
+    let device = FileImage::new(SystemFile::new(files.image));
+    let store = FileText::new(SystemFile::new(files.journal));
+    let redo_text = FileText::new(SystemFile::new(files.redo));
+    let (session, found) = match Session::open(rt.alloc(), device, store, redo_text) {
         Ok(opened) => opened,
-        Err((_, _, _, fault)) => return Err(Fault::from(fault)),
+        Err((device, store, redo_text, fault)) => {
+            let trio = (device, store, redo_text);
+            let devices = Devices { trio, image, texts };
+            return Err(devices.stopped(Fault::from(fault)));
+        }
     };
     match found.how {
         How::Clean => {}
@@ -47,8 +52,33 @@ where
     Ok(session)
 }
 
+/// Runs one command on a session that was just opened, and closes it.
+pub fn finish<'a, R, I: Read + Drop>(
+    rt: &R,
+    mut session: FileSession,
+    asked: Command<I>,
+    image: &'a Name,
+    texts: &'a Texts,
+) -> Result<Reply, Stopped<'a>>
+where
+    R: AllocGlobal,
+    requires near { IsNear asked }
+    requires device { ⟦<FileImage as Device>⟧.failures session.device ≡ 0 }
+    requires store { ⟦<FileText as TextStore>⟧.failures session.store ≡ 0 }
+    requires redo_text { ⟦<FileText as TextStore>⟧.failures session.redo_text ≡ 0 }
+{
+    match command(rt, &mut session, asked) {
+        Ok(reply) => Ok(reply),
+        Err(fault) => {
+            let trio = session.close();
+            let devices = Devices { trio, image, texts };
+            Err(devices.stopped(fault))
+        }
+    }
+}
+
 /// Runs one command on a session that was just opened.
-pub fn command<R, I: Read + Drop>(
+fn command<R, I: Read + Drop>(
     rt: &R,
     session: &mut FileSession,
     command: Command<I>,
@@ -71,11 +101,22 @@ where
 }
 
 /// The changes of a session that was just opened as text, a line each, the oldest first.
-pub fn log<R>(rt: &R, session: &mut FileSession) -> Result<String, Fault>
+pub fn log<'a, R>(
+    rt: &R,
+    mut session: FileSession,
+    image: &'a Name,
+    texts: &'a Texts,
+) -> Result<String, Stopped<'a>>
 where
     R: AllocGlobal,
-    requires { ⟦<FileText as TextStore>⟧.failures session.old.store ≡ 0 }
+    requires { ⟦<FileText as TextStore>⟧.failures session.store ≡ 0 }
 {
-    let rows = session.log()?;
-    log_text(rt.alloc(), rows.as_slice())
+    match session.log() {
+        Ok(rows) => Ok(log_text(rt.alloc(), rows.as_slice())?),
+        Err(fault) => {
+            let trio = session.close();
+            let devices = Devices { trio, image, texts };
+            Err(devices.stopped(Fault::from(fault)))
+        }
+    }
 }

@@ -1,7 +1,9 @@
 //! The jobs, and one run of the program.
 use crate::copies::{copy_onto, tell};
 use crate::files::input;
-use crate::images::{command, log, open_session};
+use crate::hints::show_fault;
+use crate::images::{finish, log, open_session};
+use crate::stopped::{Noted, STANDARD_INPUT, Stopped};
 use crate::streams::Held;
 use crate::tally::Tally;
 use bx_cli::{
@@ -19,16 +21,38 @@ use std::rt::{Env, Files};
 /// The most bytes of a dump that is reverted.
 const MOST_INPUT: u64 = 1 << 40;
 
-/// Does what the words of the command line ask for. The fault is the first that stopped it. A standard stream that is closed
-/// keeps its number to the end, so that no file gets it.
-pub fn run<R>(rt: &R) -> Result<(), Fault>
+/// Does what the words of the command line ask for, and writes the text of the fault that stopped it, with a hint behind it
+/// where a person looks at standard error. A standard stream that is closed keeps its number to the end, so that no file gets
+/// it.
+pub fn run<R>(rt: &R, person: bool) -> Result<(), Fault>
 where
     R: Files<File = File> + Env + Input + Print + Eprint + AllocGlobal,
 {
-    let _held = Held::new(rt)?;
-    let words = words(rt)?;
-    let job = plan_words(rt.alloc(), &words)?;
-    perform(rt, &job)
+    let mut words = Words::new(rt.alloc());
+    match Held::new(rt) {
+        Ok(_held) => run_words(rt, person, &mut words),
+        Err(fault) => Err(show_fault(rt, person, &words, Stopped::from(fault))),
+    }
+}
+
+/// Does what the words ask for, which are read first.
+fn run_words<R>(rt: &R, person: bool, words: &mut Words) -> Result<(), Fault>
+where
+    R: Files<File = File> + Env + Input + Print + Eprint + AllocGlobal,
+{
+    match planned(rt, words) {
+        Ok(job) => match perform(rt, &job) {
+            Ok(()) => Ok(()),
+            Err(stopped) => Err(show_fault(rt, person, words, stopped)),
+        },
+        Err(fault) => Err(show_fault(rt, person, words, Stopped::from(fault))),
+    }
+}
+
+/// The job that the words ask for, which are read first.
+fn planned<R: Env + AllocGlobal>(rt: &R, words: &mut Words) -> Result<Job, Fault> {
+    read_words(rt, words)?;
+    plan_words(rt.alloc(), words)
 }
 
 /// What stopped the reading of the words. One that isn't UTF-8 is a wrong argument.
@@ -39,27 +63,30 @@ fn unread(error: io::Error) -> Fault {
     }
 }
 
-/// The words behind the program's name.
-fn words<R: Env + AllocGlobal>(rt: &R) -> Result<Words, Fault> {
+/// Reads the words behind the program's name.
+fn read_words<R: Env + AllocGlobal>(rt: &R, words: &mut Words) -> Result<(), Fault> {
     let args = env::args(rt).map_err(unread)?;
-    let mut words = Words::new(rt.alloc());
     for arg in args.skip(1) {
         words.push(arg.as_str())?;
     }
-    Ok(words)
+    Ok(())
 }
 
 /// Runs a job, and writes what it shows.
-pub fn perform<R>(rt: &R, job: &Job) -> Result<(), Fault>
+pub fn perform<'a, R>(rt: &R, job: &'a Job) -> Result<(), Stopped<'a>>
 where
     R: Files<File = File> + Input + Print + Eprint + AllocGlobal,
 {
     let mut out = Tally::new(io::writer(rt));
-    let counts = run_job(rt, job, &mut out)?;
+    let counts = match run_job(rt, job, &mut out) {
+        Ok(counts) => counts,
+        Err(stopped) => return Err(stopped.on_output(out.error)),
+    };
     if out.flush().is_err() {
-        return Err(Fault::WriteFailed {
+        let fault = Fault::WriteFailed {
             written: out.written,
-        });
+        };
+        return Err(Stopped::from(fault).on_output(out.error));
     }
     if let Some(counts) = counts {
         tell(rt, &counts, out.written)?;
@@ -68,7 +95,11 @@ where
 }
 
 /// Runs a job, and answers what dd counted, unless that is told.
-fn run_job<R, W: Write>(rt: &R, job: &Job, out: &mut W) -> Result<Option<Counts>, Fault>
+fn run_job<'a, R, W: Write>(
+    rt: &R,
+    job: &'a Job,
+    out: &mut W,
+) -> Result<Option<Counts>, Stopped<'a>>
 where
     R: Files<File = File> + Input + Eprint + AllocGlobal,
 {
@@ -96,7 +127,12 @@ where
 }
 
 /// dd, onto the image that `of=` names or to standard output.
-fn copy<R, W: Write>(rt: &R, job: &Job, dd: &DdJob, out: &mut W) -> Result<Option<Counts>, Fault>
+fn copy<'a, R, W: Write>(
+    rt: &R,
+    job: &Job,
+    dd: &'a DdJob,
+    out: &mut W,
+) -> Result<Option<Counts>, Stopped<'a>>
 where
     R: Files<File = File> + Input + Eprint + AllocGlobal,
 {
@@ -122,13 +158,13 @@ fn show_number<W: Write>(out: &mut W, number: u32) -> Result<(), Fault> {
 }
 
 /// Puts the bytes of a dump onto the image: the whole dump is read first.
-fn revert<R>(rt: &R, job: &RevertJob) -> Result<(), Fault>
+fn revert<'a, R>(rt: &R, job: &'a RevertJob) -> Result<(), Stopped<'a>>
 where
     R: Files<File = File> + Input + Eprint + AllocGlobal,
 {
     let text = match &job.dump {
-        Some(name) => whole(rt.alloc(), &mut input(rt, name)?)?,
-        None => whole(rt.alloc(), &mut rt.reader())?,
+        Some(name) => whole(rt.alloc(), name.as_str(), input(rt, name)?)?,
+        None => whole(rt.alloc(), STANDARD_INPUT, rt.reader())?,
     };
     let text = Bytes::from_vec(text);
     let asked: Command = if job.plain {
@@ -139,79 +175,104 @@ where
             offset: job.at,
         }
     };
-    let mut session = open_session(rt, &job.image, &job.texts, true)?;
-    command(rt, &mut session, asked)?;
+    let session = open_session(rt, &job.image, &job.texts, true)?;
+    finish(rt, session, asked, &job.image, &job.texts)?;
     Ok(())
 }
 
 /// All that a reader gives.
-fn whole<I: Read>(alloc: Global, input: &mut I) -> Result<Vec<u8>, Fault> {
-    Ok(Source::new(input, MOST_INPUT).rest(alloc)?)
+fn whole<I: Read + Drop>(alloc: Global, name: &str, input: I) -> Result<Vec<u8>, Stopped<'_>> {
+    let mut input = Noted::new(input);
+    match Source::new(&mut input, MOST_INPUT).rest(alloc) {
+        Ok(bytes) => Ok(bytes),
+        Err(fault) => Err(Stopped::from(Fault::from(fault)).on_input(name, input.error)),
+    }
 }
 
 /// Takes changes back, and shows how many are left.
-fn undo<R, W: Write>(
+fn undo<'a, R, W: Write>(
     rt: &R,
     count: u32,
-    image: &Name,
-    texts: &Texts,
+    image: &'a Name,
+    texts: &'a Texts,
     out: &mut W,
-) -> Result<(), Fault>
+) -> Result<(), Stopped<'a>>
 where
     R: Files<File = File> + Eprint + AllocGlobal,
 {
     let asked: Command = Command::Undo { k: count };
-    let mut session = open_session(rt, image, texts, false)?;
-    match command(rt, &mut session, asked)? {
-        Reply::Undone { left } => show_number(out, left),
-        _ => Ok(()),
+    let session = open_session(rt, image, texts, false)?;
+    if let Reply::Undone { left } = finish(rt, session, asked, image, texts)? {
+        show_number(out, left)?;
     }
+    Ok(())
 }
 
 /// Makes undone changes again, and shows how many then stand.
-fn redo<R, W: Write>(
+fn redo<'a, R, W: Write>(
     rt: &R,
     count: u32,
-    image: &Name,
-    texts: &Texts,
+    image: &'a Name,
+    texts: &'a Texts,
     out: &mut W,
-) -> Result<(), Fault>
+) -> Result<(), Stopped<'a>>
 where
     R: Files<File = File> + Eprint + AllocGlobal,
 {
     let asked: Command = Command::Redo { j: count };
-    let mut session = open_session(rt, image, texts, false)?;
-    match command(rt, &mut session, asked)? {
-        Reply::Redone { changes } => show_number(out, changes),
-        _ => Ok(()),
+    let session = open_session(rt, image, texts, false)?;
+    if let Reply::Redone { changes } = finish(rt, session, asked, image, texts)? {
+        show_number(out, changes)?;
     }
+    Ok(())
 }
 
 /// Shows the changes that stand.
-fn show_log<R, W: Write>(rt: &R, image: &Name, texts: &Texts, out: &mut W) -> Result<(), Fault>
+fn show_log<'a, R, W: Write>(
+    rt: &R,
+    image: &'a Name,
+    texts: &'a Texts,
+    out: &mut W,
+) -> Result<(), Stopped<'a>>
 where
     R: Files<File = File> + Eprint + AllocGlobal,
 {
-    let mut session = open_session(rt, image, texts, false)?;
-    show(out, log(rt, &mut session)?.as_str())
+    let session = open_session(rt, image, texts, false)?;
+    let text = log(rt, session, image, texts)?;
+    Ok(show(out, text.as_str())?)
 }
 
 /// Dumps or copies FILE, or standard input where there is none.
-fn dump_file<R, W: Write>(
+fn dump_file<'a, R, W: Write>(
     rt: &R,
     job: &Job,
-    file: &Option<Name>,
+    file: &'a Option<Name>,
     out: &mut W,
-) -> Result<Option<Counts>, Fault>
+) -> Result<Option<Counts>, Stopped<'a>>
 where
     R: Files<File = File> + Input + AllocGlobal,
 {
     let done = match file {
-        Some(name) => run_dump(rt.alloc(), job, &mut input(rt, name)?, out)?,
-        None => run_dump(rt.alloc(), job, &mut rt.reader(), out)?,
+        Some(name) => dump_from(rt.alloc(), job, name.as_str(), input(rt, name)?, out)?,
+        None => dump_from(rt.alloc(), job, STANDARD_INPUT, rt.reader(), out)?,
     };
     match done {
         Done::Dumped(_) => Ok(None),
         Done::Copied(counts) => Ok(Some(counts)),
+    }
+}
+
+/// Dumps or copies an input, of which this is the name.
+fn dump_from<'a, I: Read + Drop, W: Write>(
+    alloc: Global,
+    job: &Job,
+    name: &'a str,
+    input: I,
+    out: &mut W,
+) -> Result<Done, Stopped<'a>> {
+    let mut input = Noted::new(input);
+    match run_dump(alloc, job, &mut input, out) {
+        Ok(done) => Ok(done),
+        Err(fault) => Err(Stopped::from(fault).on_input(name, input.error)),
     }
 }

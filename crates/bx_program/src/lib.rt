@@ -3,10 +3,13 @@
 
 mod copies;
 mod files;
+mod hints;
 mod images;
 mod jobs;
+mod stopped;
 mod streams;
 mod tally;
 
 pub use files::{SessionFiles, trio};
 pub use jobs::{perform, run};
+pub use stopped::{Reason, Stopped};

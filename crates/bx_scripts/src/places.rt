@@ -1,6 +1,6 @@
 //! Where images and texts stand.
 use bx_cli::Fault;
-use bx_image::{Device, FileImage, MemImage, NoMemory, PagedImage};
+use bx_image::{Device, FileImage, MemImage, NoMemory, PagedImage, SystemFile};
 use bx_store::{FileText, MemText, TextStore};
 use std::alloc::{AllocError, Global};
 use std::fs::{self, File};
@@ -89,8 +89,9 @@ pub struct Files<'a> {
 }
 
 impl Files<'_> {
-    fn open(&self, name: &str) -> Result<File, Fail> {
-        Ok(File::options().read(true).write(true).open(self.rt, name)?)
+    fn open(&self, name: &str) -> Result<SystemFile, Fail> {
+        let file = File::options().read(true).write(true).open(self.rt, name)?;
+        Ok(SystemFile::new(file))
     }
 
     fn open_all(&self) -> Result<Trio<FileImage, FileText>, Fail> {

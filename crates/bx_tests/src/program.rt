@@ -22,7 +22,7 @@ where
 {
     let words = words_of(rt, line)?;
     let job = plan_words(rt.alloc(), &words)?;
-    perform(rt, &job)
+    perform(rt, &job).map_err(|stopped| stopped.fault)
 }
 
 fn ends<R>(rt: &R, line: &str, wanted: Result<(), Fault>) -> Result<(), Fail>

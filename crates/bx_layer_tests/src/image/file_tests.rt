@@ -5,7 +5,7 @@ use crate::image::guarded::{
     assert_countable, assert_failed, assert_faults, assert_length, cut, length, reserve, write,
 };
 use crate::shared::{assert_bytes, new_file};
-use bx_image::{Device, DeviceFailed, FileImage, RandomAccess, Stop};
+use bx_image::{Device, DeviceFailed, FileImage, RandomAccess, Stop, SystemFile};
 use std::alloc::Global;
 use std::fs::{self, File};
 use std::process::Abort;
@@ -172,9 +172,10 @@ fn refuse_writes(rt: &impl Abort, image: &mut FileImage) {
 #[test]
 fn image_in_a_file(rt: HostRuntime) -> Result<(), Fail> {
     let name = "bx_image_in_a_file.tmp";
-    let mut image = FileImage::new(new_file(&rt, name)?);
+    let mut image = FileImage::new(SystemFile::new(new_file(&rt, name)?));
     write_and_cut(&rt, rt.alloc(), &mut image)?;
-    refuse_writes(&rt, &mut FileImage::new(File::open(&rt, name)?));
+    let file = SystemFile::new(File::open(&rt, name)?);
+    refuse_writes(&rt, &mut FileImage::new(file));
     fs::remove_file(&rt, name)?;
     Ok(())
 }
@@ -200,7 +201,7 @@ fn write_far(rt: &impl Abort, alloc: Global, image: &mut FileImage) -> Result<()
 #[test]
 fn past_four_gibibytes(rt: HostRuntime) -> Result<(), Fail> {
     let name = "bx_image_past_four_gibibytes.tmp";
-    let mut image = FileImage::new(new_file(&rt, name)?);
+    let mut image = FileImage::new(SystemFile::new(new_file(&rt, name)?));
     write_far(&rt, rt.alloc(), &mut image)?;
     fs::remove_file(&rt, name)?;
     Ok(())

@@ -1,6 +1,6 @@
 //! Sessions that run over memory and over files alike.
 use crate::journal::tools::{Trio, open, trio, write};
-use bx_image::{Device, FileImage};
+use bx_image::{Device, FileImage, SystemFile};
 use bx_journal::{How, Recovered, Session, SessionFault};
 use bx_store::{FileText, TextStore};
 use std::alloc::{AllocError, Global};
@@ -154,8 +154,9 @@ pub fn sit<D: Device + Drop, T: TextStore + Drop>(
     }
 }
 
-fn file<R: Files<File = File>>(rt: &R, name: &str) -> Result<File, Fail> {
-    Ok(File::options().read(true).write(true).open(rt, name)?)
+fn file<R: Files<File = File>>(rt: &R, name: &str) -> Result<SystemFile, Fail> {
+    let file = File::options().read(true).write(true).open(rt, name)?;
+    Ok(SystemFile::new(file))
 }
 
 /// The names of the files of a test.

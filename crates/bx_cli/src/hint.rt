@@ -1,0 +1,211 @@
+//! Hints, which a person can act on, behind the texts of faults.
+ghost use Rattle.std.specs.Prelude.{◌≡◌, [], OnOk, IfSome, string_bytes};
+ghost use Rattle.bx_cli.specs.Hint.{advice_of, hint_of, joined};
+
+use crate::fault::Fault;
+use crate::options::program;
+use crate::plan::{MOST_LEAST, MOST_STEPS, columns, count_or, kind, number, radix, words_of};
+use bx_dump::Address;
+use bx_text::{SizeStyle, Words};
+use clap::ArgMatches;
+use std::alloc::{AllocError, Allocator, Global};
+
+/// What is known of a fault beside its text. Each is empty where nothing is known.
+#[derive(Clone, Copy)]
+pub struct Known<'a> {
+    /// The word or the file at fault.
+    pub subject: &'a str,
+    /// Why it is at fault, as the system says.
+    pub reason: &'a str,
+    /// How the command is called.
+    pub usage: &'a str,
+}
+
+/// What can be done about a fault of its kind; empty where there is nothing to say.
+fn advice(fault: Fault) -> &'static str
+    ensures { result.now ≡ advice_of fault }
+{
+    match fault {
+        Fault::InputTooLong => "at most 1099511627776 bytes are read",
+        Fault::SkipPastEnd => "give a smaller -j",
+        Fault::BadAddress { .. } | Fault::MissingColon { .. } => {
+            "a line is like '00000002: 7879'; for digits alone give -p"
+        }
+        Fault::BadPair { .. } => "bytes are pairs of digits, with at most one space between two",
+        Fault::NoData { .. } => "digits follow the colon, behind at most one space",
+        Fault::AddressTooLarge { .. } => "addresses are below 4611686018427387904",
+        Fault::OddDigits { .. } => "each byte is two digits",
+        Fault::ZeroSize { .. } =>
+            "a size is at least 1, and a product such as 0x4 is 0: give numbers in decimal",
+        Fault::Conflict => "give one of block and unblock, and one of lcase and ucase",
+        Fault::MissingCbs => "block and unblock want cbs=BYTES",
+        Fault::SeekWithoutOutput => "give of=IMAGE too",
+        Fault::TooLarge => "an image has at most 281474976710655 bytes",
+        Fault::DeviceFailed => "nothing was changed",
+        Fault::Damaged { .. } => {
+            "mend the line; or move journal and redo file away, and with them the older images"
+        }
+        Fault::TooFew { .. } => "bx log lists the changes",
+        Fault::JournalFull =>
+            "move journal and redo file away to go on, and with them the older images",
+        Fault::Interrupted => "the next command on the image finishes or drops what was begun",
+        Fault::LengthDiffers { .. } => {
+            "give its length back by truncate -s; or move journal and redo file away, and with them the older images"
+        }
+        Fault::NothingToRedo { .. } => "a change that is no redo gives up what was undone",
+        Fault::RedoDamaged { .. } =>
+            "move the redo file away to go on, and with it what was undone",
+        _ => "",
+    }
+}
+
+/// Puts a part behind those before it.
+fn push_part<A: Allocator>(
+    text: &mut String<A>,
+    between: &str,
+    part: &str,
+) -> Result<(), AllocError>
+    ensures { OnOk result (string_bytes text.new ≡ joined (string_bytes text.old) between.now part.now) }
+{
+    if part.is_empty() {
+        return Ok(());
+    }
+    if !text.is_empty() {
+        text.push_str(between)?;
+    }
+    text.push_str(part)
+}
+
+/// All parts of a hint.
+fn push_parts<A: Allocator>(
+    text: &mut String<A>,
+    fault: Fault,
+    known: &Known<'_>,
+) -> Result<(), AllocError>
+    requires { string_bytes text.old ≡ [] }
+    ensures { OnOk result (string_bytes text.new ≡ hint_of fault known.now) }
+{
+    push_part(text, "", known.subject)?;
+    push_part(text, ": ", known.reason)?;
+    push_part(text, "; ", advice(fault))?;
+    push_part(text, "; ", known.usage)
+}
+
+/// What a person can act on behind the text of a fault: what is at fault and why, what can be done, and how the command is
+/// called. None where there is nothing to say, or no memory for it.
+pub fn hint_text<A: Allocator>(alloc: A, fault: Fault, known: &Known<'_>) -> Option<String<A>>
+    ensures text { IfSome result (λ text. string_bytes text ≡ hint_of fault known.now) }
+    ensures none { hint_of fault known.now ≡ [] → result ≡ None }
+{
+    let mut text = String::new(alloc);
+    match push_parts(&mut text, fault, known) {
+        Ok(()) if !text.is_empty() => Some(text),
+        _ => None,
+    }
+}
+
+/// The word at fault among those of a command line, and how the command is called. Each is empty where none is known.
+#[derive(Drop)]
+pub struct Misuse {
+    /// The word, or what is said of it.
+    pub word: String,
+    /// How the command is called.
+    pub usage: String,
+}
+
+/// What is wrong with the words, where they were refused for this fault; the words are those behind the program's name.
+pub fn misuse_of(alloc: Global, words: &Words, fault: Fault) -> Result<Misuse, Fault> {
+    let texts = words_of(alloc, words)?;
+    match program(alloc)?.try_get_matches_from(texts.as_slice()) {
+        Ok(matches) => refused_later(alloc, fault, &matches),
+        Err(error) => {
+            let text = error.to_string(alloc)?;
+            Ok(told(alloc, text.as_str())?)
+        }
+    }
+}
+
+/// What clap says of words that it refuses: its first lines, and the usage.
+fn told(alloc: Global, text: &str) -> Result<Misuse, AllocError> {
+    let mut word = String::new(alloc);
+    let mut usage = String::new(alloc);
+    let mut is_word = true;
+    for line in text.strip_prefix("error: ").unwrap_or(text).lines() {
+        if line.is_empty() {
+            is_word = false;
+        } else if is_word {
+            push_part(&mut word, " ", line.trim())?;
+        } else if line.starts_with("Usage: ") {
+            push_part(&mut usage, " ", line)?;
+        }
+    }
+    Ok(Misuse { word, usage })
+}
+
+/// What is wrong with words that clap took.
+fn refused_later(alloc: Global, fault: Fault, matches: &ArgMatches<'_>) -> Result<Misuse, Fault> {
+    let Some((name, inner)) = matches.subcommand() else {
+        return Err(Fault::Usage);
+    };
+    let mut found = usage_of(alloc, name)?;
+    found.word = String::from_str(alloc, wrong_word(fault, name, inner).unwrap_or(""))?;
+    Ok(found)
+}
+
+/// How a subcommand is called, as clap says where a word is refused.
+fn usage_of(alloc: Global, name: &str) -> Result<Misuse, Fault> {
+    match program(alloc)?.try_get_matches_from(&["bx", name, "--?"]) {
+        Ok(_) => Err(Fault::Usage),
+        Err(error) => {
+            let text = error.to_string(alloc)?;
+            Ok(told(alloc, text.as_str())?)
+        }
+    }
+}
+
+/// The operand that a fault counts, or the first value that isn't one of its option.
+fn wrong_word<'a>(fault: Fault, name: &str, m: &ArgMatches<'a>) -> Option<&'a str> {
+    match fault {
+        Fault::UnknownOperand { place }
+        | Fault::BadNumber { place }
+        | Fault::NumberTooLarge { place }
+        | Fault::ZeroSize { place }
+        | Fault::Repeated { place } => {
+            m.get_strs("operand")?
+                .get(place.checked_sub(1)? as usize)
+                .copied()
+        }
+        _ => wrong_value(name, m),
+    }
+}
+
+static VALUES: [&str; 12] = [
+    "radix", "kind", "offsets", "least", "count", "cols", "group", "seek", "shift", "offset",
+    "skip", "limit",
+];
+
+fn wrong_value<'a>(name: &str, m: &ArgMatches<'a>) -> Option<&'a str> {
+    let style = match name {
+        "od" | "hexdump" => SizeStyle::Count,
+        _ => SizeStyle::Bare,
+    };
+    for id in &VALUES {
+        if !is_value(m, id, style) {
+            return m.get_str(id);
+        }
+    }
+    None
+}
+
+/// Whether an option has a value of its own, or none was given.
+fn is_value(m: &ArgMatches<'_>, id: &str, style: SizeStyle) -> bool {
+    match id {
+        "radix" => radix(m.get_str(id), Address::Octal, true).is_ok(),
+        "offsets" => radix(m.get_str(id), Address::Without, false).is_ok(),
+        "kind" => kind(m).is_ok(),
+        "least" => count_or(m, id, 1, MOST_LEAST).is_ok_and(|n| n > 0),
+        "count" => count_or(m, id, 1, MOST_STEPS).is_ok(),
+        "cols" => columns(m, 16).is_ok(),
+        _ => number(m, id, style).is_ok(),
+    }
+}

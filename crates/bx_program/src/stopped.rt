@@ -1,0 +1,175 @@
+//! What stopped a job.
+use bx_cli::{Fault, Texts};
+use bx_image::{Device, FileImage};
+use bx_store::{FileText, TextStore};
+use bx_text::Name;
+use std::io::{self, Read, Seek, SeekFrom};
+
+/// What is said in place of a file's name.
+pub const STANDARD_INPUT: &str = "standard input";
+
+/// Why a file stopped a job.
+#[derive(Clone, Copy, Debug, PartialEq, Eq)]
+pub enum Reason {
+    /// Nothing is known.
+    Unknown,
+    /// The system's number of the error.
+    System(i32),
+    /// In words.
+    Told(&'static str),
+    /// The file has so many bytes, and should have as many as `expected`.
+    Lengths {
+        /// How many it has.
+        has: u64,
+        /// How many it should have.
+        expected: u64,
+    },
+}
+
+impl Reason {
+    /// The reason that the system gave, if it gave one.
+    fn of(error: Option<i32>) -> Reason {
+        match error {
+            Some(code) => Reason::System(code),
+            None => Reason::Unknown,
+        }
+    }
+}
+
+/// The fault that stopped a job, and the file that did it.
+#[derive(Clone, Copy)]
+pub struct Stopped<'a> {
+    /// The fault.
+    pub fault: Fault,
+    /// The name of the file or the stream; none where no file is known.
+    pub file: Option<&'a str>,
+    /// Why it did.
+    pub reason: Reason,
+}
+
+impl From<Fault> for Stopped<'_> {
+    fn from(fault: Fault) -> Self {
+        Stopped {
+            fault,
+            file: None,
+            reason: Reason::Unknown,
+        }
+    }
+}
+
+impl<'a> Stopped<'a> {
+    /// By a call of a file that failed with this number.
+    fn by(fault: Fault, file: &'a str, error: Option<i32>) -> Stopped<'a> {
+        Stopped {
+            fault,
+            file: Some(file),
+            reason: Reason::of(error),
+        }
+    }
+
+    /// By a file that the system didn't open.
+    pub fn unopened(file: &'a str, error: io::Error) -> Stopped<'a> {
+        Stopped::by(Fault::OpenFailed, file, error.raw_os_error())
+    }
+
+    /// By a file that isn't one to be opened.
+    pub fn refused(file: &'a str, why: &'static str) -> Stopped<'a> {
+        Stopped {
+            fault: Fault::OpenFailed,
+            file: Some(file),
+            reason: Reason::Told(why),
+        }
+    }
+
+    /// The same, or that the input was not read, where it is that.
+    pub fn on_input(self, file: &'a str, error: Option<i32>) -> Stopped<'a> {
+        match self.fault {
+            Fault::ReadFailed => Stopped::by(self.fault, file, error),
+            _ => self,
+        }
+    }
+
+    /// The same, or that standard output was not written, where it is that.
+    pub fn on_output(self, error: Option<i32>) -> Stopped<'a> {
+        match self.fault {
+            Fault::WriteFailed { .. } => Stopped::by(self.fault, "standard output", error),
+            _ => self,
+        }
+    }
+}
+
+/// The devices of a session, with their names.
+#[derive(Drop)]
+pub struct Devices<'a> {
+    /// The image, the journal and the redo text.
+    pub trio: (FileImage, FileText, FileText),
+    /// The image's name.
+    pub image: &'a Name,
+    /// The names of the other two.
+    pub texts: &'a Texts,
+}
+
+impl<'a> Devices<'a> {
+    /// The device that stopped a session.
+    pub fn stopped(&self, fault: Fault) -> Stopped<'a> {
+        match fault {
+            Fault::DeviceFailed | Fault::Interrupted => self.failed(fault),
+            Fault::LengthDiffers { expected } => self.differs(fault, expected),
+            Fault::Damaged { .. } => Stopped::by(fault, self.texts.journal.as_str(), None),
+            Fault::RedoDamaged { .. } => Stopped::by(fault, self.texts.redo.as_str(), None),
+            _ => Stopped::from(fault),
+        }
+    }
+
+    /// The first device of which a call failed.
+    fn failed(&self, fault: Fault) -> Stopped<'a> {
+        let (image, journal, redo) = &self.trio;
+        if image.faults() > 0 {
+            Stopped::by(fault, self.image.as_str(), image.file().error)
+        } else if journal.faults() > 0 {
+            Stopped::by(fault, self.texts.journal.as_str(), journal.file().error)
+        } else if redo.faults() > 0 {
+            Stopped::by(fault, self.texts.redo.as_str(), redo.file().error)
+        } else {
+            Stopped::from(fault)
+        }
+    }
+
+    /// The image, which has not the length that it should have.
+    fn differs(&self, fault: Fault, expected: u64) -> Stopped<'a> {
+        let mut file = &self.trio.0.file().file;
+        match file.seek(SeekFrom::End(0)) {
+            Ok(has) => Stopped {
+                fault,
+                file: Some(self.image.as_str()),
+                reason: Reason::Lengths { has, expected },
+            },
+            Err(error) => Stopped::by(fault, self.image.as_str(), error.raw_os_error()),
+        }
+    }
+}
+
+/// A reader that keeps the system's number of its last error.
+#[derive(Drop)]
+pub struct Noted<I> {
+    input: I,
+    /// The number; none where no read failed.
+    pub error: Option<i32>,
+}
+
+impl<I: Read> Noted<I> {
+    /// A reader of which no read failed yet.
+    pub fn new(input: I) -> Noted<I> {
+        Noted { input, error: None }
+    }
+}
+
+impl<I: Read> Read for Noted<I> {
+    fn read(&mut self, buf: &mut [u8]) -> io::Result<usize> {
+        let outcome = self.input.read(buf);
+        if let Err(error) = &outcome {
+            self.error = error.raw_os_error();
+        }
+        outcome
+    }
+}

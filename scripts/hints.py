@@ -1,0 +1,168 @@
+#!/usr/bin/env python3
+"""Tries each fault that bx can give with standard error on a terminal and in a pipe.
+
+In the pipe standard error has the fault's line alone, in the terminal a hint behind it where there is one to give. Prints a
+line for each case, and a count at the end; the status is 1 where a case fails. The texts stand in this file. Outside the gate.
+
+Usage: scripts/hints.py [--bx PATH OF bx] [--show]
+--show prints what the terminal got in each case.
+"""
+import argparse
+import os
+import pty
+import subprocess
+import sys
+import tempfile
+
+DUMP = "; for digits alone give -p"
+OLDER = "move journal and redo file away, and with them the older images"
+CHANGE = "change2 00000001 0000000000000008\n00000002: 4344" + " " * 37 + "CD\nsave 00000001\ndone2 00000001 0000000000000008\n"
+DD = "Usage: bx dd [OPTIONS] [OPERAND]..."
+XXD = "Usage: bx xxd [OPTIONS] [FILE]"
+OD = "Usage: bx od [OPTIONS] [FILE]"
+
+# What stands in the folder of each case.
+FILES = {
+    "img": "ABxyEFGH",
+    "img.bxj": CHANGE,
+    "new": "ABCDEFGH",
+    "long": "ABxyEFGHI",
+    "long.bxj": CHANGE,
+    "bad.bxj": CHANGE + "what is this\n",
+    "bad.redo.bxj": "",
+    "bad.redo.bxj.redo": "what is this\n",
+    "words": "0: 4g\n",
+    "address": "x\n",
+    "colon": "0 41\n",
+    "nothing": "0:  41\n",
+    "wide": "0: " + "41 " * 257 + "\n",
+    "far": "ffffffffffffffff: 41\n",
+    "high": "3fffffffffffffff: 41\n",
+    "digits": "414",
+}
+
+# The words, the standard input, the text of the fault, and the hint (none: no line).
+CASES = [
+    ("xxd none", "", "cannot open file", "none: No such file or directory"),
+    ("xxd dir", "", "read failed", "dir: Is a directory"),
+    ("od -j 99 img", "", "skip is past the end of the input", "give a smaller -j"),
+    ("revert -f address img", "", "line 1: bad address", "a line is like '00000002: 7879'" + DUMP),
+    ("revert -f colon img", "", "line 1: missing colon", "a line is like '00000002: 7879'" + DUMP),
+    ("revert -f words img", "", "line 1: bad pair", "bytes are pairs of digits, with at most one space between two"),
+    ("revert -f nothing img", "", "line 1: no bytes", "digits follow the colon, behind at most one space"),
+    ("revert -f wide img", "", "line 1: more than 256 bytes", None),
+    ("revert -f far img", "", "line 1: address too large", "addresses are below 4611686018427387904"),
+    ("revert -p -f digits img", "", "line 1: odd number of digits", "each byte is two digits"),
+    ("revert -f high img", "", "image too large", "an image has at most 281474976710655 bytes"),
+    ("dd if=img off=4", "", "operand 2: unknown", "off=4; " + DD),
+    ("dd bs=4q", "", "operand 1: bad number", "bs=4q; " + DD),
+    ("dd bs=9999999999999999999", "", "operand 1: number too large", "bs=9999999999999999999; " + DD),
+    ("dd bs=0x4", "", "operand 1: zero size", "bs=0x4; a size is at least 1, and a product such as 0x4 is 0: give numbers in decimal; " + DD),
+    ("dd conv=block,unblock cbs=4", "", "conflicting conversions", "give one of block and unblock, and one of lcase and ucase; " + DD),
+    ("dd conv=block", "", "cbs is missing", "block and unblock want cbs=BYTES; " + DD),
+    ("dd bs=4 bs=4", "", "operand 2: given twice", "bs=4; " + DD),
+    ("dd seek=4", "", "seek needs an output file", "give of=IMAGE too; " + DD),
+    ("log -J bad.bxj img", "", "journal line 5 is damaged", "bad.bxj; mend the line; or " + OLDER),
+    ("undo -k 2 img", "", "only 1 changes to undo", "bx log lists the changes"),
+    ("redo img", "", "only 0 changes to redo", "a change that is no redo gives up what was undone"),
+    ("log long", "", "image should have 8 bytes", "long: it has 9 bytes and not 8; give its length back by truncate -s; or " + OLDER),
+    ("log -J bad.redo.bxj img", "", "redo line 1 is damaged", "bad.redo.bxj.redo; move the redo file away to go on, and with it what was undone"),
+    ("xxd -z img", "", "bad arguments", "unexpected argument '-z' found; " + XXD),
+    ("xxd -c 999 img", "", "bad arguments", "999; " + XXD),
+    ("od -N 4q img", "", "bad arguments", "4q; " + OD),
+    ("od -t x3 img", "", "bad arguments", "x3; " + OD),
+    ("strings -n 0 img", "", "bad arguments", "0; Usage: bx strings [OPTIONS] [FILE]"),
+    ("hexdump img", "", "bad arguments", "Usage: bx hexdump [OPTIONS] [FILE]"),
+    ("undo", "", "bad arguments", "the following required arguments were not provided: <IMAGE>; Usage: bx undo <IMAGE>"),
+    ("frobnicate", "", "bad arguments", "unrecognized subcommand 'frobnicate'; Usage: bx <COMMAND>"),
+    ("log new", "", "cannot open file", "new.bxj: there is no journal yet, so no change; bx revert and bx dd make one"),
+    ("log none", "", "cannot open file", "none: No such file or directory"),
+    ("revert dir", "0: 41\n", "cannot open file", "dir: it is no regular file and no block device"),
+    ("revert -J dir new", "0: 41\n", "cannot open file", "dir: it is no regular file"),
+    ("revert -J img new", "0: 41\n", "journal line 1 is damaged", "img; mend the line; or " + OLDER),
+    ("log -J img.bxj hard", "", "cannot open file", "img.bxj: another program has it locked, or it is one of the others by another name"),
+    ("revert -J new.bxj /proc/self/mem", "0: 41\n", "device failed", "/proc/self/mem: Invalid argument; nothing was changed"),
+    ("xxd img", "", None, None),
+    ("log img", "", None, None),
+]
+
+# The same with a limit on the size of files, or standard output on a device that is full.
+FULL = [
+    ("revert img", "00: " + "41 " * 16 + "\n", 200, "interrupted: open again to recover", "img.bxj: File too large; the next command on the image finishes or drops what was begun"),
+]
+
+
+def make(folder):
+    for name, text in FILES.items():
+        with open(os.path.join(folder, name), "w") as file:
+            file.write(text)
+    os.mkdir(os.path.join(folder, "dir"))
+    os.link(os.path.join(folder, "img.bxj"), os.path.join(folder, "hard"))
+
+
+def limited(most):
+    import resource
+    import signal
+
+    def limit():
+        signal.signal(signal.SIGXFSZ, signal.SIG_IGN)
+        if most is not None:
+            resource.setrlimit(resource.RLIMIT_FSIZE, (most, most))
+
+    return limit
+
+
+def run(bx, words, text, terminal, most=None, out=subprocess.DEVNULL):
+    """What standard error got."""
+    with tempfile.TemporaryDirectory() as folder:
+        make(folder)
+        theirs = None
+        if terminal:
+            ours, theirs = pty.openpty()
+        child = subprocess.Popen([bx] + words.split(), cwd=folder, stdin=subprocess.PIPE, stdout=out,
+                                 stderr=theirs if terminal else subprocess.PIPE, preexec_fn=limited(most))
+        if not terminal:
+            return child.communicate(text.encode())[1].decode()
+        os.close(theirs)
+        child.stdin.write(text.encode())
+        child.stdin.close()
+        got = b""
+        while True:
+            try:
+                part = os.read(ours, 65536)
+            except OSError:
+                break
+            if not part:
+                break
+            got += part
+        os.close(ours)
+        child.wait()
+        return got.decode().replace("\r\n", "\n")
+
+
+def main():
+    options = argparse.ArgumentParser()
+    options.add_argument("--bx", default="./bx")
+    options.add_argument("--show", action="store_true")
+    asked = options.parse_args()
+    bx = os.path.realpath(asked.bx)
+    cases = [(words, text, None, None, fault, hint) for words, text, fault, hint in CASES]
+    cases += [(words, text, most, None, fault, hint) for words, text, most, fault, hint in FULL]
+    cases.append(("xxd img", "", None, "/dev/full", "write failed after 0 bytes", "standard output: No space left on device"))
+    failed = 0
+    for words, text, most, full, fault, hint in cases:
+        line = f"bx: {fault}\n" if fault else ""
+        more = f"hint: {hint}\n" if hint else ""
+        out = open(full, "w") if full else subprocess.DEVNULL
+        piped = run(bx, words, text, False, most, out)
+        seen = run(bx, words, text, True, most, out)
+        well = piped == line and seen == line + more
+        failed += not well
+        print("ok   " if well else "WRONG", "bx", words)
+        if asked.show or not well:
+            print(f"      {piped!r}\n      {seen!r}")
+    print(f"{len(cases) - failed} well, {failed} wrong")
+    sys.exit(1 if failed else 0)
+
+
+main()
