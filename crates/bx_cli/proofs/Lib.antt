@@ -7,6 +7,7 @@ pub mod GivesBack
 pub mod Stands
 pub mod Refusals
 pub mod Obeys
+pub mod SessionRuns
 pub mod Copying
 pub mod XxdRows
 pub mod XxdReverts

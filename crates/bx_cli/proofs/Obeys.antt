@@ -1,5 +1,5 @@
 -- Commands that are refused before the session is called, and commands that the session answers, obey their steps.
-use Rattle.std.proofs.Common.{◌≡◌, ◌↔◌, ◌≤◌, ◌<◌, inl, inr, ℕ, true, false, Option, Result, Ok, Err, List, [], ◌∷◌, drop, length, refl, sym, ◌∙◌, ap, subst, arith}
+use Rattle.std.proofs.Common.{◌≡◌, ◌↔◌, ◌≤◌, ◌<◌, inl, inr, ℕ, Bool, true, false, cond, Option, Result, Ok, Err, List, [], ◌∷◌, drop, length, refl, sym, ◌∙◌, ap, subst, arith}
 use Rattle.std.specs.Result.{IsErrOf}
 use Rattle.bx_dd.specs.declared.counts.Counts.{Counts}
 use Rattle.bx_dd.specs.declared.fault.DdFault.{DdFault}
@@ -24,35 +24,35 @@ use Rattle.bx_cli.specs.declared.fault.Fault.{Fault}
 use Rattle.bx_cli.specs.Fault.{of_dd, of_read, of_session}
 use Rattle.bx_cli.specs.Obeys.{Obeys}
 use Rattle.bx_cli.specs.Refusal.{IsOwnFault, IsWholeRefusal}
-use Rattle.bx_cli.specs.Run.{changed, made_reply, redone, undone, HasFailed, Unfailed, ChangeStep, UndoesStep, RedoesStep, ReadStep, DdStep}
-use Rattle.bx_cli.specs.Standing.{CountsOn, HoldsAt, PerformFrom, RedoFrom, Shows, Standing, UndoFrom}
+use Rattle.bx_cli.specs.Run.{changed, made_reply, redone, undone, is_failure, Unfailed, ChangeStep, UndoesStep, RedoesStep, ReadStep, DdStep}
+use Rattle.bx_cli.specs.Standing.{CountsBy, HoldsAt, PerformFrom, RedoFrom, Shows, Standing, UndoFrom}
 use Rattle.bx_cli.proofs.Refusals.{IsNoRefusal, after_same, is_interrupted, made_no_refusal, no_failure, no_own, no_whole, redo_same_here, same_here, session_not_own, unfailed_whole, whole_goes_on}
 use Rattle.bx_cli.proofs.Stays.{holds_same, ready_shows, shows_same}
-use Rattle.bx_cli.proofs.Steps.{refusal, perform_stays, redo_stays, undo_stays, counts_least, counts_most, counts_failed}
+use Rattle.bx_cli.proofs.Steps.{refusal, perform_stays, redo_stays, undo_stays, counts_least, counts_rise}
 
 -- no fault of a text or of dd is a device's
 read_unfailed : (e : ReadFault) → Unfailed (Refused (of_read e))
-read_unfailed read.NoMemory f = f
-read_unfailed (read.BadAddress line) f = f
-read_unfailed (read.MissingColon line) f = f
-read_unfailed (read.BadPair line) f = f
-read_unfailed (read.NoData line) f = f
-read_unfailed (read.TooWide line) f = f
-read_unfailed (read.AddressTooLarge line) f = f
-read_unfailed (read.OddDigits line) f = f
+read_unfailed read.NoMemory = refl
+read_unfailed (read.BadAddress line) = refl
+read_unfailed (read.MissingColon line) = refl
+read_unfailed (read.BadPair line) = refl
+read_unfailed (read.NoData line) = refl
+read_unfailed (read.TooWide line) = refl
+read_unfailed (read.AddressTooLarge line) = refl
+read_unfailed (read.OddDigits line) = refl
 
 dd_unfailed : (e : DdFault) → Unfailed (Refused (of_dd e))
-dd_unfailed dd.NoMemory f = f
-dd_unfailed dd.ReadFailed f = f
-dd_unfailed dd.InputTooLong f = f
-dd_unfailed (dd.UnknownOperand place) f = f
-dd_unfailed (dd.BadNumber place) f = f
-dd_unfailed (dd.NumberTooLarge place) f = f
-dd_unfailed (dd.ZeroSize place) f = f
-dd_unfailed dd.Conflict f = f
-dd_unfailed dd.MissingCbs f = f
-dd_unfailed (dd.Repeated place) f = f
-dd_unfailed dd.SeekWithoutOutput f = f
+dd_unfailed dd.NoMemory = refl
+dd_unfailed dd.ReadFailed = refl
+dd_unfailed dd.InputTooLong = refl
+dd_unfailed (dd.UnknownOperand place) = refl
+dd_unfailed (dd.BadNumber place) = refl
+dd_unfailed (dd.NumberTooLarge place) = refl
+dd_unfailed (dd.ZeroSize place) = refl
+dd_unfailed dd.Conflict = refl
+dd_unfailed dd.MissingCbs = refl
+dd_unfailed (dd.Repeated place) = refl
+dd_unfailed dd.SeekWithoutOutput = refl
 
 -- what each call that the session refuses says of the session
 pub record IsRefused {D T : Type 0} (hd : D → Type 0) (ht : T → Type 0) (image : D → List ℕ) (text : T → List ℕ) (old new : SessionView D T) (e : SessionFault) : Type 0 where
@@ -73,21 +73,23 @@ pub record IsAccepted {D T : Type 0} (hd : D → Type 0) (ht : T → Type 0) (fd
   pub redo_honesty : ht new.redo_text ↔ ht old.redo_text
 
 module _ {D T : Type 0} (hd : D → Type 0) (ht : T → Type 0) (image : D → List ℕ) (text : T → List ℕ) (fd : D → ℕ) (ft : T → ℕ) where
-  -- a call that was accepted raises no count
-  unfailed_counts : (old new : SessionView D T) → IsUnfailed fd ft old new → CountsOn fd ft old new 1
-  unfailed_counts old new same =
+  -- a reply that tells of no failure raises no count
+  unfailed_counts : (old new : SessionView D T) (reply : Reply) → Unfailed reply → IsUnfailed fd ft old new → CountsBy fd ft old new (cond (is_failure reply) 1 0)
+  unfailed_counts old new reply unfailed same =
       let d = same.0 in let t = same.1 in let u = same.2 in
-      record { device_least = omega arith; store_least = omega arith; redo_least = omega arith; most = omega arith }
+      let By : Bool → Type 0 = λ failed. CountsBy fd ft old new (cond failed 1 0) in
+      subst By (sym unfailed) (record { device_least = omega arith; store_least = omega arith; redo_least = omega arith; rise = omega arith })
 
   -- a call that was refused raises one count, or none
-  fault_counts : (old new : SessionView D T) (e : SessionFault) → SessionCounts fd ft old new e → CountsOn fd ft old new 1
+  fault_counts : (old new : SessionView D T) (e : SessionFault) → SessionCounts fd ft old new e
+      → CountsBy fd ft old new (cond (is_failure (Refused (of_session e))) 1 0)
   fault_counts old new e counts =
       let least = counts_least e (fd old.device) (ft old.store) (ft old.redo_text) (fd new.device) (ft new.store) (ft new.redo_text) counts in
       record {
         device_least = least.0;
         store_least = least.1;
         redo_least = least.2;
-        most = counts_most e (fd old.device) (ft old.store) (ft old.redo_text) (fd new.device) (ft new.store) (ft new.redo_text) counts;
+        rise = counts_rise e (fd old.device) (ft old.store) (ft old.redo_text) (fd new.device) (ft new.store) (ft new.redo_text) counts;
       }
 
   -- a step that follows from another
@@ -103,7 +105,6 @@ module _ {D T : Type 0} (hd : D → Type 0) (ht : T → Type 0) (image : D → L
     store_honesty = obeys.store_honesty;
     redo_honesty = obeys.redo_honesty;
     counts = obeys.counts;
-    failed = obeys.failed;
     own = obeys.own;
     same = obeys.same;
     redo_same = obeys.redo_same;
@@ -118,8 +119,7 @@ module _ {D T : Type 0} (hd : D → Type 0) (ht : T → Type 0) (image : D → L
     device_honesty = ((λ h. h), (λ h. h));
     store_honesty = ((λ h. h), (λ h. h));
     redo_honesty = ((λ h. h), (λ h. h));
-    counts = record { device_least = omega arith; store_least = omega arith; redo_least = omega arith; most = omega arith };
-    failed = λ f. absurd (unfailed f);
+    counts = unfailed_counts s s reply unfailed (refl, refl, refl);
     own = λ own. refl;
     same = λ device store whole. same_here image text s;
     redo_same = λ redo whole. redo_same_here text s;
@@ -128,16 +128,16 @@ module _ {D T : Type 0} (hd : D → Type 0) (ht : T → Type 0) (image : D → L
   pub read_refused : {A B : Type 0} (change : B → Change A) (s : SessionView D T) (e : ReadFault) (f : Fault) → f ≡ of_read e
       → Obeys hd ht image text fd ft s s (Refused f) (λ before. ReadStep before change (Err e))
   read_refused change s e f is =
-      let Fails : Fault → Type 0 = λ f. HasFailed (Refused f) in
+      let Goes : Fault → Type 0 = λ f. Unfailed (Refused f) in
       obeys_refused (λ before. ReadStep before change (Err e)) s (Refused f)
-      (λ failed. read_unfailed e (subst Fails is failed)) (λ before. (ap Refused is, refl))
+      (subst Goes (sym is) (read_unfailed e)) (λ before. (ap Refused is, refl))
 
   pub dd_refused : (A : Type 0) (s : SessionView D T) (e : DdFault) (f : Fault) → f ≡ of_dd e
       → Obeys hd ht image text fd ft s s (Refused f) (λ before. DdStep {A = A} before (Err e))
   dd_refused A s e f is =
-      let Fails : Fault → Type 0 = λ f. HasFailed (Refused f) in
+      let Goes : Fault → Type 0 = λ f. Unfailed (Refused f) in
       obeys_refused (λ before. DdStep {A = A} before (Err e)) s (Refused f)
-      (λ failed. dd_unfailed e (subst Fails is failed)) (λ before. (ap Refused is, refl))
+      (subst Goes (sym is) (dd_unfailed e)) (λ before. (ap Refused is, refl))
 
   -- a call that was accepted, from where the session stood
   accepted_step : (From : Standing → Result ℕ SessionFault → Standing → Type 0) (next : Images → Images) (old new : SessionView D T) (n : ℕ)
@@ -180,8 +180,7 @@ module _ {D T : Type 0} (hd : D → Type 0) (ht : T → Type 0) (image : D → L
     device_honesty = accepted.device_honesty;
     store_honesty = accepted.store_honesty;
     redo_honesty = accepted.redo_honesty;
-    counts = unfailed_counts old new accepted.unfailed;
-    failed = λ failed. absurd (no_failure reply no_refusal failed);
+    counts = unfailed_counts old new reply (no_failure reply no_refusal) accepted.unfailed;
     own = λ own. absurd (no_own reply no_refusal own);
     same = λ device store whole. absurd (no_whole reply no_refusal whole);
     redo_same = λ redo whole. absurd (no_whole reply no_refusal whole);
@@ -244,7 +243,7 @@ module _ {D T : Type 0} (hd : D → Type 0) (ht : T → Type 0) (image : D → L
       → ((images : Images) → From (Standing.Down images) (Err Broken) (Standing.Down images))
       → Obeys hd ht image text fd ft old new (Refused f) (λ before reply after. (r : Result ℕ SessionFault) × (reply ≡ told r) × From before r after)
   call_refused told From Left old new e f is says refused counts stays finds stops down =
-      let Fails : Fault → Type 0 = λ f. HasFailed (Refused f) in
+      let By : Fault → Type 0 = λ f. CountsBy fd ft old new (cond (is_failure (Refused f)) 1 0) in
       let Whole : Fault → Type 0 = λ f. IsWholeRefusal (Refused f) in
       let Goes : Fault → Type 0 = λ f. Unfailed (Refused f) in
       let reply_is : Refused f ≡ told (Err e) = ap Refused is ∙ sym says in
@@ -260,8 +259,7 @@ module _ {D T : Type 0} (hd : D → Type 0) (ht : T → Type 0) (image : D → L
         device_honesty = refused.device_honesty;
         store_honesty = refused.store_honesty;
         redo_honesty = refused.redo_honesty;
-        counts = fault_counts old new e counts;
-        failed = λ failed. counts_failed e (fd old.device) (ft old.store) (ft old.redo_text) (fd new.device) (ft new.store) (ft new.redo_text) counts (subst Fails is failed);
+        counts = subst By (sym is) (fault_counts old new e counts);
         own = λ own. absurd (session_not_own e (subst IsOwnFault is own));
         same = λ device store whole. after_same (IsSame image text old new) e (refused.same device store) (whole_goes_on e (subst Whole is whole));
         redo_same = λ redo whole. after_same (IsRedoSame text old new) e (refused.redo_same redo) (whole_goes_on e (subst Whole is whole));

@@ -10,8 +10,8 @@ use Rattle.bx_cli.specs.declared.command.Reply.{Reply}
 use Rattle.bx_cli.specs.declared.command.Reply.TheVariants.{Changed, Copied, Undone, Redone, Refused}
 use Rattle.bx_cli.specs.Fault.{of_session}
 use Rattle.bx_cli.specs.Refusal.{IsOwnFault, IsOwnRefusal, IsWholeRefusal}
-use Rattle.bx_cli.specs.Run.{HasFailed, Unfailed, made_reply}
-use Rattle.bx_cli.proofs.Stands.{all_front}
+use Rattle.bx_cli.specs.Run.{Unfailed, made_reply}
+use Rattle.bx_cli.proofs.Steps.{true_is_not_false}
 
 -- no fault of the session's is the command's own
 pub session_not_own : (e : SessionFault) → IsOwnFault (of_session e) → ⊥
@@ -63,8 +63,8 @@ whole_goes_on e whole stopped =
 
 pub unfailed_whole : (e : SessionFault) → Unfailed (Refused (of_session e)) → e ≡ Interrupted → ⊥
 unfailed_whole e unfailed stopped =
-    let Fails : SessionFault → Type 0 = λ f. HasFailed (Refused (of_session f)) in
-    unfailed (subst Fails (sym stopped) tt)
+    let Goes : SessionFault → Type 0 = λ f. Unfailed (Refused (of_session f)) in
+    true_is_not_false (subst Goes stopped unfailed)
 
 -- the command was done
 abbrev pub IsNoRefusal : Reply → Type 0
@@ -79,12 +79,12 @@ made_no_refusal None n = tt
 made_no_refusal (Some counts) n = tt
 
 -- a reply to what was done tells of no failure and of no refusal
-pub no_failure : (p : Reply) → IsNoRefusal p → HasFailed p → ⊥
-no_failure (Changed n) done h = h
-no_failure (Copied n counts) done h = h
-no_failure (Undone left) done h = h
-no_failure (Redone n) done h = h
-no_failure (Refused e) done h = done
+pub no_failure : (p : Reply) → IsNoRefusal p → Unfailed p
+no_failure (Changed n) done = refl
+no_failure (Copied n counts) done = refl
+no_failure (Undone left) done = refl
+no_failure (Redone n) done = refl
+no_failure (Refused e) done = absurd done
 
 pub no_own : (p : Reply) → IsNoRefusal p → IsOwnRefusal p → ⊥
 no_own (Changed n) done h = h
@@ -120,49 +120,4 @@ pub redo_same_on : {D T : Type 0} (text : T → List ℕ) (first now next : Sess
 redo_same_on text first now next before after = record {
   text_same = after.text_same ∙ before.text_same;
   undone = after.undone ∙ before.undone;
-}
-
--- image and journal are honest
-abbrev IsPairHonest : {D T : Type 0} → (D → Type 0) → (T → Type 0) → SessionView D T → Type 0
-IsPairHonest device text s = device s.device × text s.store
-
--- the replies so far, and what the session is where all of them are refusals
-pub record HasStayed {D T : Type 0} (device_honest : D → Type 0) (text_honest : T → Type 0) (image : D → List ℕ) (text : T → List ℕ)
-    (first now : SessionView D T) (replies : List Reply) : Type 0 where
-  pub own : All IsOwnRefusal replies → now ≡ first
-  pub honest : IsPairHonest device_honest text_honest first → IsPairHonest device_honest text_honest now
-  pub same : IsPairHonest device_honest text_honest first → All IsWholeRefusal replies → IsSame image text first now
-  pub redo_honest : text_honest first.redo_text → text_honest now.redo_text
-  pub redo_same : text_honest first.redo_text → All IsWholeRefusal replies → IsRedoSame text first now
-
-pub stayed_none : {D T : Type 0} (device_honest : D → Type 0) (text_honest : T → Type 0) (image : D → List ℕ) (text : T → List ℕ) (s : SessionView D T)
-    → HasStayed device_honest text_honest image text s s []
-stayed_none device_honest text_honest image text s = record {
-  own = λ all. refl;
-  honest = λ both. both;
-  same = λ both all. same_here image text s;
-  redo_honest = λ redo. redo;
-  redo_same = λ redo all. redo_same_here text s;
-}
-
-pub stayed_more : {D T : Type 0} (device_honest : D → Type 0) (text_honest : T → Type 0) (image : D → List ℕ) (text : T → List ℕ)
-    (first now next : SessionView D T) (replies : List Reply) (reply : Reply)
-    → HasStayed device_honest text_honest image text first now replies
-    → (IsPairHonest device_honest text_honest now → IsPairHonest device_honest text_honest next)
-    → (IsOwnRefusal reply → next ≡ now)
-    → (device_honest now.device → text_honest now.store → IsWholeRefusal reply → IsSame image text now next)
-    → (text_honest now.redo_text → text_honest next.redo_text)
-    → (text_honest now.redo_text → IsWholeRefusal reply → IsRedoSame text now next)
-    → HasStayed device_honest text_honest image text first next (replies ++ reply ∷ [])
-stayed_more device_honest text_honest image text first now next replies reply has keeps own same redo_keeps redo_same = record {
-  own = λ all. let parts = all_front IsOwnRefusal replies reply all in own parts.1 ∙ has.own parts.0;
-  honest = λ both. keeps (has.honest both);
-  same = λ both all.
-      let parts = all_front IsWholeRefusal replies reply all in
-      let here = has.honest both in
-      same_on image text first now next (has.same both parts.0) (same here.0 here.1 parts.1);
-  redo_honest = λ redo. redo_keeps (has.redo_honest redo);
-  redo_same = λ redo all.
-      let parts = all_front IsWholeRefusal replies reply all in
-      redo_same_on text first now next (has.redo_same redo parts.0) (redo_same (has.redo_honest redo) parts.1);
 }

@@ -1,5 +1,5 @@
 -- From what a session's calls refuse to steps of the machine.
-use Rattle.std.proofs.Common.{◌≡◌, ◌↔◌, ◌<◌, ◌≤◌, ℕ, suc, ◌+◌, true, false, Result, Err, List, ◌∷◌, length, refl, sym, ◌∙◌, ap, subst, arith}
+use Rattle.std.proofs.Common.{◌≡◌, ◌↔◌, ◌<◌, ◌≤◌, ℕ, suc, ◌+◌, true, false, cond, Result, Err, List, ◌∷◌, length, refl, sym, ◌∙◌, ap, subst, arith}
 use Rattle.std.specs.Result.{IsErrOf}
 use Rattle.bx_image.specs.declared.change.Change.{Change}
 use Rattle.bx_image.specs.declared.change.TheConstants.{MAX_LEN}
@@ -17,7 +17,7 @@ use Rattle.bx_journal.proofs.Phases.{length-stack_of}
 use Rattle.bx_journal.proofs.Ready.{top_of}
 use Rattle.bx_cli.specs.declared.command.Reply.TheVariants.{Refused}
 use Rattle.bx_cli.specs.Fault.{of_session}
-use Rattle.bx_cli.specs.Run.{HasFailed}
+use Rattle.bx_cli.specs.Run.{is_failure}
 use Rattle.bx_cli.specs.Standing.{Standing, PerformUp, RedoUp, Shows, UndoUp}
 
 pub true_is_not_false : true ≡ false → ⊥
@@ -143,28 +143,17 @@ counts_least (LengthDiffers expected) d t u d_new t_new u_new c = (omega arith, 
 counts_least (NothingToRedo have) d t u d_new t_new u_new c = (omega arith, omega arith, omega arith)
 counts_least (RedoDamaged line) d t u d_new t_new u_new c = (omega arith, omega arith, omega arith)
 
-pub counts_most : (e : SessionFault) (d t u d_new t_new u_new : ℕ) → ThreeCounts e d t u d_new t_new u_new → d_new + t_new + u_new ≤ d + t + u + 1
-counts_most NoMemory d t u d_new t_new u_new c = omega arith
-counts_most TooLarge d t u d_new t_new u_new c = omega arith
-counts_most DeviceFailed d t u d_new t_new u_new c = omega arith
-counts_most (Damaged line) d t u d_new t_new u_new c = omega arith
-counts_most (TooFew have) d t u d_new t_new u_new c = omega arith
-counts_most JournalFull d t u d_new t_new u_new c = omega arith
-counts_most Interrupted d t u d_new t_new u_new c = omega arith
-counts_most Broken d t u d_new t_new u_new c = omega arith
-counts_most (LengthDiffers expected) d t u d_new t_new u_new c = omega arith
-counts_most (NothingToRedo have) d t u d_new t_new u_new c = omega arith
-counts_most (RedoDamaged line) d t u d_new t_new u_new c = omega arith
-
-pub counts_failed : (e : SessionFault) (d t u d_new t_new u_new : ℕ) → ThreeCounts e d t u d_new t_new u_new → HasFailed (Refused (of_session e)) → d + t + u < d_new + t_new + u_new
-counts_failed NoMemory d t u d_new t_new u_new c f = absurd f
-counts_failed TooLarge d t u d_new t_new u_new c f = absurd f
-counts_failed DeviceFailed d t u d_new t_new u_new c f = omega arith
-counts_failed (Damaged line) d t u d_new t_new u_new c f = absurd f
-counts_failed (TooFew have) d t u d_new t_new u_new c f = absurd f
-counts_failed JournalFull d t u d_new t_new u_new c f = absurd f
-counts_failed Interrupted d t u d_new t_new u_new c f = omega arith
-counts_failed Broken d t u d_new t_new u_new c f = absurd f
-counts_failed (LengthDiffers expected) d t u d_new t_new u_new c f = absurd f
-counts_failed (NothingToRedo have) d t u d_new t_new u_new c f = absurd f
-counts_failed (RedoDamaged line) d t u d_new t_new u_new c f = absurd f
+-- one of them fails where a device's failure is told, and none else
+pub counts_rise : (e : SessionFault) (d t u d_new t_new u_new : ℕ) → ThreeCounts e d t u d_new t_new u_new
+    → d_new + t_new + u_new ≡ d + t + u + cond (is_failure (Refused (of_session e))) 1 0
+counts_rise NoMemory d t u d_new t_new u_new c = omega arith
+counts_rise TooLarge d t u d_new t_new u_new c = omega arith
+counts_rise DeviceFailed d t u d_new t_new u_new c = omega arith
+counts_rise (Damaged line) d t u d_new t_new u_new c = omega arith
+counts_rise (TooFew have) d t u d_new t_new u_new c = omega arith
+counts_rise JournalFull d t u d_new t_new u_new c = omega arith
+counts_rise Interrupted d t u d_new t_new u_new c = omega arith
+counts_rise Broken d t u d_new t_new u_new c = omega arith
+counts_rise (LengthDiffers expected) d t u d_new t_new u_new c = omega arith
+counts_rise (NothingToRedo have) d t u d_new t_new u_new c = omega arith
+counts_rise (RedoDamaged line) d t u d_new t_new u_new c = omega arith

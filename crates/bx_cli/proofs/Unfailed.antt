@@ -18,6 +18,7 @@ use Rattle.bx_cli.specs.Run.{changed, redone, undone, ChangeStep, ReadStep, DdSt
 use Rattle.bx_cli.specs.Command.{dump_change, plain_change}
 use Rattle.bx_read.specs.Plain.{plain_answer}
 use Rattle.bx_read.specs.Text.{dump_pieces}
+use Rattle.bx_cli.proofs.Steps.{true_is_not_false}
 
 abbrev IsUp : Standing → Type 0
 IsUp s = (top : Images) × (s ≡ Standing.Up top)
@@ -34,7 +35,7 @@ perform_up old c counts (Err DeviceFailed) after unfailed p = (old, p)
 perform_up old c counts (Err (Damaged line)) after unfailed p = (old, p.0)
 perform_up old c counts (Err (TooFew have)) after unfailed p = (old, p.0)
 perform_up old c counts (Err JournalFull) after unfailed p = (old, p.1)
-perform_up old c counts (Err Interrupted) after unfailed p = absurd (unfailed tt)
+perform_up old c counts (Err Interrupted) after unfailed p = absurd (true_is_not_false unfailed)
 perform_up old c counts (Err Broken) after unfailed p = (old, p.0)
 perform_up old c counts (Err (LengthDiffers expected)) after unfailed p = (old, p.0)
 perform_up old c counts (Err (NothingToRedo have)) after unfailed p = (old, p.0)
@@ -48,7 +49,7 @@ undo_up old k (Err DeviceFailed) after unfailed p = (old, p)
 undo_up old k (Err (Damaged line)) after unfailed p = (old, p.0)
 undo_up old k (Err (TooFew have)) after unfailed p = (old, p.0)
 undo_up old k (Err JournalFull) after unfailed p = (old, p.0)
-undo_up old k (Err Interrupted) after unfailed p = absurd (unfailed tt)
+undo_up old k (Err Interrupted) after unfailed p = absurd (true_is_not_false unfailed)
 undo_up old k (Err Broken) after unfailed p = (old, p.0)
 undo_up old k (Err (LengthDiffers expected)) after unfailed p = (old, p.0)
 undo_up old k (Err (NothingToRedo have)) after unfailed p = (old, p.0)
@@ -62,7 +63,7 @@ redo_up old j (Err DeviceFailed) after unfailed p = (old, p)
 redo_up old j (Err (Damaged line)) after unfailed p = (old, p.0)
 redo_up old j (Err (TooFew have)) after unfailed p = (old, p.0)
 redo_up old j (Err JournalFull) after unfailed p = (old, p.0)
-redo_up old j (Err Interrupted) after unfailed p = absurd (unfailed tt)
+redo_up old j (Err Interrupted) after unfailed p = absurd (true_is_not_false unfailed)
 redo_up old j (Err Broken) after unfailed p = (old, p.0)
 redo_up old j (Err (LengthDiffers expected)) after unfailed p = (old, p.0)
 redo_up old j (Err (NothingToRedo have)) after unfailed p = (old, p.0)

@@ -14,6 +14,11 @@ abbrev pub RunsJoin : (R A : Type 0) → (R → Option (List ℕ)) → Type 0
 RunsJoin R A remaining = (start middle after : Standing) (xs ys : List (Command R A)) (ps qs : List Reply)
     → CommandRun remaining start xs ps middle → CommandRun remaining middle ys qs after → CommandRun remaining start (xs ++ ys) (ps ++ qs) after
 
+-- the same of runs in which no device fails, from images to images
+abbrev pub StackRunsJoin : (R A : Type 0) → (R → Option (List ℕ)) → Type 0
+StackRunsJoin R A remaining = (start middle after : Images) (xs ys : List (Command R A)) (ps qs : List Reply)
+    → StackRun remaining start xs ps middle → StackRun remaining middle ys qs after → StackRun remaining start (xs ++ ys) (ps ++ qs) after
+
 -- a run in which no device fails goes from images to images
 abbrev pub UnfailedRuns : (R A : Type 0) → (R → Option (List ℕ)) → Type 0
 UnfailedRuns R A remaining = (start : Images) (after : Standing) (list : List (Command R A)) (replies : List Reply)

@@ -7,6 +7,7 @@ pub mod Job
 pub mod Standing
 pub mod Run
 pub mod Obeys
+pub mod SessionRun
 pub mod Refusal
 pub mod Laws
 pub mod Listing

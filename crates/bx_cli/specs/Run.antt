@@ -1,5 +1,5 @@
 -- The machine of commands.
-use Rattle.std.specs.Prelude.{◌≡◌, ℕ, ◌<◌, ◌⊎◌, Option, None, Some, Result, Ok, Err, List, [], ◌∷◌}
+use Rattle.std.specs.Prelude.{◌≡◌, ℕ, ◌⊎◌, Bool, true, false, Option, None, Some, Result, Ok, Err, List, [], ◌∷◌}
 use Rattle.bx_dd.specs.declared.counts.Counts.{Counts}
 use Rattle.bx_dd.specs.declared.fault.DdFault.{DdFault}
 use Rattle.bx_image.specs.declared.change.Change.{Change}
@@ -19,7 +19,7 @@ use Rattle.bx_cli.specs.declared.changes.DdChange.{DdChange}
 use Rattle.bx_cli.specs.Command.{dump_change, plain_change}
 use Rattle.bx_cli.specs.Copy.{Makes}
 use Rattle.bx_cli.specs.Fault.{of_dd, of_read, of_session}
-use Rattle.bx_cli.specs.Standing.{Standing, PerformFrom, RedoFrom, Shows, UndoFrom, failures_of}
+use Rattle.bx_cli.specs.Standing.{Standing, PerformFrom, RedoFrom, Shows, UndoFrom}
 
 -- the reply to a change that was made; dd's tells its counts too
 abbrev pub made_reply : Option Counts → ℕ → Reply
@@ -72,11 +72,16 @@ abbrev pub DumpStep : (A : Type 0) → Standing → List ℕ → ℕ → Reply �
 DumpStep A before text offset reply after =
     RefusesStep before ReadNoMemory reply after ⊎ ReadStep before (dump_change {A = A} offset) (dump_pieces text) reply after
 
+-- Plain hexadecimal that is put onto the image from a place on, by what it reads as. Want of memory may take the place of
+-- reading it.
+abbrev pub PlainStep : (A : Type 0) → Standing → List ℕ → ℕ → Reply → Standing → Type 0
+PlainStep A before text at reply after =
+    RefusesStep before ReadNoMemory reply after ⊎ ReadStep before (plain_change {A = A} at) (plain_answer text) reply after
+
 -- One command, where `remaining` is what a reader gives. Want of memory may take the place of reading its text.
 abbrev pub CommandStep : {R A : Type 0} → (R → Option (List ℕ)) → Standing → Command R A → Reply → Standing → Type 0
 CommandStep {A = A} remaining before (Revert text offset) reply after = DumpStep A before text offset reply after
-CommandStep {A = A} remaining before (RevertPlain text at) reply after =
-    RefusesStep before ReadNoMemory reply after ⊎ ReadStep before (plain_change {A = A} at) (plain_answer text) reply after
+CommandStep {A = A} remaining before (RevertPlain text at) reply after = PlainStep A before text at reply after
 CommandStep {A = A} remaining before (Dd operands input) reply after =
     (left : Option (List ℕ)) × ((r : Result (DdChange A) DdFault) × (Makes operands (remaining input) left r × DdStep before r reply after))
 CommandStep remaining before (Undo k) reply after = UndoesStep before k reply after
@@ -91,19 +96,14 @@ CommandRun remaining before (c ∷ list) (p ∷ replies) after =
     (now : Standing) × CommandStep remaining before c p now × CommandRun remaining now list replies after
 
 -- whether a device's failure refused the command
-abbrev pub HasFailed : Reply → Type 0
-HasFailed (Refused DeviceFailed) = Unit {0}
-HasFailed (Refused Interrupted) = Unit {0}
-HasFailed p = ⊥
-
--- a failure raised a count
-abbrev pub IsCounted : {D T : Type 0} → (D → ℕ) → (T → ℕ) → SessionView D T → SessionView D T → Reply → Type 0
-IsCounted device_failures text_failures old new reply =
-    HasFailed reply → failures_of device_failures text_failures old < failures_of device_failures text_failures new
+abbrev pub is_failure : Reply → Bool
+is_failure (Refused DeviceFailed) = true
+is_failure (Refused Interrupted) = true
+is_failure p = false
 
 -- no device's failure refused the command
 abbrev pub Unfailed : Reply → Type 0
-Unfailed p = HasFailed p → ⊥
+Unfailed p = is_failure p ≡ false
 
 -- The same where no device fails: from images to images
 abbrev pub StackStep : {R A : Type 0} → (R → Option (List ℕ)) → Images → Command R A → Reply → Images → Type 0

@@ -80,3 +80,10 @@ pub record CountsOn {D T : Type 0} (device_failures : D → ℕ) (text_failures 
   pub store_least : text_failures old.store ≤ text_failures new.store
   pub redo_least : text_failures old.redo_text ≤ text_failures new.redo_text
   pub most : failures_of device_failures text_failures new ≤ failures_of device_failures text_failures old + calls
+
+-- No count of failed calls falls, and the three together rise by exactly so many
+pub record CountsBy {D T : Type 0} (device_failures : D → ℕ) (text_failures : T → ℕ) (old new : SessionView D T) (failed : ℕ) : Type 0 where
+  pub device_least : device_failures old.device ≤ device_failures new.device
+  pub store_least : text_failures old.store ≤ text_failures new.store
+  pub redo_least : text_failures old.redo_text ≤ text_failures new.redo_text
+  pub rise : failures_of device_failures text_failures new ≡ failures_of device_failures text_failures old + failed

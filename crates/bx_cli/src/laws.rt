@@ -1,5 +1,5 @@
 //! Laws of commands and dumps, over their definitions alone.
-ghost use Rattle.bx_cli.specs.Laws.{RedoGivesBack, RunsJoin, UndoGivesBack, UnfailedRuns};
+ghost use Rattle.bx_cli.specs.Laws.{RedoGivesBack, RunsJoin, StackRunsJoin, UndoGivesBack, UnfailedRuns};
 ghost use Rattle.bx_cli.specs.XxdLaws.{NormalTextReadsBack, NormalTextReverts};
 
 use std::alloc::Allocator;
@@ -18,9 +18,11 @@ pub fn redo_gives_back<R: Read, A: Allocator>()
 {}
 
 /// The runs of two lists, one from where the other ends, are a run of both: so it does not matter whether the session
-/// is closed and opened again between them.
+/// is closed and opened again between them. This holds of runs in which no device fails, from images to images, and of
+/// those in which devices fail.
 pub fn runs_join<R: Read, A: Allocator>()
-    ensures { RunsJoin R A R.remaining }
+    ensures stacks { StackRunsJoin R A R.remaining }
+    ensures standings { RunsJoin R A R.remaining }
 {}
 
 /// A run in which no device fails goes from whole images to whole images.

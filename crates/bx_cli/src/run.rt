@@ -1,12 +1,13 @@
 //! Lists of commands, run in order on a session.
-ghost use Rattle.std.specs.Prelude.{◌≡◌, ◌↔◌, ◌⊎◌, ◌+◌, ◌^◌, ◌≤◌, ◌<◌, List, ℕ, length, None, Some, IfOk, OnErr, All};
+ghost use Rattle.std.specs.Prelude.{◌≡◌, ◌↔◌, ◌⊎◌, ◌+◌, ◌^◌, ◌≤◌, ◌<◌, List, ℕ, length, None, Some, IfOk, OnErr, All, count_by};
 ghost use Rattle.bx_journal.specs.Images.{Images};
 ghost use Rattle.bx_journal.specs.Session.{HasUndone, IsReady, IsRedoSame, IsSame, IsUnfailed};
 ghost use Rattle.bx_cli.specs.Obeys.{Obeys};
-ghost use Rattle.bx_cli.specs.Standing.{CountsOn, HoldsAt, Shows, Standing};
+ghost use Rattle.bx_cli.specs.Standing.{CountsBy, CountsOn, HoldsAt, Shows, Standing};
 ghost use Rattle.bx_cli.specs.Command.{IsNear};
 ghost use Rattle.bx_cli.specs.Refusal.{IsOwnRefusal, IsWholeRefusal};
-ghost use Rattle.bx_cli.specs.Run.{made_reply, ChangeStep, UndoesStep, RedoesStep, ReadStep, DdStep, DumpStep, CommandStep, CommandRun, StackRun, StandsThen, Unfailed};
+ghost use Rattle.bx_cli.specs.Run.{is_failure, made_reply, ChangeStep, UndoesStep, RedoesStep, ReadStep, DdStep, DumpStep, PlainStep, CommandRun, StackRun, StandsThen, Unfailed};
+ghost use Rattle.bx_cli.specs.SessionRun.{SessionRun, SessionStep};
 
 use crate::changes::{DdChange, change_of_dd, change_of_dump, change_of_plain};
 use crate::{Command, Fault, Reply};
@@ -15,6 +16,7 @@ use bx_image::{Change, Device, NoMemory};
 use bx_journal::Session;
 use bx_read::ReadFault;
 use bx_store::TextStore;
+use bx_text::Bytes;
 use std::alloc::Allocator;
 use std::io::Read;
 
@@ -89,7 +91,7 @@ fn run_read<D: Device, T: TextStore, A: Allocator + Clone>(
 {
     match read {
         Ok(change) => run_change(session, &change, None),
-        Err(fault) => Reply::Refused(Fault::from(fault)),
+        Err(read_fault) => Reply::Refused(Fault::from(read_fault)),
     }
 }
 
@@ -105,7 +107,7 @@ fn run_dd<D: Device, T: TextStore, A: Allocator + Clone>(
 {
     match made {
         Ok(made) => run_change(session, &made.change, Some(made.counts)),
-        Err(fault) => Reply::Refused(Fault::from(fault)),
+        Err(dd_fault) => Reply::Refused(Fault::from(dd_fault)),
     }
 }
 
@@ -113,7 +115,7 @@ fn run_dd<D: Device, T: TextStore, A: Allocator + Clone>(
 fn run_dump<D: Device, T: TextStore, A: Allocator + Clone>(
     alloc: &A,
     session: &mut Session<D, T, A>,
-    text: &[u8],
+    text: &Bytes<A>,
     offset: u64,
 ) -> Reply
     requires device_countable { D.failures session.old.device < u64.MAX }
@@ -122,7 +124,23 @@ fn run_dump<D: Device, T: TextStore, A: Allocator + Clone>(
     requires near { offset ≤ 2 ^ 62 }
     ensures obeys { Obeys D.honest T.honest D.image T.text D.failures T.failures session.old session.new result (λ s. DumpStep A s text.now offset) }
 {
-    let change = change_of_dump(alloc, text, offset);
+    let change = change_of_dump(alloc, text.as_slice(), offset);
+    run_read(session, change)
+}
+
+/// Puts plain hexadecimal onto the image. The whole text is read first.
+fn run_plain<D: Device, T: TextStore, A: Allocator + Clone>(
+    alloc: &A,
+    session: &mut Session<D, T, A>,
+    text: &Bytes<A>,
+    at: u64,
+) -> Reply
+    requires device_countable { D.failures session.old.device < u64.MAX }
+    requires store_countable { T.failures session.old.store < u64.MAX }
+    requires redo_countable { T.failures session.old.redo_text < u64.MAX }
+    ensures obeys { Obeys D.honest T.honest D.image T.text D.failures T.failures session.old session.new result (λ s. PlainStep A s text.now at) }
+{
+    let change = change_of_plain(alloc, text.as_slice(), at);
     run_read(session, change)
 }
 
@@ -136,14 +154,11 @@ fn run_one<D: Device, T: TextStore, R: Read, A: Allocator + Clone>(
     requires store_countable { T.failures session.old.store < u64.MAX }
     requires redo_countable { T.failures session.old.redo_text < u64.MAX }
     requires near { IsNear command.old }
-    ensures obeys { Obeys D.honest T.honest D.image T.text D.failures T.failures session.old session.new result (λ s. CommandStep R.remaining s command.old) }
+    ensures runs { SessionStep D.honest T.honest D.image T.text D.failures T.failures R.remaining session.old command.old command.new result session.new }
 {
     match command {
-        Command::Revert { text, offset } => run_dump(alloc, session, text.as_slice(), *offset),
-        Command::RevertPlain { text, at } => {
-            let change = change_of_plain(alloc, text.as_slice(), *at);
-            run_read(session, change)
-        }
+        Command::Revert { text, offset } => run_dump(alloc, session, text, *offset),
+        Command::RevertPlain { text, at } => run_plain(alloc, session, text, *at),
         Command::Dd { operands, input } => {
             let made = change_of_dd(alloc, operands, input);
             run_dd(session, made)
@@ -183,14 +198,21 @@ pub fn run_all<D: Device, T: TextStore, R: Read, A: Allocator + Clone>(
     ensures run { (before : Standing) → HoldsAt D.honest T.honest D.image T.text session.old before → IfOk result (λ replies.
         (after : Standing) × HoldsAt D.honest T.honest D.image T.text session.new after × CommandRun R.remaining before list.old replies.items after) }
 
-    // A device's failure raises its count.
+    // Each reply, in any list: a command that is refused for a fault of its own leaves the session as it was, and one that
+    // is refused, but by no interruption, leaves image, journal and redo text, byte for byte. What another makes of the
+    // session is its step. Of dd's input as much is read as its operands read, and nothing where they have a fault.
+    ensures each { IfOk result (λ replies. SessionRun (SessionStep D.honest T.honest D.image T.text D.failures T.failures R.remaining)
+        session.old list.old list.new replies.items session.new) }
+
+    // A device's failure raises its count, and as many replies tell of one as the three counts rose by.
+    ensures told { IfOk result (λ replies. CountsBy D.failures T.failures session.old session.new (count_by is_failure replies.items)) }
     ensures unfailed { IsUnfailed D.failures T.failures session.old session.new → IfOk result (λ replies. All Unfailed replies.items) }
 
     // No count of failures falls, and the three together rise by no more than one for each command.
     ensures counts { CountsOn D.failures T.failures session.old session.new (length list.old) }
 
-    // Commands that are refused for faults of their own leave the session. Those that are refused, but by no interruption,
-    // leave image and text, byte for byte, and the redo text with the count of what is undone.
+    // So a list whose commands are all refused for faults of their own leaves the session. One whose commands are all
+    // refused, but by no interruption, leaves image and text, byte for byte, and the redo text with the count of what is undone.
     ensures own { IfOk result (λ replies. All IsOwnRefusal replies.items → session.new ≡ session.old) }
     ensures same { D.honest session.old.device → T.honest session.old.store
         → IfOk result (λ replies. All IsWholeRefusal replies.items → IsSame D.image T.text session.old session.new) }

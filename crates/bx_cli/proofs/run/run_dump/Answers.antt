@@ -9,6 +9,7 @@ returns g c =
     let change = c.change_of_dump-change in
     record {
       obeys = obeys_next g.D.Device.honest g.T.TextStore.honest g.D.Device.image g.T.TextStore.text g.D.Device.failures g.T.TextStore.failures
-          (λ before after. read_step (dump_change c.args.offset) (dump_pieces c.args.text.now) change.result before after c.run_read.result change.ensures)
+          (λ before after. read_step (dump_change c.args.offset) (dump_pieces c.args.text.now) change.result before after c.run_read.result
+          (rw c.as_slice.ensures at change.ensures))
           c.run_read.ensures.obeys;
     }
