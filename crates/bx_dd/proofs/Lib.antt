@@ -2,8 +2,11 @@ pub mod BlockLemmas
 pub mod RecordsLemmas
 pub mod ConvertLemmas
 pub mod TransferLemmas
+pub mod StreamLemmas
+pub mod FlowLemmas
+pub mod UnitLemmas
+pub mod CopyLemmas
 pub mod OperandsLemmas
 pub mod PlanLemmas
-pub mod WholeLemmas
 mod Rows
 pub mod LawLemmas
