@@ -2,9 +2,12 @@ pub mod BlockLemmas
 pub mod RecordsLemmas
 pub mod ConvertLemmas
 pub mod TransferLemmas
+pub mod StreamLemmas
+pub mod FlowLemmas
+pub mod UnitLemmas
+pub mod CopyLemmas
 pub mod OperandsLemmas
 pub mod PlanLemmas
-pub mod WholeLemmas
 mod Rows
 pub mod LawLemmas
 pub mod OperandLaws

@@ -246,13 +246,13 @@ rest_nil : (shape : Shape) (size : ℕ) → rest_of shape size [] ≡ []
 unfolding rest_of
 rest_nil shape size = drop_of_length-le {A = ℕ} [] (omega arith)
 
-shaped_nil : (shape : Shape) (size : ℕ) → (shape ≢ Flat → 0 < size) → shaped shape size [] ≡ []
+pub shaped_nil : (shape : Shape) (size : ℕ) → (shape ≢ Flat → 0 < size) → shaped shape size [] ≡ []
 unfolding shaped records
 shaped_nil Flat size some = refl
 shaped_nil Block size some = refl
 shaped_nil Unblock size some = in_pieces-none line_of size (some (λ e. cc))
 
-cut_nil : (shape : Shape) (size : ℕ) → cut_records shape size [] ≡ 0
+pub cut_nil : (shape : Shape) (size : ℕ) → cut_records shape size [] ≡ 0
 unfolding cut_records records
 cut_nil Flat size = refl
 cut_nil Block size = refl

@@ -80,7 +80,7 @@ empty_list [] e = refl
 empty_list (x ∷ xs) e = absurd (omega arith)
 
 -- what follows the blocks that were skipped
-drop_read : (n : ℕ) (skipped input : List ℕ) → (length skipped ≡ n) ⊎ ((length skipped ≤ n) × (length input ≡ 0)) → drop n (skipped ++ input) ≡ input
+pub drop_read : (n : ℕ) (skipped input : List ℕ) → (length skipped ≡ n) ⊎ ((length skipped ≤ n) × (length input ≡ 0)) → drop n (skipped ++ input) ≡ input
 drop_read n skipped input (inl whole) = rw (← whole) (drop-append-le (length skipped) skipped input (omega arith) ∙ ap (λ l. l ++ input) (drop_of_length-le skipped (omega arith)))
 drop_read n skipped input (inr (few, none)) =
     let nil : input ≡ [] = empty_list input none in

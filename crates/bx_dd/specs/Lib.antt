@@ -3,6 +3,7 @@ pub mod Counting
 pub mod Standing
 pub mod Plan
 pub mod Transfer
+pub mod Streaming
 pub mod Number
 pub mod Operands
 pub mod Parsing

@@ -1,15 +1,16 @@
 //! Blocks converted one by one.
-ghost use Rattle.std.specs.Prelude.{◌≡◌, ◌≢◌, ℕ, ◌+◌, ◌-◌, ◌*◌, ◌%◌, ◌^◌, ◌<◌, ◌≤◌, List, [], ◌++◌, length, take, IfOk, IsOkUnless};
+ghost use Rattle.std.specs.Prelude.{◌≡◌, ◌≢◌, ℕ, ◌+◌, ◌-◌, ◌*◌, ◌%◌, ◌^◌, ◌<◌, ◌≤◌, List, [], ◌++◌, length, take, vec_capacity, IfOk, OnOk, IsOkUnless};
 ghost use Rattle.bx_dd.specs.Counting.{counts_of};
 ghost use Rattle.bx_dd.specs.Output.{block_of, converted, held_count, joined, shaped};
 ghost use Rattle.bx_dd.specs.Plan.{form_of};
-ghost use Rattle.bx_dd.specs.Standing.{IsAfter, HasSizes, Stands, finished};
-ghost use Rattle.bx_dd.specs.declared.form.Shape.TheVariants.{Unblock};
+ghost use Rattle.bx_dd.specs.Standing.{IsAfter, HasSizes, Stands, finished, last_of};
+ghost use Rattle.bx_dd.specs.declared.form.Shape.TheVariants.{Flat, Unblock};
 
 use crate::block::ready_block;
 use crate::counts::{Counts, Transfer};
 use crate::fault::DdFault;
-use crate::form::Form;
+use crate::form::{Form, Shape};
+use crate::page::Page;
 use crate::plan::Plan;
 use crate::records::{Tail, push_rest, push_shaped};
 use bx_text::Bytes;
@@ -33,13 +34,13 @@ impl<A: Allocator> Model for Convert<A> {
 
     ghost Value = { Progress };
 
-    ghost use Rattle.bx_dd.specs.declared.form.Shape.TheVariants.{Unblock};
-    ghost use Rattle.std.specs.Prelude.{length, ◌<◌, ◌≤◌, ◌≡◌, ◌+◌, ◌%◌, ◌^◌};
+    ghost use Rattle.bx_dd.specs.declared.form.Shape.TheVariants.{Flat, Unblock};
+    ghost use Rattle.std.specs.Prelude.{length, vec_capacity, ◌<◌, ◌≤◌, ◌≡◌, ◌≢◌, ◌+◌, ◌%◌, ◌^◌};
     ghost use Rattle.bx_dd.specs.Standing.{HasSizes};
 
     ghost view = { λ c. record { form = c.form; taken = c.taken; out = c.out.items; held = c.held.items; over = c.over; cut = c.cut } };
 
-    ghost invariant = { λ c. HasSizes c.form × (length c.held.items ≤ c.form.cbs) × (c.form.shape ≡ Unblock → length c.held.items < c.form.cbs) × (c.taken ≤ 2 ^ 40) × (c.cut ≤ c.taken + 16777216) × (c.taken % c.form.ibs ≡ 0 → c.cut ≤ c.taken) };
+    ghost invariant = { λ c. HasSizes c.form × (length c.held.items ≤ c.form.cbs) × (c.form.shape ≢ Flat → c.form.cbs ≤ vec_capacity c.held) × (c.form.shape ≡ Unblock → length c.held.items < c.form.cbs) × (c.taken ≤ 2 ^ 40) × (c.cut ≤ c.taken + 16777216) × (c.taken % c.form.ibs ≡ 0 → c.cut ≤ c.taken) };
 }
 
 impl<A: Allocator + Clone> Convert<A> {
@@ -50,10 +51,11 @@ impl<A: Allocator + Clone> Convert<A> {
         ensures fault { IsOkUnless result DdFault.NoMemory }
     {
         let out = Vec::new(alloc.clone()?);
-        let held = Vec::new(alloc.clone()?);
+        let form = plan.form();
+        let held = Vec::with_capacity(alloc.clone()?, room_for(form))?;
         Ok(Convert {
             alloc,
-            form: plan.form(),
+            form,
             taken: 0,
             out,
             held,
@@ -95,7 +97,7 @@ impl<A: Allocator> Convert<A> {
         ensures fault { IsOkUnless result DdFault.NoMemory }
     {
         let Convert {
-            alloc: _,
+            alloc,
             form,
             taken,
             mut out,
@@ -103,7 +105,7 @@ impl<A: Allocator> Convert<A> {
             over,
             cut,
         } = self;
-        push_rest(&mut out, held.as_slice(), form)?;
+        end_output(&alloc, &mut out, held.as_slice(), form)?;
         let length = out.len() as u64;
         let counts = Counts {
             whole_in: taken / form.ibs,
@@ -143,6 +145,16 @@ impl<A: Allocator> Convert<A> {
     }
 }
 
+/// How many bytes of a record are kept at most.
+pub fn room_for(form: Form) -> usize
+    ensures { form.shape ≢ Flat → result ≡ form.cbs }
+{
+    if form.shape == Shape::Flat {
+        return 0;
+    }
+    form.cbs as usize
+}
+
 /// The next block, made ready and put into records.
 fn take_block<A: Allocator>(
     alloc: &A,
@@ -155,21 +167,76 @@ fn take_block<A: Allocator>(
     requires sizes { HasSizes form }
     requires fits { length b.now ≤ form.ibs }
     requires room { length held.old.items ≤ form.cbs }
+    requires space { form.shape ≢ Flat → form.cbs ≤ vec_capacity held.old }
     requires part { form.shape ≡ Unblock → length held.old.items < form.cbs }
     requires few { tail.cut + 16777216 < 2 ^ 64 }
     ensures within { IfOk result (λ t. (length held.new.items ≤ form.cbs) × (t.cut ≤ tail.cut + form.ibs) × (length b.now ≡ form.ibs → t.cut ≤ tail.cut + length b.now)) }
     ensures part { IfOk result (λ t. form.shape ≡ Unblock → length held.new.items < form.cbs) }
+    ensures space { vec_capacity held.old ≤ vec_capacity held.new }
     ensures next { (z : List ℕ) → Stands form.shape form.cbs z out.old.items held.old.items tail.over tail.cut →
         IfOk result (λ t. Stands form.shape form.cbs (z ++ block_of form b.now) out.new.items held.new.items t.over t.cut) }
 {
     let ready = ready_block(alloc, b, form)?;
-    let next = push_shaped(
+    let next = put_ready(alloc, out, held, tail, ready.as_slice(), form)?;
+    Ok(next)
+}
+
+/// Puts a ready block into records.
+fn put_ready<A: Allocator>(
+    alloc: &A,
+    out: &mut Vec<u8, A>,
+    held: &mut Vec<u8, A>,
+    tail: Tail,
+    ready: &[u8],
+    form: Form,
+) -> Result<Tail, AllocError>
+    requires sizes { HasSizes form }
+    requires room { length held.old.items ≤ form.cbs }
+    requires space { form.shape ≢ Flat → form.cbs ≤ vec_capacity held.old }
+    requires part { form.shape ≡ Unblock → length held.old.items < form.cbs }
+    requires few { tail.cut + length ready.now < 2 ^ 64 }
+    ensures within { IfOk result (λ t. (length held.new.items ≤ form.cbs) × (t.cut ≤ tail.cut + length ready.now)) }
+    ensures part { IfOk result (λ t. form.shape ≡ Unblock → length held.new.items < form.cbs) }
+    ensures space { vec_capacity held.old ≤ vec_capacity held.new }
+    ensures next { (z : List ℕ) → Stands form.shape form.cbs z out.old.items held.old.items tail.over tail.cut →
+        IfOk result (λ t. Stands form.shape form.cbs (z ++ ready.now) out.new.items held.new.items t.over t.cut) }
+{
+    let mut page = Page::direct(alloc, out.len() as u64);
+    let next = match push_shaped(
+        &mut page,
         out,
         held,
         tail,
-        ready.as_slice(),
+        ready,
         form.shape,
         form.cbs as usize,
-    )?;
-    Ok(next)
+    ) {
+        Ok(next) => next,
+        Err(_) => return Err(AllocError),
+    };
+    match page.flush(out) {
+        Ok(()) => Ok(next),
+        Err(_) => Err(AllocError),
+    }
+}
+
+/// Puts what the input's end gives of a record that was kept.
+fn end_output<A: Allocator>(
+    alloc: &A,
+    out: &mut Vec<u8, A>,
+    held: &[u8],
+    form: Form,
+) -> Result<(), AllocError>
+    requires { length held.now ≤ form.cbs }
+    ensures ok { OnOk result (out.new.items ≡ out.old.items ++ last_of form.shape form.cbs held.now) }
+{
+    let mut page = Page::direct(alloc, out.len() as u64);
+    match push_rest(&mut page, out, held, form) {
+        Ok(()) => {}
+        Err(_) => return Err(AllocError),
+    }
+    match page.flush(out) {
+        Ok(()) => Ok(()),
+        Err(_) => Err(AllocError),
+    }
 }

@@ -3,6 +3,7 @@
 
 mod block;
 mod convert;
+mod copy;
 mod copying;
 mod counts;
 mod fault;
@@ -10,12 +11,14 @@ mod form;
 mod laws;
 mod number;
 mod operands;
+mod page;
 mod parsing;
 mod plan;
 mod records;
-mod whole;
+mod units;
 
 pub use convert::Convert;
+pub use copy::copy_out;
 pub use copying::transfer;
 pub use counts::{Counts, Transfer, report};
 pub use fault::DdFault;
@@ -26,4 +29,3 @@ pub use laws::{
 };
 pub use parsing::parse;
 pub use plan::Plan;
-pub use whole::convert_whole;

@@ -2,8 +2,8 @@ use Rattle.std.proofs.Common.{length, arith, ap, ◌∙◌}
 use Rattle.bx_dd.proofs.ConvertLemmas.{length-block}
 use Rattle.bx_dd.proofs.convert.take_block.Goals as goal
 
-pub push_shaped-requires-clause-few : goal.push_shaped-requires-clause-few
-push_shaped-requires-clause-few g c =
+pub put_ready-requires-clause-few : goal.put_ready-requires-clause-few
+put_ready-requires-clause-few g c =
     omega (arith, length-block c.args.form c.args.b.now c.requires.fits, ap length (c.as_slice.ensures.value ∙ c.in_ok-ready.ensures), c.requires.sizes.few_ibs, c.requires.few)
 
 pub returns-clause-within : goal.returns-clause-within

@@ -1,24 +1,25 @@
-use Rattle.std.proofs.Common.{◌≡◌, ◌∷◌, [], ◌++◌, arith, take, ap, ◌∙◌}
-use Rattle.std.specs.List.{suffix_len}
-use Rattle.std.proofs.lemmas.List.Sums.{suffix_len-take_no}
-use Rattle.std.proofs.lemmas.Bool.{ne_eqb}
-use Rattle.std.proofs.lemmas.List.{append_assoc}
-use Rattle.bx_dd.specs.Output.{is_space}
-use Rattle.bx_dd.proofs.RecordsLemmas.{line_end}
+use Rattle.std.proofs.Common.{◌++◌, [], ◌∷◌, List, ℕ, take, subst}
+use Rattle.std.specs.Prelude.{OnOk, IfErr}
+use Rattle.bx_text.specs.Writing.{WritesFront}
+use Rattle.bx_dd.specs.Streaming.{Goes}
+use Rattle.bx_dd.proofs.StreamLemmas.{front_more}
+use Rattle.bx_dd.proofs.FlowLemmas.{line_text}
 use Rattle.bx_dd.proofs.records.push_line.Goals as goal
-use Rattle.bx_dd.proofs.records.push_line.Goals.{then-loop-end-test+else-held-end-eq32, else-loop-end-test}
 
-pub returns : goal.returns
-returns g c =
-    let e = c.loop-end.end in
-    let none : suffix_len is_space (take e c.args.held.now) ≡ 0 = elim c.loop-end-test.branch [
-      | then-loop-end-test+else-held-end-eq32 w ↦
-          suffix_len-take_no is_space c.args.held.now e 0 w.loop-end-test.true c.loop-end.invariant.within (ne_eqb _ 32 w.if-held-end-eq32.false)
-      | else-loop-end-test w ↦
-          let zero_left : e ≡ 0 = omega (arith, w.loop-end-test.false) in
-          ap (λ k. suffix_len is_space (take k c.args.held.now)) zero_left
-    ] in
-    record {
-      ok = c.in_ok-push.ensures.items ∙ ap (λ l. l ++ 10 ∷ []) c.in_ok-extend_from_slice.ensures.items ∙ append_assoc _ _ (10 ∷ [])
-          ∙ ap (λ l. c.args.out.now.items ++ l) (line_end c.args.held.now e c.loop-end.invariant.within c.loop-end.invariant.spaces none);
-    }
+pub returns-in-Ok-clause-ok : goal.returns-in-Ok-clause-ok
+returns-in-Ok-clause-ok g c start text goes =
+    let front = take c.trimmed-end.result c.args.held.now in
+    subst (λ (l : List ℕ). OnOk c.put-in-Ok.result (Goes start (g.W.Write.contents c.put-in-Ok.new.w) c.put-in-Ok.new.self.bytes.items c.put-in-Ok.new.self.written l))
+    (line_text text c.args.held.now front c.trimmed-end.ensures.line) (c.put-in-Ok.ensures.ok start (text ++ front) (c.in-Ok.ensures.ok start text goes))
+
+pub returns-in-Ok-clause-err : goal.returns-in-Ok-clause-err
+returns-in-Ok-clause-err g c start text goes =
+    let front = take c.trimmed-end.result c.args.held.now in
+    subst (λ (l : List ℕ). IfErr c.put-in-Ok.result (WritesFront 0 start (g.W.Write.contents c.put-in-Ok.new.w) l))
+    (line_text text c.args.held.now front c.trimmed-end.ensures.line) (c.put-in-Ok.ensures.err start (text ++ front) (c.in-Ok.ensures.ok start text goes))
+
+pub returns-in-Err-clause-err : goal.returns-in-Err-clause-err
+returns-in-Err-clause-err g c start text goes =
+    let front = take c.trimmed-end.result c.args.held.now in
+    subst (λ (l : List ℕ). WritesFront 0 start (g.W.Write.contents c.put.new.w) l c.in-Err.fault) (line_text text c.args.held.now front c.trimmed-end.ensures.line)
+    (front_more 0 start (g.W.Write.contents c.put.new.w) (text ++ front) (10 ∷ []) c.in-Err.fault (c.in-Err.ensures.err start text goes))

@@ -19,9 +19,10 @@ invariant_of-next g c =
     let M : Progress → Type 0 = λ p. p.taken + n ≤ 2 ^ 40 in
     let few = subst M (sym c.next.view_is) c.requires.few in
     let within = c.in_ok-tail.ensures.within in
-    let cut = inv.5 whole in (
+    let cut = inv.6 whole in (
       inv.0,
       within.0,
+      λ other. omega (arith, inv.2 other, c.in_ok-tail.ensures.space),
       c.in_ok-tail.ensures.part,
       few,
       omega (arith, within.1, cut, inv.0.few_ibs),

@@ -1,0 +1,317 @@
+-- What was read of an input, and what went out of it.
+use Rattle.std.proofs.Common.{◌≡◌, ◌≢◌, ℕ, zero, suc, ◌+◌, ◌-◌, ◌*◌, ◌/◌, ◌%◌, ◌^◌, ◌<◌, ◌≤◌, Bool, true, false, cond, List, [], ◌++◌, length, take, drop, Option, None, Some, refl, sym, ap, ◌∙◌, arith, append_assoc, append-nil, subst, ◌⊎◌, inl, inr}
+use Rattle.std.specs.Prelude.{◌||◌}
+use Rattle.std.proofs.Math.Nat.{div-add-mod, mod-eq_of_lt, mul-add-mod_self_left}
+use Rattle.std.proofs.lemmas.List.{length-append, take-append-le, take_all, length-take-le, drop-append-le}
+use Rattle.std.proofs.Common.{drop_of_length-le}
+use Rattle.std.specs.Io.KnownBytes.{Appends, Consumes, IsAtEnd}
+use Rattle.bx_text.proofs.KnownLemmas.{Appends-nil, Consumes-trans}
+use Rattle.bx_text.specs.Stream.{IsReadCause, StopsIn}
+use Rattle.bx_text.specs.Writing.{WritesFront}
+use Rattle.bx_text.specs.declared.fault.IoFault.{IoFault}
+use Rattle.bx_text.specs.declared.fault.IoFault.TheVariants.{NoMemory, ReadFailed, WriteFailed, InputTooLong, SkipPastEnd}
+use Rattle.bx_dd.specs.declared.counts.Counts.{Counts}
+use Rattle.bx_dd.specs.declared.plan.Plan.{Plan}
+use Rattle.bx_dd.specs.Counting.{counts_of}
+use Rattle.bx_dd.specs.Plan.{form_of}
+use Rattle.bx_dd.specs.Transfer.{IsReadOut, IsWithin, output_of, selected_by}
+use Rattle.bx_dd.specs.declared.form.Form.{Form}
+use Rattle.bx_dd.specs.declared.form.Shape.TheVariants.{Flat}
+use Rattle.bx_dd.specs.Output.{converted, cut_records, joined, selected, shaped}
+use Rattle.bx_dd.specs.Standing.{HasSizes}
+use Rattle.bx_dd.specs.Streaming.{CopiesRest, Flows, Goes, IsCopy, IsCopyFault, Stage, StopsCopy, StopsFlow, StopsPass, StopsSkip, StopsStage, most_of, unit_of}
+use Rattle.bx_dd.proofs.ConvertLemmas.{joined_none}
+use Rattle.bx_dd.proofs.RecordsLemmas.{Stands_none, cut_nil, shaped_nil, take_nil}
+use Rattle.bx_dd.proofs.TransferLemmas.{asked_skip, drop_read}
+use Rattle.bx_dd.proofs.StreamLemmas.{Goes-nil, front_more}
+use Rattle.bx_dd.proofs.FlowLemmas.{stands_front}
+use Rattle.bx_dd.proofs.UnitLemmas.{joined_units}
+
+unit_pos : (w : Bool) (ibs : ℕ) → 0 < ibs → 0 < cond w ibs 1
+unit_pos true ibs pos = pos
+unit_pos false ibs pos = omega arith
+
+pub unit_some : (form : Form) → 0 < form.ibs → 0 < unit_of form
+unit_some form pos = unit_pos (form.swab || form.sync) form.ibs pos
+
+-- whole units, and whole units
+pub sum_whole : (a b n : ℕ) → 0 < n → a % n ≡ 0 → b % n ≡ 0 → (a + b) % n ≡ 0
+sum_whole a b n pos p q =
+    let e : a + b ≡ n * (a / n + b / n) + 0 = omega (arith, div-add-mod a n, div-add-mod b n) in
+    ap (λ k. k % n) e ∙ mul-add-mod_self_left n (a / n + b / n) 0 ∙ mod-eq_of_lt pos
+
+pub less_whole : (got n : ℕ) → 0 < n → (got - got % n) % n ≡ 0
+less_whole got n pos =
+    let e : got - got % n ≡ n * (got / n) + 0 = omega (arith, div-add-mod got n) in
+    ap (λ k. k % n) e ∙ mul-add-mod_self_left n (got / n) 0 ∙ mod-eq_of_lt pos
+
+pub drop_front : (n : ℕ) (xs ys : List ℕ) → length xs ≡ n → drop n (xs ++ ys) ≡ ys
+drop_front n xs ys e = drop-append-le n xs ys (omega arith) ∙ ap (λ l. l ++ ys) (drop_of_length-le xs (omega arith))
+
+-- nothing was read
+pub stage_start : (form : Form) (s : Option (List ℕ)) (waits kept : List ℕ) (k : ℕ) → HasSizes form → waits ≡ [] → kept ≡ [] → k ≡ 0 → Stage form s s [] [] waits k kept false 0
+stage_start form s waits kept k sizes a b e = rw (a, b, e) (record {
+  done = [];
+  parts = refl;
+  whole = mod-eq_of_lt (unit_some form sizes.some_ibs);
+  flows = record { text = []; stands = rw (joined_none form sizes.some_ibs) (Stands_none form.shape form.cbs sizes.some_cbs); goes = Goes-nil s };
+})
+
+module _ {form : Form} {s n : Option (List ℕ)} {input pending waits kept : List ℕ} {k count : ℕ} {was_cut : Bool} (stage : Stage form s n input pending waits k kept was_cut count) where
+  -- bytes were read
+  pub stage_read : (chunk next : List ℕ) → next ≡ pending ++ chunk → Stage form s n (input ++ chunk) next waits k kept was_cut count
+  stage_read chunk next is = record {
+    done = stage.done;
+    parts = ap (λ l. l ++ chunk) stage.parts ∙ append_assoc stage.done pending chunk ∙ ap (λ l. stage.done ++ l) (sym is);
+    whole = stage.whole;
+    flows = stage.flows;
+  }
+
+  -- what waited went out
+  pub stage_sent : (m : Option (List ℕ)) (next : List ℕ) (j : ℕ) → Goes s m next j stage.flows.text → Stage form s m input pending next j kept was_cut count
+  stage_sent m next j goes = record {
+    done = stage.done;
+    parts = stage.parts;
+    whole = stage.whole;
+    flows = record { text = stage.flows.text; stands = stage.flows.stands; goes = goes };
+  }
+
+  -- all that follows, converted
+  joined_all : (more : List ℕ) → 0 < form.ibs → joined form (input ++ more) ≡ joined form stage.done ++ joined form (pending ++ more)
+  joined_all more pos =
+      ap (joined form) (ap (λ l. l ++ more) stage.parts ∙ append_assoc stage.done pending more) ∙ joined_units form stage.done (pending ++ more) pos stage.whole
+
+  pub stage_front : (more : List ℕ) → HasSizes form → (rest : List ℕ) × (converted form (input ++ more) ≡ stage.flows.text ++ rest)
+  stage_front more sizes =
+      let front = stands_front form.shape form.cbs (joined form stage.done) stage.flows.text kept was_cut count sizes.some_cbs stage.flows.stands (joined form (pending ++ more)) in
+      (front.0, ap (shaped form.shape form.cbs) (joined_all more sizes.some_ibs) ∙ front.1)
+
+  -- a write of what waits failed
+  pub stage_unsent : (m : Option (List ℕ)) (e : IoFault) → HasSizes form → WritesFront 0 s m stage.flows.text e → WritesFront 0 s m (converted form input) e
+  stage_unsent m e sizes stop =
+      let front = stage_front [] sizes in
+      let same : stage.flows.text ++ front.0 ≡ converted form input = sym front.1 ∙ ap (converted form) (append-nil input) in
+      subst (λ (l : List ℕ). WritesFront 0 s m l e) same (front_more 0 s m stage.flows.text front.0 e stop)
+
+  module _ (units rest : List ℕ) (is : pending ≡ units ++ rest) (whole : length units % unit_of form ≡ 0) (sizes : HasSizes form) where
+    done_units : input ≡ (stage.done ++ units) ++ rest
+    done_units = stage.parts ∙ ap (λ l. stage.done ++ l) is ∙ sym (append_assoc stage.done units rest)
+
+    both : length (stage.done ++ units) % unit_of form ≡ 0
+    both = ap (λ j. j % unit_of form) (length-append stage.done units) ∙ sum_whole (length stage.done) (length units) (unit_of form) (unit_some form sizes.some_ibs) stage.whole whole
+
+    joined_both : joined form (stage.done ++ units) ≡ joined form stage.done ++ joined form units
+    joined_both = joined_units form stage.done units sizes.some_ibs stage.whole
+
+    -- units were converted
+    pub stage_pass : (m : Option (List ℕ)) (put next held : List ℕ) (j more_cut : ℕ) (over : Bool) → put ≡ joined form units →
+        Flows form.shape form.cbs s m (joined form stage.done ++ put) next j held over more_cut → Stage form s m input rest next j held over more_cut
+    stage_pass m put next held j more_cut over same flows = record {
+      done = stage.done ++ units;
+      parts = done_units;
+      whole = both;
+      flows = subst (λ (z : List ℕ). Flows form.shape form.cbs s m z next j held over more_cut) (ap (λ l. joined form stage.done ++ l) same ∙ sym joined_both) flows;
+    }
+
+    pub stage_stops : (m : Option (List ℕ)) (put : List ℕ) (e : IoFault) → put ≡ joined form units → StopsFlow form.shape form.cbs s m (joined form stage.done ++ put) e → StopsStage form s m input e
+    stage_stops m put e same stop more =
+        let all : joined form (input ++ more) ≡ (joined form stage.done ++ put) ++ joined form (rest ++ more) =
+        ap (joined form) (ap (λ l. l ++ more) done_units ∙ append_assoc (stage.done ++ units) rest more) ∙ joined_units form (stage.done ++ units) (rest ++ more) sizes.some_ibs both
+        ∙ ap (λ l. l ++ joined form (rest ++ more)) (joined_both ∙ ap (λ l. joined form stage.done ++ l) (sym same)) in
+        subst (λ (l : List ℕ). WritesFront 0 s m (shaped form.shape form.cbs l) e) (sym all) (stop (joined form (rest ++ more)))
+
+read_cause : (e : IoFault) (wanted room total n w size : ℕ) → total + room ≡ 2 ^ 40 → IsReadCause e wanted room n → IsCopyFault e (total + n) w size
+read_cause ReadFailed wanted room total n w size is p = omega (arith, p.1)
+read_cause InputTooLong wanted room total n w size is p = omega (arith, p.1)
+read_cause NoMemory wanted room total n w size is p = absurd p
+read_cause (WriteFailed m) wanted room total n w size is p = absurd p
+read_cause SkipPastEnd wanted room total n w size is p = absurd p
+
+read_within : (e : IoFault) (wanted room n : ℕ) → IsReadCause e wanted room n → n ≤ wanted
+read_within ReadFailed wanted room n p = omega (arith, p.0)
+read_within InputTooLong wanted room n p = omega (arith, p.0, p.1)
+read_within NoMemory wanted room n p = absurd p
+read_within (WriteFailed m) wanted room n p = absurd p
+read_within SkipPastEnd wanted room n p = absurd p
+
+-- a read failed
+pub read_stops : (form : Form) (r0 r1 r2 s n : Option (List ℕ)) (input pending waits kept : List ℕ) (k count most before wanted room : ℕ) (was_cut : Bool) (e : IoFault) → HasSizes form →
+    Stage form s n input pending waits k kept was_cut count → Consumes r0 r1 input → StopsIn r1 r2 wanted room e → length input + wanted ≤ most → before + length input + room ≡ 2 ^ 40 →
+    StopsPass form most before r0 r2 s n e
+read_stops form r0 r1 r2 s n input pending waits kept k count most before wanted room was_cut e sizes stage reads stop few all =
+    let front = stage_front stage stop.0 sizes in
+    let goes = stage.flows.goes in
+    let whole = input ++ stop.0 in
+    let out = goes.out in
+    let is : converted form whole ≡ out ++ (waits ++ front.0) = front.1 ∙ ap (λ l. l ++ front.0) goes.all ∙ append_assoc out waits front.0 in
+    let long : length whole ≡ length input + length stop.0 = length-append input stop.0 in
+    let total : before + length whole ≡ before + length input + length stop.0 = omega (arith, long) in
+    record {
+      input = whole;
+      written = length out;
+      consumed = Consumes-trans r0 r1 r2 input stop.0 reads stop.1;
+      within = omega (arith, long, few, read_within e wanted room (length stop.0) stop.2);
+      short = omega (arith, ap length is, length-append out (waits ++ front.0));
+      appended = let part : take (length out) (converted form whole) ≡ out = ap (take (length out)) is ∙ take-append-le (length out) out (waits ++ front.0) (omega arith) ∙ take_all (length out) out (omega arith) in rw part goes.went;
+      cause = rw total (read_cause e wanted room (before + length input) (length stop.0) (length out) (length (converted form whole)) all stop.2);
+    }
+
+-- a write failed
+pub write_stops : (form : Form) (r0 r1 s n : Option (List ℕ)) (input : List ℕ) (most before : ℕ) (e : IoFault) → Consumes r0 r1 input → length input ≤ most → before + length input ≤ 2 ^ 40 →
+    WritesFront 0 s n (converted form input) e → StopsPass form most before r0 r1 s n e
+write_stops form r0 r1 s n input most before (WriteFailed m) reads within few stop = record {
+  input = input;
+  written = stop.0;
+  consumed = reads;
+  within = within;
+  short = omega (arith, stop.2);
+  appended = stop.3;
+  cause = (omega (arith, stop.1), stop.2, few);
+}
+write_stops form r0 r1 s n input most before NoMemory reads within few stop = absurd stop
+write_stops form r0 r1 s n input most before ReadFailed reads within few stop = absurd stop
+write_stops form r0 r1 s n input most before InputTooLong reads within few stop = absurd stop
+write_stops form r0 r1 s n input most before SkipPastEnd reads within few stop = absurd stop
+
+skip_cause : (fault : IoFault) (less wanted taken n : ℕ) → taken ≤ 2 ^ 40 → taken + less ≤ wanted → IsReadCause fault less (2 ^ 40 - taken) n → IsReadCause fault wanted (2 ^ 40) (taken + n)
+skip_cause ReadFailed less wanted taken n le most p = (omega (arith, p.0), omega (arith, p.1))
+skip_cause InputTooLong less wanted taken n le most p = (omega (arith, p.0), omega (arith, p.1))
+skip_cause NoMemory less wanted taken n le most p = absurd p
+skip_cause (WriteFailed m) less wanted taken n le most p = absurd p
+skip_cause SkipPastEnd less wanted taken n le most p = absurd p
+
+pub skip_after : (r0 r1 r2 : Option (List ℕ)) (input : List ℕ) (less wanted taken : ℕ) (fault : IoFault) → length input ≡ taken → taken ≤ 2 ^ 40 → taken + less ≤ wanted →
+    Consumes r0 r1 input → StopsIn r1 r2 less (2 ^ 40 - taken) fault → StopsSkip wanted r0 r2 fault
+skip_after r0 r1 r2 input less wanted taken fault len few most reads stop =
+    let all : length (input ++ stop.0) ≡ taken + length stop.0 = omega (arith, length-append input stop.0) in record {
+      input = input ++ stop.0;
+      consumed = Consumes-trans r0 r1 r2 input stop.0 reads stop.1;
+      cause = rw all (skip_cause fault less wanted taken (length stop.0) few most stop.2);
+    }
+
+-- the input ended
+module _ {form : Form} {s n : Option (List ℕ)} {input pending waits kept : List ℕ} {k count : ℕ} {was_cut : Bool} (stage : Stage form s n input pending waits k kept was_cut count) (sizes : HasSizes form) (put : List ℕ) (is : put ≡ joined form pending) where
+  joined_input : joined form stage.done ++ put ≡ joined form input
+  joined_input = ap (λ l. joined form stage.done ++ l) is ∙ sym (ap (joined form) stage.parts ∙ joined_units form stage.done pending sizes.some_ibs stage.whole)
+
+  pub stage_end : {m : Option (List ℕ)} {next held : List ℕ} {j more_cut : ℕ} {over : Bool} → Flows form.shape form.cbs s m (joined form stage.done ++ put) next j held over more_cut →
+      Flows form.shape form.cbs s m (joined form input) next j held over more_cut
+  stage_end {m} {next} {held} {j} {more_cut} {over} flows = subst (λ (z : List ℕ). Flows form.shape form.cbs s m z next j held over more_cut) joined_input flows
+
+  pub stage_end_stops : (m : Option (List ℕ)) (e : IoFault) → StopsFlow form.shape form.cbs s m (joined form stage.done ++ put) e → WritesFront 0 s m (converted form input) e
+  stage_end_stops m e stop =
+      subst (λ (z : List ℕ). WritesFront 0 s m (shaped form.shape form.cbs z) e) (append-nil (joined form stage.done ++ put) ∙ joined_input) (stop [])
+
+-- all went out
+pub goes_all : (s n : Option (List ℕ)) (waits text whole : List ℕ) (k : ℕ) → waits ≡ [] → text ≡ whole → Goes s n waits k text → Appends s n whole × (k ≡ length whole)
+goes_all s n waits text whole k none is g =
+    let same : g.out ≡ whole = sym (append-nil g.out) ∙ ap (λ l. g.out ++ l) (sym none) ∙ sym g.all ∙ is in
+    (subst (λ (l : List ℕ). Appends s n l) same g.went, g.count ∙ ap length same)
+
+-- ---- the input that a plan selects
+
+module _ {A : Type 0} (plan : Plan A) (skipped input : List ℕ) (len : length skipped ≡ plan.skip * plan.ibs) (few : length input ≤ most_of plan.count plan.ibs) where
+  chosen : (count : Option ℕ) → length input ≤ most_of count plan.ibs → selected plan.ibs plan.skip count (skipped ++ input) ≡ input
+  chosen None fits = drop_read (plan.skip * plan.ibs) skipped input (inl len)
+  chosen (Some n) fits = ap (take (n * plan.ibs)) (drop_read (plan.skip * plan.ibs) skipped input (inl len)) ∙ take_all (n * plan.ibs) input fits
+
+  selects : selected_by plan (skipped ++ input) ≡ input
+  selects = chosen plan.count few
+
+  asked : (count : Option ℕ) → length input ≤ most_of count plan.ibs → IsWithin plan.ibs plan.skip count (skipped ++ input)
+  asked None fits = tt
+  asked (Some n) fits = omega (arith, length-append skipped input, len, fits)
+
+  read_out : (r : Option (List ℕ)) (count : Option ℕ) → (length input ≡ most_of count plan.ibs) ⊎ IsAtEnd r → length input ≤ 2 ^ 40 → IsReadOut r plan.ibs plan.skip count (skipped ++ input)
+  read_out r None (inl all) small = absurd (omega arith)
+  read_out r None (inr end) small = end
+  read_out r (Some n) (inl all) small = inl (omega (arith, length-append skipped input, len, all))
+  read_out r (Some n) (inr end) small = inr end
+
+  pub copied : (r0 r1 r2 w0 w1 : Option (List ℕ)) (counts : Counts) → Consumes r0 r1 skipped → Consumes r1 r2 input → (length input ≡ most_of plan.count plan.ibs) ⊎ IsAtEnd r2 →
+      plan.skip * plan.ibs + length input ≤ 2 ^ 40 → Appends w0 w1 (converted (form_of plan) input) → counts ≡ counts_of (form_of plan) input → IsCopy plan r0 r2 w0 w1 counts
+  copied r0 r1 r2 w0 w1 counts skips reads ends small put counted = record {
+    input = skipped ++ input;
+    consumed = Consumes-trans r0 r1 r2 skipped input skips reads;
+    all = read_out r2 plan.count ends (omega arith);
+    within = asked plan.count few;
+    few = omega (arith, length-append skipped input, len);
+    appended = subst (λ (l : List ℕ). Appends w0 w1 (converted (form_of plan) l)) (sym selects) put;
+    counted = counted ∙ ap (counts_of (form_of plan)) (sym selects);
+  }
+
+  pub stopped : (r0 r1 r2 w0 w1 : Option (List ℕ)) (e : IoFault) (before written : ℕ) → before ≡ plan.skip * plan.ibs → Consumes r0 r1 skipped → Consumes r1 r2 input →
+      written ≤ length (converted (form_of plan) input) → Appends w0 w1 (take written (converted (form_of plan) input)) →
+      IsCopyFault e (before + length input) written (length (converted (form_of plan) input)) → StopsCopy plan r0 r2 w0 w1 e
+  stopped r0 r1 r2 w0 w1 e before written is skips reads short put cause =
+      let total : before + length input ≡ length (skipped ++ input) = omega (arith, length-append skipped input, len, is) in record {
+        input = skipped ++ input;
+        written = written;
+        consumed = Consumes-trans r0 r1 r2 skipped input skips reads;
+        within = asked plan.count few;
+        short = subst (λ (l : List ℕ). written ≤ length (converted (form_of plan) l)) (sym selects) short;
+        appended = subst (λ (l : List ℕ). Appends w0 w1 (take written (converted (form_of plan) l))) (sym selects) put;
+        cause = subst (λ (l : List ℕ). IsCopyFault e (length (skipped ++ input)) written (length (converted (form_of plan) l))) (sym selects)
+            (subst (λ (t : ℕ). IsCopyFault e t written (length (converted (form_of plan) input))) total cause);
+      }
+
+-- the input ended among the bytes that are skipped
+pub converted_none : (form : Form) → HasSizes form → converted form [] ≡ []
+converted_none form sizes = ap (shaped form.shape form.cbs) (joined_none form sizes.some_ibs) ∙ shaped_nil form.shape form.cbs sizes.some_cbs
+
+pub cut_none : (form : Form) → 0 < form.ibs → cut_records form.shape form.cbs (joined form []) ≡ 0
+cut_none form pos = ap (cut_records form.shape form.cbs) (joined_none form pos) ∙ cut_nil form.shape form.cbs
+
+module _ {A : Type 0} (plan : Plan A) (input : List ℕ) (few : length input ≤ plan.skip * plan.ibs) where
+  nothing : (count : Option ℕ) → selected plan.ibs plan.skip count input ≡ []
+  nothing None = drop_of_length-le input few
+  nothing (Some n) = ap (take (n * plan.ibs)) (drop_of_length-le input few) ∙ take_nil (n * plan.ibs)
+
+  read_short : (r : Option (List ℕ)) (count : Option ℕ) → IsAtEnd r → IsReadOut r plan.ibs plan.skip count input
+  read_short r None end = end
+  read_short r (Some n) end = inr end
+
+  pub copied_none : (r0 r1 w : Option (List ℕ)) (counts : Counts) → HasSizes (form_of plan) → Consumes r0 r1 input → IsAtEnd r1 → length input ≤ 2 ^ 40 → counts ≡ counts_of (form_of plan) [] →
+      IsCopy plan r0 r1 w w counts
+  copied_none r0 r1 w counts sizes reads end small counted = record {
+    input = input;
+    consumed = reads;
+    all = read_short r1 plan.count end;
+    within = asked_skip plan.ibs plan.skip (length input) plan.count few;
+    few = small;
+    appended = subst (λ (l : List ℕ). Appends w w l) (sym (ap (converted (form_of plan)) (nothing plan.count) ∙ converted_none (form_of plan) sizes)) (Appends-nil w);
+    counted = counted ∙ ap (counts_of (form_of plan)) (sym (nothing plan.count));
+  }
+
+skip_fault : (e : IoFault) (wanted n size : ℕ) → IsReadCause e wanted (2 ^ 40) n → IsCopyFault e n 0 size
+skip_fault ReadFailed wanted n size p = p.1
+skip_fault InputTooLong wanted n size p = omega (arith, p.1)
+skip_fault NoMemory wanted n size p = absurd p
+skip_fault (WriteFailed m) wanted n size p = absurd p
+skip_fault SkipPastEnd wanted n size p = absurd p
+
+pub stopped_skip : {A : Type 0} (plan : Plan A) (r0 r1 w : Option (List ℕ)) (e : IoFault) → StopsSkip (plan.skip * plan.ibs) r0 r1 e → StopsCopy plan r0 r1 w w e
+stopped_skip plan r0 r1 w e stop = record {
+  input = stop.input;
+  written = 0;
+  consumed = stop.consumed;
+  within = asked_skip plan.ibs plan.skip (length stop.input) plan.count (read_within e (plan.skip * plan.ibs) (2 ^ 40) (length stop.input) stop.cause);
+  short = omega arith;
+  appended = Appends-nil w;
+  cause = skip_fault e (plan.skip * plan.ibs) (length stop.input) (length (output_of plan stop.input)) stop.cause;
+}
+
+-- the rest of an input, behind what was skipped
+module _ {A : Type 0} (plan : Plan A) (form : Form) (most before : ℕ) (r0 r1 r2 w0 w1 : Option (List ℕ)) (skipped : List ℕ) (is_form : form ≡ form_of plan) (is_most : most ≡ most_of plan.count plan.ibs) (is_before : before ≡ plan.skip * plan.ibs) (len : length skipped ≡ plan.skip * plan.ibs) (skips : Consumes r0 r1 skipped) where
+  pub copied_rest : (counts : Counts) → CopiesRest form most before r1 r2 w0 w1 counts → IsCopy plan r0 r2 w0 w1 counts
+  copied_rest counts rest =
+      copied plan skipped rest.input len (subst (λ (m : ℕ). length rest.input ≤ m) is_most rest.within) r0 r1 r2 w0 w1 counts skips rest.consumed
+      (subst (λ (m : ℕ). (length rest.input ≡ m) ⊎ IsAtEnd r2) is_most rest.ends) (omega (arith, rest.few, is_before))
+      (subst (λ (f : Form). Appends w0 w1 (converted f rest.input)) is_form rest.appended) (rest.counted ∙ ap (λ f. counts_of f rest.input) is_form)
+
+  pub stopped_rest : (e : IoFault) → StopsPass form most before r1 r2 w0 w1 e → StopsCopy plan r0 r2 w0 w1 e
+  stopped_rest e stop =
+      stopped plan skipped stop.input len (subst (λ (m : ℕ). length stop.input ≤ m) is_most stop.within) r0 r1 r2 w0 w1 e before stop.written is_before skips stop.consumed
+      (subst (λ (f : Form). stop.written ≤ length (converted f stop.input)) is_form stop.short)
+      (subst (λ (f : Form). Appends w0 w1 (take stop.written (converted f stop.input))) is_form stop.appended)
+      (subst (λ (f : Form). IsCopyFault e (before + length stop.input) stop.written (length (converted f stop.input))) is_form stop.cause)
