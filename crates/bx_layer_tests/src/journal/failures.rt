@@ -3,7 +3,7 @@ use crate::journal::script::{
     Held, Step, assert_held, assert_pair, clean, clean_with, held_of, on_memory, pair_of, sit,
     undoes, writes,
 };
-use crate::journal::tools::{PATCHED, UNDONE, image, text};
+use crate::journal::tools::{PATCHED, UNDONE, UNDONE_TWO, image, text};
 use crate::shared::front;
 use bx_image::{FuseImage, MemImage, Part};
 use bx_journal::{How, Recovered, SessionFault};
@@ -15,6 +15,9 @@ use std::test::Fail;
 const INTERRUPTED: Result<u32, SessionFault> = Err(SessionFault::Interrupted);
 
 const FAILED: Result<u32, SessionFault> = Err(SessionFault::DeviceFailed);
+
+/// No read fails.
+const NONE: u64 = u64::MAX;
 
 /// What a session leaves whose image fails.
 fn with_image(
@@ -315,13 +318,14 @@ fn with_reads(
     rt: &impl Abort,
     start: &Held,
     passes: (u64, u64, u64),
-    step: Step<'_>,
+    found: Result<Recovered, SessionFault>,
+    steps: &[Step<'_>],
 ) -> Result<Held, Fail> {
     let image = FuseImage::on_reads(image(alloc, start.image.as_slice())?, passes.0);
     let journal = FuseText::on_reads(text(alloc, start.journal.as_slice())?, passes.1);
     let redo_text = FuseText::on_reads(text(alloc, start.redo.as_slice())?, passes.2);
     let trio = (image, journal, redo_text);
-    let (image, journal, redo_text) = sit(alloc, rt, trio, clean_with(2, 2), &[step])?;
+    let (image, journal, redo_text) = sit(alloc, rt, trio, found, steps)?;
     let (image, journal) = (image.into_inner(), journal.into_inner());
     let redo_text = redo_text.into_inner();
     Ok(held_of(
@@ -351,7 +355,7 @@ fn later_read_fails(
     start: &Held,
     is_redo: bool,
 ) -> Result<(), Fail> {
-    const NONE: u64 = u64::MAX;
+    let found = clean_with(2, 2);
     let refused = two(is_redo, FAILED);
     for passes in [
         (2, NONE, NONE),
@@ -359,15 +363,121 @@ fn later_read_fails(
         (NONE, 1, NONE),
         (NONE, NONE, 1),
     ] {
-        let left = with_reads(alloc, rt, start, passes, refused)?;
+        let left = with_reads(alloc, rt, start, passes, found, &[refused])?;
         let (image, journal) = (start.image.as_slice(), start.journal.as_slice());
         assert_held(rt, &left, image, journal, start.redo.as_slice());
     }
-    let left = with_reads(alloc, rt, start, (4, 2, 2), two(is_redo, INTERRUPTED))?;
+    let stopped = two(is_redo, INTERRUPTED);
+    let left = with_reads(alloc, rt, start, (4, 2, 2), found, &[stopped])?;
     let (changes, undone, all) = if is_redo { (3, 1, 4) } else { (1, 3, 0) };
     let _opened = reopened(alloc, rt, &left, How::Clean, changes, undone)?;
-    let _whole = with_reads(alloc, rt, start, (5, 2, 2), two(is_redo, Ok(all)))?;
+    let whole = two(is_redo, Ok(all));
+    let _whole = with_reads(alloc, rt, start, (5, 2, 2), found, &[whole])?;
     Ok(())
+}
+
+fn change_refused(
+    alloc: Global,
+    rt: &impl Abort,
+    start: &Held,
+    passes: (u64, u64, u64),
+) -> Result<(), Fail> {
+    let refused = Step::Replace {
+        at: 2,
+        bytes: b"xy",
+        answer: FAILED,
+    };
+    let left = with_reads(alloc, rt, start, passes, clean(0), &[refused])?;
+    assert_pair(rt, &left, b"ABCDEFGH", b"");
+    Ok(())
+}
+
+fn change_stopped(alloc: Global, rt: &impl Abort, start: &Held) -> Result<(), Fail> {
+    let stopped = Step::Replace {
+        at: 2,
+        bytes: b"xy",
+        answer: INTERRUPTED,
+    };
+    let left = with_reads(alloc, rt, start, (3, 2, 1), clean(0), &[stopped])?;
+    let restored = (How::Restored { number: 1 }, 0);
+    assert_found(alloc, rt, &left, restored, (b"ABCDEFGH", b""))
+}
+
+fn change_passes(alloc: Global, rt: &impl Abort, start: &Held) -> Result<(), Fail> {
+    let whole = Step::Replace {
+        at: 2,
+        bytes: b"xy",
+        answer: Ok(1),
+    };
+    let left = with_reads(alloc, rt, start, (4, 2, 1), clean(0), &[whole])?;
+    assert!(rt; left.image.as_slice() == b"ABxy".as_slice());
+    Ok(())
+}
+
+// A change reads the length of the image twice, what it overwrites or cuts off, and the length of the journal: each is refused,
+// and changes nothing. Once the head of its entry is written it reads the image's length again, where its piece stands at its base.
+// Opening read both texts.
+#[test]
+fn reads_of_changes_fail(rt: HostRuntime) -> Result<(), Fail> {
+    let start = pair_of(rt.alloc(), b"ABCDEFGH", b"")?;
+    for passes in [
+        (0, NONE, NONE),
+        (1, NONE, NONE),
+        (2, NONE, NONE),
+        (NONE, 1, NONE),
+    ] {
+        change_refused(rt.alloc(), &rt, &start, passes)?;
+    }
+    change_stopped(rt.alloc(), &rt, &start)?;
+    change_passes(rt.alloc(), &rt, &start)
+}
+
+// Opening of a finished entry and so many bytes in all, which is refused for a read and leaves the three as they were.
+fn opening_refused(
+    alloc: Global,
+    rt: &impl Abort,
+    len: usize,
+    passes: (u64, u64, u64),
+) -> Result<(), Fail> {
+    let journal = front(UNDONE_TWO, len);
+    let start = held_of(alloc, b"A", journal, UNDONE)?;
+    let refused = Err(SessionFault::DeviceFailed);
+    let left = with_reads(alloc, rt, &start, passes, refused, &[])?;
+    assert_held(rt, &left, b"A", journal, UNDONE);
+    Ok(())
+}
+
+// Opening of the same, which reads the journal and so many times the image's length, and then nothing more.
+fn opening_recovers(
+    alloc: Global,
+    rt: &impl Abort,
+    len: usize,
+    lengths: u64,
+    how: How,
+) -> Result<(), Fail> {
+    let start = held_of(alloc, b"A", front(UNDONE_TWO, len), UNDONE)?;
+    let found = Ok(Recovered {
+        how,
+        changes: 1,
+        undone: 0,
+    });
+    let left = with_reads(alloc, rt, &start, (lengths, 1, 0), found, &[])?;
+    assert!(rt; left.journal.as_slice() == front(UNDONE_TWO, 133));
+    Ok(())
+}
+
+// Behind an entry that tells its length stands a front of a first line, a first line, or an entry up to its save line. Of the
+// first two the image's length is read. No read comes behind the first write.
+#[test]
+fn reads_of_recoveries_fail(rt: HostRuntime) -> Result<(), Fail> {
+    for len in [150, 167, 234] {
+        opening_refused(rt.alloc(), &rt, len, (NONE, 0, NONE))?;
+    }
+    for len in [150, 167] {
+        opening_refused(rt.alloc(), &rt, len, (0, NONE, NONE))?;
+        opening_recovers(rt.alloc(), &rt, len, 1, How::Dropped)?;
+    }
+    opening_recovers(rt.alloc(), &rt, 234, 0, How::Restored { number: 2 })
 }
 
 // A change that stops where it empties the redo text: opening takes it back, and nothing is undone any more.

@@ -1,5 +1,5 @@
 //! Sessions that run over memory and over files alike.
-use crate::journal::tools::{Trio, open, trio, write};
+use crate::journal::tools::{Trio, open, replace, trio, write};
 use bx_image::{Device, FileImage, SystemFile};
 use bx_journal::{How, Recovered, Session, SessionFault};
 use bx_store::{FileText, TextStore};
@@ -13,6 +13,12 @@ use std::test::Fail;
 #[derive(Clone, Copy)]
 pub enum Step<'a> {
     Write {
+        at: u64,
+        bytes: &'a [u8],
+        answer: Result<u32, SessionFault>,
+    },
+    /// A write that cuts the image to its place before.
+    Replace {
         at: u64,
         bytes: &'a [u8],
         answer: Result<u32, SessionFault>,
@@ -121,6 +127,9 @@ fn is_right<D: Device, T: TextStore>(
     match step {
         Step::Write { at, bytes, answer } => {
             Ok(session.perform(&write(alloc, at, bytes)?) == answer)
+        }
+        Step::Replace { at, bytes, answer } => {
+            Ok(session.perform(&replace(alloc, at, bytes)?) == answer)
         }
         Step::Undo { count, answer } => Ok(session.undo(count) == answer),
         Step::Redo { count, answer } => Ok(session.redo(count) == answer),

@@ -44,6 +44,15 @@ pub fn write(alloc: Global, at: u64, bytes: &[u8]) -> Result<Change, AllocError>
     })
 }
 
+/// The same, where the image is cut to its place before.
+pub fn replace(alloc: Global, at: u64, bytes: &[u8]) -> Result<Change, AllocError> {
+    let Change { writes, .. } = write(alloc, at, bytes)?;
+    Ok(Change {
+        base: Some(at),
+        writes,
+    })
+}
+
 /// A change of nothing.
 pub fn nothing(alloc: Global) -> Change {
     Change {
