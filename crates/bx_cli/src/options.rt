@@ -409,7 +409,7 @@ fn log<'a>(alloc: Global) -> Result<Command<'a>, AllocError> {
 /// All that the program takes.
 pub fn program<'a>(alloc: Global) -> Result<Command<'a>, AllocError> {
     Command::new(alloc, "bx")
-        .version("1.0.0")
+        .version("1.1.0")
         .about("A byte toolkit with undo: dumps files, patches them, and takes changes back")
         .after_help(
             "EXAMPLES:\n  bx xxd -l 64 disk.img\n  echo '00000002: 7879' | bx revert disk.img\n  bx undo disk.img\n  bx redo disk.img\n\nThe exit status is 0, 1 for a fault, and 2 for wrong words.\nSee 'bx COMMAND --help' for a command's options, and 'man bx' for formats and faults.",
