@@ -1,22 +1,20 @@
 -- Runs of commands on a session: how a loop makes one, and what follows from one.
-use Rattle.std.proofs.Common.{◌≡◌, ◌∙◌, ◌<◌, ◌≤◌, ◌+◌, ℕ, zero, suc, Bool, true, false, cond, Option, Result, List, [], ◌∷◌, ◌++◌, length, get_or, set, take, drop, refl, sym, ap, subst, arith, All}
+use Rattle.std.proofs.Common.{◌≡◌, ◌∙◌, ◌<◌, ◌≤◌, ◌+◌, ℕ, zero, suc, Bool, true, false, cond, Option, List, [], ◌∷◌, ◌++◌, length, get_or, set, take, drop, refl, sym, ap, subst, arith, All}
 use Rattle.std.specs.Prelude.{count_by}
 use Rattle.std.proofs.lemmas.List.{append_assoc, append-nil, drop_more, drop-set-lt, take_all, drop_all, take_more_set}
 use Rattle.std.proofs.lemmas.List.Elements.{All-cons, All-nil}
 use Rattle.std.proofs.lemmas.List.Sums.{sum_by-cons}
-use Rattle.bx_dd.specs.declared.fault.DdFault.{DdFault}
 use Rattle.bx_journal.specs.Images.{Images}
 use Rattle.bx_journal.specs.Session.{IsRedoSame, IsSame, IsUnfailed}
 use Rattle.bx_journal.specs.SessionView.{SessionView}
-use Rattle.bx_cli.specs.declared.changes.DdChange.{DdChange}
 use Rattle.bx_cli.specs.declared.command.Command.{Command}
 use Rattle.bx_cli.specs.declared.command.Command.TheVariants.{Revert, RevertPlain, Dd, Undo, Redo}
 use Rattle.bx_cli.specs.declared.command.Reply.{Reply}
 use Rattle.bx_cli.specs.Obeys.{Obeys}
 use Rattle.bx_cli.specs.Refusal.{IsOwnRefusal, IsWholeRefusal}
-use Rattle.bx_cli.specs.Run.{is_failure, CommandRun, CommandStep, DdStep, StackRun, Unfailed}
+use Rattle.bx_cli.specs.Run.{is_failure, CommandRun, CommandStep, StackRun, Unfailed}
 use Rattle.bx_cli.specs.SessionRun.{SessionRun, SessionStep}
-use Rattle.bx_cli.specs.Standing.{failures_of, CountsBy, CountsOn, HoldsAt, Shows, Standing}
+use Rattle.bx_cli.specs.Standing.{CountsBy, CountsOn, HoldsAt, Shows, Standing}
 use Rattle.bx_cli.proofs.Obeys.{obeys_next}
 use Rattle.bx_cli.proofs.Refusals.{redo_same_here, redo_same_on, same_here, same_on}
 use Rattle.bx_cli.proofs.Unfailed.{all_tail}

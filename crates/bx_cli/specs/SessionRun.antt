@@ -4,7 +4,7 @@ use Rattle.bx_dd.specs.declared.fault.DdFault.{DdFault}
 use Rattle.bx_journal.specs.SessionView.{SessionView}
 use Rattle.bx_cli.specs.declared.changes.DdChange.{DdChange}
 use Rattle.bx_cli.specs.declared.command.Command.{Command}
-use Rattle.bx_cli.specs.declared.command.Command.TheVariants.{Revert, RevertPlain, Dd, Undo, Redo}
+use Rattle.bx_cli.specs.declared.command.Command.TheVariants.{Dd}
 use Rattle.bx_cli.specs.declared.command.Reply.{Reply}
 use Rattle.bx_cli.specs.Copy.{Makes}
 use Rattle.bx_cli.specs.Obeys.{Obeys}
