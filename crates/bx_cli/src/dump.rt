@@ -13,11 +13,11 @@ ghost use Rattle.bx_dump.specs.Pages.{WritesPart, WritesFrontOf, part_of};
 ghost use Rattle.bx_dump.specs.Strings.{strings_text};
 
 use crate::{Fault, HexdumpJob, Job, OdJob, StringsJob, XxdJob, XxdLook};
-use bx_dd::{Counts, Plan, transfer};
+use bx_dd::{Counts, Plan, copy_out};
 use bx_dump::{
     HexdumpOptions, OdOptions, StringsOptions, XxdOptions, XxdStyle, hexdump_c, od, strings, xxd,
 };
-use bx_text::{IoFault, Name, emit};
+use bx_text::{IoFault, Name};
 use std::alloc::Allocator;
 use std::io::{Read, Write};
 
@@ -140,7 +140,7 @@ fn run_strings<R: Read, W: Write>(job: &StringsJob, r: &mut R, w: &mut W) -> Res
     strings(r, w, &options)
 }
 
-/// Writes what the plan makes of the input. A plan that seeks is refused before anything is read.
+/// Writes what the plan makes of the input, as it is read. A plan that seeks is refused before anything is read.
 fn run_dd<R: Read, W: Write, A: Allocator + Clone>(
     alloc: A,
     plan: &Plan,
@@ -153,12 +153,8 @@ fn run_dd<R: Read, W: Write, A: Allocator + Clone>(
     if let Err(fault) = plan.for_stream() {
         return Err(Fault::from(fault));
     }
-    let copied = match transfer(alloc, r, plan) {
-        Ok(copied) => copied,
-        Err(fault) => return Err(Fault::from(fault)),
-    };
-    match emit(w, copied.bytes.as_slice()) {
-        Ok(()) => Ok(copied.counts),
+    match copy_out(alloc, r, w, plan) {
+        Ok(counts) => Ok(counts),
         Err(fault) => Err(Fault::from(fault)),
     }
 }
