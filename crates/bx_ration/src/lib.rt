@@ -22,7 +22,7 @@ pub fn arena(alloc: Global) -> Result<Bump, AllocError> {
 
 /// From here on the arena hands out `bytes` bytes: each growth has a number at which it is the first to be refused.
 pub fn squeeze(bump: &Bump, bytes: usize) -> Result<(), AllocError> {
-    for _ in 0..32 {
+    for _ in 0..128 {
         if bump.chunk_capacity() >= bytes {
             break;
         }
