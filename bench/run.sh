@@ -1,17 +1,17 @@
 #!/usr/bin/env bash
 # Times bx beside the real tools, all in one run: the least of several times, and the memory that each took.
 # Usage: bench/run.sh [quick] [programs]      (BX names the program, ./bx by default; ROUNDS how often each is timed, 3)
-#   quick: inputs of 32 MiB, else 256 MiB, and 64 MiB where the real tool is slow
+#   quick: inputs of 32 MiB, else 256 MiB, 64 MiB where the real tool is slow, and 1 GiB for dd to a stream
 #   programs: without the calls of the libraries, which are proved first
 # What isn't installed is left out. The rows go to standard output, and to bench/out/run.tsv, from which bench/plot.py writes
 # docs/SPEED.md. Run by hand, no part of the gate.
 set -euo pipefail
 BX=$(realpath "${BX:-./bx}")
 top=$(realpath "$(dirname "$0")/..")
-rounds=${ROUNDS:-3} big=256 mid=64 with_calls=yes
+rounds=${ROUNDS:-3} big=256 mid=64 stream=1024 with_calls=yes
 for word in "$@"; do
   case $word in
-  quick) big=32 mid=32 ;;
+  quick) big=32 mid=32 stream=32 ;;
   programs) with_calls=no ;;
   *) sed -n 's/^# //p' "$0"; exit 2 ;;
   esac
@@ -88,7 +88,7 @@ version() { has "$1" && echo "# $("$@" 2>&1 | head -n 1)" || true; }
 
 {
   echo "# $(sed -n 's/^model name[^:]*: //p' /proc/cpuinfo | head -n 1), $(nproc) processors, Linux $(uname -r)"
-  echo "# inputs of $big MiB, and of $mid MiB where the row says less; the least of $rounds"
+  echo "# inputs of $big MiB, of $mid MiB where the row says less, and of $stream MiB for copies to a stream; the least of $rounds"
   version "$BX" --version; version xxd --version; version od --version; version hexdump --version; version strings --version
   version rg --version; version busybox --help
 } > "$run"
@@ -123,15 +123,15 @@ for file in random text zeros; do
 done
 
 S='copies to a stream'
-if "$BX" dd --help > /dev/null 2>&1; then
-  row "$S" 0.5 'dd'               'dd'                      -- "$BX" dd if=random            -- dd if=random
-  row "$S" 1 'dd conv=ucase'      'dd conv=ucase'           -- "$BX" dd if=random conv=ucase -- dd if=random conv=ucase
-  row "$S" 0.5 'dd conv=swab'     'dd conv=swab'            -- "$BX" dd if=random conv=swab  -- dd if=random conv=swab
-  row "$S" 1 'dd conv=block'      'dd conv=block'           -- "$BX" dd if=text conv=block cbs=80 -- dd if=text conv=block cbs=80
-  row "$S" 1 'dd conv=unblock'    'dd conv=unblock'         -- "$BX" dd if=random conv=unblock cbs=80 -- dd if=random conv=unblock cbs=80
-fi
-# Further rows of dd, where there are some: bench/dd.sh is read here, and writes them by `row "$S" GOAL NAME BESIDE -- OURS -- REAL`.
-if [ -f "$top/bench/dd.sh" ]; then . "$top/bench/dd.sh"; fi
+head -c "${stream}M" /dev/urandom > long; head -c "$((stream * 3 / 4))M" long | base64 > prose
+row "$S" 3 'dd'                   'dd'                      -- "$BX" dd if=long              -- dd if=long
+row "$S" 1 'dd bs=1M'             'dd bs=1M'                -- "$BX" dd if=long bs=1M        -- dd if=long bs=1M
+row "$S" 1 'dd bs=16M'            'dd bs=16M'               -- "$BX" dd if=long bs=16M       -- dd if=long bs=16M
+row "$S" 1.5 'dd conv=ucase'      'dd conv=ucase'           -- "$BX" dd if=long conv=ucase   -- dd if=long conv=ucase
+row "$S" 1.5 'dd conv=swab'       'dd conv=swab'            -- "$BX" dd if=long conv=swab    -- dd if=long conv=swab
+row "$S" 1.5 'dd conv=block'      'dd conv=block'           -- "$BX" dd if=prose conv=block cbs=80 -- dd if=prose conv=block cbs=80
+row "$S" 1.5 'dd conv=unblock'    'dd conv=unblock'         -- "$BX" dd if=long conv=unblock cbs=80 -- dd if=long conv=unblock cbs=80
+rm long prose
 
 # Changes of an image: a dump of less bytes written onto an image, taken back and made again, and opening beside a full journal.
 C=changes
