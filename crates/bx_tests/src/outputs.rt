@@ -12,6 +12,9 @@ use std::test::Fail;
 /// No call takes so many bytes.
 const MOST_BYTES: usize = 300_000;
 
+/// No call grows so often.
+const MOST_GROWTHS: u32 = 100;
+
 /// A copy to a stream, what it reads and writes, and what it counts, as GNU dd does.
 const COPY: &str = "dd cbs=4 conv=block,ucase";
 
@@ -103,19 +106,41 @@ fn refused_at(
     }
 }
 
+/// The least bytes above these, in steps of `ALIGN`, with which the call takes more than `taken` before it is refused, or isn't.
+fn next_growth(
+    rt: &impl Abort,
+    alloc: Global,
+    job: &Job,
+    call: Call,
+    bytes: usize,
+    taken: usize,
+) -> Result<usize, Fail> {
+    let mut low = bytes / ALIGN;
+    let mut high = MOST_BYTES / ALIGN;
+    for _ in 0..usize::BITS {
+        let half = high.saturating_sub(low) / 2;
+        if half == 0 {
+            break;
+        }
+        let middle = low.saturating_add(half);
+        let refused = refused_at(rt, alloc, job, call, middle.saturating_mul(ALIGN))?;
+        if refused == Some(taken) {
+            low = middle;
+        } else {
+            high = middle;
+        }
+    }
+    Ok(high.saturating_mul(ALIGN))
+}
+
 /// Refuses each growth of the call in turn, and tells how many they were.
 fn sweep(rt: &impl Abort, alloc: Global, job: &Job, call: Call) -> Result<u32, Fail> {
-    let mut count = 0u32;
-    let mut last = usize::MAX;
-    for turn in 0..MOST_BYTES / ALIGN {
-        let bytes = turn * ALIGN;
+    let mut bytes = 0;
+    for count in 0..MOST_GROWTHS {
         let Some(taken) = refused_at(rt, alloc, job, call, bytes)? else {
             return Ok(count);
         };
-        if taken != last {
-            last = taken;
-            count = count.saturating_add(1);
-        }
+        bytes = next_growth(rt, alloc, job, call, bytes, taken)?;
     }
     Err(Fault::NoMemory.into())
 }
