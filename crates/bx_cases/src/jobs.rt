@@ -2,7 +2,7 @@
 use crate::outcome::{Wrong, differs, same_text};
 use bx_cli::{DdJob, HexdumpJob, Job, OdJob, RevertJob, StringsJob, Texts, XxdJob, XxdLook};
 use bx_dd::{Letters, Plan, Shape};
-use bx_dump::{Address, Kind, NumForm, Size};
+use bx_dump::od::{Address, Kind, NumForm, Size};
 use bx_text::{Name, Words};
 use std::alloc::{AllocError, Global};
 

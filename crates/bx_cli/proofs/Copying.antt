@@ -4,7 +4,7 @@ use Rattle.std.specs.Prelude.{IfSome, IsOkUnless}
 use Rattle.bx_text.proofs.KnownLemmas.{Consumes-nil}
 use Rattle.bx_dd.specs.declared.fault.DdFault.{DdFault}
 use Rattle.bx_dd.specs.declared.fault.DdFault.TheVariants.{NoMemory}
-use Rattle.bx_dd.specs.declared.plan.Plan.{Plan}
+use Rattle.bx_dd.specs.declared.operands.plan.Plan.{Plan}
 use Rattle.bx_dd.specs.Operands.{fault_of}
 use Rattle.bx_dd.specs.Parsing.{IsPlanOf}
 use Rattle.bx_dd.specs.Transfer.{HasStopped}

@@ -1,9 +1,9 @@
 -- Pieces of a dump as the writes of a change.
 use Rattle.std.proofs.Common.{◌≡◌, ℕ, ◌+◌, List, [], ◌∷◌, map, refl, ap, length, take, ◌++◌}
 use Rattle.std.proofs.Math.Seq.{take-append_seam}
-use Rattle.bx_text.specs.declared.pieces.Piece.{Piece}
+use Rattle.bx_text.specs.declared.owned.pieces.Piece.{Piece}
 use Rattle.bx_read.specs.Text.{contents}
-use Rattle.bx_cli.specs.Command.{moved}
+use Rattle.bx_cli.specs.inner.Command.{moved}
 
 pub moved_contents : {A : Type 0} (offset : ℕ) (pieces : List (Piece A))
     → map (moved offset) pieces ≡ map (λ (piece : ℕ × List ℕ). let p : Piece A = record { at = piece.0 + offset; bytes = piece.1 } in p) (contents pieces)

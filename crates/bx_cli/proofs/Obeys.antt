@@ -1,7 +1,7 @@
 -- Commands that are refused before the session is called, and commands that the session answers, obey their steps.
 use Rattle.std.proofs.Common.{◌≡◌, ◌↔◌, ◌≤◌, ◌<◌, inl, inr, ℕ, Bool, true, false, cond, Option, Result, Ok, Err, List, [], ◌∷◌, drop, length, refl, sym, ◌∙◌, ap, subst, arith}
 use Rattle.std.specs.Result.{IsErrOf}
-use Rattle.bx_dd.specs.declared.counts.Counts.{Counts}
+use Rattle.bx_dd.specs.declared.stream.counts.Counts.{Counts}
 use Rattle.bx_dd.specs.declared.fault.DdFault.{DdFault}
 use Rattle.bx_dd.specs.declared.fault.DdFault.TheVariants as dd
 use Rattle.bx_image.specs.declared.change.Change.{Change}
@@ -14,8 +14,8 @@ use Rattle.bx_journal.specs.Session.{FindsEither, HasUndone, IsReady, IsRedoSame
 use Rattle.bx_journal.specs.SessionView.{SessionView}
 use Rattle.bx_journal.specs.Standing.{IsStanding, PerformFault}
 use Rattle.bx_journal.specs.Undoing.{HasCount, RedoFault, UndoFault}
-use Rattle.bx_journal.specs.declared.fault.SessionFault.{SessionFault}
-use Rattle.bx_journal.specs.declared.fault.SessionFault.TheVariants.{Damaged, TooFew, TooLarge, JournalFull, Interrupted, Broken, NothingToRedo, RedoDamaged}
+use Rattle.bx_journal.specs.declared.session.fault.SessionFault.{SessionFault}
+use Rattle.bx_journal.specs.declared.session.fault.SessionFault.TheVariants.{Damaged, TooFew, TooLarge, JournalFull, Interrupted, Broken, NothingToRedo, RedoDamaged}
 use Rattle.bx_read.specs.declared.fault.ReadFault.{ReadFault}
 use Rattle.bx_read.specs.declared.fault.ReadFault.TheVariants as read
 use Rattle.bx_cli.specs.declared.command.Reply.{Reply}

@@ -1,11 +1,11 @@
 -- What refused commands leave.
 use Rattle.std.proofs.Common.{◌≡◌, ◌∙◌, ◌⊎◌, inl, inr, ℕ, List, Option, None, Some, refl, subst}
-use Rattle.bx_dd.specs.declared.counts.Counts.{Counts}
+use Rattle.bx_dd.specs.declared.stream.counts.Counts.{Counts}
 use Rattle.bx_journal.specs.Calls.{AfterFault}
 use Rattle.bx_journal.specs.Session.{IsRedoSame, IsSame}
 use Rattle.bx_journal.specs.SessionView.{SessionView}
-use Rattle.bx_journal.specs.declared.fault.SessionFault.{SessionFault}
-use Rattle.bx_journal.specs.declared.fault.SessionFault.TheVariants.{NoMemory, TooLarge, DeviceFailed, Damaged, TooFew, JournalFull, Interrupted, Broken, LengthDiffers, NothingToRedo, RedoDamaged}
+use Rattle.bx_journal.specs.declared.session.fault.SessionFault.{SessionFault}
+use Rattle.bx_journal.specs.declared.session.fault.SessionFault.TheVariants.{NoMemory, TooLarge, DeviceFailed, Damaged, TooFew, JournalFull, Interrupted, Broken, LengthDiffers, NothingToRedo, RedoDamaged}
 use Rattle.bx_cli.specs.declared.command.Reply.{Reply}
 use Rattle.bx_cli.specs.declared.command.Reply.TheVariants.{Changed, Copied, Undone, Redone, Refused}
 use Rattle.bx_cli.specs.Fault.{of_session}

@@ -2,7 +2,7 @@
 use Rattle.std.proofs.Common.{◌≡◌, ℕ, zero, suc, ◌+◌, ◌-◌, ◌*◌, ◌/◌, ◌<◌, ◌≤◌, Ok, Result, List, length, map, take, drop, sym, ap, ◌∙◌, arith}
 use Rattle.std.specs.List.{range_with_len}
 use Rattle.std.proofs.lemmas.List.{take_all}
-use Rattle.bx_text.specs.declared.pieces.Piece.{Piece}
+use Rattle.bx_text.specs.declared.owned.pieces.Piece.{Piece}
 use Rattle.bx_read.specs.declared.fault.ReadFault.{ReadFault}
 use Rattle.bx_dump.specs.Pages.{part_of}
 use Rattle.bx_dump.proofs.LinesLemmas.{line_begin, line_end}

@@ -13,8 +13,8 @@ use Rattle.bx_dump.specs.Lines.{in_lines}
 use Rattle.bx_dump.specs.Pages.{part_of}
 use Rattle.bx_dump.specs.Styles.{group_of, xxd_text}
 use Rattle.bx_dump.specs.Xxd.{columns_line}
-use Rattle.bx_dump.specs.declared.xxd_columns.Digits.TheVariants.{Hexadecimal}
-use Rattle.bx_dump.specs.declared.xxd_options.XxdOptions.{XxdOptions}
+use Rattle.bx_dump.specs.declared.xxd.columns.Digits.TheVariants.{Hexadecimal}
+use Rattle.bx_dump.specs.declared.xxd.options.XxdOptions.{XxdOptions}
 use Rattle.bx_dump.proofs.LinesLemmas.{line_begin}
 use Rattle.bx_cli.specs.XxdLaws.{chunks, dumped_chunks, IsNormalDump, NormalTextReadsBack}
 

@@ -1,13 +1,8 @@
 -- The changes that commands ask for.
 use Rattle.std.specs.Prelude.{◌≤◌, ◌^◌, ℕ, ◌+◌, None, List, [], ◌∷◌, map}
-use Rattle.bx_text.specs.declared.pieces.Piece.{Piece}
 use Rattle.bx_cli.specs.declared.command.Command.{Command}
 use Rattle.bx_cli.specs.declared.command.Command.TheVariants.{Revert, RevertPlain, Dd, Undo, Redo}
 use Rattle.bx_image.specs.declared.change.Change.{Change}
-
--- a piece at its address plus an offset
-abbrev pub moved : {A : Type 0} → ℕ → Piece A → Piece A
-moved offset piece = record { at = piece.at + offset; bytes = piece.bytes }
 
 -- The change without a base that writes each piece, an address and bytes, at its address plus the offset
 abbrev pub dump_change : {A : Type 0} → ℕ → List (ℕ × List ℕ) → Change A

@@ -1,9 +1,9 @@
 -- What dd makes of an input.
 use Rattle.std.specs.Prelude.{◌≡◌, ◌⊎◌, ◌^◌, ℕ, Option, None, Some, Result, Ok, Err, List}
-use Rattle.bx_dd.specs.declared.counts.Transfer.{Transfer}
+use Rattle.bx_dd.specs.declared.stream.counts.Transfer.{Transfer}
 use Rattle.bx_dd.specs.declared.fault.DdFault.{DdFault}
 use Rattle.bx_dd.specs.declared.fault.DdFault.TheVariants.{NoMemory}
-use Rattle.bx_dd.specs.declared.plan.Plan.{Plan}
+use Rattle.bx_dd.specs.declared.operands.plan.Plan.{Plan}
 use Rattle.bx_dd.specs.Operands.{fault_of}
 use Rattle.bx_dd.specs.Parsing.{IsPlanOf}
 use Rattle.bx_dd.specs.Plan.{change_of}

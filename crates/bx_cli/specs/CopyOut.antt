@@ -1,8 +1,8 @@
 -- What dd does without an image: its output goes to a writer.
 use Rattle.std.specs.Prelude.{◌≡◌, ◌⊎◌, ◌<◌, ℕ, Option, List}
 use Rattle.bx_text.specs.declared.fault.IoFault.{IoFault}
-use Rattle.bx_dd.specs.declared.counts.Counts.{Counts}
-use Rattle.bx_dd.specs.declared.plan.Plan.{Plan}
+use Rattle.bx_dd.specs.declared.stream.counts.Counts.{Counts}
+use Rattle.bx_dd.specs.declared.operands.plan.Plan.{Plan}
 use Rattle.bx_dd.specs.Streaming.{IsCopy, StopsCopy}
 use Rattle.bx_cli.specs.declared.fault.Fault.{Fault}
 use Rattle.bx_cli.specs.declared.fault.Fault.TheVariants.{SeekWithoutOutput}

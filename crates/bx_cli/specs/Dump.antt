@@ -1,8 +1,8 @@
 -- The options of a dump that a job asks for.
 use Rattle.std.specs.Prelude.{◌≡◌, ◌<◌, ◌^◌, ℕ, Option, None, Some, List, length}
-use Rattle.bx_dump.specs.declared.xxd_options.XxdOptions.{XxdOptions}
-use Rattle.bx_dump.specs.declared.xxd_options.XxdStyle.{XxdStyle}
-use Rattle.bx_dump.specs.declared.xxd_options.XxdStyle.TheVariants as style
+use Rattle.bx_dump.specs.declared.xxd.options.XxdOptions.{XxdOptions}
+use Rattle.bx_dump.specs.declared.xxd.options.XxdStyle.{XxdStyle}
+use Rattle.bx_dump.specs.declared.xxd.options.XxdStyle.TheVariants as style
 use Rattle.bx_cli.specs.declared.job.XxdJob.{XxdJob}
 use Rattle.bx_cli.specs.declared.job.XxdLook.{XxdLook}
 use Rattle.bx_cli.specs.declared.job.XxdLook.TheVariants as look

@@ -6,8 +6,8 @@ use Rattle.bx_text.specs.declared.fault.IoFault.{IoFault}
 use Rattle.bx_text.specs.declared.fault.IoFault.TheVariants.{NoMemory as IoNoMemory, ReadFailed as IoReadFailed, WriteFailed as IoWriteFailed, InputTooLong as IoInputTooLong, SkipPastEnd as IoSkipPastEnd}
 use Rattle.bx_read.specs.declared.fault.ReadFault.{ReadFault}
 use Rattle.bx_read.specs.declared.fault.ReadFault.TheVariants.{NoMemory as ReadNoMemory, BadAddress as ReadBadAddress, MissingColon as ReadMissingColon, BadPair as ReadBadPair, NoData as ReadNoData, TooWide as ReadTooWide, AddressTooLarge as ReadAddressTooLarge, OddDigits as ReadOddDigits}
-use Rattle.bx_journal.specs.declared.fault.SessionFault.{SessionFault}
-use Rattle.bx_journal.specs.declared.fault.SessionFault.TheVariants.{NoMemory as SessionNoMemory, TooLarge as SessionTooLarge, DeviceFailed as SessionDeviceFailed, Damaged as SessionDamaged, TooFew as SessionTooFew, JournalFull as SessionJournalFull, Interrupted as SessionInterrupted, Broken as SessionBroken, LengthDiffers as SessionLengthDiffers, NothingToRedo as SessionNothingToRedo, RedoDamaged as SessionRedoDamaged}
+use Rattle.bx_journal.specs.declared.session.fault.SessionFault.{SessionFault}
+use Rattle.bx_journal.specs.declared.session.fault.SessionFault.TheVariants.{NoMemory as SessionNoMemory, TooLarge as SessionTooLarge, DeviceFailed as SessionDeviceFailed, Damaged as SessionDamaged, TooFew as SessionTooFew, JournalFull as SessionJournalFull, Interrupted as SessionInterrupted, Broken as SessionBroken, LengthDiffers as SessionLengthDiffers, NothingToRedo as SessionNothingToRedo, RedoDamaged as SessionRedoDamaged}
 use Rattle.bx_dd.specs.declared.fault.DdFault.{DdFault}
 use Rattle.bx_dd.specs.declared.fault.DdFault.TheVariants.{NoMemory as DdNoMemory, ReadFailed as DdReadFailed, InputTooLong as DdInputTooLong, UnknownOperand as DdUnknownOperand, BadNumber as DdBadNumber, NumberTooLarge as DdNumberTooLarge, ZeroSize as DdZeroSize, Conflict as DdConflict, MissingCbs as DdMissingCbs, Repeated as DdRepeated, SeekWithoutOutput as DdSeekWithoutOutput}
 

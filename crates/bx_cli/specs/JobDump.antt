@@ -1,8 +1,8 @@
 -- What running a dump that a job asks for does.
 use Rattle.std.specs.Prelude.{◌≡◌, ℕ, Option, None, Some, List}
 use Rattle.bx_text.specs.declared.fault.IoFault.{IoFault}
-use Rattle.bx_dd.specs.declared.plan.Plan.{Plan}
-use Rattle.bx_dump.specs.declared.xxd_options.XxdOptions.{XxdOptions}
+use Rattle.bx_dd.specs.declared.operands.plan.Plan.{Plan}
+use Rattle.bx_dump.specs.declared.xxd.options.XxdOptions.{XxdOptions}
 use Rattle.bx_dump.specs.Pages.{part_of}
 use Rattle.bx_dump.specs.Od.{od_text}
 use Rattle.bx_dump.specs.Hexdump.{hexdump_text}

@@ -14,3 +14,4 @@ pub mod Listing
 pub mod Dump
 pub mod JobDump
 pub mod XxdLaws
+pub mod inner

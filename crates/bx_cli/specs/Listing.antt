@@ -1,7 +1,7 @@
 -- The log of a session as text.
 use Rattle.std.specs.Prelude.{ℕ, List, ◌++◌, codes, decimal}
 use Rattle.std.specs.List.{flat_map}
-use Rattle.bx_journal.specs.declared.calls.LogRow.{LogRow}
+use Rattle.bx_journal.specs.declared.session.answers.LogRow.{LogRow}
 
 -- a change's number, the length before it, and how many bytes were saved
 abbrev pub log_line : LogRow → List ℕ

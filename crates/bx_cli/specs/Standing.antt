@@ -4,8 +4,8 @@ use Rattle.bx_image.specs.declared.change.Change.{Change}
 use Rattle.bx_image.specs.Change.{effect}
 use Rattle.bx_journal.specs.Images.{Images, change_to, redo_of, undo_of}
 use Rattle.bx_journal.specs.SessionView.{SessionView}
-use Rattle.bx_journal.specs.declared.fault.SessionFault.{SessionFault}
-use Rattle.bx_journal.specs.declared.fault.SessionFault.TheVariants.{DeviceFailed, JournalFull, Interrupted, Broken}
+use Rattle.bx_journal.specs.declared.session.fault.SessionFault.{SessionFault}
+use Rattle.bx_journal.specs.declared.session.fault.SessionFault.TheVariants.{DeviceFailed, JournalFull, Interrupted, Broken}
 use Rattle.bx_journal.specs.Machine.{PerformStep, RedoStep, UndoStep, top, changes_of}
 use Rattle.bx_journal.specs.Session.{HasUndone, IsReady, SessionFinds}
 use Rattle.bx_journal.specs.Standing.{IsStanding}

@@ -4,8 +4,8 @@ use Rattle.std.specs.List.{range_with_len}
 use Rattle.bx_read.specs.Text.{dump_pieces, lines_of, GivesPieces}
 use Rattle.bx_dump.specs.Pages.{part_of}
 use Rattle.bx_dump.specs.Styles.{xxd_text}
-use Rattle.bx_dump.specs.declared.xxd_options.XxdOptions.{XxdOptions}
-use Rattle.bx_dump.specs.declared.xxd_options.XxdStyle.TheVariants.{Normal}
+use Rattle.bx_dump.specs.declared.xxd.options.XxdOptions.{XxdOptions}
+use Rattle.bx_dump.specs.declared.xxd.options.XxdStyle.TheVariants.{Normal}
 use Rattle.bx_image.specs.Image.{place}
 use Rattle.bx_image.specs.Change.{effect}
 use Rattle.bx_cli.specs.Command.{dump_change}

@@ -3,7 +3,7 @@ ghost use Rattle.std.specs.Prelude.{◌≡◌, ◌≤◌, ◌^◌, ℕ, IfOk, If
 ghost use Rattle.bx_cli.specs.CopyOut.{CopiesOut, StopsOut};
 ghost use Rattle.bx_cli.specs.JobDump.{DumpsJob, DumpsHexdump, DumpsOd, DumpsStrings, StopsJob};
 ghost use Rattle.bx_cli.specs.Dump.{AreOptionsOf, IsStyleOf};
-ghost use Rattle.bx_dump.specs.declared.xxd_options.XxdOptions.{XxdOptions};
+ghost use Rattle.bx_dump.specs.declared.xxd.options.XxdOptions.{XxdOptions};
 ghost use Rattle.bx_dump.specs.Styles.{IsCountable, xxd_text};
 ghost use Rattle.bx_dump.specs.Dumped.{DumpsFront};
 ghost use Rattle.bx_dump.specs.Hexdump.{hexdump_text};
@@ -14,9 +14,10 @@ ghost use Rattle.bx_dump.specs.Strings.{strings_text};
 
 use crate::{Fault, HexdumpJob, Job, OdJob, StringsJob, XxdJob, XxdLook};
 use bx_dd::{Counts, Plan, copy_out};
-use bx_dump::{
-    HexdumpOptions, OdOptions, StringsOptions, XxdOptions, XxdStyle, hexdump_c, od, strings, xxd,
-};
+use bx_dump::hexdump::{HexdumpOptions, hexdump_c};
+use bx_dump::od::{OdOptions, od};
+use bx_dump::strings::{StringsOptions, strings};
+use bx_dump::xxd::{XxdOptions, XxdStyle, xxd};
 use bx_text::{IoFault, Name};
 use std::alloc::Allocator;
 use std::io::{Read, Write};

@@ -3,7 +3,7 @@ ghost use Rattle.std.specs.Prelude.{◌≡◌, ◌≤◌, ◌^◌, ◌++◌, cod
 ghost use Rattle.bx_dd.specs.Parsing.{IsPlanOf};
 
 use bx_dd::Plan;
-use bx_dump::{Address, Kind};
+use bx_dump::od::{Address, Kind};
 use bx_text::{Name, Words};
 
 /// The style of an `xxd` dump.

@@ -7,7 +7,7 @@ mod dump;
 mod fault;
 mod hint;
 mod job;
-mod laws;
+pub mod laws;
 mod listing;
 mod options;
 mod plan;
@@ -18,10 +18,6 @@ pub use dump::{Done, run_dump};
 pub use fault::Fault;
 pub use hint::{Known, Misuse, hint_text, misuse_of};
 pub use job::{DdJob, HexdumpJob, Job, OdJob, RevertJob, StringsJob, Texts, XxdJob, XxdLook};
-pub use laws::{
-    normal_text_reads_back, normal_text_reverts, redo_gives_back, runs_join, undo_gives_back,
-    unfailed_runs,
-};
 pub use listing::log_text;
 pub use plan::plan_words;
 pub use run::run_all;

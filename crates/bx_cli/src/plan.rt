@@ -5,7 +5,7 @@ use crate::fault::Fault;
 use crate::job::{DdJob, HexdumpJob, Job, OdJob, RevertJob, StringsJob, Texts, XxdJob, XxdLook};
 use crate::options::program;
 use bx_dd::parse;
-use bx_dump::{Address, Kind, NumForm, Size};
+use bx_dump::od::{Address, Kind, NumForm, Size};
 use bx_text::{Name, SizeStyle, Words, read_size};
 use clap::error::ErrorKind;
 use clap::{ArgMatches, Error};

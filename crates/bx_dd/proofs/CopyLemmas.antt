@@ -10,16 +10,17 @@ use Rattle.bx_text.specs.Stream.{IsReadCause, StopsIn}
 use Rattle.bx_text.specs.Writing.{WritesFront}
 use Rattle.bx_text.specs.declared.fault.IoFault.{IoFault}
 use Rattle.bx_text.specs.declared.fault.IoFault.TheVariants.{NoMemory, ReadFailed, WriteFailed, InputTooLong, SkipPastEnd}
-use Rattle.bx_dd.specs.declared.counts.Counts.{Counts}
-use Rattle.bx_dd.specs.declared.plan.Plan.{Plan}
+use Rattle.bx_dd.specs.declared.stream.counts.Counts.{Counts}
+use Rattle.bx_dd.specs.declared.operands.plan.Plan.{Plan}
 use Rattle.bx_dd.specs.Counting.{counts_of}
 use Rattle.bx_dd.specs.Plan.{form_of}
 use Rattle.bx_dd.specs.Transfer.{IsReadOut, IsWithin, output_of, selected_by}
-use Rattle.bx_dd.specs.declared.form.Form.{Form}
-use Rattle.bx_dd.specs.declared.form.Shape.TheVariants.{Flat}
+use Rattle.bx_dd.specs.declared.convert.form.Form.{Form}
+use Rattle.bx_dd.specs.declared.convert.form.Shape.TheVariants.{Flat}
 use Rattle.bx_dd.specs.Output.{converted, cut_records, joined, selected, shaped}
 use Rattle.bx_dd.specs.Standing.{HasSizes}
-use Rattle.bx_dd.specs.Streaming.{CopiesRest, Flows, Goes, IsCopy, IsCopyFault, Stage, StopsCopy, StopsFlow, StopsPass, StopsSkip, StopsStage, most_of, unit_of}
+use Rattle.bx_dd.specs.Streaming.{IsCopy, IsCopyFault, StopsCopy}
+use Rattle.bx_dd.specs.inner.Streaming.{CopiesRest, Flows, Goes, Stage, StopsFlow, StopsPass, StopsSkip, StopsStage, most_of, unit_of}
 use Rattle.bx_dd.proofs.ConvertLemmas.{joined_none}
 use Rattle.bx_dd.proofs.RecordsLemmas.{Stands_none, cut_nil, shaped_nil, take_nil}
 use Rattle.bx_dd.proofs.TransferLemmas.{asked_skip, drop_read}

@@ -9,11 +9,12 @@ use Rattle.bx_text.specs.InPieces.{in_pieces}
 use Rattle.bx_text.specs.declared.fault.IoFault.{IoFault}
 use Rattle.bx_text.specs.Writing.{WritesFront}
 use Rattle.bx_text.proofs.PiecesLemmas.{in_pieces-append}
-use Rattle.bx_dd.specs.declared.form.Shape.{Shape}
-use Rattle.bx_dd.specs.declared.form.Shape.TheVariants.{Flat, Block, Unblock}
+use Rattle.bx_dd.specs.declared.convert.form.Shape.{Shape}
+use Rattle.bx_dd.specs.declared.convert.form.Shape.TheVariants.{Flat, Block, Unblock}
 use Rattle.bx_dd.specs.Output.{fitted, line_of, records, shaped, unfinished}
-use Rattle.bx_dd.specs.Standing.{Stands, finished, last_of, rest_of}
-use Rattle.bx_dd.specs.Streaming.{Flows, Goes, StopsFlow}
+use Rattle.bx_dd.specs.Standing.{Stands, finished, rest_of}
+use Rattle.bx_dd.specs.inner.Standing.{last_of}
+use Rattle.bx_dd.specs.inner.Streaming.{Flows, Goes, StopsFlow}
 use Rattle.bx_dd.proofs.RecordsLemmas.{Stands_flat, finished-all, finished-ended, fitted_short, held_piece, parts, piece_taken, records-after}
 use Rattle.bx_dd.proofs.StreamLemmas.{front_more}
 

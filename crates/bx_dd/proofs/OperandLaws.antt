@@ -9,9 +9,9 @@ use Rattle.std.proofs.lemmas.List.{take-append-drop, drop_more, get_or-take, get
 use Rattle.std.proofs.lemmas.List.Sums.{prefix_len_is, prefix_len_passes, prefix_len_stops}
 use Rattle.std.proofs.lemmas.Slice.Eq.{bytes_eq-Decides}
 use Rattle.std.proofs.Math.Seq.{drop-append-add}
-use Rattle.bx_text.specs.declared.number.SizeFault.{SizeFault}
-use Rattle.bx_text.specs.declared.number.SizeFault.TheVariants.{Bad, TooLarge}
-use Rattle.bx_text.specs.declared.number.SizeStyle.TheVariants.{Product}
+use Rattle.bx_text.specs.declared.number.size.SizeFault.{SizeFault}
+use Rattle.bx_text.specs.declared.number.size.SizeFault.TheVariants.{Bad, TooLarge}
+use Rattle.bx_text.specs.declared.number.size.SizeStyle.TheVariants.{Product}
 use Rattle.bx_text.specs.SizeGrammar.{IsProduct}
 use Rattle.bx_text.proofs.SizeLaws.{size_has_form}
 use Rattle.bx_dd.specs.declared.fault.DdFault.{DdFault}

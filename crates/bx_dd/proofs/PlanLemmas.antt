@@ -9,12 +9,12 @@ use Rattle.std.proofs.lemmas.List.Sums.{prefix_len_stops}
 use Rattle.std.proofs.lemmas.Option.{get_or_from_slice_get, slice_get_within, slice_get_past, slice_get-get_or}
 use Rattle.std.proofs.lemmas.Slice.Eq.{bytes_eq-Decides}
 use Rattle.bx_dd.specs.declared.fault.DdFault.{DdFault}
-use Rattle.bx_dd.specs.declared.form.Shape.TheVariants.{Flat, Block, Unblock}
-use Rattle.bx_text.specs.declared.number.SizeFault.{SizeFault}
-use Rattle.bx_text.specs.declared.number.SizeFault.TheVariants.{Bad, TooLarge}
+use Rattle.bx_dd.specs.declared.convert.form.Shape.TheVariants.{Flat, Block, Unblock}
+use Rattle.bx_text.specs.declared.number.size.SizeFault.{SizeFault}
+use Rattle.bx_text.specs.declared.number.size.SizeFault.TheVariants.{Bad, TooLarge}
 use Rattle.bx_dd.specs.declared.operands.Kind.{Kind}
 use Rattle.bx_dd.specs.declared.operands.Kind.TheVariants.{Size}
-use Rattle.bx_text.specs.declared.number.SizeStyle.TheVariants.{Product}
+use Rattle.bx_text.specs.declared.number.size.SizeStyle.TheVariants.{Product}
 use Rattle.bx_text.specs.Number.{size_value, within}
 use Rattle.bx_dd.specs.Number.{number_of}
 use Rattle.bx_dd.specs.Operands.{is_operand, name_of, value_of, kind_of, is_named, is_given, size_fault, value_fault, kind_fault, operand_fault, first_fault, given, number_given, number_or, ibs_of, obs_of, converts, shape_of, is_conflict, is_cbs_missing, later_fault, fault_of}

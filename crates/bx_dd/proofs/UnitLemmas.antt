@@ -7,9 +7,9 @@ use Rattle.std.proofs.lemmas.List.{length-append, length-drop, length-take-le, m
 use borrow.Rule.Slice.PartMut.{put_mid, post_of}
 use Rattle.bx_text.specs.InPieces.{in_pieces}
 use Rattle.bx_text.proofs.PiecesLemmas.{in_pieces-append, in_pieces-none, in_pieces-one}
-use Rattle.bx_dd.specs.declared.form.Form.{Form}
+use Rattle.bx_dd.specs.declared.convert.form.Form.{Form}
 use Rattle.bx_dd.specs.Output.{block_of, cased, filler, joined, padded, swapped}
-use Rattle.bx_dd.specs.Streaming.{unit_of}
+use Rattle.bx_dd.specs.inner.Streaming.{unit_of}
 use Rattle.bx_dd.proofs.ConvertLemmas.{joined_none, joined_more}
 
 full_is : (s : Bool) (fill n : ℕ) (b : List ℕ) → length b ≡ n → cond s (padded fill n b) b ≡ b

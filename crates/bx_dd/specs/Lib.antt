@@ -9,3 +9,4 @@ pub mod Operands
 pub mod Parsing
 pub mod Laws
 pub mod OperandGrammar
+pub mod inner

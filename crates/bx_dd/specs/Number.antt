@@ -1,7 +1,7 @@
 -- Numbers as dd reads them.
 use Rattle.std.specs.Prelude.{ℕ, List, Result}
-use Rattle.bx_text.specs.declared.number.SizeFault.{SizeFault}
-use Rattle.bx_text.specs.declared.number.SizeStyle.TheVariants.{Product}
+use Rattle.bx_text.specs.declared.number.size.SizeFault.{SizeFault}
+use Rattle.bx_text.specs.declared.number.size.SizeStyle.TheVariants.{Product}
 use Rattle.bx_text.specs.Number.{read_size}
 
 -- a product of factors

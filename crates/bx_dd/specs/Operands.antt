@@ -6,12 +6,12 @@ use Rattle.std.specs.Result.{result_ok}
 use Rattle.std.specs.Str.{bytes_eq}
 use Rattle.bx_dd.specs.declared.fault.DdFault.{DdFault}
 use Rattle.bx_dd.specs.declared.fault.DdFault.TheVariants.{UnknownOperand, BadNumber, NumberTooLarge, ZeroSize, Repeated, Conflict, MissingCbs}
-use Rattle.bx_dd.specs.declared.form.Letters.{Letters}
-use Rattle.bx_dd.specs.declared.form.Letters.TheVariants.{Keep, Upper, Lower}
-use Rattle.bx_dd.specs.declared.form.Shape.{Shape}
-use Rattle.bx_dd.specs.declared.form.Shape.TheVariants.{Flat, Block, Unblock}
-use Rattle.bx_text.specs.declared.number.SizeFault.{SizeFault}
-use Rattle.bx_text.specs.declared.number.SizeFault.TheVariants.{Bad, TooLarge}
+use Rattle.bx_dd.specs.declared.convert.form.Letters.{Letters}
+use Rattle.bx_dd.specs.declared.convert.form.Letters.TheVariants.{Keep, Upper, Lower}
+use Rattle.bx_dd.specs.declared.convert.form.Shape.{Shape}
+use Rattle.bx_dd.specs.declared.convert.form.Shape.TheVariants.{Flat, Block, Unblock}
+use Rattle.bx_text.specs.declared.number.size.SizeFault.{SizeFault}
+use Rattle.bx_text.specs.declared.number.size.SizeFault.TheVariants.{Bad, TooLarge}
 use Rattle.bx_dd.specs.declared.operands.Kind.{Kind}
 use Rattle.bx_dd.specs.declared.operands.Kind.TheVariants.{File, Size, Number, Conversions}
 use Rattle.bx_dd.specs.Number.{number_of}

@@ -1,6 +1,6 @@
 -- The plan that operands ask for.
 use Rattle.std.specs.Prelude.{◌≡◌, List, ℕ, codes}
-use Rattle.bx_dd.specs.declared.plan.Plan.{Plan}
+use Rattle.bx_dd.specs.declared.operands.plan.Plan.{Plan}
 use Rattle.bx_dd.specs.Operands.{given, number_given, number_or, ibs_of, obs_of, converts, letters_of, shape_of}
 
 -- the operands are accepted, and this is what they ask for

@@ -1,8 +1,8 @@
 -- What a plan says of its input and output.
 use Rattle.std.specs.Prelude.{ℕ, ◌*◌, if◌then◌else◌, List, [], ◌∷◌, None, Some}
 use Rattle.bx_image.specs.declared.change.Change.{Change}
-use Rattle.bx_dd.specs.declared.form.Form.{Form}
-use Rattle.bx_dd.specs.declared.plan.Plan.{Plan}
+use Rattle.bx_dd.specs.declared.convert.form.Form.{Form}
+use Rattle.bx_dd.specs.declared.operands.plan.Plan.{Plan}
 
 -- its sizes and conversions
 abbrev pub form_of : {A : Type 0} → Plan A → Form

@@ -1,13 +1,11 @@
 -- What a transfer reads, and what it makes of that.
-use Rattle.std.specs.Prelude.{◌≡◌, ℕ, ◌+◌, ◌*◌, ◌^◌, ◌<◌, ◌≤◌, List, length, Option, None, Some, IfSome, ◌⊎◌}
+use Rattle.std.specs.Prelude.{◌≡◌, ℕ, ◌+◌, ◌*◌, ◌^◌, ◌≤◌, List, length, Option, None, Some, IfSome, ◌⊎◌}
 use Rattle.std.specs.Io.KnownBytes.{Consumes, IsAtEnd}
-use Rattle.bx_text.specs.declared.stream.State.{State}
-use Rattle.bx_text.specs.declared.stream.State.TheVariants.{Open, Ended}
-use Rattle.bx_dd.specs.declared.counts.Counts.{Counts}
-use Rattle.bx_dd.specs.declared.counts.Transfer.{Transfer}
+use Rattle.bx_dd.specs.declared.stream.counts.Counts.{Counts}
+use Rattle.bx_dd.specs.declared.stream.counts.Transfer.{Transfer}
 use Rattle.bx_dd.specs.declared.fault.DdFault.{DdFault}
 use Rattle.bx_dd.specs.declared.fault.DdFault.TheVariants.{NoMemory, ReadFailed, InputTooLong}
-use Rattle.bx_dd.specs.declared.plan.Plan.{Plan}
+use Rattle.bx_dd.specs.declared.operands.plan.Plan.{Plan}
 use Rattle.bx_dd.specs.Counting.{counts_of}
 use Rattle.bx_dd.specs.Output.{selected, converted}
 use Rattle.bx_dd.specs.Plan.{form_of}
@@ -53,17 +51,3 @@ IsStopCause _ room n = ⊥
 -- some bytes were read before the fault
 abbrev pub HasStopped : Option (List ℕ) → Option (List ℕ) → ℕ → DdFault → Type 0
 HasStopped old new room fault = (bytes : List ℕ) × Consumes old new bytes × IsStopCause fault room (length bytes)
-
--- the same, and no more than `most` bytes were read
-abbrev pub StopsWithin : ℕ → Option (List ℕ) → Option (List ℕ) → ℕ → DdFault → Type 0
-StopsWithin most old new room fault = (bytes : List ℕ) × Consumes old new bytes × IsStopCause fault room (length bytes) × (length bytes ≤ most)
-
--- no more was read than the plan's skip and count ask for
-abbrev pub ReadsWithin : {A : Type 0} → Plan A → Option (List ℕ) → Option (List ℕ) → Type 0
-ReadsWithin plan old new = (input : List ℕ) × Consumes old new input × IsWithin plan.ibs plan.skip plan.count input
-
--- these bytes were read: n blocks, or fewer up to the input's end
-pub record HasRead (old new : Option (List ℕ)) (n size : ℕ) (state : State) (input : List ℕ) : Type 0 where
-  pub consumed : Consumes old new input
-  pub within : length input ≤ n * size
-  pub extent : ((state ≡ Open) × (length input ≡ n * size)) ⊎ ((state ≡ Ended) × IsAtEnd new)

@@ -3,16 +3,22 @@ ghost use Rattle.std.specs.Prelude.{◌≡◌, ◌≢◌, ℕ, ◌+◌, ◌-◌,
 ghost use Rattle.bx_dd.specs.Counting.{counts_of};
 ghost use Rattle.bx_dd.specs.Output.{block_of, converted, held_count, joined, shaped};
 ghost use Rattle.bx_dd.specs.Plan.{form_of};
-ghost use Rattle.bx_dd.specs.Standing.{IsAfter, HasSizes, Stands, finished, last_of};
-ghost use Rattle.bx_dd.specs.declared.form.Shape.TheVariants.{Flat, Unblock};
+ghost use Rattle.bx_dd.specs.Standing.{IsAfter, HasSizes, Stands, finished};
+ghost use Rattle.bx_dd.specs.inner.Standing.{last_of};
+ghost use Rattle.bx_dd.specs.declared.convert.form.Shape.TheVariants.{Flat, Unblock};
 
-use crate::block::ready_block;
-use crate::counts::{Counts, Transfer};
+mod block;
+pub(crate) mod form;
+pub(crate) mod records;
+pub(crate) mod units;
+
+use crate::convert::block::ready_block;
+use crate::convert::form::{Form, Shape};
+use crate::convert::records::{Tail, push_rest, push_shaped};
 use crate::fault::DdFault;
-use crate::form::{Form, Shape};
-use crate::page::Page;
-use crate::plan::Plan;
-use crate::records::{Tail, push_rest, push_shaped};
+use crate::operands::plan::Plan;
+use crate::stream::counts::{Counts, Transfer};
+use crate::stream::page::Page;
 use bx_text::Bytes;
 use std::alloc::{AllocError, Allocator, Global};
 use std::marker::Model;
@@ -34,7 +40,7 @@ impl<A: Allocator> Model for Convert<A> {
 
     ghost Value = { Progress };
 
-    ghost use Rattle.bx_dd.specs.declared.form.Shape.TheVariants.{Flat, Unblock};
+    ghost use Rattle.bx_dd.specs.declared.convert.form.Shape.TheVariants.{Flat, Unblock};
     ghost use Rattle.std.specs.Prelude.{length, vec_capacity, ◌<◌, ◌≤◌, ◌≡◌, ◌≢◌, ◌+◌, ◌%◌, ◌^◌};
     ghost use Rattle.bx_dd.specs.Standing.{HasSizes};
 

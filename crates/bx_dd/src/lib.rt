@@ -1,31 +1,17 @@
 //! dd: operands, and blocks of a stream, converted and counted.
 #![tactic(auto)]
 
-mod block;
 mod convert;
-mod copy;
-mod copying;
-mod counts;
 mod fault;
-mod form;
-mod laws;
-mod number;
+pub mod laws;
 mod operands;
-mod page;
-mod parsing;
-mod plan;
-mod records;
-mod units;
+mod stream;
 
 pub use convert::Convert;
-pub use copy::copy_out;
-pub use copying::transfer;
-pub use counts::{Counts, Transfer, report};
+pub use convert::form::{Form, Letters, Shape};
 pub use fault::DdFault;
-pub use form::{Form, Letters, Shape};
-pub use laws::{
-    first_fault_is_first, operand_has_form, operands_have_form, swap_turns_lowest_bit,
-    words_are_asked_for,
-};
-pub use parsing::parse;
-pub use plan::Plan;
+pub use operands::parse::parse;
+pub use operands::plan::Plan;
+pub use stream::copy::copy_out;
+pub use stream::counts::{Counts, Transfer, report};
+pub use stream::transfer::transfer;

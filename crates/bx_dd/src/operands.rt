@@ -6,9 +6,13 @@ ghost use Rattle.std.specs.Str.{bytes_eq};
 ghost use Rattle.bx_dd.specs.Number.{number_of};
 ghost use Rattle.bx_dd.specs.Operands.{is_operand, name_of, value_of, kind_of, parts_of, is_conversion, is_named, number_fault, size_fault, value_fault, operand_fault, first_fault, place_of, given, number_given, converts, block_size, number_or, is_given, is_conflict, is_cbs_missing, later_fault, fault_of, letters_of, shape_of};
 
+mod number;
+pub(crate) mod parse;
+pub(crate) mod plan;
+
+use crate::convert::form::{Letters, Shape};
 use crate::fault::DdFault;
-use crate::form::{Letters, Shape};
-use crate::number::read_number;
+use crate::operands::number::read_number;
 use bx_text::{SizeFault, Words};
 use std::alloc::Allocator;
 

@@ -7,7 +7,7 @@ use Rattle.std.proofs.lemmas.Slice.{take-put_mid}
 use Rattle.std.proofs.lemmas.List.{take_more, take_more_set, length-set, length-take-le, length-drop, length-replicate, get_or-replicate, ext_get_or}
 use Rattle.std.proofs.lemmas.Grind.{flat_map-append}
 use Rattle.bx_text.proofs.RangeLemmas.{flat_map_split}
-use Rattle.bx_dump.specs.Cells.{piece_at, grouped}
+use Rattle.bx_dump.specs.inner.Cells.{piece_at, grouped}
 
 -- two characters more
 pub two_more : (cells : List ℕ) (i x y : ℕ) → 2 * i + 1 < length cells → take (2 * (i + 1)) (set (set cells (2 * i) x) (2 * i + 1) y) ≡ take (2 * i) cells ++ x ∷ y ∷ []

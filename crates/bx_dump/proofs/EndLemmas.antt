@@ -6,8 +6,8 @@ use Rattle.std.proofs.lemmas.Bool.{cases_eq}
 use Rattle.std.proofs.lemmas.List.{length-replicate}
 use Rattle.bx_text.specs.Field.{left_filled}
 use Rattle.bx_text.proofs.FieldLemmas.{digits_onto-last, digits_onto-more, digits_start}
-use Rattle.bx_dump.specs.declared.od_options.Address.{Address}
-use Rattle.bx_dump.specs.declared.od_options.Address.TheVariants.{Octal, Decimal, Hexadecimal, Without}
+use Rattle.bx_dump.specs.declared.od.options.Address.{Address}
+use Rattle.bx_dump.specs.declared.od.options.Address.TheVariants.{Octal, Decimal, Hexadecimal, Without}
 use Rattle.bx_dump.specs.Hexdump.{canon_end}
 use Rattle.bx_dump.specs.Od.{od_end}
 use Rattle.bx_dump.specs.Styles.{c_name, include_tail}

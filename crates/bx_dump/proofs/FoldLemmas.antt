@@ -7,9 +7,10 @@ use Rattle.std.proofs.lemmas.Bool.{cases_order}
 use Rattle.std.proofs.lemmas.Slice.Eq.{bytes_eq-Decides}
 use Rattle.std.proofs.Math.Nat.{mul-add-div}
 use Rattle.std.proofs.Math.Seq.{drop-append-add}
-use Rattle.bx_text.specs.declared.fold.Fold.{Fold}
-use Rattle.bx_text.specs.declared.fold.Show.TheVariants.{Line, Star, Nothing}
-use Rattle.bx_text.specs.Fold.{line_bytes, is_hidden, was_hidden, show_at, line_text, lines_to, line_count, folded, HasTaken, IsTaken}
+use Rattle.bx_text.specs.declared.line.fold.Fold.{Fold}
+use Rattle.bx_text.specs.declared.line.fold.Show.TheVariants.{Line, Star, Nothing}
+use Rattle.bx_text.specs.Fold.{line_bytes, is_hidden, was_hidden, show_at, line_text, lines_to, line_count, folded, HasTaken}
+use Rattle.bx_text.specs.inner.Fold.{IsTaken}
 use Rattle.bx_text.proofs.RangeLemmas.{flat_map_along, flat_map_split}
 
 pos16 : 0 < 16

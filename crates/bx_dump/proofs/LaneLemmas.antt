@@ -8,7 +8,7 @@ use Rattle.std.proofs.lemmas.List.{length-map, get_or-map}
 use Rattle.std.proofs.lemmas.List.Sums.{prefix_len-le-length, prefix_len_passes, prefix_len_stops}
 use lib.Lanes.{chunk, zip2, mask_l, top, Each1}
 use Rattle.bx_text.specs.Ascii.{is_printable}
-use Rattle.bx_dump.specs.Scan.{first_set, four_print}
+use Rattle.bx_dump.specs.inner.Scan.{first_set, four_print}
 
 -- a byte less 0x20, and whether that is more than there are printable bytes
 abbrev pub less : ℕ → ℕ → ℕ

@@ -8,7 +8,7 @@ use Rattle.bx_text.specs.declared.fault.IoFault.TheVariants.{NoMemory, ReadFaile
 use Rattle.bx_text.specs.Writing.{WritesFront}
 use Rattle.std.specs.declared.result.Result.{Result}
 use Rattle.std.specs.Prelude.{Ok, Err}
-use Rattle.bx_dump.specs.Emitting.{Emits}
+use Rattle.bx_dump.specs.inner.Emitting.{Emits}
 use Rattle.bx_text.proofs.KnownLemmas.{Appends-trans}
 
 -- the first part was not written whole

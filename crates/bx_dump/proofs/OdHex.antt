@@ -9,13 +9,13 @@ use Rattle.std.proofs.lemmas.Simd.{Each1-get_or, pick_l_whole}
 use lib.Lanes.{Each1, pick_l}
 use Rattle.bx_text.specs.Dump.{pair_of}
 use Rattle.bx_text.specs.Field.{left_filled}
-use Rattle.bx_dump.specs.Cells.{hex_value}
+use Rattle.bx_dump.specs.inner.Cells.{hex_value}
 use Rattle.bx_dump.specs.Lines.{in_lines}
 use Rattle.bx_dump.specs.Od.{value_of, value_text, width_of, size_of}
-use Rattle.bx_dump.specs.declared.od_options.Size.{Size}
-use Rattle.bx_dump.specs.declared.od_options.Size.TheVariants.{One, Two, Four, Eight}
-use Rattle.bx_dump.specs.declared.od_options.NumForm.TheVariants as form
-use Rattle.bx_dump.specs.declared.od_options.Kind.TheVariants.{Number}
+use Rattle.bx_dump.specs.declared.od.options.Size.{Size}
+use Rattle.bx_dump.specs.declared.od.options.Size.TheVariants.{One, Two, Four, Eight}
+use Rattle.bx_dump.specs.declared.od.options.NumForm.TheVariants as form
+use Rattle.bx_dump.specs.declared.od.options.Kind.TheVariants.{Number}
 use Rattle.std.proofs.lemmas.List.{reverse-append, length-take-le, length-drop, get_or-drop}
 use Rattle.std.proofs.Math.Nat.{pow-suc, pow-zero}
 use Rattle.std.proofs.lemmas.Grind.{flat_map-append}

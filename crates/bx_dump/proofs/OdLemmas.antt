@@ -9,11 +9,11 @@ use borrow.Rule.Slice.PartMut.{put_mid, post_of}
 use Rattle.bx_text.specs.Field.{left_filled}
 use Rattle.bx_text.proofs.KnownLemmas.{take-put_mid_more}
 use Rattle.bx_dump.specs.Od.{value_of, size_of, width_of, field_width}
-use Rattle.bx_dump.specs.declared.od_options.NumForm.TheVariants as form
-use Rattle.bx_dump.specs.declared.od_options.Size.{Size}
-use Rattle.bx_dump.specs.declared.od_options.Size.TheVariants.{One, Two, Four, Eight}
-use Rattle.bx_dump.specs.declared.od_options.Kind.{Kind}
-use Rattle.bx_dump.specs.declared.od_options.Kind.TheVariants.{Chars, Number}
+use Rattle.bx_dump.specs.declared.od.options.NumForm.TheVariants as form
+use Rattle.bx_dump.specs.declared.od.options.Size.{Size}
+use Rattle.bx_dump.specs.declared.od.options.Size.TheVariants.{One, Two, Four, Eight}
+use Rattle.bx_dump.specs.declared.od.options.Kind.{Kind}
+use Rattle.bx_dump.specs.declared.od.options.Kind.TheVariants.{Chars, Number}
 
 -- a quotient by the base has one digit less
 pub digits_below : (n base k : ℕ) → 2 ≤ base → n < base ^ (k + 1) → n / base < base ^ k

@@ -6,12 +6,12 @@ use Rattle.std.proofs.lemmas.List.{length-map}
 use Rattle.std.proofs.lemmas.Simd.{zip2_splat, map-map, pick_l_whole}
 use lib.Lanes.{zip2, pick_l}
 use Rattle.bx_text.specs.Field.{left_filled}
-use Rattle.bx_dump.specs.Cells.{by_twos, octal_cells}
+use Rattle.bx_dump.specs.inner.Cells.{by_twos, octal_cells}
 use Rattle.bx_dump.specs.Lines.{in_lines}
 use Rattle.bx_dump.specs.Od.{value_text}
-use Rattle.bx_dump.specs.declared.od_options.Size.TheVariants.{Two}
-use Rattle.bx_dump.specs.declared.od_options.NumForm.TheVariants as form
-use Rattle.bx_dump.specs.declared.od_options.Kind.TheVariants.{Number}
+use Rattle.bx_dump.specs.declared.od.options.Size.TheVariants.{Two}
+use Rattle.bx_dump.specs.declared.od.options.NumForm.TheVariants as form
+use Rattle.bx_dump.specs.declared.od.options.Kind.TheVariants.{Number}
 use Rattle.bx_dump.proofs.DigitParts.{fixed_parts, one_octal}
 use Rattle.bx_dump.proofs.LinesLemmas.{in_lines-append, in_lines-none, in_lines-one}
 

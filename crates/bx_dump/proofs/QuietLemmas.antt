@@ -7,9 +7,9 @@ use Rattle.std.proofs.lemmas.Bool.Decides.{nat_tests}
 use Rattle.std.proofs.lemmas.List.{length-take-le, drop-drop, take-append-drop, length-take, get_or-take, get_or_past}
 use Rattle.std.proofs.lemmas.List.Folds.{prefix_len-append}
 use Rattle.std.proofs.lemmas.List.Sums.{prefix_len-le-length}
-use Rattle.bx_dump.specs.declared.od_options.Address.{Address}
+use Rattle.bx_dump.specs.declared.od.options.Address.{Address}
 use Rattle.bx_text.specs.Ascii.{is_printable}
-use Rattle.bx_dump.specs.Scan.{scan_text, scan_run, AllPrint, EndsQuiet, IsQuiet, four_print}
+use Rattle.bx_dump.specs.inner.Scan.{scan_text, scan_run, AllPrint, EndsQuiet, IsQuiet, four_print}
 use Rattle.bx_dump.proofs.ScanLemmas.{both, ends_quiet}
 
 pub count_most : (n done r : ℕ) (xs : List ℕ) → r ≡ prefix_len is_printable (take n (drop done xs)) → r ≤ n

@@ -11,10 +11,10 @@ use Rattle.bx_text.specs.declared.fault.IoFault.{IoFault}
 use Rattle.bx_dump.specs.Dumped.{DumpsFront, DumpsFrontBut}
 use Rattle.bx_dump.proofs.DumpLemmas.{cause_longer, keeps_along}
 use Rattle.bx_dump.proofs.ScanLemmas.{both}
-use Rattle.bx_dump.specs.declared.od_options.Address.{Address}
+use Rattle.bx_dump.specs.declared.od.options.Address.{Address}
 use Rattle.bx_text.specs.Ascii.{is_printable}
 use Rattle.bx_dump.specs.Strings.{place_text, is_run_start, line_at, runs_text, strings_text}
-use Rattle.bx_dump.specs.Scan.{scan_text, scan_run, grown_text, end_text}
+use Rattle.bx_dump.specs.inner.Scan.{scan_text, scan_run, grown_text, end_text}
 
 -- what a run that stands right before x leaves to be written
 abbrev front_of : List ℕ → List ℕ

@@ -4,14 +4,14 @@ use Rattle.std.specs.Fmt.{digits}
 use Rattle.bx_text.specs.Field.{left_filled}
 use Rattle.bx_text.specs.Fold.{folded}
 use Rattle.bx_dump.specs.Lines.{in_lines}
-use Rattle.bx_dump.specs.declared.od_options.Address.{Address}
-use Rattle.bx_dump.specs.declared.od_options.Address.TheVariants.{Octal, Decimal, Hexadecimal, Without}
-use Rattle.bx_dump.specs.declared.od_options.NumForm.{NumForm}
-use Rattle.bx_dump.specs.declared.od_options.NumForm.TheVariants as form
-use Rattle.bx_dump.specs.declared.od_options.Size.{Size}
-use Rattle.bx_dump.specs.declared.od_options.Size.TheVariants.{One, Two, Four, Eight}
-use Rattle.bx_dump.specs.declared.od_options.Kind.{Kind}
-use Rattle.bx_dump.specs.declared.od_options.Kind.TheVariants.{Chars, Number}
+use Rattle.bx_dump.specs.declared.od.options.Address.{Address}
+use Rattle.bx_dump.specs.declared.od.options.Address.TheVariants.{Octal, Decimal, Hexadecimal, Without}
+use Rattle.bx_dump.specs.declared.od.options.NumForm.{NumForm}
+use Rattle.bx_dump.specs.declared.od.options.NumForm.TheVariants as form
+use Rattle.bx_dump.specs.declared.od.options.Size.{Size}
+use Rattle.bx_dump.specs.declared.od.options.Size.TheVariants.{One, Two, Four, Eight}
+use Rattle.bx_dump.specs.declared.od.options.Kind.{Kind}
+use Rattle.bx_dump.specs.declared.od.options.Kind.TheVariants.{Chars, Number}
 
 -- the value of bytes of which the lowest comes first; those that are absent count as 0
 abbrev pub value_of : List ℕ → ℕ

@@ -1,9 +1,9 @@
 -- What od reads, and why it stops.
-use Rattle.std.specs.Prelude.{◌≡◌, ℕ, ◌^◌, ◌≤◌, ◌⊎◌, false, List, length, Option}
+use Rattle.std.specs.Prelude.{◌≡◌, ℕ, ◌≤◌, ◌⊎◌, false, List, length, Option}
 use Rattle.std.specs.Io.KnownBytes.{Consumes}
 use Rattle.bx_text.specs.declared.fault.IoFault.{IoFault}
 use Rattle.bx_text.specs.declared.fault.IoFault.TheVariants.{NoMemory, ReadFailed, WriteFailed, InputTooLong, SkipPastEnd}
-use Rattle.bx_dump.specs.Pages.{WritesFrontOf, Skips, StopsAt}
+use Rattle.bx_dump.specs.Pages.{WritesFrontOf, Skips}
 
 -- at least so many bytes were read
 abbrev pub Reaches : ℕ → Option (List ℕ) → Option (List ℕ) → Type 0
@@ -16,10 +16,6 @@ FailsBehind count r0 r1 w0 w1 NoMemory = (w1 ≡ w0) ⊎ Reaches count r0 r1
 FailsBehind count r0 r1 w0 w1 ReadFailed = (w1 ≡ w0) ⊎ Reaches count r0 r1
 FailsBehind count r0 r1 w0 w1 InputTooLong = (w1 ≡ w0) ⊎ Reaches count r0 r1
 FailsBehind count r0 r1 w0 w1 SkipPastEnd = (w1 ≡ w0) ⊎ Reaches count r0 r1
-
--- the input ended among the bytes to skip, or a read stopped
-abbrev pub StopsShort : ℕ → Option (List ℕ) → Option (List ℕ) → IoFault → Type 0
-StopsShort count r0 r1 fault = (fault ≡ SkipPastEnd) × Skips false count r0 r1 ⊎ StopsAt count (2 ^ 40) r0 r1 fault
 
 -- the input ended among the bytes to skip and nothing was written, or a front of the text was written
 abbrev pub StopsOd : (List ℕ → List ℕ) → ℕ → Option ℕ → Option (List ℕ) → Option (List ℕ) → Option (List ℕ) → Option (List ℕ) → IoFault → Type 0

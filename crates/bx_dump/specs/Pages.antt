@@ -2,7 +2,6 @@
 use Rattle.std.specs.Prelude.{◌≡◌, ℕ, ◌+◌, ◌^◌, ◌<◌, ◌≤◌, ◌⊎◌, Bool, true, false, List, length, take, drop, Option, None, Some, IfSome}
 use Rattle.std.specs.Io.KnownBytes.{Appends, Consumes, IsAtEnd}
 use Rattle.bx_text.specs.declared.fault.IoFault.{IoFault}
-use Rattle.bx_text.specs.Stream.{IsReadCause}
 use Rattle.bx_dump.specs.Dumped.{IsDumpFault, KeepsUp}
 
 -- at most so many of the bytes
@@ -13,11 +12,6 @@ capped (Some most) bytes = take most bytes
 -- the bytes from place `skip` on, at most `limit` of them
 abbrev pub part_of : ℕ → Option ℕ → List ℕ → List ℕ
 part_of skip limit bytes = capped limit (drop skip bytes)
-
--- n bytes were dumped: all up to the input's end, or as many as may be
-abbrev pub IsLast : Option ℕ → ℕ → Option (List ℕ) → Type 0
-IsLast None n from = IsAtEnd from
-IsLast (Some most) n from = (n ≤ most) × (IsAtEnd from ⊎ (n ≡ most))
 
 -- n bytes were read: all up to the input's end, or as many as are skipped and dumped at most
 abbrev pub IsEndOf : ℕ → Option ℕ → ℕ → Option (List ℕ) → Type 0
@@ -31,16 +25,6 @@ pub record WritesPart (text : List ℕ → List ℕ) (skip : ℕ) (limit : Optio
   pub ends : IsEndOf skip limit (length input) r1
   pub few : length input ≤ 2 ^ 40
   pub dumped : length (part_of skip limit input) ≡ read
-  pub appended : Appends w0 w1 (text input)
-  pub long : length (text input) ≡ written
-
--- The same of what comes after `from` bytes that are skipped, with the text of the part alone.
-pub record WritesRest (text : List ℕ → List ℕ) (from : ℕ) (limit : Option ℕ) (r0 r1 w0 w1 : Option (List ℕ)) (read written : ℕ) : Type 0 where
-  pub input : List ℕ
-  pub consumed : Consumes r0 r1 input
-  pub ends : IsLast limit read r1
-  pub few : from + length input ≤ 2 ^ 40
-  pub dumped : length input ≡ read
   pub appended : Appends w0 w1 (text input)
   pub long : length (text input) ≡ written
 
@@ -67,9 +51,3 @@ pub record Skips (all : Bool) (count : ℕ) (r0 r1 : Option (List ℕ)) : Type 0
   pub few : length input ≤ 2 ^ 40
   pub whole : all ≡ true → length input ≡ count
   pub short : all ≡ false → (length input < count) × IsAtEnd r1
-
--- Some bytes were read of `wanted` that were asked for, and then no more could be.
-pub record StopsAt (wanted room : ℕ) (r0 r1 : Option (List ℕ)) (fault : IoFault) : Type 0 where
-  pub input : List ℕ
-  pub consumed : Consumes r0 r1 input
-  pub cause : IsReadCause fault wanted room (length input)

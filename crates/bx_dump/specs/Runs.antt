@@ -1,7 +1,7 @@
 -- The printable runs of an input as pairs of places.
 use Rattle.std.specs.Prelude.{◌≡◌, ℕ, ◌+◌, ◌-◌, ◌<◌, ◌≤◌, true, false, List, [], ◌∷◌, ◌++◌, length, take, drop, slice_index, codes, All, Contains}
 use Rattle.std.specs.List.{flat_map}
-use Rattle.bx_dump.specs.declared.od_options.Address.{Address}
+use Rattle.bx_dump.specs.declared.od.options.Address.{Address}
 use Rattle.bx_text.specs.Ascii.{is_printable}
 use Rattle.bx_dump.specs.Strings.{place_text, strings_text}
 

@@ -3,8 +3,8 @@ use Rattle.std.specs.Prelude.{ℕ, zero, suc, ◌+◌, Bool, false, ◌&&◌, no
 use Rattle.std.specs.List.{flat_map, range_with_len, prefix_len}
 use Rattle.std.specs.Fmt.{digits}
 use Rattle.bx_text.specs.Ascii.{is_printable}
-use Rattle.bx_dump.specs.declared.od_options.Address.{Address}
-use Rattle.bx_dump.specs.declared.od_options.Address.TheVariants.{Octal, Decimal, Hexadecimal, Without}
+use Rattle.bx_dump.specs.declared.od.options.Address.{Address}
+use Rattle.bx_dump.specs.declared.od.options.Address.TheVariants.{Octal, Decimal, Hexadecimal, Without}
 
 -- Whether a printable run begins at a place: its byte prints, and the one before doesn't. `before` is whether the byte in front of x prints
 abbrev pub is_run_start : Bool → List ℕ → ℕ → Bool

@@ -5,10 +5,10 @@ use Rattle.bx_dump.specs.Lines.{in_lines}
 use Rattle.bx_dump.specs.Pages.{part_of}
 use Rattle.bx_dump.specs.Rows.{plain_line, include_line}
 use Rattle.bx_dump.specs.Xxd.{columns_line}
-use Rattle.bx_dump.specs.declared.xxd_columns.Digits.TheVariants.{Hexadecimal, Binary}
-use Rattle.bx_dump.specs.declared.xxd_options.XxdStyle.{XxdStyle}
-use Rattle.bx_dump.specs.declared.xxd_options.XxdStyle.TheVariants.{Normal, Plain, Bits, Include}
-use Rattle.bx_dump.specs.declared.xxd_options.XxdOptions.{XxdOptions}
+use Rattle.bx_dump.specs.declared.xxd.columns.Digits.TheVariants.{Hexadecimal, Binary}
+use Rattle.bx_dump.specs.declared.xxd.options.XxdStyle.{XxdStyle}
+use Rattle.bx_dump.specs.declared.xxd.options.XxdStyle.TheVariants.{Normal, Plain, Bits, Include}
+use Rattle.bx_dump.specs.declared.xxd.options.XxdOptions.{XxdOptions}
 
 -- a decimal digit
 abbrev pub is_digit : ℕ → Bool

@@ -3,8 +3,8 @@ use Rattle.std.specs.Prelude.{ℕ, ◌+◌, ◌-◌, ◌*◌, ◌/◌, false, Li
 use Rattle.bx_text.specs.Field.{hex_text, laid_out}
 use Rattle.bx_text.specs.Dump.{shown_byte, pair_of}
 use Rattle.bx_dump.specs.Cells.{bits_of}
-use Rattle.bx_dump.specs.declared.xxd_columns.Digits.{Digits}
-use Rattle.bx_dump.specs.declared.xxd_columns.Digits.TheVariants.{Hexadecimal, Binary}
+use Rattle.bx_dump.specs.declared.xxd.columns.Digits.{Digits}
+use Rattle.bx_dump.specs.declared.xxd.columns.Digits.TheVariants.{Hexadecimal, Binary}
 
 -- a byte in two hexadecimal or eight binary digits
 abbrev pub cell_of : Digits → ℕ → List ℕ

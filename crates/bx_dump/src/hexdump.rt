@@ -3,9 +3,9 @@ ghost use Rattle.std.specs.Prelude.{◌≡◌, ℕ, ◌+◌, ◌-◌, ◌*◌, �
 ghost use Rattle.bx_dump.specs.Hexdump.{canon_columns, canon_place, canon_line, canon_end, hexdump_text};
 ghost use Rattle.bx_dump.specs.Pages.{WritesPart, WritesFrontOf, part_of};
 
-use crate::folded::{FoldedPages, Form};
+use crate::driver::folded::{FoldedPages, Form};
+use crate::driver::pages::dump_part;
 use crate::hex_lanes::put_canon_sixteen;
-use crate::pages::dump_part;
 use bx_text::{
     IoFault, ShortText, blank, emit_after, hex_digit, hex_field, push_text, put_address, put_text,
 };
@@ -64,7 +64,7 @@ fn short_canon(at: u64, bytes: &[u8]) -> ShortText<96>
 
 /// hexdump's lines.
 #[derive(Drop)]
-pub struct CanonLines;
+struct CanonLines;
 
 impl Form for CanonLines {
     ghost line = { λ _. canon_line };

@@ -10,11 +10,11 @@ use Rattle.std.proofs.lemmas.Bool.Decides.{nat_tests}
 use Rattle.std.proofs.lemmas.List.Elements.{All-push}
 use Rattle.std.proofs.lemmas.List.Folds.{list_any-append, list_any_more}
 use Rattle.std.proofs.lemmas.List.Sorted.{list_any-IsPermutation}
-use Rattle.bx_text.specs.declared.pieces.Piece.{Piece}
-use Rattle.bx_image.specs.declared.spans.Span.{Span}
+use Rattle.bx_text.specs.declared.owned.pieces.Piece.{Piece}
+use Rattle.bx_image.specs.declared.record.spans.Span.{Span}
 use Rattle.bx_image.specs.declared.change.Change.{Change}
 use Rattle.bx_image.specs.Change.{touches, is_cut_off, is_covered, AllWithin, AreNonEmpty, HaveGaps}
-use Rattle.bx_image.specs.Spans.{is_between, are_over, with_span, IsWithin, LieWithin, AreApart, StandOver}
+use Rattle.bx_image.specs.inner.Spans.{is_between, are_over, with_span, IsWithin, LieWithin, AreApart, StandOver}
 use Rattle.bx_image.proofs.Images.{end_of_le}
 
 or_none : (b : Bool) → (b || false) ≡ b

@@ -1,5 +1,5 @@
 -- Bytes that stand in pages of 4,096 bytes.
-use Rattle.std.specs.Prelude.{◌≡◌, ◌<◌, ◌≤◌, ℕ, zero, suc, ◌+◌, ◌/◌, ◌%◌, List, [], ◌∷◌, length, slice_index}
+use Rattle.std.specs.Prelude.{◌≤◌, ℕ, zero, suc, ◌/◌, ◌%◌, List, [], ◌∷◌, length, slice_index}
 use Rattle.std.proofs.Common.{subst, sym}
 use Rattle.std.proofs.lemmas.List.FromFn.{length-map-range_with_len}
 use Rattle.bx_image.specs.Image.{image_of}
@@ -13,18 +13,6 @@ page_at (p ∷ pages) bytes (suc k) = page_at pages bytes k
 -- the byte at an address, 0 past the last page
 unfoldable pub byte_at : {P : Type 0} → List P → (P → List ℕ) → ℕ → ℕ
 byte_at pages bytes i = slice_index (page_at pages bytes (i / 4096)) (i % 4096)
-
--- bytes were written over what stood at an address
-pub record IsWrittenOver (at : ℕ) (bytes : List ℕ) (old new : ℕ → ℕ) : Type 0 where
-  pub below : (i : ℕ) → i < at → new i ≡ old i
-  pub within : (j : ℕ) → j < length bytes → new (at + j) ≡ slice_index bytes j
-  pub above : (i : ℕ) → at + length bytes ≤ i → new i ≡ old i
-
--- zeros were written from one address up to another
-pub record IsCleared (from to : ℕ) (old new : ℕ → ℕ) : Type 0 where
-  pub below : (i : ℕ) → i < from → new i ≡ old i
-  pub within : (i : ℕ) → from ≤ i → i < to → new i ≡ 0
-  pub above : (i : ℕ) → to ≤ i → new i ≡ old i
 
 -- an image is within the room that its length is within
 pub image_within : (len room : ℕ) (byte : ℕ → ℕ) → len ≤ room → length (image_of len byte) ≤ room

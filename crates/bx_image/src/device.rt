@@ -4,6 +4,11 @@ ghost use Rattle.bx_image.specs.Image.{place, cut};
 ghost use Rattle.bx_image.specs.Device.{GoesOn, IsPartlyWritten, IsPartlyCut};
 ghost use Rattle.bx_image.specs.declared.device.ImageFault.TheVariants.{DeviceFailed as Failed, NoMemory as OutOfMemory};
 
+pub(crate) mod file;
+pub(crate) mod fuse;
+pub(crate) mod memory;
+pub(crate) mod pages;
+
 use bx_text::NoMemory;
 use std::alloc::{AllocError, AllocFailed};
 use thiserror::Error;

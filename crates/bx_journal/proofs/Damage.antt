@@ -4,9 +4,9 @@ use Rattle.std.specs.Prelude.{option_and_then}
 use Rattle.std.proofs.lemmas.Grind.{common_steps}
 use Rattle.std.proofs.lemmas.List.{take-append-drop}
 use Rattle.std.proofs.Math.Seq.{take-add}
-use Rattle.bx_journal.specs.Plain.{HasNoNewline}
+use Rattle.bx_journal.specs.inner.Plain.{HasNoNewline}
 use Rattle.bx_journal.specs.Text.{Reading, Split, split, joined, start, next, after_lines, IsRest, Reads, IsAccepted, first_lines, IsDamagedAt}
-use Rattle.bx_journal.specs.Mark.{IsMark}
+use Rattle.bx_journal.specs.inner.Mark.{IsMark}
 use Rattle.bx_journal.proofs.Splits.{AllPlain, split-ended, split-append, split-plain}
 use Rattle.bx_journal.proofs.Runs.{after_lines-append, empty_rest}
 use Rattle.bx_journal.proofs.Inverse.{bind_some}

@@ -6,10 +6,11 @@ use Rattle.std.specs.Str.{bytes_eq}
 use Rattle.std.proofs.lemmas.Grind.{common_steps}
 use Rattle.std.proofs.lemmas.List.Folds.{list_all-append}
 use Rattle.bx_image.specs.declared.change.TheConstants.{MAX_LEN}
-use Rattle.bx_journal.specs.Kept.{Run, with_run, with_runs}
+use Rattle.bx_journal.specs.Kept.{Run, with_run}
+use Rattle.bx_journal.specs.inner.Kept.{with_runs}
 use Rattle.bx_journal.specs.Kept.{Kept}
-use Rattle.bx_journal.specs.declared.version.Version.{Version}
-use Rattle.bx_journal.specs.declared.version.Version.TheVariants.{Second}
+use Rattle.bx_journal.specs.declared.format.version.Version.{Version}
+use Rattle.bx_journal.specs.declared.format.version.Version.TheVariants.{Second}
 use Rattle.bx_journal.specs.Hex.{hex_digits}
 use Rattle.bx_journal.specs.DumpLine.{dump_line}
 use Rattle.bx_journal.specs.Line.{start_line, save_line, end_line, saved_in}

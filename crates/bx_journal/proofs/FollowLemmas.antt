@@ -3,13 +3,13 @@ use Rattle.std.proofs.Common.{◌≡◌, ℕ, suc, ◌+◌, ◌*◌, Bool, true,
 use Rattle.std.specs.Prelude.{◌==◌}
 use Rattle.std.specs.Str.{bytes_eq}
 use Rattle.std.proofs.lemmas.Grind.{common_steps}
-use Rattle.bx_text.specs.declared.pieces.Piece.{Piece}
-use Rattle.bx_journal.specs.declared.version.Version.{Version}
+use Rattle.bx_text.specs.declared.owned.pieces.Piece.{Piece}
+use Rattle.bx_journal.specs.declared.format.version.Version.{Version}
 use Rattle.bx_journal.specs.Kept.{Run, Kept, run_of, with_run}
 use Rattle.bx_journal.specs.Line.{save_line}
-use Rattle.bx_journal.specs.Mark.{IsMark}
+use Rattle.bx_journal.specs.inner.Mark.{IsMark}
 use Rattle.bx_journal.specs.Text.{Entry, Saving, Reading, split, next, next_at}
-use Rattle.bx_journal.specs.Followed.{IsFullSaved, IsSavingTo, GoesOnBy, with_last}
+use Rattle.bx_journal.specs.inner.Followed.{IsFullSaved, IsSavingTo, GoesOnBy, with_last}
 use Rattle.bx_journal.proofs.Damage.{mark_on, counted_on}
 use Rattle.bx_journal.proofs.Gathered.{with_run-last, goes_on}
 use Rattle.bx_journal.proofs.Inverse.{same_bytes}

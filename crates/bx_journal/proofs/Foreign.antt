@@ -4,7 +4,7 @@ use Rattle.std.specs.Prelude.{◌&&◌}
 use Rattle.std.specs.List.{list_all}
 use Rattle.std.proofs.lemmas.Grind.{common_steps}
 use Rattle.bx_journal.specs.Kept.{Kept}
-use Rattle.bx_journal.specs.declared.version.Version.{Version}
+use Rattle.bx_journal.specs.declared.format.version.Version.{Version}
 use Rattle.bx_journal.specs.Text.{Split, split, with_front, joined, Reading, Entry, Stage, Between, Saving, Ending, next, next_at, after_lines, is_short}
 use Rattle.bx_journal.proofs.Splits.{AllPlain}
 use Rattle.bx_journal.proofs.Runs.{SafeRun}

@@ -12,7 +12,7 @@ use Rattle.std.proofs.Math.Nat.{pow-suc, le-div_iff_mul-le}
 use Rattle.bx_image.specs.declared.change.TheConstants.{MAX_LEN}
 use Rattle.bx_journal.specs.Hex.{hex_digits, hex_value, number_after}
 use Rattle.bx_journal.specs.Text.{IsPrefix, Entry, may_begin}
-use Rattle.bx_journal.specs.Front.{IsNumberFront}
+use Rattle.bx_journal.specs.inner.Front.{IsNumberFront}
 use Rattle.bx_journal.specs.Parsed.{told_by}
 use Rattle.bx_journal.proofs.HexLemmas.{number_after-append, number_after-hex_digits, length-hex_digits}
 use Rattle.bx_journal.proofs.Inverse.{bind_some, digits_after, below_after, same_bytes}

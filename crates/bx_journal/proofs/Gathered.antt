@@ -7,8 +7,9 @@ use Rattle.std.proofs.lemmas.List.Sums.{sum-map, sum_by-cons}
 use Rattle.std.proofs.lemmas.List.{get_or_append_left, get_or-append_right}
 use Rattle.bx_image.specs.Image.{end_of}
 use Rattle.bx_image.specs.Change.{byte_of, byte_in, AllWithin}
-use Rattle.bx_text.specs.declared.pieces.Piece.{Piece}
-use Rattle.bx_journal.specs.Kept.{Run, run_of, with_run, with_runs}
+use Rattle.bx_text.specs.declared.owned.pieces.Piece.{Piece}
+use Rattle.bx_journal.specs.Kept.{Run, run_of, with_run}
+use Rattle.bx_journal.specs.inner.Kept.{with_runs}
 use Rattle.bx_journal.proofs.KeptLemmas.{runs_push}
 use Rattle.bx_journal.specs.Entry.{rows}
 use Rattle.bx_journal.proofs.RowLemmas.{or_none, or_assoc, either, test_at, all_rows_byte}

@@ -7,7 +7,7 @@ use Rattle.std.proofs.lemmas.List.Folds.{list_all-append}
 use Rattle.std.proofs.Math.Nat.{pow-suc, div-add-mod, mod-lt}
 use Rattle.bx_journal.specs.Hex.{hex_digit, hex_digits, hex_value, number_after, number_of}
 use Rattle.bx_text.specs.Ascii.{is_printable}
-use Rattle.bx_journal.specs.Plain.{HasNoNewline}
+use Rattle.bx_journal.specs.inner.Plain.{HasNoNewline}
 use Rattle.bx_journal.proofs.Splits.{plain-append}
 
 pub length-hex_digits : (w n : ℕ) → length (hex_digits w n) ≡ w

@@ -4,20 +4,21 @@ use Rattle.std.specs.Prelude.{is_some, IsTrue, IfSome, IfNone, IfOk, IfErr, Matc
 use Rattle.std.proofs.lemmas.Grind.{common_steps}
 use Rattle.std.proofs.lemmas.List.{take_more, take-append-drop}
 use Rattle.std.proofs.Math.Seq.{drop-cons}
-use Rattle.bx_journal.specs.declared.fault.SessionFault.{SessionFault}
-use Rattle.bx_journal.specs.declared.fault.SessionFault.TheVariants.{NoMemory, TooLarge, DeviceFailed, Damaged, TooFew, JournalFull, Interrupted, Broken, LengthDiffers, NothingToRedo, RedoDamaged}
-use Rattle.bx_journal.specs.declared.journal.JournalRead.{JournalRead}
-use Rattle.bx_journal.specs.declared.reader.EntryRead.{EntryRead}
-use Rattle.bx_journal.specs.declared.reader.StageRead.TheVariants.{Between as BetweenRead, Saving as SavingRead, Ending as EndingRead}
-use Rattle.bx_journal.specs.declared.tally.Counted.{Counted}
-use Rattle.bx_journal.specs.Calls.{ReadFault}
-use Rattle.bx_journal.specs.Journal.{HasRead}
-use Rattle.bx_journal.specs.Judging.{AllTold, IsBeyondAt, IsFit, IsRedoCounted, IsUnfitAt, IsUnfitFrom, IsUntoldAt, JudgeFault, RedoTextFault, RefusesRedo, redo_fault}
-use Rattle.bx_journal.specs.Mark.{IsMark, HasMarks}
-use Rattle.bx_journal.specs.Parsed.{entry_of, entries_onto, entries_of, stage_of, reading_of, AreMarked, IsMarked}
+use Rattle.bx_journal.specs.declared.session.fault.SessionFault.{SessionFault}
+use Rattle.bx_journal.specs.declared.session.fault.SessionFault.TheVariants.{NoMemory, TooLarge, DeviceFailed, Damaged, TooFew, JournalFull, Interrupted, Broken, LengthDiffers, NothingToRedo, RedoDamaged}
+use Rattle.bx_journal.specs.declared.read.whole.JournalRead.{JournalRead}
+use Rattle.bx_journal.specs.declared.read.types.EntryRead.{EntryRead}
+use Rattle.bx_journal.specs.declared.read.types.StageRead.TheVariants.{Between as BetweenRead, Saving as SavingRead, Ending as EndingRead}
+use Rattle.bx_journal.specs.declared.read.count.Counted.{Counted}
+use Rattle.bx_journal.specs.inner.Calls.{ReadFault}
+use Rattle.bx_journal.specs.inner.Journal.{HasRead}
+use Rattle.bx_journal.specs.Judging.{RefusesRedo}
+use Rattle.bx_journal.specs.inner.Judging.{AllTold, IsBeyondAt, IsFit, IsRedoCounted, IsUnfitAt, IsUnfitFrom, IsUntoldAt, JudgeFault, RedoTextFault, redo_fault}
+use Rattle.bx_journal.specs.inner.Mark.{IsMark, HasMarks}
+use Rattle.bx_journal.specs.inner.Parsed.{entry_of, entries_onto, entries_of, stage_of, reading_of, AreMarked, IsMarked}
 use Rattle.bx_journal.specs.Redo.{AllTell, BeginsAt, IsRedoOf, DamagedLine, Tail, FirstForm, IsRefusedAt, NoRedo, TooMany, Off}
 use Rattle.bx_journal.specs.Stack.{stack_of}
-use Rattle.bx_journal.specs.Tally.{IsCounted}
+use Rattle.bx_journal.specs.inner.Tally.{IsCounted}
 use Rattle.bx_journal.specs.Text.{Entry, Between, Reading, Reads, Split, split, with_front, start, after_lines}
 use Rattle.bx_journal.specs.Undoing.{IsFinished}
 use Rattle.bx_journal.proofs.Damage.{split_at_mark}

@@ -3,7 +3,7 @@ use Rattle.std.proofs.Common.{◌≡◌, ℕ, List, [], ◌∷◌, ◌++◌, map
 use Rattle.std.specs.Prelude.{slice_index, unwrap_or}
 use Rattle.std.specs.Option.{option_or}
 use Rattle.std.specs.List.{range_with_len}
-use Rattle.bx_text.specs.declared.pieces.Piece.{Piece}
+use Rattle.bx_text.specs.declared.owned.pieces.Piece.{Piece}
 use Rattle.bx_image.specs.declared.record.Saved.{Saved}
 use Rattle.bx_image.specs.Image.{image_of}
 use Rattle.bx_image.specs.Change.{byte_of, byte_in, restore, AllWithin, Covers, HaveBytes, IsOf, IsAsGood}

@@ -8,13 +8,14 @@ use Rattle.std.proofs.lemmas.List.Folds.{list_all-append}
 use Rattle.std.proofs.lemmas.Slice.Eq.{bytes_eq-Decides}
 use Rattle.std.proofs.Math.Seq.{take-append_seam, drop-append_seam}
 use Rattle.bx_image.specs.declared.change.TheConstants.{MAX_LEN}
-use Rattle.bx_journal.specs.declared.version.Version.{Version}
-use Rattle.bx_journal.specs.declared.version.Version.TheVariants.{First, Second}
+use Rattle.bx_journal.specs.declared.format.version.Version.{Version}
+use Rattle.bx_journal.specs.declared.format.version.Version.TheVariants.{First, Second}
 use Rattle.bx_journal.specs.Hex.{hex_digits, number_after, number_of}
-use Rattle.bx_journal.specs.Line.{digits_of, start_size, start_head, start_line, save_line, end_head, end_line, behind, at_most, length_in, after_in}
+use Rattle.bx_journal.specs.Line.{digits_of, start_head, start_line, save_line, end_head, end_line, behind, at_most, length_in, after_in}
+use Rattle.bx_journal.specs.inner.Line.{start_size}
 use Rattle.bx_text.specs.Ascii.{is_printable}
 use Rattle.bx_journal.specs.Text.{is_short}
-use Rattle.bx_journal.specs.Plain.{HasNoNewline}
+use Rattle.bx_journal.specs.inner.Plain.{HasNoNewline}
 use Rattle.bx_journal.proofs.Splits.{plain-append}
 use Rattle.bx_journal.proofs.HexLemmas.{length-hex_digits, number_of-hex_digits, plain-hex_digits, printable-hex_digits}
 

@@ -1,6 +1,6 @@
 -- The loop over whole lines.
 use Rattle.std.proofs.Common.{◌≡◌, ℕ, List, ◌∷◌, ◌++◌, refl, ap, sym, ◌∙◌, Some, None}
-use Rattle.bx_journal.specs.Plain.{HasNoNewline}
+use Rattle.bx_journal.specs.inner.Plain.{HasNoNewline}
 use Rattle.bx_journal.specs.Text.{Reading, Split, split, next, after_lines}
 use Rattle.bx_journal.proofs.Splits.{split-ended, split-plain}
 

@@ -4,7 +4,8 @@ use Rattle.std.specs.List.{range_with_len}
 use Rattle.bx_text.specs.Field.{hex_text}
 use Rattle.bx_journal.specs.Kept.{Run}
 use Rattle.bx_journal.specs.DumpLine.{dump_line}
-use Rattle.bx_journal.specs.Entry.{row, rows, rows_text}
+use Rattle.bx_journal.specs.Entry.{row, rows}
+use Rattle.bx_journal.specs.inner.Entry.{rows_text}
 use Rattle.bx_journal.specs.Text.{ended}
 use Rattle.bx_journal.proofs.FieldText.{field_digits}
 use Rattle.bx_journal.proofs.HexLemmas.{length-hex_digits}

@@ -2,25 +2,25 @@
 use Rattle.std.proofs.Common.{◌≡◌, ℕ, suc, ◌+◌, ◌≤◌, List, [], length, refl, ap, sym, ◌∙◌, subst, inl, inr, ◌⊎◌, arith, Option, Some, None, Result, Ok, Err}
 use Rattle.std.specs.Prelude.{IfOk, IfErr, OnOk, OnErr, MatchResult}
 use Rattle.std.proofs.lemmas.Bool.{cases_lt}
-use Rattle.bx_journal.specs.declared.calls.How.{How}
-use Rattle.bx_journal.specs.declared.calls.How.TheVariants.{Clean, Dropped, Restored}
-use Rattle.bx_journal.specs.declared.calls.Recovered.{Recovered}
-use Rattle.bx_journal.specs.declared.fault.SessionFault.{SessionFault}
-use Rattle.bx_journal.specs.declared.fault.SessionFault.TheVariants.{NoMemory, TooLarge, DeviceFailed, Damaged, TooFew, JournalFull, Interrupted, Broken, LengthDiffers, NothingToRedo, RedoDamaged}
-use Rattle.bx_journal.specs.declared.found.Found.{Found}
-use Rattle.bx_journal.specs.declared.found.Found.TheVariants.{Finished, Unfinished}
-use Rattle.bx_journal.specs.declared.journal.JournalRead.{JournalRead}
-use Rattle.bx_journal.specs.declared.tally.Counted.{Counted}
+use Rattle.bx_journal.specs.declared.session.answers.How.{How}
+use Rattle.bx_journal.specs.declared.session.answers.How.TheVariants.{Clean, Dropped, Restored}
+use Rattle.bx_journal.specs.declared.session.answers.Recovered.{Recovered}
+use Rattle.bx_journal.specs.declared.session.fault.SessionFault.{SessionFault}
+use Rattle.bx_journal.specs.declared.session.fault.SessionFault.TheVariants.{NoMemory, TooLarge, DeviceFailed, Damaged, TooFew, JournalFull, Interrupted, Broken, LengthDiffers, NothingToRedo, RedoDamaged}
+use Rattle.bx_journal.specs.declared.recovery.journal.Found.{Found}
+use Rattle.bx_journal.specs.declared.recovery.journal.Found.TheVariants.{Finished, Unfinished}
+use Rattle.bx_journal.specs.declared.read.whole.JournalRead.{JournalRead}
+use Rattle.bx_journal.specs.declared.read.count.Counted.{Counted}
 use Rattle.bx_journal.specs.Calls.{AfterFault, OpenFault}
 use Rattle.bx_journal.specs.Images.{Images}
 use Rattle.bx_journal.specs.Judging.{RefusesRedo}
 use Rattle.bx_journal.specs.Machine.{changes_of}
 use Rattle.bx_journal.specs.Opening.{IsOpened, RefusesLength}
 use Rattle.bx_journal.specs.Parsed.{told_by}
-use Rattle.bx_journal.specs.Recovery.{FindFault, FinishedFault, HasToldLength, HasUndoneCount, IsCountedIn, IsFoundIn, IsUnfinishedIn, KeepsUndone, RecoverFault}
+use Rattle.bx_journal.specs.inner.Recovery.{FindFault, FinishedFault, HasToldLength, HasUndoneCount, IsCountedIn, IsFoundIn, IsUnfinishedIn, KeepsUndone, RecoverFault}
 use Rattle.bx_journal.specs.Redo.{Finds, IsClean, IsRedoOf, IsRefusedAt, RefusesRedoAt, found_undone}
 use Rattle.bx_journal.specs.Stack.{Recovers}
-use Rattle.bx_journal.specs.Tally.{IsCounted}
+use Rattle.bx_journal.specs.inner.Tally.{IsCounted}
 use Rattle.bx_journal.specs.Text.{Reading, Reads}
 use Rattle.bx_journal.proofs.Judged.{undamaged}
 use Rattle.bx_journal.proofs.OpenLemmas.{counted_of, differs_of}

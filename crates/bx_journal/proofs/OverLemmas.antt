@@ -3,7 +3,7 @@ use Rattle.std.proofs.Common.{◌≡◌, ℕ, ◌+◌, ◌*◌, ◌≤◌, List,
 use Rattle.std.proofs.lemmas.List.{take-append-le, take_all, take-take}
 use Rattle.std.proofs.lemmas.Slice.{drop-append-drop}
 use Rattle.bx_journal.specs.Kept.{Run}
-use Rattle.bx_journal.specs.Followed.{IsFullSaved, GoesOnBy, with_last}
+use Rattle.bx_journal.specs.inner.Followed.{IsFullSaved, GoesOnBy, with_last}
 use Rattle.bx_journal.proofs.FollowLemmas.{none_goes_on, one_goes_on}
 use Rattle.bx_journal.proofs.ReadLoop.{drop_twice}
 

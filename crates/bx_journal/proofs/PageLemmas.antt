@@ -3,7 +3,7 @@ use Rattle.std.proofs.Common.{◌≡◌, ℕ, ◌+◌, ◌≤◌, min, List, [],
 use Rattle.std.specs.Prelude.{OnErr}
 use Rattle.std.proofs.lemmas.List.{take-append-drop, take-append-le, take_min, take_at}
 use Rattle.bx_store.specs.Store.{IsPartlyAppended}
-use Rattle.bx_journal.specs.Page.{IsPaged}
+use Rattle.bx_journal.specs.inner.Page.{IsPaged}
 
 -- where nothing was appended
 pub paged_here : (bytes text page : List ℕ) → page ≡ bytes → IsPaged bytes text text page

@@ -5,7 +5,7 @@ use Rattle.bx_image.specs.declared.change.TheConstants.{MAX_LEN}
 use Rattle.bx_journal.specs.Kept.{Kept, kept_of}
 use Rattle.bx_image.specs.declared.change.Change.{Change}
 use Rattle.bx_image.specs.Change.{effect, saved, restore, IsOf, IsAsGood}
-use Rattle.bx_journal.specs.declared.version.Version.TheVariants.{Second}
+use Rattle.bx_journal.specs.declared.format.version.Version.TheVariants.{Second}
 use Rattle.bx_journal.specs.Laws.{HasBytes}
 use Rattle.bx_journal.specs.Line.{end_line}
 use Rattle.bx_journal.specs.Entry.{head_text, end_text, entry_text}

@@ -2,13 +2,14 @@
 use Rattle.std.proofs.Common.{◌≡◌, ℕ, suc, ◌+◌, ◌-◌, ◌≤◌, List, [], ◌∷◌, ◌++◌, length, refl, ap, sym, ◌∙◌, arith, Option, Some, None, length-append}
 use Rattle.std.specs.Prelude.{option_and_then, slice_get}
 use Rattle.bx_image.specs.declared.record.Saved.{Saved}
-use Rattle.bx_journal.specs.declared.version.Version.{Version}
-use Rattle.bx_journal.specs.declared.reader.EntryRead.{EntryRead}
-use Rattle.bx_journal.specs.declared.reader.StageRead.TheVariants.{Between as BetweenRead, Ending as EndingRead}
+use Rattle.bx_journal.specs.declared.format.version.Version.{Version}
+use Rattle.bx_journal.specs.declared.read.types.EntryRead.{EntryRead}
+use Rattle.bx_journal.specs.declared.read.types.StageRead.TheVariants.{Between as BetweenRead, Ending as EndingRead}
 use Rattle.bx_journal.specs.Line.{after_in}
 use Rattle.bx_journal.specs.Text.{Entry, Between, next, next_at}
-use Rattle.bx_journal.specs.Mark.{HasMarks}
-use Rattle.bx_journal.specs.Parsed.{entry_of, entries_onto, entries_of, reading_of, told_by, AreMarked, IsMarked}
+use Rattle.bx_journal.specs.inner.Mark.{HasMarks}
+use Rattle.bx_journal.specs.Parsed.{told_by}
+use Rattle.bx_journal.specs.inner.Parsed.{entry_of, entries_onto, entries_of, reading_of, AreMarked, IsMarked}
 
 pub onto-push : {A : Type 0} → (done : List Entry) (es : List (EntryRead A)) (e : EntryRead A) → entries_onto done (es ++ e ∷ []) ≡ entry_of e ∷ entries_onto done es
 onto-push done [] e = refl

@@ -4,13 +4,13 @@ use Rattle.std.specs.Prelude.{slice_index, ◌==◌}
 use Rattle.std.proofs.lemmas.Grind.{common_steps}
 use Rattle.std.proofs.lemmas.List.{take-append-drop}
 use Rattle.std.proofs.Math.Seq.{drop-cons}
-use Rattle.bx_journal.specs.declared.reader.EntryRead.{EntryRead}
-use Rattle.bx_journal.specs.declared.reader.StageRead.{StageRead}
-use Rattle.bx_journal.specs.declared.reader.StageRead.TheVariants.{Between as BetweenRead, Saving as SavingRead, Ending as EndingRead}
-use Rattle.bx_journal.specs.Plain.{HasNoNewline}
+use Rattle.bx_journal.specs.declared.read.types.EntryRead.{EntryRead}
+use Rattle.bx_journal.specs.declared.read.types.StageRead.{StageRead}
+use Rattle.bx_journal.specs.declared.read.types.StageRead.TheVariants.{Between as BetweenRead, Saving as SavingRead, Ending as EndingRead}
+use Rattle.bx_journal.specs.inner.Plain.{HasNoNewline}
 use Rattle.bx_journal.specs.Text.{Split, split, after_lines, IsRest, Reads, IsDamagedAt}
-use Rattle.bx_journal.specs.Mark.{IsMark}
-use Rattle.bx_journal.specs.Parsed.{entries_of, stage_of, reading_of, IsMarked, Leads, KeepsMarks, IsReadTo}
+use Rattle.bx_journal.specs.inner.Mark.{IsMark}
+use Rattle.bx_journal.specs.inner.Parsed.{entries_of, stage_of, reading_of, IsMarked, Leads, KeepsMarks, IsReadTo}
 use Rattle.bx_journal.proofs.LineLoop.{IsLine}
 use Rattle.bx_journal.proofs.Damage.{mark_on, counted_on, stops_at, reads_at, rest_stops, lines_done}
 

@@ -9,7 +9,7 @@ use Rattle.bx_journal.specs.Text.{Entry}
 use Rattle.bx_journal.specs.Stack.{stack_of}
 use Rattle.bx_journal.specs.Machine.{top}
 use Rattle.bx_journal.specs.Phase.{IsAtRest}
-use Rattle.bx_journal.specs.Step.{WritesEntry}
+use Rattle.bx_journal.specs.inner.Step.{WritesEntry}
 
 pub top_of : (es : List Entry) (x : List ℕ) → top (stack_of es x) ≡ x
 unfolding stack_of

@@ -1,11 +1,12 @@
 -- A redo text that is read again, and what redoing leaves.
 use Rattle.std.proofs.Common.{◌≡◌, ℕ, zero, suc, ◌+◌, ◌≤◌, List, [], ◌∷◌, length, ◌∙◌, subst, inl, inr, arith}
-use Rattle.bx_journal.specs.declared.fault.SessionFault.{SessionFault}
-use Rattle.bx_journal.specs.declared.fault.SessionFault.TheVariants.{NoMemory, TooLarge, DeviceFailed, Damaged, TooFew, JournalFull, Interrupted, Broken, LengthDiffers, NothingToRedo, RedoDamaged}
+use Rattle.bx_journal.specs.declared.session.fault.SessionFault.{SessionFault}
+use Rattle.bx_journal.specs.declared.session.fault.SessionFault.TheVariants.{NoMemory, TooLarge, DeviceFailed, Damaged, TooFew, JournalFull, Interrupted, Broken, LengthDiffers, NothingToRedo, RedoDamaged}
 use Rattle.bx_journal.specs.Images.{Images, redo_of, redone_by}
 use Rattle.bx_journal.specs.Opening.{FaultCounts}
 use Rattle.bx_journal.specs.Text.{Between}
-use Rattle.bx_journal.specs.Undoing.{AgainFault, HasCount, RedoAgainFault, redo_fault}
+use Rattle.bx_journal.specs.Undoing.{AgainFault, HasCount}
+use Rattle.bx_journal.specs.inner.Undoing.{RedoAgainFault, redo_fault}
 use Rattle.bx_journal.proofs.Judged.{undamaged}
 
 pub redo_again : (honest : Type 0) (text : List ℕ) (count : ℕ) (e : SessionFault) → AgainFault honest text count e → RedoAgainFault honest text count (redo_fault e)

@@ -3,7 +3,7 @@ use Rattle.std.proofs.Common.{◌≡◌, ℕ, true, List, [], ◌∷◌, ◌++�
 use Rattle.std.specs.Prelude.{option_and_then}
 use Rattle.std.specs.List.{list_all}
 use Rattle.bx_journal.specs.Text.{split, Split, joined, IsPrefix, Reading, Entry, Stage, Between, Saving, Ending, IsRest, next, after_lines, is_short}
-use Rattle.bx_journal.specs.Plain.{HasNoNewline}
+use Rattle.bx_journal.specs.inner.Plain.{HasNoNewline}
 use Rattle.bx_journal.proofs.Splits.{plain_front, split-ended, split-plain, front_cases}
 
 pub after_lines-append : (r q : Reading) (a b : List (List ℕ)) → after_lines r a ≡ Some q → after_lines r (a ++ b) ≡ after_lines q b

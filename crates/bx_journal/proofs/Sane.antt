@@ -9,7 +9,7 @@ use Rattle.bx_image.specs.Image.{image_of, end_of}
 use Rattle.bx_image.specs.Change.{AllWithin, restore, byte_in}
 use Rattle.std.specs.Prelude.{unwrap_or, slice_index}
 use Rattle.std.proofs.lemmas.List.FromFn.{length-map-range_with_len}
-use Rattle.bx_journal.specs.declared.version.Version.{Version}
+use Rattle.bx_journal.specs.declared.format.version.Version.{Version}
 use Rattle.bx_journal.specs.DumpLine.{piece_of}
 use Rattle.bx_journal.specs.Line.{save_line, saved_in}
 use Rattle.bx_journal.specs.Text.{Entry, Stage, Between, Saving, Ending, Reading, next, next_at, start, after_lines, may_begin}

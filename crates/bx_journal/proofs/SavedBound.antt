@@ -6,12 +6,12 @@ use Rattle.std.proofs.lemmas.List.Elements.{All-nil, All-cons, All-weaker}
 use Rattle.bx_journal.specs.Kept.{Run, with_run}
 use Rattle.bx_journal.proofs.Gathered.{with_run-sum}
 use Rattle.bx_journal.specs.Kept.{kept_of}
-use Rattle.bx_journal.specs.declared.reader.EntryRead.{EntryRead}
+use Rattle.bx_journal.specs.declared.read.types.EntryRead.{EntryRead}
 use Rattle.bx_journal.specs.DumpLine.{piece_of}
 use Rattle.bx_journal.specs.Line.{save_line, saved_in}
 use Rattle.bx_journal.specs.Text.{Entry, Stage, Between, Saving, Ending, Reading, Reads, next, next_at, start, after_lines, split, joined, ended}
-use Rattle.bx_journal.specs.Rows.{saved_length}
-use Rattle.bx_journal.specs.Parsed.{entry_of, entries_onto, entries_of}
+use Rattle.bx_journal.specs.inner.Rows.{saved_length}
+use Rattle.bx_journal.specs.inner.Parsed.{entry_of, entries_onto, entries_of}
 use Rattle.bx_journal.proofs.Inverse.{bind_some, map_some, test_some, next_between, next_ending}
 use Rattle.bx_journal.proofs.Tails.{joined_rest}
 use Rattle.bx_journal.proofs.LogLemmas.{run_length}

@@ -5,7 +5,7 @@ use Rattle.std.proofs.lemmas.Grind.{common_steps}
 use Rattle.bx_read.specs.Line.{line_piece}
 use Rattle.bx_read.specs.Digits.{pairs_of}
 use Rattle.bx_journal.specs.Kept.{Run}
-use Rattle.bx_journal.specs.declared.line.SavedLine.{SavedLine}
+use Rattle.bx_journal.specs.declared.format.line.SavedLine.{SavedLine}
 use Rattle.bx_journal.specs.DumpLine.{piece_of}
 use Rattle.bx_journal.specs.Line.{saved_in}
 

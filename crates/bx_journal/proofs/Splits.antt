@@ -1,6 +1,6 @@
 -- How a text splits into lines.
 use Rattle.std.proofs.Common.{◌≡◌, ℕ, Bool, true, false, cond, eqb, List, [], ◌∷◌, ◌++◌, refl, ap, ◌∙◌, inl, inr, ◌⊎◌}
-use Rattle.bx_journal.specs.Plain.{HasNoNewline}
+use Rattle.bx_journal.specs.inner.Plain.{HasNoNewline}
 use Rattle.bx_journal.specs.Text.{split, Split, with_front, IsPrefix}
 
 abbrev pub AllPlain : List (List ℕ) → Type 0

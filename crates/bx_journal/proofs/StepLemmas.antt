@@ -2,13 +2,13 @@
 use Rattle.std.proofs.Common.{◌≡◌, ℕ, suc, Bool, true, false, List, length, refl, Some, None}
 use Rattle.std.specs.Str.{bytes_eq}
 use Rattle.bx_journal.specs.Kept.{Run, Kept, with_run}
-use Rattle.bx_journal.specs.declared.version.Version.{Version}
+use Rattle.bx_journal.specs.declared.format.version.Version.{Version}
 use Rattle.bx_journal.specs.Line.{save_line, saved_in}
 use Rattle.bx_journal.specs.Text.{Entry, Stage, Between, Saving, Ending, begins, next_at}
 use Rattle.std.specs.Prelude.{◌<◌, ◌≤◌, nat_lt}
 use Rattle.std.proofs.Common.{arith}
 use Rattle.std.proofs.lemmas.Grind.{common_steps}
-use Rattle.bx_journal.specs.declared.version.Version.TheVariants.{First, Second}
+use Rattle.bx_journal.specs.declared.format.version.Version.TheVariants.{First, Second}
 
 module _ (es : List Entry) (n : ℕ) (v : Version) (s : Kept) (line : List ℕ) (e : suc (length es) ≡ n) where
   pub saves : bytes_eq line (save_line n) ≡ true → next_at es (Saving v s) line ≡ Some (record { entries = es; stage = Ending v s })

@@ -8,13 +8,13 @@ use Rattle.std.proofs.lemmas.List.Folds.{list_all-append}
 use Rattle.std.proofs.Math.Seq.{take-append-add}
 use Rattle.bx_journal.specs.Kept.{Kept}
 use Rattle.bx_image.specs.Change.{IsAsGood}
-use Rattle.bx_journal.specs.declared.version.Version.{Version}
-use Rattle.bx_journal.specs.Plain.{HasNoNewline}
+use Rattle.bx_journal.specs.declared.format.version.Version.{Version}
+use Rattle.bx_journal.specs.inner.Plain.{HasNoNewline}
 use Rattle.bx_journal.specs.Text.{IsPrefix, Reading, Entry, Stage, Between, Saving, Ending, IsRest, Reads, Split, split, with_front, start, joined, after_lines, is_short, begins_with_s}
 use Rattle.bx_journal.specs.Stack.{stack_of, HaveLengths, AllCover, image_at, recovered, IsSound, Recovers}
 use Rattle.bx_journal.specs.Phase.{IsAtRest}
-use Rattle.bx_journal.specs.Mark.{IsMark}
-use Rattle.bx_journal.specs.Step.{HasTail}
+use Rattle.bx_journal.specs.inner.Mark.{IsMark}
+use Rattle.bx_journal.specs.inner.Step.{HasTail}
 use Rattle.bx_store.specs.Store.{IsPartlyCut}
 use Rattle.bx_journal.proofs.Splits.{split-append, split-plain, plain_front}
 use Rattle.bx_journal.proofs.EntryRun.{short_front}

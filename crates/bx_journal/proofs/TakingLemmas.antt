@@ -9,8 +9,8 @@ use Rattle.bx_journal.specs.Entry.{head_text, end_text}
 use Rattle.bx_journal.specs.Images.{Images}
 use Rattle.bx_journal.specs.Machine.{changes_of}
 use Rattle.bx_journal.specs.Redo.{IsRedoOf}
-use Rattle.bx_journal.specs.declared.reader.EntryRead.{EntryRead}
-use Rattle.bx_journal.specs.Takens.{IsZeros, AreZeros, AllShaped, entries_len, length_at}
+use Rattle.bx_journal.specs.declared.read.types.EntryRead.{EntryRead}
+use Rattle.bx_journal.specs.inner.Takens.{IsZeros, AreZeros, AllShaped, entries_len, length_at}
 use Rattle.bx_journal.proofs.Shapes.{end_long}
 use Rattle.bx_journal.proofs.TakenLemmas.{reverse_last, len_pop}
 

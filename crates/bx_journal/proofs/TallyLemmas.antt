@@ -1,24 +1,24 @@
 -- Counting entries: what a line does, the loop over lines, and what opening finds.
 use Rattle.std.proofs.Common.{◌≡◌, ℕ, Bool, suc, ◌+◌, List, [], ◌∷◌, length, refl, ap, sym, ◌∙◌, subst, inl, inr, ◌⊎◌, arith, Option, Some, None, Result, Ok, Err}
 use Rattle.std.specs.Prelude.{is_some, IsTrue, IfSome, IfOk, IfErr, OnOk, OnErr}
-use Rattle.bx_journal.specs.declared.version.Version.{Version}
-use Rattle.bx_journal.specs.declared.tally.Place.{Place}
-use Rattle.bx_journal.specs.declared.tally.Place.TheVariants.{Between as BetweenPlace, Saving as SavingPlace, Ending as EndingPlace}
-use Rattle.bx_journal.specs.declared.tally.Tally.{Tally}
-use Rattle.bx_journal.specs.declared.calls.How.TheVariants.{Clean}
-use Rattle.bx_journal.specs.declared.fault.SessionFault.{SessionFault}
+use Rattle.bx_journal.specs.declared.format.version.Version.{Version}
+use Rattle.bx_journal.specs.declared.read.count.Place.{Place}
+use Rattle.bx_journal.specs.declared.read.count.Place.TheVariants.{Between as BetweenPlace, Saving as SavingPlace, Ending as EndingPlace}
+use Rattle.bx_journal.specs.declared.read.count.Tally.{Tally}
+use Rattle.bx_journal.specs.declared.session.answers.How.TheVariants.{Clean}
+use Rattle.bx_journal.specs.declared.session.fault.SessionFault.{SessionFault}
 use Rattle.bx_journal.specs.Kept.{Kept}
 use Rattle.bx_journal.specs.Line.{after_in}
 use Rattle.bx_journal.specs.Text.{Entry, Stage, Between, Saving, Ending, Reading, Reads, split, start, next_at, after_lines, IsRest}
 use Rattle.bx_journal.specs.Parsed.{told_by}
-use Rattle.bx_journal.specs.Plain.{HasNoNewline}
+use Rattle.bx_journal.specs.inner.Plain.{HasNoNewline}
 use Rattle.bx_journal.specs.Stack.{HaveLengths, IsSound, Recovers, image_at, recovered, stack_of}
 use Rattle.bx_journal.specs.Phase.{IsAtRest}
-use Rattle.bx_journal.specs.declared.fault.SessionFault.TheVariants.{DeviceFailed, Damaged, LengthDiffers}
+use Rattle.bx_journal.specs.declared.session.fault.SessionFault.TheVariants.{DeviceFailed, Damaged, LengthDiffers}
 use Rattle.bx_journal.specs.Calls.{how_of, Differs, OpenFault, AfterFault}
 use Rattle.bx_journal.specs.Opening.{IsOpened, RefusesLength, FaultCounts}
 use Rattle.bx_journal.specs.Redo.{AllTell}
-use Rattle.bx_journal.specs.Tally.{place_of, tally_of, LeadsTo, IsCounted}
+use Rattle.bx_journal.specs.inner.Tally.{place_of, tally_of, LeadsTo, IsCounted}
 use Rattle.bx_journal.specs.Undoing.{IsFinished}
 use Rattle.bx_journal.proofs.LineLoop.{IsLine, line_on, rest_on, lines_end, rest_end}
 use Rattle.bx_journal.proofs.OpenLemmas.{after_same, begins_told, counts_beside, differs_of, one_told, same_lengths, some_same}

@@ -6,19 +6,20 @@ use Rattle.std.proofs.lemmas.List.{map-append, take_all, take-append-drop, lengt
 use Rattle.std.proofs.lemmas.List.FromFn.{length-map-range_with_len}
 use Rattle.std.proofs.lemmas.Bool.{cases_lt}
 use Rattle.std.proofs.lemmas.Grind.{flat_map-append}
-use Rattle.bx_text.specs.declared.pieces.Piece.{Piece}
+use Rattle.bx_text.specs.declared.owned.pieces.Piece.{Piece}
 use Rattle.bx_text.specs.Field.{hex_text, char_at}
 use Rattle.bx_text.specs.Dump.{hex_place, hex_columns, pair_of, shown_byte}
 use Rattle.bx_image.specs.Change.{AllWithin}
 use Rattle.bx_image.specs.Image.{end_of}
 use Rattle.bx_journal.specs.Kept.{Run, Kept, run_of}
-use Rattle.bx_journal.specs.declared.version.Version.TheVariants.{Second}
+use Rattle.bx_journal.specs.declared.format.version.Version.TheVariants.{Second}
 use Rattle.bx_journal.specs.Line.{start_head, start_line, save_line}
 use Rattle.bx_journal.specs.Hex.{hex_digits}
 use Rattle.bx_journal.specs.DumpLine.{dump_line}
-use Rattle.bx_journal.specs.Entry.{row, rows, rows_text, head_lines, head_text}
+use Rattle.bx_journal.specs.Entry.{row, rows, head_lines, head_text}
+use Rattle.bx_journal.specs.inner.Entry.{rows_text}
 use Rattle.bx_journal.specs.Text.{ended, joined}
-use Rattle.bx_journal.specs.Page.{IsPaged}
+use Rattle.bx_journal.specs.inner.Page.{IsPaged}
 use Rattle.bx_journal.proofs.HexLemmas.{length-hex_digits}
 use Rattle.bx_journal.proofs.PageLemmas.{paged_is, paged_grown}
 

@@ -8,7 +8,7 @@ use Rattle.bx_image.specs.declared.change.TheConstants.{MAX_LEN}
 use Rattle.bx_image.specs.Change.{AreBytes}
 use Rattle.bx_read.specs.Laws.{line_text, IsWritten}
 use Rattle.bx_journal.specs.Kept.{Run}
-use Rattle.bx_journal.specs.Plain.{HasNoNewline}
+use Rattle.bx_journal.specs.inner.Plain.{HasNoNewline}
 use Rattle.bx_journal.specs.DumpLine.{dump_line, piece_of}
 use Rattle.bx_text.specs.Ascii.{is_printable}
 use Rattle.bx_journal.specs.Text.{IsPrefix, is_short, begins_with_s}

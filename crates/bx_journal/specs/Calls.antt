@@ -1,12 +1,12 @@
 -- What a session's calls answer.
 use Rattle.std.specs.Prelude.{◌≡◌, ◌≤◌, ℕ, suc, Some, List, [], ◌∷◌, ◌++◌, length, drop, sum, map}
 use Rattle.bx_journal.specs.Kept.{Run}
-use Rattle.bx_journal.specs.declared.calls.LogRow.{LogRow}
-use Rattle.bx_journal.specs.declared.calls.How.{How}
-use Rattle.bx_journal.specs.declared.calls.How.TheVariants.{Clean, Dropped, Restored}
-use Rattle.bx_journal.specs.declared.fault.SessionFault.{SessionFault}
-use Rattle.bx_journal.specs.declared.fault.SessionFault.TheVariants.{NoMemory, DeviceFailed, Damaged, Interrupted, LengthDiffers, RedoDamaged}
-use Rattle.bx_journal.specs.Text.{Entry, Stage, Between, Saving, Ending, Reading, IsDamagedAt}
+use Rattle.bx_journal.specs.declared.session.answers.LogRow.{LogRow}
+use Rattle.bx_journal.specs.declared.session.answers.How.{How}
+use Rattle.bx_journal.specs.declared.session.answers.How.TheVariants.{Clean, Dropped, Restored}
+use Rattle.bx_journal.specs.declared.session.fault.SessionFault.{SessionFault}
+use Rattle.bx_journal.specs.declared.session.fault.SessionFault.TheVariants.{NoMemory, DeviceFailed, Interrupted, LengthDiffers, RedoDamaged}
+use Rattle.bx_journal.specs.Text.{Entry, Stage, Between, Saving, Ending, Reading}
 use Rattle.bx_journal.specs.Stack.{image_at, Recovers}
 
 -- a row for each entry, the oldest first
@@ -28,12 +28,6 @@ how_of r rest = how_at (suc (length r.entries)) r.stage rest
 abbrev pub Differs : List Entry → List ℕ → ℕ → Type 0
 Differs [] x expected = ⊥
 Differs (e ∷ entries) x expected = (e.after ≡ Some expected) × (length x ≡ expected → ⊥)
-
--- The one line at which a text that isn't accepted is damaged, or a fault that the text doesn't make
-abbrev pub ReadFault : List ℕ → SessionFault → Type 0
-ReadFault text (Damaged line) = IsDamagedAt text line
-ReadFault text NoMemory = Unit {0}
-ReadFault text e = ⊥
 
 -- which fault opening may answer to a reading of the text
 abbrev pub OpenFault : Reading → List ℕ → SessionFault → Type 0

@@ -3,7 +3,7 @@ use Rattle.std.specs.Prelude.{ℕ, ◌+◌, ◌*◌, ◌/◌, List, [], ◌∷�
 use Rattle.std.specs.List.{range_with_len}
 use Rattle.bx_journal.specs.Kept.{Run}
 use Rattle.bx_journal.specs.Kept.{Kept}
-use Rattle.bx_journal.specs.declared.version.Version.TheVariants.{Second}
+use Rattle.bx_journal.specs.declared.format.version.Version.TheVariants.{Second}
 use Rattle.bx_journal.specs.DumpLine.{dump_line}
 use Rattle.bx_journal.specs.Line.{start_line, save_line, end_line}
 use Rattle.bx_journal.specs.Text.{joined}
@@ -19,10 +19,6 @@ rows run = map (row run) (range_with_len 0 ((length run.bytes + 15) / 16))
 -- the lines of entry n up to its save line
 unfoldable pub head_lines : ℕ → Kept → List (List ℕ)
 head_lines n s = start_line Second n s.len ∷ (map (λ p. dump_line p.at p.bytes) (flat_map rows s.runs) ++ save_line n ∷ [])
-
--- the saved lines of these rows
-abbrev pub rows_text : List Run → List ℕ
-rows_text ps = joined (map (λ p. dump_line p.at p.bytes) ps)
 
 -- the lines of an entry up to `save`
 abbrev pub head_text : ℕ → Kept → List ℕ

@@ -1,6 +1,6 @@
 -- Records as a journal's text gives them: lengths and runs of bytes, whatever memory holds them.
 use Rattle.std.specs.Prelude.{◌+◌, ◌==◌, List, [], ◌∷◌, ◌++◌, length, map, if◌then◌else◌}
-use Rattle.bx_text.specs.declared.pieces.Piece.{Piece}
+use Rattle.bx_text.specs.declared.owned.pieces.Piece.{Piece}
 use Rattle.bx_image.specs.declared.record.Saved.{Saved}
 
 -- bytes with a place, of no allocator
@@ -24,8 +24,3 @@ unfoldable pub with_run : List Run → Run → List Run
 with_run [] p = p ∷ []
 with_run (run ∷ []) p = if p.at == run.at + length run.bytes then record { at = run.at; bytes = run.bytes ++ p.bytes } ∷ [] else run ∷ p ∷ []
 with_run (run ∷ next ∷ runs) p = run ∷ with_run (next ∷ runs) p
-
--- runs with more behind them, one after another
-unfoldable pub with_runs : List Run → List Run → List Run
-with_runs runs [] = runs
-with_runs runs (p ∷ ps) = with_runs (with_run runs p) ps

@@ -4,8 +4,8 @@ use Rattle.std.specs.Option.{option_and_then, option_map}
 use Rattle.std.specs.Str.{bytes_eq}
 use Rattle.bx_image.specs.declared.change.TheConstants.{MAX_LEN}
 use Rattle.bx_journal.specs.Kept.{Run}
-use Rattle.bx_journal.specs.declared.version.Version.{Version}
-use Rattle.bx_journal.specs.declared.version.Version.TheVariants.{First, Second}
+use Rattle.bx_journal.specs.declared.format.version.Version.{Version}
+use Rattle.bx_journal.specs.declared.format.version.Version.TheVariants.{First, Second}
 use Rattle.bx_journal.specs.Hex.{hex_digits, number_of}
 use Rattle.bx_journal.specs.DumpLine.{piece_of}
 
@@ -26,11 +26,6 @@ start_line v n len = start_head v n ++ hex_digits (digits_of v) len
 -- the line behind the last saved bytes
 unfoldable pub save_line : ℕ → List ℕ
 save_line n = codes "save " ++ hex_digits 8 n
-
--- how long the line is that begins an entry
-abbrev pub start_size : Version → ℕ
-start_size First = 24
-start_size Second = 33
 
 -- the line that ends entry n; the second version's has the length after the change
 unfoldable pub end_head : Version → ℕ → List ℕ

@@ -1,33 +1,17 @@
 -- What opening a pair finds and leaves.
 use Rattle.std.specs.Prelude.{◌≡◌, ◌≤◌, ℕ, ◌+◌, List, length}
-use Rattle.bx_journal.specs.declared.calls.How.{How}
-use Rattle.bx_journal.specs.declared.fault.SessionFault.{SessionFault}
-use Rattle.bx_journal.specs.declared.fault.SessionFault.TheVariants.{NoMemory, TooLarge, DeviceFailed, Damaged, TooFew, JournalFull, Interrupted, Broken, LengthDiffers, NothingToRedo, RedoDamaged}
-use Rattle.bx_journal.specs.declared.reader.StageRead.{StageRead}
-use Rattle.bx_journal.specs.declared.reader.StageRead.TheVariants.{Between as BetweenRead, Saving as SavingRead, Ending as EndingRead}
-use Rattle.bx_journal.specs.Text.{Entry, Reading, split}
+use Rattle.bx_journal.specs.declared.session.answers.How.{How}
+use Rattle.bx_journal.specs.declared.session.fault.SessionFault.{SessionFault}
+use Rattle.bx_journal.specs.declared.session.fault.SessionFault.TheVariants.{NoMemory, DeviceFailed, Damaged, Interrupted, LengthDiffers}
+use Rattle.bx_journal.specs.Text.{Reading, split}
 use Rattle.bx_journal.specs.Stack.{StandsFor, recovered}
-use Rattle.bx_journal.specs.Calls.{how_of, Differs}
+use Rattle.bx_journal.specs.Calls.{how_of}
 
 -- what opening leaves stands for what was found
 pub record IsOpened (text x : List ℕ) (r : Reading) (new y : List ℕ) (how : How) (changes : ℕ) : Type 0 where
   pub stands : StandsFor new y (recovered r x)
   pub changes_are : changes ≡ length r.entries
   pub how_is : how ≡ how_of r (split text).rest
-
--- which fault may come between reading the text and the first write
-abbrev pub LookFault : Type 0 → List Entry → List ℕ → SessionFault → Type 0
-LookFault honest es x NoMemory = Unit {0}
-LookFault honest es x DeviceFailed = Unit {0}
-LookFault honest es x (LengthDiffers n) = honest → Differs es x n
-LookFault honest es x TooLarge = ⊥
-LookFault honest es x (Damaged line) = ⊥
-LookFault honest es x (TooFew have) = ⊥
-LookFault honest es x JournalFull = ⊥
-LookFault honest es x Interrupted = ⊥
-LookFault honest es x Broken = ⊥
-LookFault honest es x (NothingToRedo have) = ⊥
-LookFault honest es x (RedoDamaged line) = ⊥
 
 -- which fault a text that isn't accepted makes, where reading met no other
 abbrev pub RefusesText : SessionFault → Type 0
@@ -62,9 +46,3 @@ abbrev pub ThreeCounts : SessionFault → ℕ → ℕ → ℕ → ℕ → ℕ �
 ThreeCounts DeviceFailed d t u d_new t_new u_new = OneMoreOfThree d t u d_new t_new u_new
 ThreeCounts Interrupted d t u d_new t_new u_new = OneMoreOfThree d t u d_new t_new u_new
 ThreeCounts e d t u d_new t_new u_new = (d_new ≡ d) × (t_new ≡ t) × (u_new ≡ u)
-
--- restoring what is unfinished takes no more memory
-abbrev pub HasRoomFor : {A : Type 0} → StageRead A → ℕ → Type 0
-HasRoomFor BetweenRead room = Unit {0}
-HasRoomFor (SavingRead v len runs begins) room = Unit {0}
-HasRoomFor (EndingRead v kept begins saved) room = kept.len ≤ room

@@ -1,35 +1,12 @@
 -- The phases of a change and of an undo.
-use Rattle.std.specs.Prelude.{◌≡◌, ◌⊎◌, ℕ, List, [], flat_map}
-use Rattle.bx_journal.specs.Kept.{Kept, kept_of, with_runs}
-use Rattle.bx_image.specs.declared.change.Change.{Change}
-use Rattle.bx_image.specs.Change.{restore, saved}
-use Rattle.bx_journal.specs.declared.version.Version.{Version}
-use Rattle.bx_journal.specs.declared.version.Version.TheVariants.{Second}
-use Rattle.bx_journal.specs.Text.{Entry, Between, Ending, Reads, split}
-use Rattle.bx_journal.specs.Entry.{rows}
-use Rattle.bx_journal.specs.Stack.{stack_of, StandsFor, IsSound, HaveLengths, Recovers}
+use Rattle.std.specs.Prelude.{◌⊎◌, ℕ, List}
+use Rattle.bx_journal.specs.Text.{Between}
+use Rattle.bx_journal.specs.Stack.{StandsFor, IsSound, Recovers}
 
 -- the pair stands for the stack, and is sound
 pub record IsAtRest (text x : List ℕ) (stack : List (List ℕ)) : Type 0 where
   pub stands : StandsFor text x stack
   pub sound : IsSound text x (record { entries = stands.entries; stage = Between })
-
--- The text ends with the save line of an entry that keeps s, and restoring s gives the image of the stack's top. The pair is sound.
-pub record IsOpen (v : Version) (s : Kept) (text x : List ℕ) (stack : List (List ℕ)) : Type 0 where
-  pub entries : List Entry
-  pub reads : Reads text (record { entries = entries; stage = Ending v s })
-  pub whole : (split text).rest ≡ []
-  pub sound : IsSound text x (record { entries = entries; stage = Ending v s })
-  pub lengths : HaveLengths entries (restore s x)
-  pub stack_is : stack ≡ stack_of entries (restore s x)
-
--- a record as the lines in which it was written give it
-abbrev pub as_read : Kept → Kept
-as_read s = record { len = s.len; runs = with_runs [] (flat_map rows s.runs) }
-
--- the text is open on what the change takes from x
-abbrev pub IsOpenFor : {A : Type 0} → Change A → List ℕ → List ℕ → List ℕ → List (List ℕ) → Type 0
-IsOpenFor c x text y stack = IsOpen Second (as_read (kept_of (saved c x))) text y stack
 
 -- after a fault: the one stack or the other
 abbrev pub RecoversEither : List ℕ → List ℕ → List (List ℕ) → List (List ℕ) → Type 0

@@ -5,7 +5,7 @@ use Rattle.bx_journal.specs.Phase.{IsAtRest}
 use Rattle.bx_journal.specs.Images.{Images}
 use Rattle.bx_journal.specs.Opening.{ThreeCounts}
 use Rattle.bx_journal.specs.Redo.{Finds, IsRedoOf}
-use Rattle.bx_journal.specs.declared.fault.SessionFault.{SessionFault}
+use Rattle.bx_journal.specs.declared.session.fault.SessionFault.{SessionFault}
 
 -- the session may go on, and its pair stands for the stack
 pub record IsReady {D T : Type 0} (image : D → List ℕ) (text : T → List ℕ) (s : SessionView D T) (stack : List (List ℕ)) : Type 0 where

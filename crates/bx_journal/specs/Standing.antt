@@ -1,7 +1,7 @@
 -- A session whose pair stands for a stack, be it sound or not.
 use Rattle.std.specs.Prelude.{◌≡◌, ℕ, suc, false, List, length}
-use Rattle.bx_journal.specs.declared.fault.SessionFault.{SessionFault}
-use Rattle.bx_journal.specs.declared.fault.SessionFault.TheVariants.{NoMemory, TooLarge, DeviceFailed, Damaged, TooFew, JournalFull, Interrupted, Broken, LengthDiffers, NothingToRedo, RedoDamaged}
+use Rattle.bx_journal.specs.declared.session.fault.SessionFault.{SessionFault}
+use Rattle.bx_journal.specs.declared.session.fault.SessionFault.TheVariants.{NoMemory, TooLarge, DeviceFailed, Damaged, TooFew, JournalFull, Interrupted, Broken, LengthDiffers, NothingToRedo, RedoDamaged}
 use Rattle.bx_journal.specs.SessionView.{SessionView}
 use Rattle.bx_journal.specs.Stack.{StandsFor}
 
@@ -24,17 +24,3 @@ PerformFault DeviceFailed = Unit {0}
 PerformFault JournalFull = Unit {0}
 PerformFault Interrupted = Unit {0}
 PerformFault Broken = Unit {0}
-
--- which fault a change may meet before its first write
-abbrev pub PrepareFault : SessionFault → Type 0
-PrepareFault NoMemory = Unit {0}
-PrepareFault TooLarge = Unit {0}
-PrepareFault DeviceFailed = Unit {0}
-PrepareFault (Damaged line) = ⊥
-PrepareFault (TooFew have) = ⊥
-PrepareFault (LengthDiffers expected) = ⊥
-PrepareFault (NothingToRedo have) = ⊥
-PrepareFault (RedoDamaged line) = ⊥
-PrepareFault JournalFull = ⊥
-PrepareFault Interrupted = ⊥
-PrepareFault Broken = ⊥

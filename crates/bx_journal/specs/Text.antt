@@ -6,8 +6,8 @@ use Rattle.std.specs.Str.{bytes_eq}
 use Rattle.bx_text.specs.Ascii.{is_printable}
 use Rattle.bx_image.specs.declared.change.TheConstants.{MAX_LEN}
 use Rattle.bx_journal.specs.Kept.{Kept, with_run}
-use Rattle.bx_journal.specs.declared.version.Version.{Version}
-use Rattle.bx_journal.specs.declared.version.Version.TheVariants.{First, Second}
+use Rattle.bx_journal.specs.declared.format.version.Version.{Version}
+use Rattle.bx_journal.specs.declared.format.version.Version.TheVariants.{First, Second}
 use Rattle.bx_journal.specs.Line.{digits_of, start_line, save_line, end_line, length_in, after_in, saved_in}
 
 -- a line with its newline

@@ -1,58 +1,6 @@
-//! Taking back what is unfinished.
-ghost use Rattle.std.specs.Prelude.{◌≡◌, ◌↔◌, ◌+◌, ◌<◌, ◌≤◌, ◌∷◌, List, ℕ, length, take, OnOk, OnErr, map, is_err};
-ghost use Rattle.bx_image.specs.Change.{AllWithin, restore};
-ghost use Rattle.bx_image.specs.Device.{GoesOn};
-ghost use Rattle.bx_journal.specs.Kept.{run_of, kept_of};
-ghost use Rattle.bx_journal.specs.declared.version.Version.{Version as Form};
-ghost use Rattle.bx_journal.specs.Text.{Entry, Stage, Ending};
-ghost use Rattle.bx_journal.specs.Stack.{Recovers, image_at};
-ghost use Rattle.bx_journal.specs.Phase.{IsAtRest};
-ghost use Rattle.bx_journal.specs.Step.{HasTail};
-ghost use Rattle.bx_journal.specs.Opening.{OneMore};
-
-use crate::images::restore_image;
-use bx_image::{Device, DeviceFailed, Saved};
-use bx_store::TextStore;
-use std::alloc::Allocator;
-
-/// Cuts off what is unfinished, of which the image was not changed.
-pub fn drop_tail<T: TextStore>(store: &mut T, begins: u64) -> Result<(), DeviceFailed>
-    requires countable { T.failures store.old < u64.MAX }
-    requires within_text { T.honest store.old → begins ≤ length (T.text store.old) }
-    ensures ok { T.honest store.old → (x : List ℕ) (stack : List (List ℕ)) (es : List Entry) (stage : Stage)
-        → HasTail (T.text store.old) x stack es stage begins → image_at stage x ≡ x → OnOk result (IsAtRest (T.text store.new) x stack) }
-    ensures fault { T.honest store.old → (x : List ℕ) (stack : List (List ℕ)) (es : List Entry) (stage : Stage)
-        → HasTail (T.text store.old) x stack es stage begins → image_at stage x ≡ x → OnErr result (Recovers (T.text store.new) x stack) }
-    ensures text { T.honest store.old → OnOk result (T.text store.new ≡ take begins (T.text store.old)) }
-    ensures goes_on { GoesOn T.honest T.room T.failures (is_err result) store.old store.new }
-{
-    store.cut(begins)
-}
-
-/// Takes back the change of an entry that has its save line and no end, and cuts the entry off.
-pub fn take_back<D: Device, T: TextStore, A: Allocator>(
-    device: &mut D,
-    store: &mut T,
-    kept: Saved<A>,
-    begins: u64,
-) -> Result<(), DeviceFailed>
-    requires device_countable { D.failures device.old < u64.MAX }
-    requires store_countable { T.failures store.old < u64.MAX }
-    requires within_text { T.honest store.old → begins ≤ length (T.text store.old) }
-    requires within { AllWithin kept.len (map run_of kept.runs) }
-    requires image_room { kept.len ≤ D.room device.old }
-    ensures ok { D.honest device.old → T.honest store.old → (stack : List (List ℕ)) (es : List Entry) (v : Form)
-        → HasTail (T.text store.old) (D.image device.old) stack es (Ending v (kept_of kept)) begins → OnOk result (IsAtRest (T.text store.new) (D.image device.new) stack) }
-    ensures fault { D.honest device.old → T.honest store.old → (stack : List (List ℕ)) (es : List Entry) (v : Form)
-        → HasTail (T.text store.old) (D.image device.old) stack es (Ending v (kept_of kept)) begins → OnErr result (Recovers (T.text store.new) (D.image device.new) stack) }
-    ensures image { D.honest device.old → OnOk result (D.image device.new ≡ restore (kept_of kept) (D.image device.old)) }
-    ensures text { T.honest store.old → OnOk result (T.text store.new ≡ take begins (T.text store.old)) }
-    ensures device_honesty { D.honest device.new ↔ D.honest device.old }
-    ensures store_honesty { T.honest store.new ↔ T.honest store.old }
-    ensures room { D.room device.old ≤ D.room device.new }
-    ensures no_failure { OnOk result ((D.failures device.new ≡ D.failures device.old) × (T.failures store.new ≡ T.failures store.old)) }
-    ensures failure { OnErr result (OneMore (D.failures device.old) (T.failures store.old) (D.failures device.new) (T.failures store.new)) }
-{
-    restore_image(device, kept)?;
-    drop_tail(store, begins)
-}
+//! Opening: what the three texts hold, and what is done about what is unfinished.
+mod finished_journal;
+mod journal;
+mod judge;
+pub(crate) mod take_back;
+pub(crate) mod unfinished_entry;

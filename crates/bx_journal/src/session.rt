@@ -7,11 +7,22 @@ ghost use Rattle.bx_journal.specs.Images.{Images as Pictures, change_to};
 ghost use Rattle.bx_journal.specs.Machine.{PerformStep, top};
 ghost use Rattle.bx_journal.specs.Phase.{RecoversEither};
 
+pub(crate) mod answers;
+mod close;
+mod entries;
+pub(crate) mod fault;
+mod log;
+mod open;
+mod prepare;
+mod records;
+mod redo;
+mod undo;
+
 use crate::SessionFault;
-use crate::preparing::prepare_change;
-use crate::redo_text::RedoCut;
-use crate::step::MOST_CHANGES;
-use crate::steps::write_entry;
+use crate::protocol::entry::write_entry;
+use crate::protocol::redo_text::RedoCut;
+use crate::read::take_line::MOST_CHANGES;
+use crate::session::prepare::prepare_change;
 use bx_image::{Change, Device, MAX_LEN};
 use bx_store::TextStore;
 use std::alloc::{Allocator, Global};

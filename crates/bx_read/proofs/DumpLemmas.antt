@@ -12,9 +12,9 @@ use Rattle.bx_read.proofs.PieceLemmas.{some_bytes}
 use Rattle.bx_read.specs.Digits.{is_hex, pairs_of, pair_value}
 use Rattle.bx_read.specs.Line.{read_line}
 use Rattle.bx_read.specs.Grammar.{IsLine}
-use Rattle.bx_read.specs.Next.{IsNextPiece}
+use Rattle.bx_read.specs.inner.Next.{IsNextPiece}
 use Rattle.bx_read.specs.Text.{ReadLine, is_skipped, answer_then, answers, piece_then, gathered, GivesPieces, IsPiece, total_bytes, lines_of, with_front, contents}
-use Rattle.bx_text.specs.declared.pieces.Piece.{Piece}
+use Rattle.bx_text.specs.declared.owned.pieces.Piece.{Piece}
 use Rattle.bx_read.specs.declared.fault.ReadFault.{ReadFault}
 use Rattle.bx_read.specs.declared.fault.ReadFault.TheVariants.{NoMemory}
 use Rattle.bx_read.proofs.GrammarLemmas.{read_line-found, read_line-only, and_true, guard_some, unmap}

@@ -3,11 +3,8 @@ pub mod Line
 pub mod Grammar
 pub mod Text
 pub mod Lines
-pub mod Next
-pub mod Lanes
-pub mod Full
 pub mod Plain
-pub mod Steps
 pub mod Laws
 pub mod PairGrammar
 pub mod FaultTable
+pub mod inner

@@ -1,7 +1,7 @@
 -- How the text of a dump is read, line by line.
 use Rattle.std.specs.Prelude.{◌≡◌, ◌⊎◌, ℕ, ◌+◌, ◌<◌, ◌≤◌, ◌^◌, Bool, ◌==◌, ◌||◌, bytes_eq, if◌then◌else◌, List, [], ◌∷◌, length, map, codes, All, Result, Ok, Err}
 use Rattle.std.specs.Option.{unwrap_or}
-use Rattle.bx_text.specs.declared.pieces.Piece.{Piece}
+use Rattle.bx_text.specs.declared.owned.pieces.Piece.{Piece}
 use Rattle.bx_read.specs.Digits.{pairs_of}
 use Rattle.bx_read.specs.Line.{read_line}
 use Rattle.bx_read.specs.Grammar.{IsLine}

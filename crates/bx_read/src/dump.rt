@@ -2,7 +2,7 @@
 ghost use Rattle.std.specs.Prelude.{◌≡◌, ◌⊎◌, ◌*◌, ◌≤◌, ◌∷◌, ℕ, List, Result, length, map, Some, Ok, Err, MatchResult, IfOk, All};
 ghost use Rattle.bx_read.specs.Text.{ReadLine, lines_of, dump_pieces, contents, total_bytes, IsPiece, GivesPieces};
 ghost use Rattle.bx_read.specs.Lines.{coming};
-ghost use Rattle.bx_read.specs.Next.{IsNextPiece};
+ghost use Rattle.bx_read.specs.inner.Next.{IsNextPiece};
 ghost use Rattle.bx_read.specs.declared.fault.ReadFault.{ReadFault};
 
 use crate::fault::ReadFault;

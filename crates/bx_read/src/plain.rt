@@ -3,7 +3,7 @@ ghost use Rattle.std.specs.Prelude.{◌≡◌, ◌⊎◌, ℕ, ◌+◌, ◌*◌,
 ghost use Rattle.std.specs.Option.{option_map};
 ghost use Rattle.std.specs.List.{prefix_len};
 ghost use Rattle.bx_read.specs.Plain.{is_space, plain_bytes, plain_fault, bad_line, digit_line, plain_answer};
-ghost use Rattle.bx_read.specs.Steps.{IsStep};
+ghost use Rattle.bx_read.specs.inner.Steps.{IsStep};
 
 use crate::digits::{is_digit, is_pair, pair};
 use crate::fault::ReadFault;

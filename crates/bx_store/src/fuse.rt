@@ -1,9 +1,9 @@
 //! A text store that fails on purpose, for tests.
 ghost use Rattle.std.specs.Prelude.{◌≡◌, ◌↔◌, ◌+◌, ◌-◌, ◌/◌, ◌<◌, ◌≤◌, length, is_err, if◌then◌else◌, ◌++◌, OnOk, take};
-ghost use Rattle.bx_image.specs.Fuse.{part_of, reached};
-ghost use Rattle.bx_image.specs.declared.fuse.Part.TheVariants.{Half};
+ghost use Rattle.bx_image.specs.inner.Fuse.{part_of, reached};
+ghost use Rattle.bx_image.specs.declared.device.fuse.Part.TheVariants.{Half};
 ghost use Rattle.bx_image.specs.Device.{GoesOn};
-ghost use Rattle.bx_image.specs.declared.fuse.Fuse.TheVariants.{Never, After, Once};
+ghost use Rattle.bx_image.specs.declared.device.fuse.Fuse.TheVariants.{Never, After, Once};
 ghost use Rattle.bx_store.specs.Store.{IsPartlyAppended, IsPartlyCut};
 
 use crate::{DeviceFailed, NoMemory, TextFault, TextStore};

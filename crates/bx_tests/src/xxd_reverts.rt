@@ -4,7 +4,7 @@ ghost use Rattle.bx_dump.specs.Styles.{IsCountable};
 
 use crate::play::play;
 use bx_cli::{Fault, Reply};
-use bx_dump::{XxdOptions, XxdStyle, xxd};
+use bx_dump::xxd::{XxdOptions, XxdStyle, xxd};
 use bx_scripts::places::Memory;
 use bx_scripts::script::Script;
 use bx_scripts::session::Ask;

@@ -10,7 +10,7 @@ use Rattle.std.proofs.lemmas.Bool.Decides.{nat_tests}
 use Rattle.std.proofs.lemmas.List.{take-append-drop, get_or-take, get_or-drop, get_or_past, get_or_append_left, length-take-le, take_at}
 use Rattle.std.proofs.lemmas.List.Sums.{prefix_len_passes, prefix_len_stops, prefix_len-le-length, prefix_len_is}
 use Rattle.std.proofs.Math.Seq.{drop-append-add}
-use Rattle.bx_text.specs.declared.number.SizeStyle.{SizeStyle}
+use Rattle.bx_text.specs.declared.number.size.SizeStyle.{SizeStyle}
 use Rattle.bx_text.specs.Number.{digit_count, units_of, with_suffix, some_digits, after_zero, prefixed}
 use Rattle.bx_text.specs.NumberGrammar.{IsAmount, IsDecimal, IsHexadecimal, IsOctal, NumberHasForm}
 

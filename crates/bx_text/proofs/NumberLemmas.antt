@@ -11,8 +11,8 @@ use Rattle.std.proofs.Math.Nat.{pow-le-pow_right}
 use Rattle.std.proofs.lemmas.Int.Digits.{digits_value-lt}
 use Rattle.std.proofs.lemmas.List.{get_or-drop, drop-drop, length-drop}
 use Rattle.bx_text.specs.Number.{factors_of, product_of, some_digits, hex_number}
-use Rattle.bx_text.specs.Capped.{capped, capped_value}
-use Rattle.bx_text.specs.declared.number.SizeStyle.TheVariants.{Product}
+use Rattle.bx_text.specs.inner.Capped.{capped, capped_value}
+use Rattle.bx_text.specs.declared.number.size.SizeStyle.TheVariants.{Product}
 
 min_low : (a m : ℕ) → a ≤ m → min a m ≡ a
 min_low a m le = omega arith

@@ -3,10 +3,10 @@ use Rattle.std.proofs.Common.{◌≡◌, ◌↔◌, ℕ, suc, ◌*◌, ◌<◌, 
 use Rattle.std.specs.Char.{is_digit}
 use Rattle.std.specs.Option.{option_map, option_and_then}
 use Rattle.std.proofs.lemmas.Bool.{eqb-true, ne_eqb, le-leb, lt-leb, leb-true, leb-false, false≢true}
-use Rattle.bx_text.specs.declared.number.SizeStyle.{SizeStyle}
-use Rattle.bx_text.specs.declared.number.SizeStyle.TheVariants.{Count, Bare, Product}
-use Rattle.bx_text.specs.declared.number.SizeFault.{SizeFault}
-use Rattle.bx_text.specs.declared.number.SizeFault.TheVariants.{Bad, TooLarge}
+use Rattle.bx_text.specs.declared.number.size.SizeStyle.{SizeStyle}
+use Rattle.bx_text.specs.declared.number.size.SizeStyle.TheVariants.{Count, Bare, Product}
+use Rattle.bx_text.specs.declared.number.size.SizeFault.{SizeFault}
+use Rattle.bx_text.specs.declared.number.size.SizeFault.TheVariants.{Bad, TooLarge}
 use Rattle.bx_text.specs.Number.{unit_of, units_of, some_digits, in_first, factors_of, product_of, size_value, greatest, within}
 use Rattle.bx_text.specs.NumberGrammar.{IsAmount}
 use Rattle.bx_text.specs.SizeGrammar.{with_x, AreFactors, IsSize, SizeHasForm}

@@ -1,13 +1,12 @@
 pub mod Field
 pub mod Ascii
 pub mod Dump
-pub mod Radix
 pub mod Stream
 pub mod Writing
 pub mod Fold
 pub mod Lending
 pub mod InPieces
 pub mod Number
-pub mod Capped
 pub mod NumberGrammar
 pub mod SizeGrammar
+pub mod inner

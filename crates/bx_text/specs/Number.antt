@@ -4,10 +4,10 @@ use Rattle.std.specs.Option.{option_map, option_and_then}
 use Rattle.std.specs.Char.{is_digit}
 use Rattle.std.specs.List.{prefix_len}
 use Rattle.std.specs.Str.Parse.{digits_value}
-use Rattle.bx_text.specs.declared.number.SizeStyle.{SizeStyle}
-use Rattle.bx_text.specs.declared.number.SizeStyle.TheVariants.{Count, Bare, Product}
-use Rattle.bx_text.specs.declared.number.SizeFault.{SizeFault}
-use Rattle.bx_text.specs.declared.number.SizeFault.TheVariants.{Bad, TooLarge}
+use Rattle.bx_text.specs.declared.number.size.SizeStyle.{SizeStyle}
+use Rattle.bx_text.specs.declared.number.size.SizeStyle.TheVariants.{Count, Bare, Product}
+use Rattle.bx_text.specs.declared.number.size.SizeFault.{SizeFault}
+use Rattle.bx_text.specs.declared.number.size.SizeFault.TheVariants.{Bad, TooLarge}
 
 -- how many digits stand in front
 abbrev pub digit_count : ℕ → List ℕ → ℕ

@@ -2,7 +2,7 @@
 use Rattle.std.specs.Prelude.{◌≡◌, ◌≢◌, ◌⊎◌, ◌↔◌, ℕ, ◌*◌, ◌≤◌, false, List, ◌∷◌, ◌++◌, length, slice_index, All, IsTrue, Some}
 use Rattle.std.specs.Char.{is_digit}
 use Rattle.std.specs.Str.Parse.{digits_value}
-use Rattle.bx_text.specs.declared.number.SizeStyle.{SizeStyle}
+use Rattle.bx_text.specs.declared.number.size.SizeStyle.{SizeStyle}
 use Rattle.bx_text.specs.Number.{units_of, prefixed}
 
 -- At least so many digits of a base, all that stand in front, and what multiplies them: nothing, or a suffix of the style.

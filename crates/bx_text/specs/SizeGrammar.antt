@@ -1,8 +1,8 @@
 -- What a size looks like: a number whose base its first characters say, or a product.
 use Rattle.std.specs.Prelude.{◌≡◌, ◌↔◌, ◌⊎◌, ℕ, ◌*◌, ◌<◌, ◌≤◌, List, [], ◌∷◌, ◌++◌, Ok, Err}
-use Rattle.bx_text.specs.declared.number.SizeStyle.{SizeStyle}
-use Rattle.bx_text.specs.declared.number.SizeStyle.TheVariants.{Count, Bare, Product}
-use Rattle.bx_text.specs.declared.number.SizeFault.TheVariants.{Bad, TooLarge}
+use Rattle.bx_text.specs.declared.number.size.SizeStyle.{SizeStyle}
+use Rattle.bx_text.specs.declared.number.size.SizeStyle.TheVariants.{Count, Bare, Product}
+use Rattle.bx_text.specs.declared.number.size.SizeFault.TheVariants.{Bad, TooLarge}
 use Rattle.bx_text.specs.Number.{greatest, read_size}
 use Rattle.bx_text.specs.NumberGrammar.{IsAmount, IsDecimal, IsHexadecimal, IsOctal}
 

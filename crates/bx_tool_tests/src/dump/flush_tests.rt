@@ -1,8 +1,8 @@
 use crate::expected::assert_answer;
-use bx_dump::{
-    Address, HexdumpOptions, Kind, OdOptions, StringsOptions, XxdOptions, XxdStyle, hexdump_c, od,
-    strings, xxd,
-};
+use bx_dump::hexdump::{HexdumpOptions, hexdump_c};
+use bx_dump::od::{Address, Kind, OdOptions, od};
+use bx_dump::strings::{StringsOptions, strings};
+use bx_dump::xxd::{XxdOptions, XxdStyle, xxd};
 use bx_text::IoFault;
 use std::io::{self, ErrorKind, Write};
 use std::process::Abort;

@@ -2,7 +2,8 @@
 ghost use Rattle.std.specs.Prelude.{◌≤◌, ◌<◌, length};
 
 use crate::expected::assert_bytes;
-use bx_dump::{Address, HexdumpOptions, Kind, NumForm, OdOptions, Size, hexdump_c, od};
+use bx_dump::hexdump::{HexdumpOptions, hexdump_c};
+use bx_dump::od::{Address, Kind, NumForm, OdOptions, Size, od};
 use std::io::Write;
 use std::process::Abort;
 

@@ -2,7 +2,8 @@
 ghost use Rattle.std.specs.Prelude.{◌<◌, ◌≤◌};
 
 use crate::expected::{assert_answer, assert_bytes};
-use bx_dump::{Address, StringsOptions, strings};
+use bx_dump::od::Address;
+use bx_dump::strings::{StringsOptions, strings};
 use bx_text::IoFault;
 use std::io::{self, Read};
 use std::process::Abort;

@@ -2,7 +2,7 @@ use Rattle.std.proofs.Common.{rules, ◌≡◌, ◌∙◌, map, length, ap, None
 use Rattle.std.proofs.lemmas.List.{length-map}
 use Rattle.bx_image.specs.declared.change.Change.{Change}
 use Rattle.bx_read.specs.Text.{contents}
-use Rattle.bx_cli.specs.Command.{moved}
+use Rattle.bx_cli.specs.inner.Command.{moved}
 use Rattle.bx_cli.proofs.Moves.{moved_contents, whole_lent}
 use Rattle.bx_cli.proofs.changes.change_of_dump.Goals as goal
 

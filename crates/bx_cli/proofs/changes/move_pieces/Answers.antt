@@ -1,7 +1,7 @@
 use Rattle.std.proofs.Common.{rules, ◌<◌, length, get_or}
 use Rattle.std.proofs.lemmas.List.Edits.{map_over_more}
 use Rattle.std.proofs.lemmas.List.{get_or_default}
-use Rattle.bx_cli.specs.Command.{moved}
+use Rattle.bx_cli.specs.inner.Command.{moved}
 use Rattle.bx_cli.proofs.changes.move_pieces.Goals as goal
 
 pub loop-piece-preserved : goal.loop-piece-preserved

@@ -1,5 +1,5 @@
 use Rattle.std.proofs.Common.{◌≡◌, ◌++◌, map, take, drop}
-use Rattle.bx_cli.specs.Command.{moved}
+use Rattle.bx_cli.specs.inner.Command.{moved}
 use Rattle.bx_cli.proofs.changes.move_pieces.Given as goal
 
 abbrev pub invariant-loop-piece : goal.invariant-loop-piece

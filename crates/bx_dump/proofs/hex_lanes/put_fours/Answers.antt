@@ -3,7 +3,7 @@ use Rattle.std.specs.List.{flat_map, range_with_len}
 use Rattle.std.proofs.lemmas.List.{length-take-le, take_all}
 use Rattle.std.proofs.lemmas.Simd.{put_chunk_whole}
 use lib.Lanes.{pick_l}
-use Rattle.bx_dump.specs.Cells.{piece_at}
+use Rattle.bx_dump.specs.inner.Cells.{piece_at}
 use Rattle.bx_dump.proofs.HexLemmas.{front_places, back_places, fours_are}
 use Rattle.bx_dump.proofs.hex_lanes.put_fours.Goals as goal
 

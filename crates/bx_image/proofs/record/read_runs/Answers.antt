@@ -1,6 +1,6 @@
 use Rattle.std.proofs.Common.{◌∙◌, ℕ, List, get_or}
 use Rattle.std.proofs.lemmas.List.{take_more}
-use Rattle.bx_image.specs.declared.spans.Span.{Span}
+use Rattle.bx_image.specs.declared.record.spans.Span.{Span}
 use Rattle.bx_image.proofs.Devices.{GoesOn_then}
 use Rattle.bx_image.proofs.Runs.{AreRunsOf-push, HaveBytes-push}
 use Rattle.bx_image.proofs.SpanLemmas.{StandOver-push}

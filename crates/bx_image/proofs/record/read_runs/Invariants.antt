@@ -2,7 +2,7 @@ use Rattle.std.proofs.Common.{◌≡◌, false, take}
 use Rattle.bx_image.specs.Change.{HaveBytes}
 use Rattle.bx_image.specs.Device.{GoesOn}
 use Rattle.bx_image.specs.Runs.{AreRunsOf}
-use Rattle.bx_image.specs.Spans.{StandOver}
+use Rattle.bx_image.specs.inner.Spans.{StandOver}
 use Rattle.bx_image.proofs.record.read_runs.Given as goal
 
 -- the runs stand over the ranges so far, and have the image's bytes

@@ -1,7 +1,7 @@
 use Rattle.std.proofs.Common.{◌≡◌, ℕ, ◌≤◌, length, ap, sym, ◌∙◌, subst, arith}
 use Rattle.std.proofs.lemmas.Grind.{common_steps}
-use Rattle.bx_journal.specs.declared.fault.SessionFault.TheVariants.{Damaged}
-use Rattle.bx_journal.specs.Parsed.{entries_of}
+use Rattle.bx_journal.specs.declared.session.fault.SessionFault.TheVariants.{Damaged}
+use Rattle.bx_journal.specs.inner.Parsed.{entries_of}
 use Rattle.bx_journal.specs.Undoing.{AgainFault, IsFinished}
 use Rattle.bx_journal.proofs.ReadLemmas.{length-entries_of}
 use Rattle.bx_journal.proofs.AgainLemmas.{in_step}

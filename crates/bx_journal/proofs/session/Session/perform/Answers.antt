@@ -11,7 +11,7 @@ use Rattle.bx_journal.specs.Stack.{StandsFor}
 use Rattle.bx_journal.proofs.RedoText.{empty_is_redo}
 use Rattle.bx_journal.proofs.TurnLemmas.{change_stops}
 use Rattle.bx_journal.proofs.Performed.{performs, top_of_stands}
-use Rattle.bx_journal.specs.Step.{WritesEntry}
+use Rattle.bx_journal.specs.inner.Step.{WritesEntry}
 use Rattle.bx_journal.proofs.Ready.{IsPrepared, writes_entry, top_of_rest}
 use Rattle.bx_journal.proofs.session.Session.perform.Goals as goal
 use Rattle.bx_journal.proofs.session.Session.perform.Goals.{After-write_entry}

@@ -1,17 +1,18 @@
 use Rattle.std.proofs.Common.{◌≡◌, ◌≤◌, ◌+◌, ◌-◌, ℕ, suc, Some, List, length, drop, refl, ap, sym, ◌∙◌, subst, arith, length-drop}
 use Rattle.std.specs.Prelude.{reverse}
 use Rattle.std.proofs.lemmas.Grind.{common_steps}
-use Rattle.bx_journal.specs.declared.fault.SessionFault.TheVariants.{RedoDamaged}
+use Rattle.bx_journal.specs.declared.session.fault.SessionFault.TheVariants.{RedoDamaged}
 use Rattle.bx_journal.specs.Images.{redo_of}
 use Rattle.bx_journal.specs.Machine.{changes_of}
-use Rattle.bx_journal.specs.Parsed.{AllKept, entries_of}
+use Rattle.bx_journal.specs.inner.Parsed.{AllKept, entries_of}
 use Rattle.bx_journal.specs.Phase.{IsAtRest}
 use Rattle.bx_journal.specs.Redo.{Finds, IsRedoOf}
 use Rattle.bx_journal.specs.Stack.{StandsFor}
-use Rattle.bx_journal.specs.Takens.{AreReady}
+use Rattle.bx_journal.specs.inner.Takens.{AreReady}
 use Rattle.bx_journal.specs.Text.{Entry, Between, Reading, IsPrefix}
-use Rattle.bx_journal.specs.Turns.{AreAtRest, AreStanding}
-use Rattle.bx_journal.specs.Undoing.{HasLeft, IsFinished, IsOutOfStep, RedoAgainFault}
+use Rattle.bx_journal.specs.inner.Turns.{AreAtRest, AreStanding}
+use Rattle.bx_journal.specs.Undoing.{HasLeft, IsFinished, IsOutOfStep}
+use Rattle.bx_journal.specs.inner.Undoing.{RedoAgainFault}
 use Rattle.bx_journal.proofs.ReadLemmas.{length-entries_of}
 use Rattle.bx_journal.proofs.RedoingLemmas.{redo_in_step, length_redone}
 use Rattle.bx_journal.proofs.TakingLemmas.{redo_moved}

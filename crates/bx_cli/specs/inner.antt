@@ -1,0 +1,2 @@
+-- What no public contract names.
+pub mod Command

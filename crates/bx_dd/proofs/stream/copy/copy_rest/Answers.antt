@@ -1,0 +1,24 @@
+use Rattle.std.proofs.Common.{◌≡◌, ◌+◌, ◌≤◌, ◌^◌, length, arith}
+use Rattle.bx_dd.proofs.CopyLemmas.{write_stops}
+use Rattle.bx_dd.proofs.stream.copy.copy_rest.Goals as goal
+
+pub returns-in-Ok-finish-clause-ok : goal.returns-in-Ok-finish-clause-ok
+returns-in-Ok-finish-clause-ok g c =
+    let p = c.in-Ok.ensures.ok in
+    let end = c.in-Ok-finish.ensures.ok p.input (g.W.Write.contents c.args.w.now) p.stage in
+    record {
+      input = p.input;
+      consumed = p.consumed;
+      within = p.within;
+      ends = p.ends;
+      few = omega (arith, p.taken, c.in-Ok.ensures.limit, c.copy_units.new.meter.within);
+      appended = end.0;
+      counted = c.counts.ensures.counts p.input (omega (arith, p.taken)) end.1 end.2;
+    }
+
+pub returns-in-Err-finish-clause-err : goal.returns-in-Err-finish-clause-err
+returns-in-Err-finish-clause-err g c =
+    let p = c.in-Ok.ensures.ok in
+    let few : c.args.meter.now.taken + length p.input ≤ 2 ^ 40 = omega (arith, p.taken, c.in-Ok.ensures.limit, c.copy_units.new.meter.within) in
+    write_stops c.args.form _ _ _ _ p.input c.args.most c.args.meter.now.taken c.in-Err-finish.fault p.consumed p.within few
+    (c.in-Err-finish.ensures.err p.input (g.W.Write.contents c.args.w.now) p.stage)

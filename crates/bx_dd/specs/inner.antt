@@ -1,0 +1,4 @@
+-- What no public contract names.
+pub mod Standing
+pub mod Streaming
+pub mod Transfer

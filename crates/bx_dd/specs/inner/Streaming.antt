@@ -1,0 +1,96 @@
+-- What proofs alone need: what a copy to a writer reads and writes, and where it stands in between.
+-- ---- a whole copy
+use Rattle.std.specs.Prelude.{◌≡◌, ℕ, ◌+◌, ◌-◌, ◌*◌, ◌%◌, ◌^◌, ◌≤◌, ◌⊎◌, Bool, true, false, ◌||◌, if◌then◌else◌, List, ◌++◌, length, take, Option, None, Some}
+use Rattle.std.specs.Io.KnownBytes.{Appends, Consumes, IsAtEnd}
+use Rattle.bx_text.specs.declared.fault.IoFault.{IoFault}
+use Rattle.bx_text.specs.Stream.{IsReadCause}
+use Rattle.bx_text.specs.Writing.{WritesFront}
+use Rattle.bx_dd.specs.declared.stream.counts.Counts.{Counts}
+use Rattle.bx_dd.specs.declared.convert.form.Form.{Form}
+use Rattle.bx_dd.specs.declared.convert.form.Shape.{Shape}
+use Rattle.bx_dd.specs.Counting.{counts_of}
+use Rattle.bx_dd.specs.Output.{converted, joined, shaped}
+use Rattle.bx_dd.specs.Standing.{Stands}
+use Rattle.bx_dd.specs.Streaming.{IsCopyFault}
+
+-- ---- a copy under way
+
+-- Of a text, a part went out, so many bytes, and the rest waits.
+pub record Goes (start now : Option (List ℕ)) (waits : List ℕ) (written : ℕ) (text : List ℕ) : Type 0 where
+  pub out : List ℕ
+  pub went : Appends start now out
+  pub all : text ≡ out ++ waits
+  pub count : written ≡ length out
+
+-- Of converted bytes, what records that are finished give went out or waits, and the rest is kept.
+pub record Flows (shape : Shape) (size : ℕ) (start now : Option (List ℕ)) (bytes waits : List ℕ) (written : ℕ) (kept : List ℕ) (was_cut : Bool) (count : ℕ) : Type 0 where
+  pub text : List ℕ
+  pub stands : Stands shape size bytes text kept was_cut count
+  pub goes : Goes start now waits written text
+
+-- whatever follows these converted bytes, a front of what is written of them all went out, as the fault says
+abbrev pub StopsFlow : Shape → ℕ → Option (List ℕ) → Option (List ℕ) → List ℕ → IoFault → Type 0
+StopsFlow shape size start now bytes fault = (more : List ℕ) → WritesFront 0 start now (shaped shape size (bytes ++ more)) fault
+
+-- how many bytes are converted by themselves: a block where its pairs or its end matter, else one byte
+abbrev pub unit_of : Form → ℕ
+unit_of form = if form.swab || form.sync then form.ibs else 1
+
+-- Of what was read, whole units were converted and flow, and the rest is pending.
+pub record Stage (form : Form) (start now : Option (List ℕ)) (input pending waits : List ℕ) (written : ℕ) (kept : List ℕ) (was_cut : Bool) (count : ℕ) : Type 0 where
+  pub done : List ℕ
+  pub parts : input ≡ done ++ pending
+  pub whole : length done % unit_of form ≡ 0
+  pub flows : Flows form.shape form.cbs start now (joined form done) waits written kept was_cut count
+
+-- whatever is read behind this input, a front of what is written of it all went out, as the fault says
+abbrev pub StopsStage : Form → Option (List ℕ) → Option (List ℕ) → List ℕ → IoFault → Type 0
+StopsStage form start now input fault = (more : List ℕ) → WritesFront 0 start now (converted form (input ++ more)) fault
+
+-- The rest of an input was read after so many bytes, at most so many of it, and stands converted.
+pub record Passes (form : Form) (most before after : ℕ) (r0 r1 start now : Option (List ℕ)) (pending waits : List ℕ) (written : ℕ) (kept : List ℕ) (was_cut : Bool) (count : ℕ) : Type 0 where
+  pub input : List ℕ
+  pub consumed : Consumes r0 r1 input
+  pub within : length input ≤ most
+  pub ends : (length input ≡ most) ⊎ IsAtEnd r1
+  pub taken : after ≡ before + length input
+  pub stage : Stage form start now input pending waits written kept was_cut count
+
+-- The rest of an input was read after so many bytes, at most so many of it, and all that is made of it was written and counted.
+pub record CopiesRest (form : Form) (most before : ℕ) (r0 r1 w0 w1 : Option (List ℕ)) (counts : Counts) : Type 0 where
+  pub input : List ℕ
+  pub consumed : Consumes r0 r1 input
+  pub within : length input ≤ most
+  pub ends : (length input ≡ most) ⊎ IsAtEnd r1
+  pub few : before + length input ≤ 2 ^ 40
+  pub appended : Appends w0 w1 (converted form input)
+  pub counted : counts ≡ counts_of form input
+
+-- how many bytes are copied at most, where these are so many blocks
+abbrev pub most_of : Option ℕ → ℕ → ℕ
+most_of None ibs = 2 ^ 64 - 1
+most_of (Some count) ibs = count * ibs
+
+-- Some of the rest of an input was read after so many bytes, at most so many of it, and a front of what is made of it was written.
+pub record StopsPass (form : Form) (most before : ℕ) (r0 r1 w0 w1 : Option (List ℕ)) (fault : IoFault) : Type 0 where
+  pub input : List ℕ
+  pub written : ℕ
+  pub consumed : Consumes r0 r1 input
+  pub within : length input ≤ most
+  pub short : written ≤ length (converted form input)
+  pub appended : Appends w0 w1 (take written (converted form input))
+  pub cause : IsCopyFault fault (before + length input) written (length (converted form input))
+
+-- Bytes were skipped: all that were asked for, or fewer up to the input's end.
+pub record Skips (all : Bool) (count : ℕ) (r0 r1 : Option (List ℕ)) : Type 0 where
+  pub input : List ℕ
+  pub consumed : Consumes r0 r1 input
+  pub few : length input ≤ 2 ^ 40
+  pub whole : all ≡ true → length input ≡ count
+  pub short : all ≡ false → (length input ≤ count) × IsAtEnd r1
+
+-- Some of the bytes were skipped, and then no more could be read.
+pub record StopsSkip (count : ℕ) (r0 r1 : Option (List ℕ)) (fault : IoFault) : Type 0 where
+  pub input : List ℕ
+  pub consumed : Consumes r0 r1 input
+  pub cause : IsReadCause fault count (2 ^ 40) (length input)

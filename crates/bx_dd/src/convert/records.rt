@@ -1,0 +1,284 @@
+//! Records of a stream.
+ghost use Rattle.std.specs.Prelude.{◌≡◌, ◌≢◌, ℕ, ◌+◌, ◌-◌, ◌*◌, ◌^◌, ◌<◌, ◌≤◌, List, [], ◌∷◌, ◌++◌, length, take, vec_capacity, Option, IfOk, IfErr, OnOk, Bool, false, slice_index};
+ghost use Rattle.bx_text.specs.Writing.{WritesFront};
+ghost use Rattle.bx_dd.specs.Output.{fitted, line_of};
+ghost use Rattle.bx_dd.specs.Standing.{Stands};
+ghost use Rattle.bx_dd.specs.inner.Standing.{last_of};
+ghost use Rattle.bx_dd.specs.inner.Streaming.{Flows, Goes, StopsFlow};
+ghost use Rattle.bx_dd.specs.declared.convert.form.Shape.TheVariants.{Flat, Block, Unblock};
+
+use crate::convert::form::{Form, Shape};
+use crate::stream::page::{Page, keep};
+use bx_text::IoFault;
+use memchr::memchr;
+use std::alloc::Allocator;
+use std::io::Write;
+
+/// Whether the record that may go on was cut, and how many finished ones were.
+#[derive(Clone, Copy)]
+pub struct Tail {
+    pub over: bool,
+    pub cut: u64,
+}
+
+/// Takes bytes, which finish records.
+pub fn push_shaped<W: Write, A: Allocator, B: Allocator>(
+    page: &mut Page<B>,
+    w: &mut W,
+    held: &mut Vec<u8, A>,
+    tail: Tail,
+    bytes: &[u8],
+    shape: Shape,
+    size: usize,
+) -> Result<Tail, IoFault>
+    requires room { length held.old.items ≤ size }
+    requires space { shape ≢ Flat → size ≤ vec_capacity held.old }
+    requires some { shape ≢ Flat → 0 < size }
+    requires part { shape ≡ Unblock → length held.old.items < size }
+    requires few { tail.cut + length bytes.now < 2 ^ 64 }
+    ensures within { IfOk result (λ t. (length held.new.items ≤ size) × (t.cut ≤ tail.cut + length bytes.now)) }
+    ensures part { IfOk result (λ t. shape ≡ Unblock → length held.new.items < size) }
+    ensures space { vec_capacity held.old ≤ vec_capacity held.new }
+    ensures ok { (z : List ℕ) (start : Option (List ℕ)) → Flows shape size start (W.contents w.old) z page.old.bytes.items page.old.written held.old.items tail.over tail.cut →
+        IfOk result (λ t. Flows shape size start (W.contents w.new) (z ++ bytes.now) page.new.bytes.items page.new.written held.new.items t.over t.cut) }
+    ensures err { (z : List ℕ) (start : Option (List ℕ)) → Flows shape size start (W.contents w.old) z page.old.bytes.items page.old.written held.old.items tail.over tail.cut →
+        IfErr result (StopsFlow shape size start (W.contents w.new) (z ++ bytes.now)) }
+{
+    match shape {
+        Shape::Flat => match page.put(w, bytes) {
+            Ok(()) => Ok(tail),
+            Err(fault) => Err(fault),
+        },
+        Shape::Block => push_text(page, w, held, tail, bytes, size),
+        Shape::Unblock => match push_pieces(page, w, held, bytes, size) {
+            Ok(()) => Ok(tail),
+            Err(fault) => Err(fault),
+        },
+    }
+}
+
+/// Takes a text, whose newlines end records.
+fn push_text<W: Write, A: Allocator, B: Allocator>(
+    page: &mut Page<B>,
+    w: &mut W,
+    held: &mut Vec<u8, A>,
+    tail: Tail,
+    bytes: &[u8],
+    size: usize,
+) -> Result<Tail, IoFault>
+    requires room { length held.old.items ≤ size }
+    requires space { size ≤ vec_capacity held.old }
+    requires some { 0 < size }
+    requires few { tail.cut + length bytes.now < 2 ^ 64 }
+    ensures within { IfOk result (λ t. (length held.new.items ≤ size) × (t.cut ≤ tail.cut + length bytes.now)) }
+    ensures space { vec_capacity held.old ≤ vec_capacity held.new }
+    ensures ok { (z : List ℕ) (start : Option (List ℕ)) → Flows Block size start (W.contents w.old) z page.old.bytes.items page.old.written held.old.items tail.over tail.cut →
+        IfOk result (λ t. Flows Block size start (W.contents w.new) (z ++ bytes.now) page.new.bytes.items page.new.written held.new.items t.over t.cut) }
+    ensures err { (z : List ℕ) (start : Option (List ℕ)) → Flows Block size start (W.contents w.old) z page.old.bytes.items page.old.written held.old.items tail.over tail.cut →
+        IfErr result (StopsFlow Block size start (W.contents w.new) (z ++ bytes.now)) }
+{
+    let mut over = tail.over;
+    let mut cut = tail.cut;
+    let mut done = 0;
+    while done < bytes.len() {
+        let (_, rest) = bytes.split_at(done);
+        match memchr(b'\n', rest) {
+            None => {
+                let over_now = hold(held, over, rest, size);
+                return Ok(Tail {
+                    over: over_now,
+                    cut,
+                });
+            }
+            Some(n) => {
+                let over_now = hold(held, over, &rest[..n], size);
+                match end_record(page, w, held, over_now, cut, size) {
+                    Ok(ended) => {
+                        over = false;
+                        cut = ended;
+                        done += n + 1;
+                    }
+                    Err(fault) => return Err(fault),
+                }
+            }
+        }
+    }
+    Ok(Tail { over, cut })
+}
+
+/// Keeps what fits of a record's next bytes, and tells whether the record was cut.
+fn hold<A: Allocator>(held: &mut Vec<u8, A>, over: bool, text: &[u8], size: usize) -> bool
+    requires room { length held.old.items ≤ size }
+    requires space { size ≤ vec_capacity held.old }
+    ensures within { length held.new.items ≤ size }
+    ensures space { vec_capacity held.old ≤ vec_capacity held.new }
+    ensures next { (z out : List ℕ) (cut : ℕ) → ((k : ℕ) → k < length text.now → slice_index text.now k ≢ 10) → Stands Block size z out held.old.items over cut →
+        Stands Block size (z ++ text.now) out held.new.items result cut }
+{
+    let room = size - held.len();
+    if text.len() <= room {
+        keep(held, text);
+        over
+    } else {
+        keep(held, &text[..room]);
+        true
+    }
+}
+
+/// A newline: the record is finished. Answers how many were cut.
+fn end_record<W: Write, A: Allocator, B: Allocator>(
+    page: &mut Page<B>,
+    w: &mut W,
+    held: &mut Vec<u8, A>,
+    over: bool,
+    cut: u64,
+    size: usize,
+) -> Result<u64, IoFault>
+    requires room { length held.old.items ≤ size }
+    requires some { 0 < size }
+    requires few { cut < 2 ^ 64 - 1 }
+    ensures within { IfOk result (λ n. (held.new.items ≡ []) × (n ≤ cut + 1)) }
+    ensures space { vec_capacity held.old ≤ vec_capacity held.new }
+    ensures ok { (z : List ℕ) (start : Option (List ℕ)) → Flows Block size start (W.contents w.old) z page.old.bytes.items page.old.written held.old.items over cut →
+        IfOk result (λ n. Flows Block size start (W.contents w.new) (z ++ 10 ∷ []) page.new.bytes.items page.new.written held.new.items false n) }
+    ensures err { (z : List ℕ) (start : Option (List ℕ)) → Flows Block size start (W.contents w.old) z page.old.bytes.items page.old.written held.old.items over cut →
+        IfErr result (StopsFlow Block size start (W.contents w.new) (z ++ 10 ∷ [])) }
+{
+    match push_fitted(page, w, held.as_slice(), size) {
+        Ok(()) => {}
+        Err(fault) => return Err(fault),
+    }
+    held.clear();
+    Ok(if over { cut + 1 } else { cut })
+}
+
+/// Puts a record, filled up with spaces.
+fn push_fitted<W: Write, B: Allocator>(
+    page: &mut Page<B>,
+    w: &mut W,
+    held: &[u8],
+    size: usize,
+) -> Result<(), IoFault>
+    requires { length held.now ≤ size }
+    ensures ok { (start : Option (List ℕ)) (text : List ℕ) → Goes start (W.contents w.old) page.old.bytes.items page.old.written text →
+        OnOk result (Goes start (W.contents w.new) page.new.bytes.items page.new.written (text ++ fitted size held.now)) }
+    ensures err { (start : Option (List ℕ)) (text : List ℕ) → Goes start (W.contents w.old) page.old.bytes.items page.old.written text →
+        IfErr result (WritesFront 0 start (W.contents w.new) (text ++ fitted size held.now)) }
+{
+    match page.put(w, held) {
+        Ok(()) => page.put_spaces(w, size - held.len()),
+        Err(fault) => Err(fault),
+    }
+}
+
+/// Takes records of one size.
+fn push_pieces<W: Write, A: Allocator, B: Allocator>(
+    page: &mut Page<B>,
+    w: &mut W,
+    held: &mut Vec<u8, A>,
+    bytes: &[u8],
+    size: usize,
+) -> Result<(), IoFault>
+    requires room { length held.old.items < size }
+    requires space { size ≤ vec_capacity held.old }
+    ensures within { OnOk result (length held.new.items < size) }
+    ensures space { vec_capacity held.old ≤ vec_capacity held.new }
+    ensures ok { (z : List ℕ) (over : Bool) (cut : ℕ) (start : Option (List ℕ)) → Flows Unblock size start (W.contents w.old) z page.old.bytes.items page.old.written held.old.items over cut →
+        OnOk result (Flows Unblock size start (W.contents w.new) (z ++ bytes.now) page.new.bytes.items page.new.written held.new.items over cut) }
+    ensures err { (z : List ℕ) (over : Bool) (cut : ℕ) (start : Option (List ℕ)) → Flows Unblock size start (W.contents w.old) z page.old.bytes.items page.old.written held.old.items over cut →
+        IfErr result (StopsFlow Unblock size start (W.contents w.new) (z ++ bytes.now)) }
+{
+    let mut done = 0;
+    while done < bytes.len() {
+        let n = (size - held.len()).min(bytes.len() - done);
+        match push_piece(page, w, held, &bytes[done..done + n], size) {
+            Ok(()) => done += n,
+            Err(fault) => return Err(fault),
+        }
+    }
+    Ok(())
+}
+
+/// Takes bytes of one record.
+fn push_piece<W: Write, A: Allocator, B: Allocator>(
+    page: &mut Page<B>,
+    w: &mut W,
+    held: &mut Vec<u8, A>,
+    bytes: &[u8],
+    size: usize,
+) -> Result<(), IoFault>
+    requires room { length held.old.items < size }
+    requires space { size ≤ vec_capacity held.old }
+    requires fits { length held.old.items + length bytes.now ≤ size }
+    ensures within { OnOk result (length held.new.items < size) }
+    ensures space { vec_capacity held.old ≤ vec_capacity held.new }
+    ensures ok { (z : List ℕ) (over : Bool) (cut : ℕ) (start : Option (List ℕ)) → Flows Unblock size start (W.contents w.old) z page.old.bytes.items page.old.written held.old.items over cut →
+        OnOk result (Flows Unblock size start (W.contents w.new) (z ++ bytes.now) page.new.bytes.items page.new.written held.new.items over cut) }
+    ensures err { (z : List ℕ) (over : Bool) (cut : ℕ) (start : Option (List ℕ)) → Flows Unblock size start (W.contents w.old) z page.old.bytes.items page.old.written held.old.items over cut →
+        IfErr result (StopsFlow Unblock size start (W.contents w.new) (z ++ bytes.now)) }
+{
+    keep(held, bytes);
+    if held.len() < size {
+        return Ok(());
+    }
+    match push_line(page, w, held.as_slice()) {
+        Ok(()) => {
+            held.clear();
+            Ok(())
+        }
+        Err(fault) => Err(fault),
+    }
+}
+
+/// Puts a line for a record.
+fn push_line<W: Write, B: Allocator>(
+    page: &mut Page<B>,
+    w: &mut W,
+    held: &[u8],
+) -> Result<(), IoFault>
+    ensures ok { (start : Option (List ℕ)) (text : List ℕ) → Goes start (W.contents w.old) page.old.bytes.items page.old.written text →
+        OnOk result (Goes start (W.contents w.new) page.new.bytes.items page.new.written (text ++ line_of held.now)) }
+    ensures err { (start : Option (List ℕ)) (text : List ℕ) → Goes start (W.contents w.old) page.old.bytes.items page.old.written text →
+        IfErr result (WritesFront 0 start (W.contents w.new) (text ++ line_of held.now)) }
+{
+    let end = trimmed(held);
+    match page.put(w, &held[..end]) {
+        Ok(()) => page.put(w, b"\n"),
+        Err(fault) => Err(fault),
+    }
+}
+
+/// How many bytes are left without the spaces at the end.
+fn trimmed(held: &[u8]) -> usize
+    ensures low { result ≤ length held.now }
+    ensures line { take result held.now ++ 10 ∷ [] ≡ line_of held.now }
+{
+    let mut end = held.len();
+    while end > 0 && held[end - 1] == b' ' {
+        end -= 1;
+    }
+    end
+}
+
+/// What the input's end gives of a record that was kept.
+pub fn push_rest<W: Write, B: Allocator>(
+    page: &mut Page<B>,
+    w: &mut W,
+    held: &[u8],
+    form: Form,
+) -> Result<(), IoFault>
+    requires { length held.now ≤ form.cbs }
+    ensures ok { (start : Option (List ℕ)) (text : List ℕ) → Goes start (W.contents w.old) page.old.bytes.items page.old.written text →
+        OnOk result (Goes start (W.contents w.new) page.new.bytes.items page.new.written (text ++ last_of form.shape form.cbs held.now)) }
+    ensures err { (start : Option (List ℕ)) (text : List ℕ) → Goes start (W.contents w.old) page.old.bytes.items page.old.written text →
+        IfErr result (WritesFront 0 start (W.contents w.new) (text ++ last_of form.shape form.cbs held.now)) }
+{
+    if held.is_empty() {
+        return Ok(());
+    }
+    match form.shape {
+        Shape::Flat => Ok(()),
+        Shape::Block => push_fitted(page, w, held, form.cbs as usize),
+        Shape::Unblock => push_line(page, w, held),
+    }
+}

@@ -1,0 +1,132 @@
+//! Output that waits in a page.
+ghost use Rattle.std.specs.Prelude.{◌≡◌, ℕ, ◌+◌, ◌^◌, ◌<◌, ◌≤◌, List, [], ◌++◌, length, replicate, vec_capacity, Option, IfOk, IfErr, OnOk};
+ghost use Rattle.std.specs.Io.KnownBytes.{Appends};
+ghost use Rattle.bx_text.specs.Writing.{WritesFront};
+ghost use Rattle.bx_dd.specs.inner.Streaming.{Goes};
+
+use bx_text::{IoFault, emit_after};
+use std::alloc::{Allocator, Global};
+use std::io::Write;
+
+/// The most bytes that are written.
+const LIMIT: u64 = 1 << 63;
+
+/// How many spaces are put at once.
+const SPACES: usize = 1024;
+
+/// What waits to be written, and how much went out before it.
+#[derive(Drop)]
+pub struct Page<A: Allocator = Global> {
+    /// What waits. Its room is that of the page.
+    pub bytes: Vec<u8, A>,
+    /// How many bytes went out, at most 2^63.
+    pub written: u64,
+    ghost few: { written ≤ 9223372036854775808 },
+}
+
+impl<A: Allocator> Page<A> {
+    /// A page without room, after so many bytes that went out: what is put goes out at once.
+    pub fn direct(alloc: A, written: u64) -> Page<A>
+        requires { written ≤ 9223372036854775808 }
+        ensures bytes { result.bytes.items ≡ [] }
+        ensures written { result.written ≡ written }
+    {
+        Page {
+            bytes: Vec::new(alloc),
+            written,
+        }
+    }
+
+    /// Puts bytes behind what waits. A page that has no room for them goes out first.
+    pub fn put<W: Write>(&mut self, w: &mut W, bytes: &[u8]) -> Result<(), IoFault>
+        ensures ok { (start : Option (List ℕ)) (text : List ℕ) → Goes start (W.contents w.old) self.old.bytes.items self.old.written text →
+            OnOk result (Goes start (W.contents w.new) self.new.bytes.items self.new.written (text ++ bytes.now)) }
+        ensures err { (start : Option (List ℕ)) (text : List ℕ) → Goes start (W.contents w.old) self.old.bytes.items self.old.written text →
+            IfErr result (WritesFront 0 start (W.contents w.new) (text ++ bytes.now)) }
+    {
+        if self.bytes.len() + bytes.len() < self.bytes.capacity() {
+            keep(&mut self.bytes, bytes);
+            return Ok(());
+        }
+        match self.flush(w) {
+            Ok(()) => {}
+            Err(fault) => return Err(fault),
+        }
+        if bytes.len() < self.bytes.capacity() {
+            keep(&mut self.bytes, bytes);
+            return Ok(());
+        }
+        match send(w, self.written, bytes) {
+            Ok(written) => {
+                self.written = written;
+                Ok(())
+            }
+            Err(fault) => Err(fault),
+        }
+    }
+
+    /// Writes what waits.
+    pub fn flush<W: Write>(&mut self, w: &mut W) -> Result<(), IoFault>
+        ensures none { OnOk result (self.new.bytes.items ≡ []) }
+        ensures ok { (start : Option (List ℕ)) (text : List ℕ) → Goes start (W.contents w.old) self.old.bytes.items self.old.written text →
+            OnOk result (Goes start (W.contents w.new) self.new.bytes.items self.new.written text) }
+        ensures err { (start : Option (List ℕ)) (text : List ℕ) → Goes start (W.contents w.old) self.old.bytes.items self.old.written text →
+            IfErr result (WritesFront 0 start (W.contents w.new) text) }
+    {
+        match send(w, self.written, self.bytes.as_slice()) {
+            Ok(written) => {
+                self.written = written;
+                self.bytes.clear();
+                Ok(())
+            }
+            Err(fault) => Err(fault),
+        }
+    }
+
+    /// Puts so many spaces.
+    pub fn put_spaces<W: Write>(&mut self, w: &mut W, count: usize) -> Result<(), IoFault>
+        ensures ok { (start : Option (List ℕ)) (text : List ℕ) → Goes start (W.contents w.old) self.old.bytes.items self.old.written text →
+            OnOk result (Goes start (W.contents w.new) self.new.bytes.items self.new.written (text ++ replicate count 32)) }
+        ensures err { (start : Option (List ℕ)) (text : List ℕ) → Goes start (W.contents w.old) self.old.bytes.items self.old.written text →
+            IfErr result (WritesFront 0 start (W.contents w.new) (text ++ replicate count 32)) }
+    {
+        let spaces = [b' '; SPACES];
+        let mut done = 0;
+        while done < count {
+            let n = (count - done).min(SPACES);
+            match self.put(w, &spaces[..n]) {
+                Ok(()) => done += n,
+                Err(fault) => return Err(fault),
+            }
+        }
+        Ok(())
+    }
+}
+
+/// Writes bytes after so many others, and answers how many those are together.
+fn send<W: Write>(w: &mut W, written: u64, bytes: &[u8]) -> Result<u64, IoFault>
+    requires { written ≤ 9223372036854775808 }
+    ensures sum { IfOk result (λ n. (n ≡ written + length bytes.now) × (n ≤ 9223372036854775808)) }
+    ensures ok { OnOk result (Appends (W.contents w.old) (W.contents w.new) bytes.now) }
+    ensures err { IfErr result (WritesFront written (W.contents w.old) (W.contents w.new) bytes.now) }
+{
+    if bytes.len() as u64 > LIMIT - written {
+        return Err(IoFault::WriteFailed { written });
+    }
+    match emit_after(w, written, bytes) {
+        Ok(()) => Ok(written + bytes.len() as u64),
+        Err(fault) => Err(fault),
+    }
+}
+
+/// Appends bytes that there is room for.
+pub fn keep<A: Allocator>(kept: &mut Vec<u8, A>, bytes: &[u8])
+    requires { length kept.old.items + length bytes.now ≤ vec_capacity kept.old }
+    ensures items { kept.new.items ≡ kept.old.items ++ bytes.now }
+    ensures space { vec_capacity kept.old ≤ vec_capacity kept.new }
+{
+    match kept.extend_from_slice(bytes) {
+        Ok(()) => {}
+        Err(_) => unreachable!(),
+    }
+}

@@ -1,0 +1,100 @@
+use Rattle.std.proofs.Common.{◌≡◌, ℕ, ◌+◌, ◌^◌, true, Option, List, [], ◌++◌, length, arith, refl, ap, inl, inr}
+use Rattle.std.proofs.lemmas.List.{length-append}
+use Rattle.bx_text.proofs.KnownLemmas.{Consumes-trans}
+use Rattle.bx_text.specs.Fold.{folded}
+use Rattle.bx_dump.specs.Od.{od_line, od_end, od_text}
+use Rattle.std.specs.Io.KnownBytes.{Consumes}
+use Rattle.bx_text.specs.declared.fault.IoFault.{IoFault}
+use Rattle.bx_text.specs.declared.fault.IoFault.TheVariants.{NoMemory, ReadFailed, WriteFailed, InputTooLong, SkipPastEnd}
+use Rattle.bx_dump.specs.OdDump.{FailsBehind, Reaches}
+use Rattle.bx_dump.specs.inner.OdDump.{StopsShort}
+use Rattle.bx_dump.specs.Pages.{Skips, part_of}
+use Rattle.bx_dump.proofs.EndLemmas.{od_end_few}
+use Rattle.bx_dump.proofs.PagesLemmas.{part_whole, part_then, stop_then, front_then, front_behind}
+use Rattle.bx_dump.proofs.od.dump.od.Goals as goal
+
+-- whatever fails behind so many bytes
+behind : (count : ℕ) (r0 r1 w0 w1 : Option (List ℕ)) (fault : IoFault) → Reaches count r0 r1 → FailsBehind count r0 r1 w0 w1 fault
+behind count r0 r1 w0 w1 (WriteFailed written) reaches = reaches
+behind count r0 r1 w0 w1 NoMemory reaches = inr reaches
+behind count r0 r1 w0 w1 ReadFailed reaches = inr reaches
+behind count r0 r1 w0 w1 InputTooLong reaches = inr reaches
+behind count r0 r1 w0 w1 SkipPastEnd reaches = inr reaches
+
+-- whatever fails among them, with nothing written
+among : (count : ℕ) (r0 r1 w : Option (List ℕ)) (fault : IoFault) → StopsShort count r0 r1 fault → FailsBehind count r0 r1 w w fault
+among count r0 r1 w (WriteFailed written) (inl short) = absurd (cc short.0)
+among count r0 r1 w (WriteFailed written) (inr stop) = absurd stop.cause
+among count r0 r1 w NoMemory short = inl refl
+among count r0 r1 w ReadFailed short = inl refl
+among count r0 r1 w InputTooLong short = inl refl
+among count r0 r1 w SkipPastEnd short = inl refl
+
+-- the bytes to skip, and then more
+reaches_behind : (count : ℕ) (r0 r1 r2 : Option (List ℕ)) (input : List ℕ) → Skips true count r0 r1 → Consumes r1 r2 input → Reaches count r0 r2
+reaches_behind count r0 r1 r2 input front rest = (
+  front.input ++ input,
+  Consumes-trans r0 r1 r2 front.input input front.consumed rest,
+  omega (arith, length-append front.input input, front.whole refl),
+)
+
+pub returns-in-Err-dump_lines-clause-err : goal.returns-in-Err-dump_lines-clause-err
+returns-in-Err-dump_lines-clause-err g c =
+    let o = c.args.o.now in
+    let lines = folded (od_line o.address o.kind) o.all o.skip in
+    let text = λ (xs : List ℕ). lines (part_of o.skip o.limit xs) in
+    let other = λ (xs : List ℕ). od_text o.address o.kind o.all o.skip (part_of o.skip o.limit xs) in
+    let rest = rw c.in_default.ensures.open.1 at c.in-Err-dump_lines.ensures.err in
+    inr (front_then 0 (2 ^ 7) text other o.skip o.limit 0 0 _ _ _ _ c.in-Err-dump_lines.fault (λ xs. (od_end o.address (o.skip + length (part_of o.skip o.limit xs)), refl))
+    (λ xs. omega (
+      arith,
+      od_end_few o.address (o.skip + length (part_of o.skip o.limit xs)),
+      length-append (text xs) (od_end o.address (o.skip + length (part_of o.skip o.limit xs))),
+      length-append (text []) (od_end o.address (o.skip + length (part_of o.skip o.limit []))),
+    ))
+    (front_behind 0 lines o.skip o.limit 0 _ _ _ _ _ c.in-Err-dump_lines.fault c.in_default.ensures.ok rest))
+
+pub returns-in-Err-emit_after-clause-err : goal.returns-in-Err-emit_after-clause-err
+returns-in-Err-emit_after-clause-err g c =
+    let o = c.args.o.now in
+    let lines = folded (od_line o.address o.kind) o.all o.skip in
+    let text = λ (xs : List ℕ). lines (part_of o.skip o.limit xs) in
+    let other = λ (xs : List ℕ). od_text o.address o.kind o.all o.skip (part_of o.skip o.limit xs) in
+    let done = c.in-Ok.lines in
+    let whole = part_whole lines o.skip o.limit _ _ _ _ _ done.read done.written c.in_default.ensures.ok (rw c.in_default.ensures.open.1 at c.in-Ok.ensures.ok) in
+    let line = rw (c.as_bytes.ensures.value, c.end_line-end.ensures) at c.in-Err-emit_after.ensures.err in
+    let none : 0 + done.written ≡ done.written = omega arith in
+    inr (stop_then text other o.skip o.limit _ _ _ _ _ done.read done.written (od_end o.address (o.skip + done.read))
+    (λ xs e. ap (λ n. text xs ++ od_end o.address (o.skip + n)) e) whole (2 ^ 7) 0 c.in-Err-emit_after.fault (omega (arith, od_end_few o.address (o.skip + done.read))) (rw none line))
+
+pub returns-clause-ok : goal.returns-clause-ok
+returns-clause-ok g c =
+    let o = c.args.o.now in
+    let lines = folded (od_line o.address o.kind) o.all o.skip in
+    let text = λ (xs : List ℕ). lines (part_of o.skip o.limit xs) in
+    let other = λ (xs : List ℕ). od_text o.address o.kind o.all o.skip (part_of o.skip o.limit xs) in
+    let done = c.in-Ok.lines in
+    let whole = part_whole lines o.skip o.limit _ _ _ _ _ done.read done.written c.in_default.ensures.ok (rw c.in_default.ensures.open.1 at c.in-Ok.ensures.ok) in
+    let line = rw (c.as_bytes.ensures.value, c.end_line-end.ensures) at c.in_default-emit_after.ensures.ok in (
+      done.written + length (od_end o.address (o.skip + done.read)),
+      part_then text other o.skip o.limit _ _ _ _ _ done.read done.written (od_end o.address (o.skip + done.read))
+          (λ xs e. ap (λ n. text xs ++ od_end o.address (o.skip + n)) e) whole line,
+    )
+
+pub returns-clause-reached : goal.returns-clause-reached
+returns-clause-reached g c =
+    let rest = c.in-Ok.ensures.ok in
+    reaches_behind _ _ _ _ rest.input c.in_default.ensures.ok rest.consumed
+
+pub returns-in-Err-clause-behind : goal.returns-in-Err-clause-behind
+returns-in-Err-clause-behind g c = among _ _ _ _ c.in-Err.fault c.in-Err.ensures.err
+
+pub returns-in-Err-dump_lines-clause-behind : goal.returns-in-Err-dump_lines-clause-behind
+returns-in-Err-dump_lines-clause-behind g c =
+    let rest = c.in-Err-dump_lines.ensures.err in
+    behind _ _ _ _ _ c.in-Err-dump_lines.fault (reaches_behind _ _ _ _ rest.input c.in_default.ensures.ok rest.consumed)
+
+pub returns-in-Err-emit_after-clause-behind : goal.returns-in-Err-emit_after-clause-behind
+returns-in-Err-emit_after-clause-behind g c =
+    let rest = c.in-Ok.ensures.ok in
+    behind _ _ _ _ _ c.in-Err-emit_after.fault (reaches_behind _ _ _ _ rest.input c.in_default.ensures.ok rest.consumed)

@@ -1,0 +1,9 @@
+use Rattle.std.proofs.Common.{◌∙◌, arith}
+use Rattle.std.proofs.lemmas.List.{take_at}
+use Rattle.bx_dump.proofs.DigitParts.{address_filled}
+use Rattle.bx_dump.proofs.od.lines.put_start_of_seven.Goals as goal
+
+pub returns-clause-text : goal.returns-clause-text
+returns-clause-text c =
+    take_at c.put_seven.new.field c.split_at_mut-field.result.1.now 7 (c.put_seven.auto.field ∙ c.split_at_mut-field.ensures.front_len)
+    ∙ c.put_seven.ensures ∙ address_filled 7 c.args.at (omega arith) (omega arith) c.requires.fits (λ more. absurd (omega arith))

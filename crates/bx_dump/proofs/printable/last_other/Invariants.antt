@@ -1,8 +1,0 @@
-use Rattle.std.proofs.Common.{◌≤◌, length}
-use Rattle.bx_dump.proofs.printable.last_other.Given as goal
-
-abbrev pub invariant-loop-end : goal.invariant-loop-end
-invariant-loop-end l = l.end ≤ length l.bytes
-
-abbrev pub decreases-loop-end : goal.decreases-loop-end
-decreases-loop-end l = l.end

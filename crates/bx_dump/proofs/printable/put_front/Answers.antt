@@ -1,5 +1,0 @@
-use Rattle.std.proofs.Common.{rules}
-use Rattle.bx_dump.proofs.printable.put_front.Goals as goal
-
-pub returns-clause-text : goal.returns-clause-text
-returns-clause-text c = search rules

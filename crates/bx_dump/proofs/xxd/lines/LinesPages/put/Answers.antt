@@ -1,0 +1,46 @@
+use Rattle.std.proofs.Common.{◌≡◌, ◌+◌, ◌-◌, ◌*◌, ◌/◌, ◌≤◌, ◌++◌, length, take, arith, sym, ap, ◌∙◌}
+use Rattle.std.proofs.lemmas.List.{length-append, take-append-le}
+use Rattle.std.proofs.Math.Nat.{mul-le-mul_left}
+use Rattle.bx_dump.specs.Lines.{in_lines}
+use Rattle.bx_dump.proofs.LinesLemmas.{in_lines-append, count_most}
+use Rattle.bx_dump.proofs.xxd.lines.LinesPages.put.Goals as goal
+
+pub split_at_mut-cells-requires : goal.split_at_mut-cells-requires
+split_at_mut-cells-requires g c =
+    let p = c.args.self.now in
+    let n = length c.args.bytes.now in
+    let W = g.F.LineForm.width p.form in
+    let block = g.F.LineForm.cols p.form * p.lines in
+    let value : c.cell_len.result * n ≡ W * n = ap (λ w. w * n) c.cell_len.ensures.value in
+    let inside : W * n ≤ W * block = mul-le-mul_left {m = n} {n = block} W c.requires.fits in
+    let room : length c.split_at_mut-text.result.1.now ≡ 65536 = omega (arith, c.split_at_mut-text.ensures.back_len, c.requires.page) in
+    omega (arith, p.narrow)
+
+pub put_lines-requires-clause-room : goal.put_lines-requires-clause-room
+put_lines-requires-clause-room g c =
+    let p = c.args.self.now in
+    let n = length c.args.bytes.now in
+    let C = g.F.LineForm.cols p.form in
+    let R = g.F.LineForm.room p.form in
+    let few : (n + C - 1) / C ≤ p.lines = count_most n C p.lines p.broad c.requires.fits in
+    let inside : R * ((n + C - 1) / C) ≤ R * p.lines = mul-le-mul_left {m = (n + C - 1) / C} {n = p.lines} R few in
+    let room : length c.split_at_mut-text.result.0.now ≡ 65536 = omega (arith, c.split_at_mut-text.ensures.front_len) in
+    omega (arith, p.short)
+
+pub returns-clause-text : goal.returns-clause-text
+returns-clause-text g c input len seen =
+    let p = c.args.self.now in
+    let line = g.F.LineForm.line p.form in
+    let C = g.F.LineForm.cols p.form in
+    let bytes = c.args.bytes.now in
+    let rest = c.put_cells.new.cells ++ c.split_at_mut-cells.result.1.now in
+    let front : take c.put_lines.result (c.put_lines.new.text ++ rest) ≡ take c.put_lines.result c.put_lines.new.text =
+    take-append-le c.put_lines.result c.put_lines.new.text rest (omega (arith, c.put_lines.ensures.within, c.put_lines.auto.text)) in
+    let place : p.start + length input ≡ p.start + c.args.done = ap (λ n. p.start + n) len in
+    in_lines-append line C p.start seen.0 input bytes p.broad seen.1
+    ∙ ap (λ t. in_lines line C p.start input ++ t) (ap (λ n. in_lines line C n bytes) place ∙ sym (front ∙ c.put_lines.ensures.text))
+
+pub returns-clause-seen : goal.returns-clause-seen
+returns-clause-seen g c input len seen whole =
+    let p = c.args.self.now in
+    (seen.0 + p.lines, omega (arith, length-append input c.args.bytes.now, seen.1, whole))

@@ -1,0 +1,26 @@
+-- What proofs alone need: what a dump of a part of an input reads and writes.
+use Rattle.std.specs.Prelude.{◌≡◌, ℕ, ◌+◌, ◌^◌, ◌≤◌, ◌⊎◌, List, length, Option, None, Some}
+use Rattle.std.specs.Io.KnownBytes.{Appends, Consumes, IsAtEnd}
+use Rattle.bx_text.specs.declared.fault.IoFault.{IoFault}
+use Rattle.bx_text.specs.Stream.{IsReadCause}
+
+-- n bytes were dumped: all up to the input's end, or as many as may be
+abbrev pub IsLast : Option ℕ → ℕ → Option (List ℕ) → Type 0
+IsLast None n from = IsAtEnd from
+IsLast (Some most) n from = (n ≤ most) × (IsAtEnd from ⊎ (n ≡ most))
+
+-- The same of what comes after `from` bytes that are skipped, with the text of the part alone.
+pub record WritesRest (text : List ℕ → List ℕ) (from : ℕ) (limit : Option ℕ) (r0 r1 w0 w1 : Option (List ℕ)) (read written : ℕ) : Type 0 where
+  pub input : List ℕ
+  pub consumed : Consumes r0 r1 input
+  pub ends : IsLast limit read r1
+  pub few : from + length input ≤ 2 ^ 40
+  pub dumped : length input ≡ read
+  pub appended : Appends w0 w1 (text input)
+  pub long : length (text input) ≡ written
+
+-- Some bytes were read of `wanted` that were asked for, and then no more could be.
+pub record StopsAt (wanted room : ℕ) (r0 r1 : Option (List ℕ)) (fault : IoFault) : Type 0 where
+  pub input : List ℕ
+  pub consumed : Consumes r0 r1 input
+  pub cause : IsReadCause fault wanted room (length input)

@@ -1,0 +1,151 @@
+//! Dumps of whole inputs, a page at a time.
+ghost use Rattle.std.specs.Prelude.{◌≡◌, ℕ, zero, suc, ◌+◌, ◌*◌, ◌/◌, ◌^◌, ◌<◌, ◌≤◌, Bool, true, false, List, [], ◌++◌, length, take, IsTrue, if◌then◌else◌};
+ghost use Rattle.bx_text.specs.Fold.{line_bytes, line_count, line_text, lines_to, folded, show_at};
+ghost use Rattle.bx_text.specs.inner.Fold.{IsTaken};
+
+use crate::driver::pages::{BLOCK, Pages};
+use bx_text::{Fold, Show};
+
+/// The form of a dump's lines.
+pub trait Form {
+    /// The line for some bytes at an address.
+    ghost line: { Self → ℕ → List ℕ → List ℕ };
+
+    /// Puts the line for 1 to 16 bytes at the front, and answers how long it is.
+    fn put(&self, page: &mut [u8], at: u64, bytes: &[u8]) -> usize
+        requires room { 128 ≤ length page.old }
+        requires some { 0 < length bytes.now }
+        requires fits { length bytes.now ≤ 16 }
+        ensures most { result ≤ 128 }
+        ensures text { take result page.new ≡ line self.now at bytes.now };
+}
+
+/// Says what stands for the next line, where `all` folds none.
+#[inline]
+fn show_next(all: bool, fold: &mut Fold, bytes: &[u8]) -> Show
+    ensures show { (whole : List ℕ) (k : ℕ) → bytes.now ≡ line_bytes whole k → IsTaken all fold.old whole k → result ≡ (if all then Show.Line else show_at whole k) }
+    ensures taken { (whole : List ℕ) (k : ℕ) → bytes.now ≡ line_bytes whole k → IsTaken all fold.old whole k → length bytes.now ≡ 16 → IsTaken all fold.new whole (suc k) }
+{
+    if all {
+        return Show::Line;
+    }
+    match bytes.first_chunk::<16>() {
+        Some(line) => fold.step(line),
+        None => Show::Line,
+    }
+}
+
+/// Puts what stands for a line, where `all` folds none.
+#[inline]
+fn put_next<F: Form>(
+    page: &mut [u8],
+    form: &F,
+    all: bool,
+    fold: &mut Fold,
+    at: u64,
+    bytes: &[u8],
+) -> usize
+    requires room { 128 ≤ length page.old }
+    requires some { 0 < length bytes.now }
+    requires fits { length bytes.now ≤ 16 }
+    ensures most { result ≤ 128 }
+    ensures text { (whole : List ℕ) (k start : ℕ) → at ≡ start + 16 * k → bytes.now ≡ line_bytes whole k → IsTaken all fold.old whole k →
+        take result page.new ≡ line_text (F.line form.now) all start whole k }
+    ensures taken { (whole : List ℕ) (k : ℕ) → bytes.now ≡ line_bytes whole k → IsTaken all fold.old whole k → length bytes.now ≡ 16 → IsTaken all fold.new whole (suc k) }
+{
+    match show_next(all, fold, bytes) {
+        Show::Line => form.put(page, at, bytes),
+        Show::Star => {
+            page[..2].copy_from_slice(b"*\n");
+            2
+        }
+        Show::Nothing => 0,
+    }
+}
+
+/// Puts what stands for the lines of some bytes.
+fn put_lines<F: Form>(
+    page: &mut [u8],
+    form: &F,
+    all: bool,
+    fold: &mut Fold,
+    at: u64,
+    bytes: &[u8],
+) -> usize
+    requires room { 128 * line_count bytes.now ≤ length page.old }
+    requires address { at + length bytes.now + 15 < 2 ^ 64 }
+    ensures within { result ≤ 128 * line_count bytes.now }
+    ensures text { (input : List ℕ) (n start : ℕ) → length input ≡ 16 * n → at ≡ start + 16 * n → IsTaken all fold.old input n →
+        folded (F.line form.now) all start (input ++ bytes.now) ≡ folded (F.line form.now) all start input ++ take result page.new }
+    ensures taken { (input : List ℕ) (n lines : ℕ) → length input ≡ 16 * n → length bytes.now ≡ 16 * lines → IsTaken all fold.old input n →
+        IsTaken all fold.new (input ++ bytes.now) (n + lines) }
+{
+    let mut used = 0;
+    let count = (bytes.len() + 15) / 16;
+    for k in 0..count {
+        let begin = 16 * k;
+        let end = (begin + 16).min(bytes.len());
+        used += put_next(
+            &mut page[used..],
+            form,
+            all,
+            fold,
+            at + begin as u64,
+            &bytes[begin..end],
+        );
+    }
+    used
+}
+
+/// Folded lines of a form, with what the next line is compared with, and the address of the first.
+#[derive(Drop)]
+pub struct FoldedPages<F: Form> {
+    form: F,
+    all: bool,
+    start: u64,
+    fold: Fold,
+    ghost low: { start ≤ 2 ^ 63 },
+}
+
+impl<F: Form> FoldedPages<F> {
+    /// Lines of which none was put.
+    pub fn new(form: F, all: bool, start: u64) -> Self
+        requires { start ≤ 2 ^ 63 }
+        ensures form { result.form ≡ form }
+        ensures all { result.all ≡ all }
+        ensures start { result.start ≡ start }
+        ensures fresh { IsTaken result.all result.fold [] 0 }
+    {
+        FoldedPages {
+            form,
+            all,
+            start,
+            fold: Fold::new(),
+        }
+    }
+}
+
+impl<F: Form> Pages for FoldedPages<F> {
+    ghost written = { λ p. folded (F.line p.form) p.all p.start };
+
+    ghost Seen = { λ p input. (k : ℕ) × (length input ≡ 16 * k) × IsTaken p.all p.fold input k };
+
+    ghost block = { λ _. 16384 };
+
+    fn block_len(&self) -> usize {
+        BLOCK
+    }
+
+    fn put(&mut self, page: &mut [u8], done: u64, bytes: &[u8]) -> usize {
+        put_lines(
+            page,
+            &self.form,
+            self.all,
+            &mut self.fold,
+            self.start + done,
+            bytes,
+        )
+    }
+
+    fn grows(&self) {}
+}

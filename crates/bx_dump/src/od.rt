@@ -1,0 +1,14 @@
+//! od: what stands for each value, its lines and its dump.
+mod byte_tables;
+mod decimal;
+mod dump;
+mod fixed;
+mod hexadecimal;
+mod lines;
+mod octal;
+mod octal_lanes;
+pub(crate) mod options;
+mod values;
+
+pub use dump::od;
+pub use options::{Address, Kind, NumForm, OdOptions, Size};

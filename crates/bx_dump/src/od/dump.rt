@@ -1,0 +1,88 @@
+//! od's dump.
+ghost use Rattle.std.specs.Prelude.{◌≡◌, ℕ, ◌+◌, ◌^◌, ◌<◌, ◌≤◌, true, length, IfOk, IfErr, OnOk};
+ghost use Rattle.bx_text.specs.Fold.{folded};
+ghost use Rattle.bx_dump.specs.Od.{od_line, od_text};
+ghost use Rattle.bx_dump.specs.OdDump.{FailsBehind, Reaches, StopsOd};
+ghost use Rattle.bx_dump.specs.inner.OdDump.{StopsShort};
+ghost use Rattle.bx_dump.specs.Pages.{WritesPart, WritesFrontBut, Skips, capped, part_of};
+ghost use Rattle.bx_dump.specs.inner.Pages.{WritesRest};
+
+use crate::driver::folded::FoldedPages;
+use crate::driver::pages::{BLOCK, LIMIT, PAGE, Part, dump_pages, skip};
+use crate::od::lines::{OdLines, end_line};
+use crate::od::options::OdOptions;
+use bx_text::{IoFault, Meter, State, emit_after};
+use std::io::{Read, Write};
+
+/// Reads bytes away, of which the input must have so many.
+fn reach<R: Read>(meter: &mut Meter, r: &mut R, count: u64, block: &mut [u8]) -> Result<(), IoFault>
+    requires open { meter.old.state ≡ State.Open }
+    requires first { meter.old.taken ≡ 0 }
+    requires limit { meter.old.limit ≡ 2 ^ 40 }
+    requires block { 0 < length block.old }
+    ensures limit { meter.new.limit ≡ 2 ^ 40 }
+    ensures ok { OnOk result (Skips true count (R.remaining r.old) (R.remaining r.new)) }
+    ensures open { OnOk result ((meter.new.state ≡ State.Open) × (meter.new.taken ≡ count)) }
+    ensures err { IfErr result (StopsShort count (R.remaining r.old) (R.remaining r.new)) }
+{
+    match skip(meter, r, count, block) {
+        Ok(true) => Ok(()),
+        Ok(false) => Err(IoFault::SkipPastEnd),
+        Err(fault) => Err(fault),
+    }
+}
+
+/// Writes the lines of what comes behind the bytes that are skipped.
+fn dump_lines<R: Read, W: Write>(
+    meter: &mut Meter,
+    r: &mut R,
+    w: &mut W,
+    o: &OdOptions,
+    block: &mut [u8],
+) -> Result<Part, IoFault>
+    requires skip { o.now.skip ≤ 2 ^ 62 }
+    requires open { meter.old.state ≡ State.Open }
+    requires limit { meter.old.limit ≡ 2 ^ 40 }
+    requires block { length block.old ≡ BLOCK }
+    ensures ok { IfOk result (λ part. WritesRest (folded (od_line o.now.address o.now.kind) o.now.all o.now.skip) meter.old.taken o.now.limit (R.remaining r.old) (R.remaining r.new) (W.contents w.old) (W.contents w.new) part.read part.written) }
+    ensures err { IfErr result (WritesFrontBut 0 (λ input. folded (od_line o.now.address o.now.kind) o.now.all o.now.skip (capped o.now.limit input)) 0 o.now.limit meter.old.taken 0 (R.remaining r.old) (R.remaining r.new) (W.contents w.old) (W.contents w.new)) }
+    ensures few { IfOk result (λ part. part.written ≤ 2 ^ 60) }
+    ensures count { IfOk result (λ part. part.read ≤ 2 ^ 40) }
+{
+    let lines = OdLines {
+        address: o.address,
+        kind: o.kind,
+    };
+    let mut pages = FoldedPages::new(lines, o.all, o.skip);
+    dump_pages(meter, r, w, &mut pages, o.limit, 0, block, &mut [0; PAGE])
+}
+
+/// Writes od's text of the bytes from place `skip` on, at most `limit` of them, and answers how many they are.
+///
+/// Addresses count from the input's start, and the last line is the address behind the last byte, also where no byte is
+/// dumped. An input that ends before `skip` bytes is `SkipPastEnd`, and then nothing is written. The input may have 2^40
+/// bytes, those included that are skipped, and no more of it is read than is needed. Nothing is flushed. After another fault
+/// a front of the text of the bytes that were read was written; `WriteFailed` counts it, and comes only behind the bytes
+/// that are skipped, with at most 2^14 bytes read ahead of it.
+pub fn od<R: Read, W: Write>(r: &mut R, w: &mut W, o: &OdOptions) -> Result<u64, IoFault>
+    requires skip { o.now.skip ≤ 2 ^ 62 }
+    ensures ok { IfOk result (λ n. (written : ℕ) × WritesPart (λ input. od_text o.now.address o.now.kind o.now.all o.now.skip (part_of o.now.skip o.now.limit input)) o.now.skip o.now.limit (R.remaining r.old) (R.remaining r.new) (W.contents w.old) (W.contents w.new) n written) }
+    ensures reached { OnOk result (Reaches o.now.skip (R.remaining r.old) (R.remaining r.new)) }
+    ensures behind { IfErr result (FailsBehind o.now.skip (R.remaining r.old) (R.remaining r.new) (W.contents w.old) (W.contents w.new)) }
+    ensures err { IfErr result (StopsOd (λ input. od_text o.now.address o.now.kind o.now.all o.now.skip (part_of o.now.skip o.now.limit input)) o.now.skip o.now.limit (R.remaining r.old) (R.remaining r.new) (W.contents w.old) (W.contents w.new)) }
+{
+    let mut meter = Meter::new(LIMIT);
+    let mut block = [0; BLOCK];
+    if let Err(fault) = reach(&mut meter, r, o.skip, &mut block) {
+        return Err(fault);
+    }
+    let lines = match dump_lines(&mut meter, r, w, o, &mut block) {
+        Ok(lines) => lines,
+        Err(fault) => return Err(fault),
+    };
+    let end = end_line(o.address, o.skip + lines.read);
+    if let Err(fault) = emit_after(w, lines.written, end.as_bytes()) {
+        return Err(fault);
+    }
+    Ok(lines.read)
+}

@@ -1,0 +1,5 @@
+//! strings: the printable runs of an input.
+mod dump;
+mod lanes;
+
+pub use dump::{StringsOptions, strings};

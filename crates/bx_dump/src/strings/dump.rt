@@ -1,0 +1,396 @@
+//! The printable runs of an input.
+ghost use Rattle.std.specs.Prelude.{◌≡◌, ℕ, ◌+◌, ◌-◌, ◌*◌, ◌^◌, ◌<◌, ◌≤◌, [], List, ◌++◌, length, take, drop, not, IfOk, IfErr};
+ghost use Rattle.std.specs.List.{prefix_len};
+ghost use Rattle.bx_dump.specs.Dumped.{DumpsAll, DumpsFront, DumpsFrontBut};
+ghost use Rattle.bx_dump.specs.inner.Scan.{scan_text, scan_run, IsKept, ScansAll, pending, cost_of, end_text, AllPrint, EndsQuiet, IsQuiet};
+ghost use Rattle.bx_text.specs.Ascii.{is_printable};
+ghost use Rattle.bx_dump.specs.Strings.{place_text, strings_text};
+
+use crate::od::options::Address;
+use crate::strings::lanes::{four_in, printing_in};
+use bx_text::{IoFault, Meter, ShortText, State, dec_field, emit_after, hex_field, oct_field};
+use std::io::{Read, Write};
+
+/// Which runs are shown: those of at least `least` bytes (1 to 4,096), each behind its place where `offsets` says how.
+#[derive(Clone, Copy, Debug, PartialEq, Eq)]
+pub struct StringsOptions {
+    pub least: u16,
+    pub offsets: Address,
+}
+
+/// The run that the bytes so far end in: its bytes while it is short, and that it is long enough from then on.
+#[derive(Drop)]
+struct Runs {
+    least: usize,
+    offsets: Address,
+    count: usize,
+    kept: [u8; 4096],
+}
+
+/// How many bytes were taken, and how many of text were put.
+#[derive(Clone, Copy)]
+struct Step {
+    taken: usize,
+    used: usize,
+}
+
+/// How much was read, and how much text was written.
+#[derive(Clone, Copy)]
+struct Dumped {
+    read: u64,
+    written: u64,
+}
+
+fn prints(byte: u8) -> bool
+    ensures { result ≡ is_printable byte }
+{
+    (0x20..=0x7e).contains(&byte)
+}
+
+/// How many bytes in front print, byte by byte.
+fn printable_front(bytes: &[u8]) -> usize
+    ensures value { result ≡ prefix_len is_printable bytes.now }
+    ensures within { result ≤ length bytes.now }
+{
+    bytes.iter().take_while(|byte| prints(**byte)).count()
+}
+
+/// How many bytes in front print.
+fn printable_len(bytes: &[u8]) -> usize
+    ensures value { result ≡ prefix_len is_printable bytes.now }
+    ensures within { result ≤ length bytes.now }
+{
+    let mut done = 0;
+    while bytes.len() - done >= 16 {
+        let more = printing_in(bytes, done);
+        done += more;
+        if more < 16 {
+            return done;
+        }
+    }
+    done + printable_front(&bytes[done..])
+}
+
+/// How many bytes in front don't print.
+fn other_len(bytes: &[u8]) -> usize
+    ensures value { result ≡ prefix_len (λ b. not (is_printable b)) bytes.now }
+    ensures within { result ≤ length bytes.now }
+{
+    bytes.iter().take_while(|byte| !prints(**byte)).count()
+}
+
+/// How many bytes there are up to the last one that doesn't print.
+fn last_other(bytes: &[u8]) -> usize
+    ensures other { EndsQuiet (take result bytes.now) }
+    ensures within { result ≤ length bytes.now }
+{
+    let mut end = bytes.len();
+    while end > 0 && prints(bytes[end - 1]) {
+        end -= 1;
+    }
+    end
+}
+
+/// How many bytes in front have no run that is long enough, and leave none. Whole windows of `least` bytes are skipped
+/// from their last byte that doesn't print.
+fn quiet_windows(bytes: &[u8], least: usize) -> usize
+    requires { 0 < least }
+    ensures quiet { IsQuiet least (take result bytes.now) }
+    ensures within { result ≤ length bytes.now }
+{
+    let mut done = 0;
+    while bytes.len() - done >= least {
+        let more = last_other(&bytes[done..done + least]);
+        if more == 0 {
+            return done;
+        }
+        done += more;
+    }
+    done
+}
+
+/// The same up to the first four bytes that print.
+fn quiet_fours(bytes: &[u8], least: usize) -> usize
+    requires { 4 ≤ least }
+    ensures quiet { IsQuiet least (take result bytes.now) }
+    ensures within { result ≤ length bytes.now }
+{
+    let mut done = 0;
+    while bytes.len() - done >= 35 {
+        let more = four_in(bytes, done);
+        done += more;
+        if more < 32 {
+            return done;
+        }
+    }
+    last_other(&bytes[..done])
+}
+
+/// How many bytes in front are known to have no run that is long enough, and to leave none.
+fn quiet_len(bytes: &[u8], least: usize) -> usize
+    requires { 0 < least }
+    ensures quiet { IsQuiet least (take result bytes.now) }
+    ensures within { result ≤ length bytes.now }
+{
+    if bytes.len() >= 35 && least >= 4 && least <= 16 {
+        return quiet_fours(bytes, least);
+    }
+    quiet_windows(bytes, least)
+}
+
+/// The place of a run, and a space.
+fn place(offsets: Address, at: u64) -> ShortText<24>
+    ensures { result ≡ place_text offsets at }
+{
+    let mut text = ShortText::new();
+    match offsets {
+        Address::Octal => text.push_all(oct_field(at, 0).as_bytes()),
+        Address::Decimal => text.push_all(dec_field(i128::from(at), 0, b' ').as_bytes()),
+        Address::Hexadecimal => text.push_all(hex_field(at, 0, false).as_bytes()),
+        Address::Without => return text,
+    }
+    text.push(b' ');
+    text
+}
+
+/// Copies the bytes to a place of the page.
+fn put_at(page: &mut [u8], at: usize, bytes: &[u8])
+    requires { at + length bytes.now ≤ length page.old }
+    ensures { take (at + length bytes.now) page.new ≡ take at page.old ++ bytes.now }
+{
+    page[at..at + bytes.len()].copy_from_slice(bytes);
+}
+
+impl Runs {
+    /// No run, before the first byte.
+    fn new(o: &StringsOptions) -> Self
+        ensures least { result.least ≡ o.now.least }
+        ensures offsets { result.offsets ≡ o.now.offsets }
+        ensures count { result.count ≡ 0 }
+        ensures size { length result.kept ≡ 4096 }
+    {
+        Runs {
+            least: o.least as usize,
+            offsets: o.offsets,
+            count: 0,
+            kept: [0; 4096],
+        }
+    }
+}
+
+/// Puts the place of a run, and what is kept of it.
+fn put_front(page: &mut [u8], offsets: Address, at: u64, kept: &[u8]) -> usize
+    requires { 24 + length kept.now ≤ length page.old }
+    ensures text { take result page.new ≡ place_text offsets (at - length kept.now) ++ kept.now }
+    ensures most { result ≤ 24 + length kept.now }
+    ensures cost { result + 2 ≤ cost_of offsets + length kept.now }
+{
+    let text = place(offsets, at.saturating_sub(kept.len() as u64));
+    let front = text.as_bytes();
+    put_at(page, 0, front);
+    put_at(page, front.len(), kept);
+    front.len() + kept.len()
+}
+
+impl Runs {
+    /// Puts what is known with more bytes of the run, which stand at `at`.
+    fn grow(&mut self, page: &mut [u8], at: u64, more: &[u8]) -> usize
+        requires printing { AllPrint more.now }
+        requires few { self.old.least ≤ 4096 }
+        requires size { length self.old.kept ≡ 4096 }
+        requires within { self.old.count ≤ self.old.least }
+        requires room { 24 + pending self.old.least self.old.count + length more.now ≤ length page.old }
+        ensures text { (run : List ℕ) → IsKept self.old.least self.old.count self.old.kept run → take result page.new ≡ scan_text self.old.least self.old.offsets at run more.now }
+        ensures kept { (run : List ℕ) → IsKept self.old.least self.old.count self.old.kept run → IsKept self.new.least self.new.count self.new.kept (run ++ more.now) }
+        ensures least { self.new.least ≡ self.old.least }
+        ensures offsets { self.new.offsets ≡ self.old.offsets }
+        ensures size { length self.new.kept ≡ 4096 }
+        ensures within { self.new.count ≤ self.new.least }
+        ensures cost { result + pending self.new.least self.new.count + 2 ≤ pending self.old.least self.old.count + length more.now + cost_of self.old.offsets }
+    {
+        if self.count == self.least {
+            put_at(page, 0, more);
+            return more.len();
+        }
+        if self.count + more.len() < self.least {
+            put_at(&mut self.kept[..], self.count, more);
+            self.count += more.len();
+            return 0;
+        }
+        let used = put_front(page, self.offsets, at, &self.kept[..self.count]);
+        put_at(page, used, more);
+        self.count = self.least;
+        used + more.len()
+    }
+
+    /// Puts what ends the run.
+    fn end(&mut self, page: &mut [u8]) -> usize
+        requires some { 0 < self.old.least }
+        requires within { self.old.count ≤ self.old.least }
+        requires room { 0 < length page.old }
+        ensures text { (run : List ℕ) → IsKept self.old.least self.old.count self.old.kept run → take result page.new ≡ end_text self.old.least run }
+        ensures kept { IsKept self.new.least self.new.count self.new.kept [] }
+        ensures least { self.new.least ≡ self.old.least }
+        ensures offsets { self.new.offsets ≡ self.old.offsets }
+        ensures size { self.new.kept ≡ self.old.kept }
+        ensures count { self.new.count ≡ 0 }
+        ensures cost { result ≤ 1 }
+    {
+        let is_long = self.count == self.least;
+        self.count = 0;
+        if is_long {
+            page[0] = b'\n';
+            1
+        } else {
+            0
+        }
+    }
+}
+
+impl Runs {
+    /// Puts what is known with the bytes in front that all print, or of which none does.
+    fn step(&mut self, page: &mut [u8], at: u64, bytes: &[u8]) -> Step
+        requires least { 0 < self.old.least }
+        requires few { self.old.least ≤ 4096 }
+        requires size { length self.old.kept ≡ 4096 }
+        requires within { self.old.count ≤ self.old.least }
+        requires some { 0 < length bytes.now }
+        requires room { 24 + pending self.old.least self.old.count + length bytes.now ≤ length page.old }
+        ensures some { 0 < result.taken }
+        ensures taken { result.taken ≤ length bytes.now }
+        ensures text { (run : List ℕ) → IsKept self.old.least self.old.count self.old.kept run →
+            take result.used page.new ≡ scan_text self.old.least self.old.offsets at run (take result.taken bytes.now) }
+        ensures kept { (run : List ℕ) → IsKept self.old.least self.old.count self.old.kept run →
+            IsKept self.new.least self.new.count self.new.kept (scan_run run (take result.taken bytes.now)) }
+        ensures least { self.new.least ≡ self.old.least }
+        ensures offsets { self.new.offsets ≡ self.old.offsets }
+        ensures size { length self.new.kept ≡ 4096 }
+        ensures within { self.new.count ≤ self.new.least }
+        ensures cost { result.used + pending self.new.least self.new.count + 2 ≤ pending self.old.least self.old.count + result.taken + cost_of self.old.offsets }
+    {
+        if self.count == 0 {
+            let taken = quiet_len(bytes, self.least);
+            if taken > 0 {
+                return Step { taken, used: 0 };
+            }
+        }
+        let run = printable_len(bytes);
+        if run > 0 {
+            let used = self.grow(page, at, &bytes[..run]);
+            return Step { taken: run, used };
+        }
+        let taken = other_len(bytes);
+        let used = self.end(page);
+        Step { taken, used }
+    }
+}
+
+/// How many bytes are put at once: what they stand for fits a page.
+fn block_len(offsets: Address) -> usize
+    ensures least { 3584 ≤ result }
+    ensures fits { 4096 + 32 + cost_of offsets * result ≤ 98304 }
+    ensures most { result ≤ 16384 }
+{
+    match offsets {
+        Address::Without => 16384,
+        _ => 3584,
+    }
+}
+
+impl Runs {
+    /// Puts what is known with more bytes, which stand from `at` on.
+    fn put(&mut self, page: &mut [u8], at: u64, bytes: &[u8]) -> usize
+        requires least { 0 < self.old.least }
+        requires few { self.old.least ≤ 4096 }
+        requires size { length self.old.kept ≡ 4096 }
+        requires within { self.old.count ≤ self.old.least }
+        requires address { at + length bytes.now < 2 ^ 64 }
+        requires room { 4096 + 32 + cost_of self.old.offsets * length bytes.now ≤ length page.old }
+        ensures text { (run : List ℕ) → IsKept self.old.least self.old.count self.old.kept run → take result page.new ≡ scan_text self.old.least self.old.offsets at run bytes.now }
+        ensures kept { (run : List ℕ) → IsKept self.old.least self.old.count self.old.kept run → IsKept self.new.least self.new.count self.new.kept (scan_run run bytes.now) }
+        ensures least { self.new.least ≡ self.old.least }
+        ensures offsets { self.new.offsets ≡ self.old.offsets }
+        ensures size { length self.new.kept ≡ 4096 }
+        ensures within { self.new.count ≤ self.new.least }
+        ensures most { result ≤ length page.old }
+    {
+        let mut used = 0;
+        let mut done = 0;
+        while done < bytes.len() {
+            let step = self.step(&mut page[used..], at + done as u64, &bytes[done..]);
+            used += step.used;
+            done += step.taken;
+        }
+        used
+    }
+}
+
+/// Writes what is known of all that the reader gives.
+fn scan_pages<R: Read, W: Write>(
+    r: &mut R,
+    w: &mut W,
+    runs: &mut Runs,
+    block: &mut [u8],
+    page: &mut [u8],
+) -> Result<Dumped, IoFault>
+    requires least { 0 < runs.old.least }
+    requires few { runs.old.least ≤ 4096 }
+    requires size { length runs.old.kept ≡ 4096 }
+    requires fresh { runs.old.count ≡ 0 }
+    requires block { 3584 ≤ length block.old }
+    requires most { length block.old ≤ 2 ^ 14 }
+    requires page { length page.old ≡ 98304 }
+    requires room { 4096 + 32 + cost_of runs.old.offsets * length block.old ≤ 98304 }
+    ensures ok { IfOk result (λ d. ScansAll runs.old.least runs.old.offsets runs.new.count runs.new.kept (R.remaining r.old) (R.remaining r.new) (W.contents w.old) (W.contents w.new) d.read d.written) }
+    ensures err { IfErr result (DumpsFrontBut 0 (scan_text runs.old.least runs.old.offsets 0 []) (R.remaining r.old) (R.remaining r.new) (W.contents w.old) (W.contents w.new)) }
+    ensures least { runs.new.least ≡ runs.old.least }
+    ensures few { IfOk result (λ d. d.written ≤ 2 ^ 46) }
+{
+    let mut meter = Meter::new(1 << 40);
+    let mut written = 0u64;
+    loop {
+        let at = meter.taken;
+        let n = match meter.fill(r, block) {
+            Ok(n) => n,
+            Err(fault) => return Err(fault),
+        };
+        let used = runs.put(page, at, &block[..n]);
+        if let Err(fault) = emit_after(w, written, &page[..used]) {
+            return Err(fault);
+        }
+        written += used as u64;
+        if n < block.len() {
+            return Ok(Dumped {
+                read: meter.taken,
+                written,
+            });
+        }
+    }
+}
+
+/// Writes all maximal runs of at least `least` printable bytes (0x20 to 0x7e), by rising place, each on a line and where
+/// asked behind its place, and answers how many bytes were read.
+///
+/// The input may have 2^40 bytes. Nothing is allocated or flushed. After a fault a front of the text of the bytes that
+/// were read was written; `WriteFailed` counts it, and at most 2^14 bytes were read ahead of it.
+pub fn strings<R: Read, W: Write>(r: &mut R, w: &mut W, o: &StringsOptions) -> Result<u64, IoFault>
+    requires some { 0 < o.now.least }
+    requires few { o.now.least ≤ 4096 }
+    ensures ok { IfOk result (λ n. (written : ℕ) × DumpsAll (strings_text o.now.least o.now.offsets) (R.remaining r.old) (R.remaining r.new) (W.contents w.old) (W.contents w.new) n written) }
+    ensures err { IfErr result (DumpsFront (strings_text o.now.least o.now.offsets) (R.remaining r.old) (R.remaining r.new) (W.contents w.old) (W.contents w.new)) }
+{
+    let mut runs = Runs::new(o);
+    let len = block_len(o.offsets);
+    let mut block = [0; 16384];
+    let done = match scan_pages(r, w, &mut runs, &mut block[..len], &mut [0; 98304]) {
+        Ok(done) => done,
+        Err(fault) => return Err(fault),
+    };
+    if runs.count < runs.least {
+        return Ok(done.read);
+    }
+    match emit_after(w, done.written, b"\n") {
+        Ok(()) => Ok(done.read),
+        Err(fault) => Err(fault),
+    }
+}

@@ -1,0 +1,211 @@
+//! Lines of xxd with columns.
+ghost use Rattle.std.specs.Prelude.{◌≡◌, ℕ, ◌+◌, ◌-◌, ◌*◌, ◌/◌, ◌^◌, ◌<◌, ◌≤◌, List, length, take};
+ghost use Rattle.std.specs.List.{flat_map};
+ghost use Rattle.bx_dump.specs.Lines.{in_lines};
+ghost use Rattle.bx_dump.specs.Xxd.{cell_of, cell_width, columns_width, columns_line};
+
+use crate::xxd::cells::{put_at, put_bits, put_body, put_pairs};
+use crate::xxd::lines::{LineForm, Put};
+use bx_text::put_address;
+
+/// How a byte is written.
+#[derive(Clone, Copy, Debug, PartialEq, Eq)]
+pub enum Digits {
+    Hexadecimal { upper: bool },
+    Binary,
+}
+
+impl Digits {
+    /// How many digits a byte has.
+    #[inline]
+    fn width(self) -> usize
+        ensures { result ≡ cell_width self }
+    {
+        match self {
+            Digits::Hexadecimal { .. } => 2,
+            Digits::Binary => 8,
+        }
+    }
+}
+
+/// Columns of digits in groups, between the address and the text.
+#[derive(Clone, Copy)]
+pub struct Columns {
+    digits: Digits,
+    cols: usize,
+    group: usize,
+    whole: usize,
+    field: usize,
+    ghost some: { 0 < cols },
+    ghost few: { cols ≤ 256 },
+    ghost some_group: { 0 < group },
+    ghost few_groups: { group ≤ 256 },
+    ghost groups: { whole ≡ cols / group },
+    ghost wide: { field ≡ columns_width (cell_width digits) cols group },
+}
+
+impl Columns {
+    /// Lines of `cols` bytes, in groups of `group`.
+    pub fn new(digits: Digits, cols: usize, group: usize) -> Self
+        requires some { 0 < cols }
+        requires few { cols ≤ 256 }
+        requires some_group { 0 < group }
+        requires few_groups { group ≤ 256 }
+        ensures digits { result.digits ≡ digits }
+        ensures cols { result.cols ≡ cols }
+        ensures group { result.group ≡ group }
+    {
+        Columns {
+            digits,
+            cols,
+            group,
+            whole: cols / group,
+            field: digits.width() * cols + (cols + group - 1) / group,
+        }
+    }
+}
+
+impl Columns {
+    /// How many whole groups there are among so many bytes.
+    #[inline]
+    fn groups_in(&self, len: usize) -> usize
+        ensures { result ≡ len / self.now.group }
+    {
+        if len == self.cols {
+            self.whole
+        } else {
+            len / self.group
+        }
+    }
+}
+
+/// Puts a full line, for an address of 8 digits.
+#[inline(always)]
+fn put_fixed(
+    form: &Columns,
+    line: &mut [u8],
+    at: u32,
+    bytes: &[u8],
+    cells: &[u8],
+    field: usize,
+    piece: usize,
+    count: usize,
+)
+    requires full { length bytes.now ≡ form.now.cols }
+    requires cells { cells.now ≡ flat_map (cell_of form.now.digits) bytes.now }
+    requires field { field ≡ form.now.field }
+    requires piece { piece ≡ cell_width form.now.digits * form.now.group }
+    requires count { count ≡ form.now.whole }
+    requires long { length line.old ≡ field + length bytes.now + 12 }
+    ensures { line.new ≡ columns_line form.now.digits form.now.cols form.now.group at bytes.now }
+{
+    let (address, body) = line.split_at_mut(8);
+    put_address(address, at);
+    put_body(body, bytes, cells, field, piece, count);
+}
+
+/// Puts all full lines, for addresses of 8 digits. The numbers are those of the form, each written out at the call, so that
+/// the loop is made for them.
+#[inline(always)]
+fn put_full(
+    form: &Columns,
+    text: &mut [u8],
+    at: u32,
+    bytes: &[u8],
+    cells: &[u8],
+    cols: usize,
+    wide: usize,
+    field: usize,
+    piece: usize,
+    count: usize,
+) -> Put
+    requires cols { cols ≡ form.now.cols }
+    requires wide { wide ≡ cell_width form.now.digits * form.now.cols }
+    requires field { field ≡ form.now.field }
+    requires piece { piece ≡ cell_width form.now.digits * form.now.group }
+    requires count { count ≡ form.now.whole }
+    requires room { (field + cols + 26) * ((length bytes.now + cols - 1) / cols) ≤ length text.old }
+    requires address { at + length bytes.now < 2 ^ 32 }
+    requires cells { cells.now ≡ flat_map (cell_of form.now.digits) bytes.now }
+    requires long { length cells.now ≡ cell_width form.now.digits * length bytes.now }
+    ensures inside { form.now.cols * result.lines ≤ length bytes.now }
+    ensures most { result.used ≤ (form.now.field + form.now.cols + 26) * result.lines }
+    ensures text { take result.used text.new ≡ in_lines (columns_line form.now.digits form.now.cols form.now.group) form.now.cols at (take (form.now.cols * result.lines) bytes.now) }
+{
+    let lines = bytes.len() / cols;
+    let size = field + cols + 12;
+    for k in 0..lines {
+        put_fixed(
+            form,
+            &mut text[size * k..size * k + size],
+            at + (cols * k) as u32,
+            &bytes[cols * k..cols * k + cols],
+            &cells[wide * k..wide * k + wide],
+            field,
+            piece,
+            count,
+        );
+    }
+    Put {
+        lines,
+        used: size * lines,
+    }
+}
+
+impl LineForm for Columns {
+    ghost line = { λ c. columns_line c.digits c.cols c.group };
+
+    ghost cell = { λ c. cell_of c.digits };
+
+    ghost width = { λ c. cell_width c.digits };
+
+    ghost cols = { λ c. c.cols };
+
+    ghost room = { λ c. c.field + c.cols + 26 };
+
+    fn line_len(&self) -> usize {
+        self.cols
+    }
+
+    fn room_len(&self) -> usize {
+        self.field + self.cols + 26
+    }
+
+    fn cell_len(&self) -> usize {
+        self.digits.width()
+    }
+
+    fn put_cells(&self, cells: &mut [u8], bytes: &[u8]) {
+        match self.digits {
+            Digits::Hexadecimal { upper } => put_pairs(cells, bytes, upper),
+            Digits::Binary => put_bits(cells, bytes),
+        }
+    }
+
+    #[inline]
+    fn put_line(&self, text: &mut [u8], at: u64, bytes: &[u8], cells: &[u8]) -> usize {
+        let front = put_at(text, at);
+        let (_, rest) = text.split_at_mut(front);
+        let size = self.field + bytes.len() + 4;
+        let (body, _) = rest.split_at_mut(size);
+        let count = self.groups_in(bytes.len());
+        let piece = self.digits.width() * self.group;
+        put_body(body, bytes, cells, self.field, piece, count);
+        front + size
+    }
+
+    fn put_usual(&self, text: &mut [u8], at: u64, bytes: &[u8], cells: &[u8]) -> Put {
+        if at + bytes.len() as u64 >= 1 << 32 {
+            return Put { lines: 0, used: 0 };
+        }
+        let at = at as u32;
+        match (self.digits.width(), self.cols, self.group) {
+            (2, 16, 2) => put_full(self, text, at, bytes, cells, 16, 32, 40, 4, 8),
+            (2, 32, 4) => put_full(self, text, at, bytes, cells, 32, 64, 72, 8, 8),
+            (8, 6, 1) => put_full(self, text, at, bytes, cells, 6, 48, 54, 8, 6),
+            _ => Put { lines: 0, used: 0 },
+        }
+    }
+
+    fn even(&self) {}
+}

@@ -1,0 +1,201 @@
+//! xxd's dump.
+ghost use Rattle.std.specs.Prelude.{◌≡◌, ℕ, ◌+◌, ◌*◌, ◌^◌, ◌<◌, ◌≤◌, length, IfOk, IfErr};
+ghost use Rattle.bx_dump.specs.Lines.{in_lines};
+ghost use Rattle.bx_dump.specs.Pages.{WritesPart, WritesFrontBut, WritesFrontOf, part_of};
+ghost use Rattle.bx_dump.specs.Rows.{plain_line};
+ghost use Rattle.bx_dump.specs.Styles.{group_of, include_items, named_text, styled, xxd_text, IsCountable};
+ghost use Rattle.bx_dump.specs.Xxd.{columns_line};
+
+use crate::driver::pages::{Part, dump_part};
+use crate::xxd::columns::{Columns, Digits};
+use crate::xxd::lines::{LineForm, Lines};
+use crate::xxd::names::{emit_head, emit_tail};
+use crate::xxd::options::{XxdOptions, XxdStyle};
+use crate::xxd::rows::{Items, Plain};
+use bx_text::{IoFault, emit_after};
+use std::io::{Read, Write};
+
+/// Writes lines of a form, the first of them for an address, after `before` bytes that were written.
+pub fn dump_lines<R: Read, W: Write, F: LineForm + Drop>(
+    r: &mut R,
+    w: &mut W,
+    form: F,
+    start: u64,
+    o: &XxdOptions,
+    before: u64,
+) -> Result<Part, IoFault>
+    requires start { start ≤ 2 ^ 63 }
+    requires before { before ≤ 2 ^ 63 }
+    ensures ok { IfOk result (λ part. WritesPart (λ input. in_lines (F.line form) (F.cols form) start (part_of o.now.seek o.now.limit input)) o.now.seek o.now.limit (R.remaining r.old) (R.remaining r.new) (W.contents w.old) (W.contents w.new) part.read part.written) }
+    ensures err { IfErr result (WritesFrontBut 0 (λ input. in_lines (F.line form) (F.cols form) start (part_of o.now.seek o.now.limit input)) o.now.seek o.now.limit 0 before (R.remaining r.old) (R.remaining r.new) (W.contents w.old) (W.contents w.new)) }
+    ensures few { IfOk result (λ part. part.written ≤ 2 ^ 60) }
+{
+    let mut lines = Lines::new(form, start);
+    dump_part(r, w, &mut lines, o.seek, o.limit, before)
+}
+
+/// The bytes of a group.
+fn group_len(o: &XxdOptions) -> usize
+    requires some { 0 < o.now.cols }
+    requires few { o.now.cols ≤ 256 }
+    requires groups { o.now.group ≤ 256 }
+    ensures value { result ≡ group_of o.now.cols o.now.group }
+    ensures some { 0 < result }
+    ensures most { result ≤ 256 }
+{
+    if o.group == 0 {
+        o.cols as usize
+    } else {
+        o.group as usize
+    }
+}
+
+/// Writes lines with columns of digits.
+fn dump_columns<R: Read, W: Write>(
+    r: &mut R,
+    w: &mut W,
+    digits: Digits,
+    o: &XxdOptions,
+) -> Result<Part, IoFault>
+    requires some { 0 < o.now.cols }
+    requires few { o.now.cols ≤ 256 }
+    requires groups { o.now.group ≤ 256 }
+    requires seek { o.now.seek ≤ 2 ^ 62 }
+    requires shift { o.now.shift ≤ 2 ^ 62 }
+    ensures ok { IfOk result (λ part. WritesPart (λ input. in_lines (columns_line digits o.now.cols (group_of o.now.cols o.now.group)) o.now.cols (o.now.seek + o.now.shift) (part_of o.now.seek o.now.limit input)) o.now.seek o.now.limit (R.remaining r.old) (R.remaining r.new) (W.contents w.old) (W.contents w.new) part.read part.written) }
+    ensures err { IfErr result (WritesFrontOf (λ input. in_lines (columns_line digits o.now.cols (group_of o.now.cols o.now.group)) o.now.cols (o.now.seek + o.now.shift) (part_of o.now.seek o.now.limit input)) o.now.seek o.now.limit 0 0 (R.remaining r.old) (R.remaining r.new) (W.contents w.old) (W.contents w.new)) }
+{
+    let group = group_len(o);
+    let form = Columns::new(digits, o.cols as usize, group);
+    dump_lines(r, w, form, o.seek + o.shift, o, 0)
+}
+
+/// Writes lines of plain digits.
+fn dump_plain<R: Read, W: Write>(r: &mut R, w: &mut W, o: &XxdOptions) -> Result<Part, IoFault>
+    requires some { 0 < o.now.cols }
+    requires few { o.now.cols ≤ 256 }
+    ensures ok { IfOk result (λ part. WritesPart (λ input. in_lines (plain_line o.now.upper) o.now.cols 0 (part_of o.now.seek o.now.limit input)) o.now.seek o.now.limit (R.remaining r.old) (R.remaining r.new) (W.contents w.old) (W.contents w.new) part.read part.written) }
+    ensures err { IfErr result (WritesFrontOf (λ input. in_lines (plain_line o.now.upper) o.now.cols 0 (part_of o.now.seek o.now.limit input)) o.now.seek o.now.limit 0 0 (R.remaining r.old) (R.remaining r.new) (W.contents w.old) (W.contents w.new)) }
+{
+    dump_lines(r, w, Plain::new(o.cols as usize, o.upper), 0, o, 0)
+}
+
+/// Writes the items of a C array, after `before` bytes that were written.
+fn dump_items<R: Read, W: Write>(
+    r: &mut R,
+    w: &mut W,
+    o: &XxdOptions,
+    before: u64,
+) -> Result<Part, IoFault>
+    requires some { 0 < o.now.cols }
+    requires few { o.now.cols ≤ 256 }
+    requires before { before ≤ 2 ^ 62 + 64 }
+    ensures ok { IfOk result (λ part. WritesPart (λ input. include_items o.now.cols (part_of o.now.seek o.now.limit input)) o.now.seek o.now.limit (R.remaining r.old) (R.remaining r.new) (W.contents w.old) (W.contents w.new) part.read part.written) }
+    ensures err { IfErr result (WritesFrontBut (2 ^ 6) (λ input. include_items o.now.cols (part_of o.now.seek o.now.limit input)) o.now.seek o.now.limit 0 before (R.remaining r.old) (R.remaining r.new) (W.contents w.old) (W.contents w.new)) }
+    ensures few { IfOk result (λ part. part.written ≤ 2 ^ 60 + 1) }
+{
+    let lines = match dump_lines(r, w, Items::new(o.cols as usize), 0, o, before) {
+        Ok(lines) => lines,
+        Err(fault) => return Err(fault),
+    };
+    if lines.read == 0 {
+        return Ok(lines);
+    }
+    if let Err(fault) = emit_after(w, before + lines.written, b"\n") {
+        return Err(fault);
+    }
+    Ok(Part {
+        read: lines.read,
+        written: lines.written + 1,
+    })
+}
+
+/// Writes the declaration of a C array.
+fn dump_named<R: Read, W: Write>(
+    r: &mut R,
+    w: &mut W,
+    o: &XxdOptions,
+    name: &[u8],
+) -> Result<Part, IoFault>
+    requires some { 0 < o.now.cols }
+    requires few { o.now.cols ≤ 256 }
+    requires name { length name.now ≤ 2 ^ 62 }
+    ensures ok { IfOk result (λ part. WritesPart (λ input. named_text name.now o.now.cols (part_of o.now.seek o.now.limit input)) o.now.seek o.now.limit (R.remaining r.old) (R.remaining r.new) (W.contents w.old) (W.contents w.new) part.read part.written) }
+    ensures err { IfErr result (WritesFrontOf (λ input. named_text name.now o.now.cols (part_of o.now.seek o.now.limit input)) o.now.seek o.now.limit 0 0 (R.remaining r.old) (R.remaining r.new) (W.contents w.old) (W.contents w.new)) }
+{
+    let before = match emit_head(w, name) {
+        Ok(before) => before,
+        Err(fault) => return Err(fault),
+    };
+    let items = match dump_items(r, w, o, before) {
+        Ok(items) => items,
+        Err(fault) => return Err(fault),
+    };
+    match emit_tail(w, before + items.written, name, items.read) {
+        Ok(written) => Ok(Part {
+            read: items.read,
+            written,
+        }),
+        Err(fault) => Err(fault),
+    }
+}
+
+/// Writes the items of a C array, and its declaration where it has a name.
+fn dump_include<R: Read, W: Write>(
+    r: &mut R,
+    w: &mut W,
+    o: &XxdOptions,
+    name: Option<&str>,
+) -> Result<Part, IoFault>
+    requires some { 0 < o.now.cols }
+    requires few { o.now.cols ≤ 256 }
+    requires name { IsCountable (XxdStyle.Include name) }
+    ensures ok { IfOk result (λ part. WritesPart (λ input. styled (XxdStyle.Include name.entry) o.now.cols (group_of o.now.cols o.now.group) o.now.upper (o.now.seek + o.now.shift) (part_of o.now.seek o.now.limit input)) o.now.seek o.now.limit (R.remaining r.old) (R.remaining r.new) (W.contents w.old) (W.contents w.new) part.read part.written) }
+    ensures err { IfErr result (WritesFrontOf (λ input. styled (XxdStyle.Include name.entry) o.now.cols (group_of o.now.cols o.now.group) o.now.upper (o.now.seek + o.now.shift) (part_of o.now.seek o.now.limit input)) o.now.seek o.now.limit 0 0 (R.remaining r.old) (R.remaining r.new) (W.contents w.old) (W.contents w.new)) }
+{
+    match name {
+        None => dump_items(r, w, o, 0),
+        Some(name) => dump_named(r, w, o, name.as_bytes()),
+    }
+}
+
+/// Writes the text of the style.
+fn dump_styled<R: Read, W: Write>(r: &mut R, w: &mut W, o: &XxdOptions) -> Result<Part, IoFault>
+    requires some { 0 < o.now.cols }
+    requires few { o.now.cols ≤ 256 }
+    requires groups { o.now.group ≤ 256 }
+    requires seek { o.now.seek ≤ 2 ^ 62 }
+    requires shift { o.now.shift ≤ 2 ^ 62 }
+    requires name { IsCountable o.now.style }
+    ensures ok { IfOk result (λ part. WritesPart (xxd_text o.now) o.now.seek o.now.limit (R.remaining r.old) (R.remaining r.new) (W.contents w.old) (W.contents w.new) part.read part.written) }
+    ensures err { IfErr result (WritesFrontOf (xxd_text o.now) o.now.seek o.now.limit 0 0 (R.remaining r.old) (R.remaining r.new) (W.contents w.old) (W.contents w.new)) }
+{
+    match o.style {
+        XxdStyle::Normal => dump_columns(r, w, Digits::Hexadecimal { upper: o.upper }, o),
+        XxdStyle::Bits => dump_columns(r, w, Digits::Binary, o),
+        XxdStyle::Plain => dump_plain(r, w, o),
+        XxdStyle::Include(name) => dump_include(r, w, o, name),
+    }
+}
+
+/// Writes xxd's text of the bytes from place `seek` on, at most `limit` of them, and answers how many they are.
+///
+/// A seek past the end of the input gives no bytes. The input may have 2^40 bytes, those included that are skipped, and no
+/// more of it is read than is needed. Nothing is flushed. After a fault a front of the text of the bytes that were read
+/// was written; `WriteFailed` counts it, and at most 2^14 bytes were read ahead of it. `upper` has no effect on `Bits`
+/// and `Include`, nor have `group` and `shift` on `Plain` and `Include`.
+pub fn xxd<R: Read, W: Write>(r: &mut R, w: &mut W, o: &XxdOptions) -> Result<u64, IoFault>
+    requires some { 0 < o.now.cols }
+    requires few { o.now.cols ≤ 256 }
+    requires groups { o.now.group ≤ 256 }
+    requires seek { o.now.seek ≤ 2 ^ 62 }
+    requires shift { o.now.shift ≤ 2 ^ 62 }
+    requires name { IsCountable o.now.style }
+    ensures ok { IfOk result (λ n. (written : ℕ) × WritesPart (xxd_text o.now) o.now.seek o.now.limit (R.remaining r.old) (R.remaining r.new) (W.contents w.old) (W.contents w.new) n written) }
+    ensures err { IfErr result (WritesFrontOf (xxd_text o.now) o.now.seek o.now.limit 0 0 (R.remaining r.old) (R.remaining r.new) (W.contents w.old) (W.contents w.new)) }
+{
+    match dump_styled(r, w, o) {
+        Ok(part) => Ok(part.read),
+        Err(fault) => Err(fault),
+    }
+}

@@ -1,0 +1,24 @@
+use Rattle.std.proofs.Common.{arith, sym}
+use Rattle.std.proofs.lemmas.Grind.{common_steps}
+use Rattle.bx_image.proofs.Files.{placed_on, IsFrontPlaced_on, OnErr_always}
+use Rattle.bx_image.proofs.Edits.{place_none}
+use Rattle.bx_image.proofs.device.file.write_full.Goals as goal
+
+pub loop-done-init : goal.loop-done-init
+loop-done-init g c = record { within = omega arith; content = λ honest. sym (place_none _ _); honesty = (λ h. h, λ h. h) }
+
+pub returns-in_err-done-clause-failed : goal.returns-in_err-done-clause-failed
+returns-in_err-done-clause-failed g c honest =
+    let before = c.loop-done.invariant in
+    OnErr_always c.from_residual.result _
+    (IsFrontPlaced_on (g.F.RandomAccess.content c.args.file.now) c.args.bytes.now c.args.at c.loop-done.done _ _ before.within (before.content honest) (c.in_err-done.ensures.failed (before.honesty.1 honest)))
+
+pub loop-done-preserved : goal.loop-done-preserved
+loop-done-preserved g c =
+    let before = c.loop-done.invariant in
+    let step = c.in_ok-done.ensures in
+    record {
+      within = grind (arith, common_steps);
+      content = λ honest. placed_on (g.F.RandomAccess.content c.args.file.now) c.args.bytes.now c.args.at c.loop-done.done c.in_ok-done.field-0 _ _ before.within (before.content honest) (step.ok (before.honesty.1 honest));
+      honesty = (λ h. before.honesty.0 (step.honesty.0 h), λ h. step.honesty.1 (before.honesty.1 h));
+    }

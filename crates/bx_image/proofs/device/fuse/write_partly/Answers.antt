@@ -1,0 +1,16 @@
+use Rattle.std.proofs.Common.{sym, arith}
+use Rattle.std.proofs.lemmas.Grind.{common_steps}
+use Rattle.bx_image.proofs.Devices.{IsPartlyWritten_either}
+use Rattle.bx_image.proofs.Edits.{place_none}
+use Rattle.bx_image.proofs.device.fuse.write_partly.Goals as goal
+
+pub returns-in-Nothing-clause-part : goal.returns-in-Nothing-clause-part
+returns-in-Nothing-clause-part g c honest = rw c.in-Nothing.is (sym (place_none _ _))
+
+pub returns-in-Half-clause-written : goal.returns-in-Half-clause-written
+returns-in-Half-clause-written g c honest =
+    IsPartlyWritten_either c.write_at.result _ _ _ _ _ (grind (arith, common_steps)) (c.write_at.ensures.ok honest) (c.write_at.ensures.failed honest)
+
+pub returns-in-All-clause-written : goal.returns-in-All-clause-written
+returns-in-All-clause-written g c honest =
+    IsPartlyWritten_either c.write_at-in-All.result _ _ _ _ _ (omega arith) (c.write_at-in-All.ensures.ok honest) (c.write_at-in-All.ensures.failed honest)

@@ -1,5 +1,0 @@
-use Rattle.std.proofs.Common.{rules}
-use Rattle.bx_image.proofs.memory.MemImageDevice.reserve.Goals as goal
-
-pub returns-in_ok-map_err-clause-ok : goal.returns-in_ok-map_err-clause-ok
-returns-in_ok-map_err-clause-ok g c = search rules

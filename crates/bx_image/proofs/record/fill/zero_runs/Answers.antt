@@ -1,0 +1,19 @@
+use Rattle.std.proofs.Common.{ℕ, List, get_or}
+use Rattle.std.proofs.lemmas.List.{take_more}
+use Rattle.bx_image.specs.Image.{zeros}
+use Rattle.bx_image.specs.declared.record.spans.Span.{Span}
+use Rattle.bx_image.proofs.Runs.{AreRunsOf-push}
+use Rattle.bx_image.proofs.SpanLemmas.{StandOver-push}
+use Rattle.bx_image.proofs.record.fill.zero_runs.Goals as goal
+
+pub loop-span-preserved : goal.loop-span-preserved
+loop-span-preserved g c =
+    let kept = c.loop-span.invariant in
+    let run = c.in_ok-zero_run.ensures in
+    let spans : List Span = c.args.spans.now in
+    let k : ℕ = c.loop-span.span-index in
+    let none : Span = record { at = 0; end = 0 } in
+    rw c.in_ok-push.ensures.items (record {
+      over = rw (take_more spans k none c.loop-span-test.true) (StandOver-push _ _ (get_or spans k none) c.in_ok-zero_run.field-0 kept.over run.at run.end);
+      runs = λ len within. AreRunsOf-push (zeros len) c.loop-span.runs.items c.in_ok-zero_run.field-0 (kept.runs len within) (run.run len (within k none c.loop-span-test.true).within);
+    })

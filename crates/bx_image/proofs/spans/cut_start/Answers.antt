@@ -1,5 +1,0 @@
-use Rattle.std.proofs.Common.{rules}
-use Rattle.bx_image.proofs.spans.cut_start.Goals as goal
-
-pub returns : goal.returns
-returns c = search rules

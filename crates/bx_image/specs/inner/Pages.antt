@@ -1,0 +1,14 @@
+-- What proofs alone need: bytes that stand in pages of 4,096 bytes.
+use Rattle.std.specs.Prelude.{◌≡◌, ◌<◌, ◌≤◌, ℕ, ◌+◌, List, length, slice_index}
+
+-- bytes were written over what stood at an address
+pub record IsWrittenOver (at : ℕ) (bytes : List ℕ) (old new : ℕ → ℕ) : Type 0 where
+  pub below : (i : ℕ) → i < at → new i ≡ old i
+  pub within : (j : ℕ) → j < length bytes → new (at + j) ≡ slice_index bytes j
+  pub above : (i : ℕ) → at + length bytes ≤ i → new i ≡ old i
+
+-- zeros were written from one address up to another
+pub record IsCleared (from to : ℕ) (old new : ℕ → ℕ) : Type 0 where
+  pub below : (i : ℕ) → i < from → new i ≡ old i
+  pub within : (i : ℕ) → from ≤ i → i < to → new i ≡ 0
+  pub above : (i : ℕ) → to ≤ i → new i ≡ old i

@@ -1,0 +1,42 @@
+-- Ranges of addresses.
+use Rattle.std.specs.Prelude.{◌<◌, ◌≤◌, ℕ, Bool, ◌&&◌, nat_le, nat_lt, ◌+◌, ◌≡◌, List, [], ◌∷◌, ◌++◌, length, if◌then◌else◌}
+use Rattle.std.specs.List.{list_any, All}
+use Rattle.bx_text.specs.declared.owned.pieces.Piece.{Piece}
+use Rattle.bx_image.specs.declared.record.spans.Span.{Span}
+
+-- whether an address lies from `at` up to before `end`
+abbrev pub is_between : ℕ → ℕ → ℕ → Bool
+is_between at end i = nat_le at i && nat_lt i end
+
+-- whether one of the ranges has the address
+unfoldable pub are_over : List Span → ℕ → Bool
+are_over spans i = list_any (λ s. is_between s.at s.end i) spans
+
+-- the ranges and one more, if it has an address
+unfoldable pub with_span : ℕ → ℕ → List Span → List Span
+with_span at end spans = if nat_lt at end then spans ++ record { at = at; end = end } ∷ [] else spans
+
+-- the range has an address, and ends within the length
+pub record IsWithin (len : ℕ) (s : Span) : Type 0 where
+  pub some : s.at < s.end
+  pub within : s.end ≤ len
+
+abbrev pub LieWithin : ℕ → List Span → Type 0
+LieWithin len spans = All (IsWithin len) spans
+
+-- the first range begins above an address
+abbrev pub BeginAfter : ℕ → List Span → Type 0
+BeginAfter end [] = Unit {0}
+BeginAfter end (s ∷ spans) = end < s.at
+
+-- between each two ranges an address is left out
+abbrev pub AreApart : List Span → Type 0
+AreApart [] = Unit {0}
+AreApart (s ∷ spans) = BeginAfter s.end spans × AreApart spans
+
+-- each run has the addresses of its range
+abbrev pub StandOver : {A : Type 0} → List Span → List (Piece A) → Type 0
+StandOver [] [] = Unit {0}
+StandOver [] (run ∷ runs) = ⊥
+StandOver (s ∷ spans) [] = ⊥
+StandOver (s ∷ spans) (run ∷ runs) = (run.at ≡ s.at) × (run.at + length run.bytes ≡ s.end) × StandOver spans runs

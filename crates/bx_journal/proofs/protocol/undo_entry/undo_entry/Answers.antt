@@ -1,0 +1,95 @@
+use Rattle.std.proofs.Common.{◌≡◌, ◌⊎◌, ◌∙◌, ℕ, List, ◌∷◌, inl, inr, sym, ap, subst, Result, Ok, Err}
+use Rattle.std.specs.Prelude.{OnOk, OnErr}
+use Rattle.std.proofs.lemmas.Result.{on_err_weaker}
+use Rattle.bx_image.specs.Change.{restore}
+use Rattle.bx_journal.specs.Kept.{Kept, kept_of}
+use Rattle.bx_journal.specs.inner.Phase.{IsOpen}
+use Rattle.bx_journal.specs.inner.Redo.{RecoversOpen, Side}
+use Rattle.bx_journal.specs.Stack.{Recovers}
+use Rattle.bx_journal.specs.inner.Step.{HasTail}
+use Rattle.bx_journal.specs.Text.{Ending}
+use Rattle.bx_journal.specs.inner.Turns.{kept_text, side_of}
+use Rattle.bx_journal.proofs.Tails.{tail_moves}
+use Rattle.bx_journal.proofs.Phases.{open_recovers}
+use Rattle.bx_journal.proofs.Sharper.{cut_is_sharp, either_below}
+use Rattle.bx_journal.proofs.StopLemmas.{first_stops, within_new, behind_stops}
+use Rattle.bx_journal.proofs.UndoSteps.{first_ok, first_tail}
+use Rattle.bx_journal.proofs.protocol.undo_entry.undo_entry.Goals as goal
+
+always_err : {T E P : Type 0} (r : Result T E) → P → OnErr r P
+always_err (Ok x) p = tt
+always_err (Err e) p = p
+
+always_ok : {T E P : Type 0} (r : Result T E) → P → OnOk r P
+always_ok (Ok x) p = p
+always_ok (Err e) p = tt
+
+-- the image stayed
+moved : (text x y : List ℕ) (below : List (List ℕ)) → y ≡ x → Recovers text x (x ∷ below) ⊎ RecoversOpen text x below → Recovers text y (x ∷ below) ⊎ RecoversOpen text y below
+moved text x y below same h = subst (λ z. Recovers text z (x ∷ below) ⊎ RecoversOpen text z below) (sym same) h
+
+pub returns-in_err-open_and_change-clause-left : goal.returns-in_err-open_and_change-clause-left
+returns-in_err-open_and_change-clause-left g c dh th rh below v e t is =
+    let x : List ℕ = g.D.Device.image c.args.device.now in
+    let y : List ℕ = g.D.Device.image c.open_and_change.new.device in
+    let r : List ℕ = g.T.TextStore.text c.args.redo_text.now in
+    let redo : List ℕ = g.T.TextStore.text c.open_and_change.new.redo_text in
+    let text : List ℕ = g.T.TextStore.text c.open_and_change.new.store in
+    let old : Side = side_of (x ∷ below) x r in
+    let new : Side = side_of below (restore e.saved x) (kept_text r (kept_of c.args.taken.now) c.args.number c.args.kept.len) in
+    always_err c.from_residual.result
+    (elim (c.in_err-open_and_change.ensures.order th) [
+      | inl h ↦ first_stops text y redo old new (ap g.D.Device.image h.0) (ap g.T.TextStore.text h.1) (moved text x y below (ap g.D.Device.image h.0) (cut_is_sharp (g.T.TextStore.text c.args.store.now) text x below v e c.args.begins c.args.saved t h.2))
+      | inr cut ↦ within_new v (kept_of c.args.kept) text y redo old new (c.open_and_change.ensures.phase dh v text below (subst (λ s. IsOpen v s text x below) (sym is) (first_ok (g.T.TextStore.text c.args.store.now) x below v e c.args.begins c.args.saved t text cut)))
+    ])
+
+pub returns-in_err-open_and_change-clause-fault : goal.returns-in_err-open_and_change-clause-fault
+returns-in_err-open_and_change-clause-fault g c dh th below v e t is =
+    let x : List ℕ = g.D.Device.image c.args.device.now in
+    let y : List ℕ = g.D.Device.image c.open_and_change.new.device in
+    let text : List ℕ = g.T.TextStore.text c.open_and_change.new.store in
+    always_err c.from_residual.result
+    (elim (c.in_err-open_and_change.ensures.order th) [
+      | inl h ↦ either_below text y (x ∷ below) below (moved text x y below (ap g.D.Device.image h.0) (cut_is_sharp (g.T.TextStore.text c.args.store.now) text x below v e c.args.begins c.args.saved t h.2))
+      | inr cut ↦ inr (open_recovers v (kept_of c.args.kept) text y below (c.open_and_change.ensures.phase dh v text below (subst (λ s. IsOpen v s text x below) (sym is) (first_ok (g.T.TextStore.text c.args.store.now) x below v e c.args.begins c.args.saved t text cut))))
+    ])
+
+pub returns-clause-image : goal.returns-clause-image
+returns-clause-image g c dh = always_ok c.drop_tail.result (c.in_ok-open_and_change.ensures.image dh)
+
+pub returns-clause-ok : goal.returns-clause-ok
+returns-clause-ok g c dh th below v e t is =
+    let x : List ℕ = g.D.Device.image c.args.device.now in
+    let y : List ℕ = g.D.Device.image c.open_and_change.new.device in
+    let text : List ℕ = g.T.TextStore.text c.open_and_change.new.store in
+    let tail = subst (λ s. HasTail text x below t.entries (Ending v s) c.args.begins) (sym is) (first_tail (g.T.TextStore.text c.args.store.now) x below v e c.args.begins c.args.saved t text (c.in_ok-open_and_change.ensures.text th)) in
+    let good = c.in_ok-open_and_change.ensures.again dh tail.sound.unfinished in
+    c.drop_tail.ensures.ok (c.open_and_change.ensures.store_honesty.1 th) y below t.entries (Ending v (kept_of c.args.kept))
+    (tail_moves text x y below t.entries v (kept_of c.args.kept) c.args.begins tail good) (good.same ∙ sym (c.in_ok-open_and_change.ensures.image dh))
+
+pub returns-clause-left : goal.returns-clause-left
+returns-clause-left g c dh th rh below v e t is =
+    let x : List ℕ = g.D.Device.image c.args.device.now in
+    let y : List ℕ = g.D.Device.image c.open_and_change.new.device in
+    let r : List ℕ = g.T.TextStore.text c.args.redo_text.now in
+    let text : List ℕ = g.T.TextStore.text c.open_and_change.new.store in
+    let old : Side = side_of (x ∷ below) x r in
+    let new : Side = side_of below (restore e.saved x) (kept_text r (kept_of c.args.taken.now) c.args.number c.args.kept.len) in
+    let tail = subst (λ s. HasTail text x below t.entries (Ending v s) c.args.begins) (sym is) (first_tail (g.T.TextStore.text c.args.store.now) x below v e c.args.begins c.args.saved t text (c.in_ok-open_and_change.ensures.text th)) in
+    let good = c.in_ok-open_and_change.ensures.again dh tail.sound.unfinished in
+    let restored : y ≡ restore e.saved x = c.in_ok-open_and_change.ensures.image dh ∙ ap (λ (s : Kept). restore s x) is in
+    on_err_weaker c.drop_tail.result
+    (behind_stops (g.T.TextStore.text c.drop_tail.new.store) y (g.T.TextStore.text c.open_and_change.new.redo_text) old new restored (c.in_ok-open_and_change.ensures.redo rh))
+    (c.drop_tail.ensures.fault (c.open_and_change.ensures.store_honesty.1 th) y below t.entries (Ending v (kept_of c.args.kept))
+    (tail_moves text x y below t.entries v (kept_of c.args.kept) c.args.begins tail good) (good.same ∙ sym (c.in_ok-open_and_change.ensures.image dh)))
+
+pub returns-clause-fault : goal.returns-clause-fault
+returns-clause-fault g c dh th below v e t is =
+    let x : List ℕ = g.D.Device.image c.args.device.now in
+    let y : List ℕ = g.D.Device.image c.open_and_change.new.device in
+    let text : List ℕ = g.T.TextStore.text c.open_and_change.new.store in
+    let tail = subst (λ s. HasTail text x below t.entries (Ending v s) c.args.begins) (sym is) (first_tail (g.T.TextStore.text c.args.store.now) x below v e c.args.begins c.args.saved t text (c.in_ok-open_and_change.ensures.text th)) in
+    let good = c.in_ok-open_and_change.ensures.again dh tail.sound.unfinished in
+    on_err_weaker c.drop_tail.result inr
+    (c.drop_tail.ensures.fault (c.open_and_change.ensures.store_honesty.1 th) y below t.entries (Ending v (kept_of c.args.kept))
+    (tail_moves text x y below t.entries v (kept_of c.args.kept) c.args.begins tail good) (good.same ∙ sym (c.in_ok-open_and_change.ensures.image dh)))

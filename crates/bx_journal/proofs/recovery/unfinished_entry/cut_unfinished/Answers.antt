@@ -1,0 +1,76 @@
+use Rattle.std.proofs.Common.{refl, arith, Result, Ok, Err}
+use Rattle.std.specs.Prelude.{OnErr}
+use Rattle.bx_journal.specs.declared.read.types.StageRead.TheVariants.{Between as BetweenRead}
+use Rattle.bx_journal.specs.Text.{Between}
+use Rattle.bx_journal.proofs.TailLemmas.{tail_at, ending_within}
+use Rattle.bx_journal.proofs.RecoverLemmas.{ending_begins}
+use Rattle.bx_journal.proofs.OpenLemmas.{opened_dropped, opened_saving, opened_ending}
+use Rattle.bx_journal.proofs.LeftLemmas.{left_at_stage}
+use Rattle.bx_journal.proofs.recovery.unfinished_entry.cut_unfinished.Goals as goal
+
+always_err : {T E P : Type 0} (r : Result T E) → P → OnErr r P
+always_err (Ok x) p = tt
+always_err (Err e) p = p
+
+pub returns-in-Between-clause-opened : goal.returns-in-Between-clause-opened
+returns-in-Between-clause-opened g c dh th lengths =
+    opened_dropped (g.T.TextStore.text c.args.store.now) c.requires.read.text (g.D.Device.image c.args.device.now) (g.T.TextStore.text c.drop_tail.new.store) c.args.journal c.len-changes.result
+    c.requires.read.read c.in-Between.is (c.requires.read.is th) (c.requires.read.unfinished c.in-Between.is) lengths (c.in_ok-drop_tail-in-Between.ensures.text th) (omega arith)
+
+pub returns-in-Between-clause-keeps : goal.returns-in-Between-clause-keeps
+returns-in-Between-clause-keeps g c dh th stack rec =
+    let t = tail_at (g.T.TextStore.text c.args.store.now) c.requires.read.text (g.D.Device.image c.args.device.now) stack c.args.journal BetweenRead c.requires.read.read c.in-Between.is (c.requires.read.is th) rec in
+    c.in_ok-drop_tail-in-Between.ensures.ok th (g.D.Device.image c.args.device.now) stack _ Between t refl
+
+pub returns-in-Saving-clause-opened : goal.returns-in-Saving-clause-opened
+returns-in-Saving-clause-opened g c dh th lengths =
+    opened_saving (g.T.TextStore.text c.args.store.now) c.requires.read.text (g.D.Device.image c.args.device.now) (g.T.TextStore.text c.drop_tail-in-Saving.new.store) c.args.journal c.len-changes.result
+    _ _ _ _ c.requires.read.read c.in-Saving.is (c.requires.read.is th) lengths (c.in_ok-drop_tail-in-Saving.ensures.text th) (omega arith)
+
+pub returns-in-Saving-clause-keeps : goal.returns-in-Saving-clause-keeps
+returns-in-Saving-clause-keeps g c dh th stack rec =
+    let t = tail_at (g.T.TextStore.text c.args.store.now) c.requires.read.text (g.D.Device.image c.args.device.now) stack c.args.journal _ c.requires.read.read c.in-Saving.is (c.requires.read.is th) rec in
+    c.in_ok-drop_tail-in-Saving.ensures.ok th (g.D.Device.image c.args.device.now) stack _ _ t refl
+
+pub take_back-requires-clause-within : goal.take_back-requires-clause-within
+take_back-requires-clause-within g c = ending_within c.requires.read.text c.args.journal _ _ _ _ c.requires.read.read c.in-Ending.is
+
+pub returns-clause-opened : goal.returns-clause-opened
+returns-clause-opened g c dh th lengths =
+    opened_ending (g.T.TextStore.text c.args.store.now) c.requires.read.text (g.D.Device.image c.args.device.now) (g.T.TextStore.text c.take_back.new.store) (g.D.Device.image c.take_back.new.device) c.args.journal c.len-changes.result
+    _ _ _ _ c.requires.read.read c.in-Ending.is (c.requires.read.is th) lengths (c.in_ok-take_back-in-Ending.ensures.image dh) (c.in_ok-take_back-in-Ending.ensures.text th) (omega arith)
+
+pub returns-clause-keeps : goal.returns-clause-keeps
+returns-clause-keeps g c dh th stack rec =
+    let t = tail_at (g.T.TextStore.text c.args.store.now) c.requires.read.text (g.D.Device.image c.args.device.now) stack c.args.journal _ c.requires.read.read c.in-Ending.is (c.requires.read.is th) rec in
+    c.in_ok-take_back-in-Ending.ensures.ok dh th stack _ _ t
+
+pub returns-in_err-take_back-in-Ending-clause-keeps_err : goal.returns-in_err-take_back-in-Ending-clause-keeps_err
+returns-in_err-take_back-in-Ending-clause-keeps_err g c dh th stack rec =
+    let t = tail_at (g.T.TextStore.text c.args.store.now) c.requires.read.text (g.D.Device.image c.args.device.now) stack c.args.journal _ c.requires.read.read c.in-Ending.is (c.requires.read.is th) rec in
+    always_err _ (c.in_err-take_back-in-Ending.ensures.fault dh th stack _ _ t)
+
+pub returns-in_err-drop_tail-in-Between-clause-keeps_err :
+    goal.returns-in_err-drop_tail-in-Between-clause-keeps_err
+returns-in_err-drop_tail-in-Between-clause-keeps_err g c dh th stack rec =
+    let t = tail_at (g.T.TextStore.text c.args.store.now) c.requires.read.text (g.D.Device.image c.args.device.now) stack c.args.journal BetweenRead c.requires.read.read c.in-Between.is (c.requires.read.is th) rec in
+    always_err _ (c.in_err-drop_tail-in-Between.ensures.fault th (g.D.Device.image c.args.device.now) stack _ Between t refl)
+
+pub take_back-requires-clause-within_text : goal.take_back-requires-clause-within_text
+take_back-requires-clause-within_text g c th =
+    ending_begins (g.T.TextStore.text c.args.store.now) c.requires.read.text c.args.journal _ _ _ _ c.requires.read.read c.in-Ending.is (c.requires.read.is th)
+
+pub returns-in-Between-clause-left : goal.returns-in-Between-clause-left
+returns-in-Between-clause-left g c th =
+    left_at_stage (g.T.TextStore.text c.args.store.now) c.requires.read.text (g.T.TextStore.text c.drop_tail.new.store) c.args.journal BetweenRead
+    c.requires.read.read c.in-Between.is (c.requires.read.is th) (c.in_ok-drop_tail-in-Between.ensures.text th)
+
+pub returns-in-Saving-clause-left : goal.returns-in-Saving-clause-left
+returns-in-Saving-clause-left g c th =
+    left_at_stage (g.T.TextStore.text c.args.store.now) c.requires.read.text (g.T.TextStore.text c.drop_tail-in-Saving.new.store) c.args.journal _
+    c.requires.read.read c.in-Saving.is (c.requires.read.is th) (c.in_ok-drop_tail-in-Saving.ensures.text th)
+
+pub returns-clause-left : goal.returns-clause-left
+returns-clause-left g c th =
+    left_at_stage (g.T.TextStore.text c.args.store.now) c.requires.read.text (g.T.TextStore.text c.take_back.new.store) c.args.journal _
+    c.requires.read.read c.in-Ending.is (c.requires.read.is th) (c.in_ok-take_back-in-Ending.ensures.text th)

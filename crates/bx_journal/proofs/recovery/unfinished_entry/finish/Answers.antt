@@ -1,0 +1,18 @@
+use Rattle.std.proofs.Common.{rules, arith, inr}
+use Rattle.std.proofs.lemmas.Grind.{common_steps}
+use Rattle.std.proofs.lemmas.Result.{on_err_weaker, on_ok_weaker}
+use Rattle.bx_journal.proofs.RecoverLemmas.{one_more_beside}
+use Rattle.bx_journal.proofs.TallyLemmas.{err_always, ok_always}
+use Rattle.bx_journal.proofs.recovery.unfinished_entry.finish.Goals as goal
+
+pub returns-clause-emptied : goal.returns-clause-emptied
+returns-clause-emptied g c rh = ok_always c.cut_unfinished.result (grind (arith, common_steps))
+
+pub returns-clause-emptied_first : goal.returns-clause-emptied_first
+returns-clause-emptied_first g c rh = err_always c.cut_unfinished.result (inr (grind (arith, common_steps)))
+
+pub returns-clause-no_failure : goal.returns-clause-no_failure
+returns-clause-no_failure g c = on_ok_weaker c.cut_unfinished.result (λ h. (h.0, h.1, search rules)) c.cut_unfinished.ensures.no_failure
+
+pub returns-clause-failure : goal.returns-clause-failure
+returns-clause-failure g c = on_err_weaker c.cut_unfinished.result (one_more_beside _ _ _ _ _ _ (search rules)) c.cut_unfinished.ensures.failure

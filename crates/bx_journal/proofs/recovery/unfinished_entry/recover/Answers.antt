@@ -1,0 +1,108 @@
+use Rattle.std.proofs.Common.{◌≡◌, List, ℕ, ap, sym, ◌∙◌, subst, inl, inr, ◌⊎◌, Result, Ok, Err}
+use Rattle.std.specs.Prelude.{IfErr, OnErr}
+use Rattle.bx_journal.specs.Calls.{AfterFault}
+use Rattle.bx_journal.specs.Phase.{IsAtRest}
+use Rattle.bx_journal.specs.Stack.{Recovers}
+use Rattle.bx_journal.specs.Text.{Between}
+use Rattle.bx_journal.proofs.OpenedLemmas.{emptied_keeps, emptied_undone, err_then, find_opens, find_redo, find_refuses, finished_kept, finished_opened, finished_stack, finished_unfit, found_counted, found_few, found_read, found_unclean, recover_kind, unfinished_finds}
+use Rattle.bx_journal.proofs.LeftLemmas.{left_whole}
+use Rattle.bx_journal.proofs.TallyLemmas.{counted_rest, ok_always}
+use Rattle.bx_journal.proofs.recovery.unfinished_entry.recover.Goals as goal
+
+pub returns-in-Err-clause-faults : goal.returns-in-Err-clause-faults
+returns-in-Err-clause-faults g c dh th r reads =
+    find_opens (g.T.TextStore.honest c.args.store.now) (g.T.TextStore.text c.args.store.now) r th reads (g.D.Device.image c.args.device.now) c.in-Err.fault c.in-Err.ensures.fault
+
+pub returns-in-Err-clause-differs : goal.returns-in-Err-clause-differs
+returns-in-Err-clause-differs g c dh th r n reads differs =
+    find_refuses (g.T.TextStore.honest c.args.store.now) (g.T.TextStore.text c.args.store.now) r th reads n c.in-Err.fault c.in-Err.ensures.fault
+
+pub returns-in-Err-clause-redo_unfit : goal.returns-in-Err-clause-redo_unfit
+returns-in-Err-clause-redo_unfit g c dh th rh line r =
+    find_redo (g.T.TextStore.honest c.args.store.now) (g.T.TextStore.text c.args.store.now) (record { entries = r.entries; stage = Between }) th r.finished.reads line c.in-Err.fault c.in-Err.ensures.fault
+
+pub returns-in-Finished-clause-opened : goal.returns-in-Finished-clause-opened
+returns-in-Finished-clause-opened g c dh th r reads =
+    let text : List ℕ = g.T.TextStore.text c.args.store.now in
+    let is = found_counted (g.T.TextStore.honest c.args.store.now) text c.in-Ok.found c.in-Finished.counted c.in-Ok.ensures.found c.in-Finished.is th in
+    finished_opened text (g.D.Device.image c.args.device.now) c.in-Finished.counted.count c.in-Finished.counted.told is c.open_finished.result _ _ r reads
+    (c.read_text.ensures.text th) (c.open_finished.ensures.image dh) c.open_finished.ensures.clean (c.open_finished.ensures.same_length dh)
+
+pub returns-in-Finished-clause-left : goal.returns-in-Finished-clause-left
+returns-in-Finished-clause-left g c th r reads =
+    let text : List ℕ = g.T.TextStore.text c.args.store.now in
+    let is = found_counted (g.T.TextStore.honest c.args.store.now) text c.in-Ok.found c.in-Finished.counted c.in-Ok.ensures.found c.in-Finished.is th in
+    ok_always c.open_finished.result (left_whole text _ c.in-Finished.counted.count c.in-Finished.counted.told r is reads (c.read_text.ensures.text th))
+
+pub returns-in-Finished-clause-keeps : goal.returns-in-Finished-clause-keeps
+returns-in-Finished-clause-keeps g c dh th stack rec =
+    let text : List ℕ = g.T.TextStore.text c.args.store.now in
+    let y : List ℕ = g.D.Device.image c.open_finished.new.device in
+    let is = found_counted (g.T.TextStore.honest c.args.store.now) text c.in-Ok.found c.in-Finished.counted c.in-Ok.ensures.found c.in-Finished.is th in
+    ok_always c.open_finished.result
+    (subst (λ t. IsAtRest t y stack) (sym (c.read_text.ensures.text th))
+    (counted_rest text (g.D.Device.image c.args.device.now) c.in-Finished.counted.count c.in-Finished.counted.told is y stack rec (c.open_finished.ensures.image dh)))
+
+pub returns-in-Finished-clause-counted : goal.returns-in-Finished-clause-counted
+returns-in-Finished-clause-counted g c dh th stack rec =
+    let text : List ℕ = g.T.TextStore.text c.args.store.now in
+    let is = found_counted (g.T.TextStore.honest c.args.store.now) text c.in-Ok.found c.in-Finished.counted c.in-Ok.ensures.found c.in-Finished.is th in
+    finished_stack text (g.D.Device.image c.args.device.now) c.in-Finished.counted.count c.in-Finished.counted.told is c.open_finished.result stack rec c.open_finished.ensures.clean
+
+pub returns-in-Finished-clause-redo_unfit : goal.returns-in-Finished-clause-redo_unfit
+returns-in-Finished-clause-redo_unfit g c dh th rh line r =
+    let text : List ℕ = g.T.TextStore.text c.args.store.now in
+    let is = found_counted (g.T.TextStore.honest c.args.store.now) text c.in-Ok.found c.in-Finished.counted c.in-Ok.ensures.found c.in-Finished.is th in
+    finished_unfit text (g.D.Device.image c.args.device.now) c.in-Finished.counted.count c.in-Finished.counted.told is c.open_finished.result (g.T.TextStore.text c.args.redo_text.now) line r
+    (c.open_finished.ensures.unfit dh rh line)
+
+pub returns-in-Finished-clause-redo_kept : goal.returns-in-Finished-clause-redo_kept
+returns-in-Finished-clause-redo_kept g c dh th rh s finds =
+    let text : List ℕ = g.T.TextStore.text c.args.store.now in
+    let is = found_counted (g.T.TextStore.honest c.args.store.now) text c.in-Ok.found c.in-Finished.counted c.in-Ok.ensures.found c.in-Finished.is th in
+    finished_kept text (g.D.Device.image c.args.device.now) c.in-Finished.counted.count c.in-Finished.counted.told is c.open_finished.result _ _ (g.T.TextStore.text c.args.redo_text.now) s finds
+    (dh, rh) c.open_finished.ensures.fault
+
+pub returns-in-Unfinished-clause-unfinished : goal.returns-in-Unfinished-clause-unfinished
+returns-in-Unfinished-clause-unfinished g c th =
+    let text : List ℕ = g.T.TextStore.text c.args.store.now in
+    let i = found_read (g.T.TextStore.honest c.args.store.now) text c.in-Ok.found c.in-Unfinished.journal c.in-Ok.ensures.found c.in-Unfinished.is in
+    err_then _ c.recover_read.result (found_unclean (g.T.TextStore.honest c.args.store.now) text c.in-Unfinished.journal i th)
+
+pub returns-in-Unfinished-clause-undone : goal.returns-in-Unfinished-clause-undone
+returns-in-Unfinished-clause-undone g c dh th rh =
+    emptied_undone _ _ c.recover_read.result (c.recover_read.ensures.emptied rh) c.recover_read.ensures.unclean c.recover_read.ensures.sum
+
+pub returns-in-Unfinished-clause-redo_unfit : goal.returns-in-Unfinished-clause-redo_unfit
+returns-in-Unfinished-clause-redo_unfit g c dh th rh line r =
+    let text : List ℕ = g.T.TextStore.text c.args.store.now in
+    let i = found_read (g.T.TextStore.honest c.args.store.now) text c.in-Ok.found c.in-Unfinished.journal c.in-Ok.ensures.found c.in-Unfinished.is in
+    absurd (found_unclean (g.T.TextStore.honest c.args.store.now) text c.in-Unfinished.journal i th (r.entries, r.finished))
+
+pub returns-in-Unfinished-clause-keeps_undone : goal.returns-in-Unfinished-clause-keeps_undone
+returns-in-Unfinished-clause-keeps_undone g c dh th rh s finds =
+    emptied_keeps _ _ s.undone c.recover_read.result (c.recover_read.ensures.emptied rh) c.recover_read.ensures.unclean c.recover_read.ensures.sum
+
+store_text : {S T E : Type 0} → (Q : Type 0) (text : S → List ℕ) (o : Result T E) (new mid old : S) → text mid ≡ text old → OnErr o ((new ≡ mid) ⊎ Q) → OnErr o ((text new ≡ text old) ⊎ Q)
+store_text Q text (Ok v) new mid old same h = tt
+store_text Q text (Err e) new mid old same h = elim h [ inl is ↦ inl (ap text is ∙ same) | inr q ↦ inr q ]
+
+pub returns-in-Unfinished-clause-finds_err : goal.returns-in-Unfinished-clause-finds_err
+returns-in-Unfinished-clause-finds_err g c dh th rh s finds =
+    let text : List ℕ = g.T.TextStore.text c.args.store.now in
+    let x : List ℕ = g.D.Device.image c.args.device.now in
+    let same = c.read_text.ensures.text th in
+    let mid = c.read_text.ensures.honesty.1 th in
+    let i = found_read (g.T.TextStore.honest c.args.store.now) text c.in-Ok.found c.in-Unfinished.journal c.in-Ok.ensures.found c.in-Unfinished.is in
+    unfinished_finds text x (g.T.TextStore.text c.args.redo_text.now) _ _ _ s finds
+    (found_unclean (g.T.TextStore.honest c.args.store.now) text c.in-Unfinished.journal i th)
+    (found_few (g.T.TextStore.honest c.args.store.now) text x s.stack c.in-Unfinished.journal i th finds.recovers)
+    c.recover_read.result
+    (c.recover_read.ensures.keeps_err dh mid s.stack (subst (λ t. Recovers t x s.stack) (sym same) finds.recovers))
+    (store_text _ g.T.TextStore.text c.recover_read.result _ _ _ same (c.recover_read.ensures.emptied_first rh))
+    (subst (λ t. IfErr c.recover_read.result (λ e. AfterFault e (Unit {0}) ((g.T.TextStore.text c.recover_read.new.store ≡ t) × (g.D.Device.image c.recover_read.new.device ≡ x)))) same
+    (c.recover_read.ensures.refused dh mid))
+    (c.recover_read.ensures.redo_same rh)
+
+pub returns-in-Unfinished-clause-redo_kept : goal.returns-in-Unfinished-clause-redo_kept
+returns-in-Unfinished-clause-redo_kept g c dh th rh s finds = recover_kind c.recover_read.result c.recover_read.ensures.kind

@@ -1,0 +1,15 @@
+use Rattle.std.proofs.Common.{sym, subst}
+use Rattle.bx_journal.specs.Opening.{FaultCounts}
+use Rattle.bx_journal.specs.inner.Undoing.{RedoAgainFault}
+use Rattle.bx_journal.proofs.RedoingLemmas.{redo_again, redo_counts}
+use Rattle.bx_journal.proofs.session.redo.read_undone.Goals as goal
+
+pub returns-in-Err-clause-fault : goal.returns-in-Err-clause-fault
+returns-in-Err-clause-fault g c =
+    subst (RedoAgainFault (g.T.TextStore.honest c.args.redo_text.now) (g.T.TextStore.text c.args.redo_text.now) c.args.undone) (sym c.of_redo.ensures)
+    (redo_again (g.T.TextStore.honest c.args.redo_text.now) (g.T.TextStore.text c.args.redo_text.now) c.args.undone c.in-Err.fault c.in-Err.ensures.fault)
+
+pub returns-in-Err-clause-counts : goal.returns-in-Err-clause-counts
+returns-in-Err-clause-counts g c =
+    subst (λ e. FaultCounts e 0 (g.T.TextStore.failures c.args.redo_text.now) 0 (g.T.TextStore.failures c.read_again.new.store)) (sym c.of_redo.ensures)
+    (redo_counts c.in-Err.fault (g.T.TextStore.failures c.args.redo_text.now) (g.T.TextStore.failures c.read_again.new.store) c.in-Err.ensures.counts)

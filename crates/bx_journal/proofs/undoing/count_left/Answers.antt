@@ -1,5 +1,0 @@
-use Rattle.std.proofs.Common.{rules}
-use Rattle.bx_journal.proofs.undoing.count_left.Goals as goal
-
-pub returns : goal.returns
-returns c = search rules

@@ -1,0 +1,8 @@
+use Rattle.bx_journal.specs.DumpLine.{dump_line}
+use Rattle.bx_journal.specs.Text.{ended}
+use Rattle.bx_journal.proofs.PageLemmas.{part_front, at_err}
+use Rattle.bx_journal.proofs.write.entry.put_full_row.Goals as goal
+
+pub returns-in_err-make_room-clause-fault : goal.returns-in_err-make_room-clause-fault
+returns-in_err-make_room-clause-fault g c honest =
+    at_err _ (part_front c.args.page.now.items (ended (dump_line c.args.at c.args.bytes.now)) _ _ (c.in_err-make_room.ensures.fault honest))

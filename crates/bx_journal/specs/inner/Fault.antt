@@ -1,0 +1,10 @@
+-- What proofs alone need: what faults of the devices are in a session.
+use Rattle.bx_store.specs.declared.fault.TextFault.{TextFault}
+use Rattle.bx_store.specs.declared.fault.TextFault.TheVariants.{NoMemory as TextMemory, DeviceFailed as TextFailed}
+use Rattle.bx_journal.specs.declared.session.fault.SessionFault.{SessionFault}
+use Rattle.bx_journal.specs.declared.session.fault.SessionFault.TheVariants.{NoMemory, DeviceFailed}
+
+-- what a fault of reading the text is
+abbrev pub reading_fault : TextFault → SessionFault
+reading_fault TextMemory = NoMemory
+reading_fault TextFailed = DeviceFailed

@@ -1,0 +1,98 @@
+-- What proofs alone need: whether a text is a redo text, and at which line it isn't.
+use Rattle.std.specs.Prelude.{◌≡◌, ◌⊎◌, ◌≤◌, ℕ, suc, ◌+◌, is_some, IsTrue, Option, None, List, [], ◌++◌, ◌∷◌, length, take}
+use Rattle.bx_journal.specs.declared.session.fault.SessionFault.{SessionFault}
+use Rattle.bx_journal.specs.declared.session.fault.SessionFault.TheVariants.{NoMemory, TooLarge, DeviceFailed, Damaged, TooFew, JournalFull, Interrupted, Broken, LengthDiffers, NothingToRedo, RedoDamaged}
+use Rattle.bx_journal.specs.declared.read.types.EntryRead.{EntryRead}
+use Rattle.bx_journal.specs.Parsed.{told_by}
+use Rattle.bx_journal.specs.Redo.{AllTell, IsNoRedoAt, IsRefusedAt, IsTooManyAt}
+use Rattle.bx_journal.specs.Text.{Entry, split}
+use Rattle.bx_journal.specs.Undoing.{IsFinished}
+
+-- why a text isn't a redo text beside so many changes, whatever the image is
+abbrev pub IsUnfitAt : List ℕ → ℕ → ℕ → Type 0
+IsUnfitAt text changes line = IsNoRedoAt text line ⊎ IsTooManyAt text changes line
+
+-- finished entries alone, each of which tells its length, and with so many changes not too many
+pub record IsFit (text : List ℕ) (changes : ℕ) (entries : List Entry) : Type 0 where
+  pub finished : IsFinished text entries
+  pub tell : AllTell entries
+  pub few : changes + length entries ≤ 65535
+
+-- such a text has so many entries, and the newest tells this length
+pub record IsRedoCounted (text : List ℕ) (changes count : ℕ) (told : Option ℕ) : Type 0 where
+  pub entries : List Entry
+  pub fit : IsFit text changes entries
+  pub counted : count ≡ length entries
+  pub told_is : told ≡ told_by entries
+
+-- which fault reading a redo text may answer
+abbrev pub RedoTextFault : List ℕ → ℕ → SessionFault → Type 0
+RedoTextFault text changes NoMemory = Unit {0}
+RedoTextFault text changes (RedoDamaged line) = IsUnfitAt text changes line
+RedoTextFault text changes TooLarge = ⊥
+RedoTextFault text changes DeviceFailed = ⊥
+RedoTextFault text changes (Damaged line) = ⊥
+RedoTextFault text changes (TooFew have) = ⊥
+RedoTextFault text changes JournalFull = ⊥
+RedoTextFault text changes Interrupted = ⊥
+RedoTextFault text changes Broken = ⊥
+RedoTextFault text changes (LengthDiffers expected) = ⊥
+RedoTextFault text changes (NothingToRedo have) = ⊥
+
+-- which fault judging the redo text of an image may answer
+abbrev pub JudgeFault : Type 0 → List ℕ → List ℕ → ℕ → SessionFault → Type 0
+JudgeFault honest text x changes NoMemory = Unit {0}
+JudgeFault honest text x changes DeviceFailed = Unit {0}
+JudgeFault honest text x changes (RedoDamaged line) = honest → IsRefusedAt text x changes line
+JudgeFault honest text x changes TooLarge = ⊥
+JudgeFault honest text x changes (Damaged line) = ⊥
+JudgeFault honest text x changes (TooFew have) = ⊥
+JudgeFault honest text x changes JournalFull = ⊥
+JudgeFault honest text x changes Interrupted = ⊥
+JudgeFault honest text x changes Broken = ⊥
+JudgeFault honest text x changes (LengthDiffers expected) = ⊥
+JudgeFault honest text x changes (NothingToRedo have) = ⊥
+
+-- a fault of reading a journal's text, where the text is the redo text
+abbrev pub redo_fault : SessionFault → SessionFault
+redo_fault (Damaged line) = RedoDamaged line
+redo_fault NoMemory = NoMemory
+redo_fault TooLarge = TooLarge
+redo_fault DeviceFailed = DeviceFailed
+redo_fault (TooFew have) = TooFew have
+redo_fault JournalFull = JournalFull
+redo_fault Interrupted = Interrupted
+redo_fault Broken = Broken
+redo_fault (LengthDiffers expected) = LengthDiffers expected
+redo_fault (NothingToRedo have) = NothingToRedo have
+redo_fault (RedoDamaged line) = RedoDamaged line
+
+-- each entry that was read tells the length after it
+abbrev pub AllTold : {A : Type 0} → List (EntryRead A) → Type 0
+AllTold [] = Unit {0}
+AllTold (e ∷ es) = IsTrue (is_some e.after) × AllTold es
+
+-- the first entry, of those that were read, that tells no length begins at this place; the oldest comes first
+pub record IsUntoldAt {A : Type 0} (es : List (EntryRead A)) (at : ℕ) : Type 0 where
+  pub older : List (EntryRead A)
+  pub entry : EntryRead A
+  pub newer : List (EntryRead A)
+  pub parts : es ≡ older ++ entry ∷ newer
+  pub told : AllTold older
+  pub untold : entry.after ≡ None
+  pub begins : at ≡ entry.begins
+
+-- each entry that was read tells its length, and the first whose number, with the changes, is above 65,535 begins at this place
+pub record IsBeyondAt {A : Type 0} (es : List (EntryRead A)) (changes at : ℕ) : Type 0 where
+  pub older : List (EntryRead A)
+  pub entry : EntryRead A
+  pub newer : List (EntryRead A)
+  pub parts : es ≡ older ++ entry ∷ newer
+  pub told : AllTold es
+  pub many : length older + changes ≡ 65535
+  pub begins : at ≡ entry.begins
+
+-- what is unfit in a text begins at this place, which is behind a whole line
+pub record IsUnfitFrom (text : List ℕ) (changes at : ℕ) : Type 0 where
+  pub within : at ≤ length text
+  pub unfit : IsUnfitAt text changes (suc (length (split (take at text)).lines))

@@ -1,0 +1,90 @@
+-- What proofs alone need: what opening finds in a journal's text, and what it leaves of the redo text.
+use Rattle.std.specs.Prelude.{◌≡◌, ◌≤◌, ℕ, Option, Some, List, length, IfSome}
+use Rattle.bx_journal.specs.declared.session.answers.Recovered.{Recovered}
+use Rattle.bx_journal.specs.declared.session.fault.SessionFault.{SessionFault}
+use Rattle.bx_journal.specs.declared.session.fault.SessionFault.TheVariants.{NoMemory, TooLarge, DeviceFailed, Damaged, TooFew, JournalFull, Interrupted, Broken, LengthDiffers, NothingToRedo, RedoDamaged}
+use Rattle.bx_journal.specs.declared.recovery.journal.Found.{Found}
+use Rattle.bx_journal.specs.declared.recovery.journal.Found.TheVariants.{Finished, Unfinished}
+use Rattle.bx_journal.specs.declared.read.whole.JournalRead.{JournalRead}
+use Rattle.bx_journal.specs.declared.read.types.StageRead.TheVariants.{Between as BetweenRead}
+use Rattle.bx_journal.specs.inner.Journal.{HasRead}
+use Rattle.bx_journal.specs.Redo.{IsRedoOf, IsRefusedAt, found_undone}
+use Rattle.bx_journal.specs.inner.Tally.{IsCounted}
+use Rattle.bx_journal.specs.Text.{IsDamagedAt}
+
+-- so many finished entries alone were counted: the store's, where that is honest
+pub record IsCountedIn (honest : Type 0) (stored : List ℕ) (count : ℕ) (told : Option ℕ) : Type 0 where
+  pub text : List ℕ
+  pub is : honest → stored ≡ text
+  pub counted : IsCounted text count told
+  pub few : count ≤ 65535
+
+-- a journal was read that isn't finished entries alone: the store's, where that is honest
+pub record IsUnfinishedIn {A : Type 0} (honest : Type 0) (stored : List ℕ) (j : JournalRead A) : Type 0 where
+  pub text : List ℕ
+  pub is : honest → stored ≡ text
+  pub read : HasRead text j
+  pub unfinished : j.stage ≡ BetweenRead → j.whole ≡ length text → ⊥
+
+-- what was found is the store's, where that is honest
+abbrev pub IsFoundIn : {A : Type 0} → Type 0 → List ℕ → Found A → Type 0
+IsFoundIn honest stored (Finished counted) = IsCountedIn honest stored counted.count counted.told
+IsFoundIn honest stored (Unfinished journal) = IsUnfinishedIn honest stored journal
+
+-- which fault reading the journal may answer
+abbrev pub FindFault : Type 0 → List ℕ → SessionFault → Type 0
+FindFault honest text NoMemory = Unit {0}
+FindFault honest text DeviceFailed = Unit {0}
+FindFault honest text (Damaged line) = honest → IsDamagedAt text line
+FindFault honest text TooLarge = ⊥
+FindFault honest text (TooFew have) = ⊥
+FindFault honest text JournalFull = ⊥
+FindFault honest text Interrupted = ⊥
+FindFault honest text Broken = ⊥
+FindFault honest text (LengthDiffers expected) = ⊥
+FindFault honest text (NothingToRedo have) = ⊥
+FindFault honest text (RedoDamaged line) = ⊥
+
+-- which fault taking back what is unfinished may answer
+abbrev pub RecoverFault : SessionFault → Type 0
+RecoverFault NoMemory = Unit {0}
+RecoverFault DeviceFailed = Unit {0}
+RecoverFault (LengthDiffers expected) = Unit {0}
+RecoverFault Interrupted = Unit {0}
+RecoverFault TooLarge = ⊥
+RecoverFault (Damaged line) = ⊥
+RecoverFault (TooFew have) = ⊥
+RecoverFault JournalFull = ⊥
+RecoverFault Broken = ⊥
+RecoverFault (NothingToRedo have) = ⊥
+RecoverFault (RedoDamaged line) = ⊥
+
+-- the redo text of an image and so many changes has so many undone images
+abbrev pub HasUndoneCount : List ℕ → List ℕ → ℕ → ℕ → Type 0
+HasUndoneCount redo x changes count = (undone : List (List ℕ)) × IsRedoOf redo x changes undone × (count ≡ length undone)
+
+-- what opening leaves of the redo text and the image stands for the undone images that it keeps, and it tells their number
+abbrev pub KeepsUndone : List ℕ → List ℕ → Recovered → List (List ℕ) → Type 0
+KeepsUndone redo x o undone = IsRedoOf redo x o.changes (found_undone o.how undone) × (o.undone ≡ length (found_undone o.how undone))
+
+-- the image has the length that is told, if any
+abbrev pub HasToldLength : Option ℕ → List ℕ → Type 0
+HasToldLength told x = IfSome told (λ n. length x ≡ n)
+
+-- the image hasn't this length, which is told
+abbrev pub HasOtherLength : Option ℕ → List ℕ → ℕ → Type 0
+HasOtherLength told x n = (told ≡ Some n) × (length x ≡ n → ⊥)
+
+-- which fault opening beside finished entries alone may answer: of the image, and of the image and the redo text, if honest
+abbrev pub FinishedFault : Type 0 → Type 0 → List ℕ → List ℕ → ℕ → Option ℕ → SessionFault → Type 0
+FinishedFault image both redo x changes told NoMemory = Unit {0}
+FinishedFault image both redo x changes told DeviceFailed = Unit {0}
+FinishedFault image both redo x changes told (LengthDiffers n) = image → HasOtherLength told x n
+FinishedFault image both redo x changes told (RedoDamaged line) = (image → HasToldLength told x) × (both → IsRefusedAt redo x changes line)
+FinishedFault image both redo x changes told TooLarge = ⊥
+FinishedFault image both redo x changes told (Damaged line) = ⊥
+FinishedFault image both redo x changes told (TooFew have) = ⊥
+FinishedFault image both redo x changes told JournalFull = ⊥
+FinishedFault image both redo x changes told Interrupted = ⊥
+FinishedFault image both redo x changes told Broken = ⊥
+FinishedFault image both redo x changes told (NothingToRedo have) = ⊥

@@ -1,0 +1,60 @@
+-- What proofs alone need: what undoing starts from and leaves.
+use Rattle.std.specs.Prelude.{◌≡◌, ◌≤◌, ◌<◌, ◌^◌, ℕ, List, [], length}
+use Rattle.bx_journal.specs.declared.session.fault.SessionFault.{SessionFault}
+use Rattle.bx_journal.specs.declared.session.fault.SessionFault.TheVariants.{NoMemory, TooLarge, DeviceFailed, Damaged, TooFew, JournalFull, Interrupted, Broken, LengthDiffers, NothingToRedo, RedoDamaged}
+use Rattle.bx_journal.specs.declared.read.types.EntryRead.{EntryRead}
+use Rattle.bx_journal.specs.Text.{Between}
+use Rattle.bx_journal.specs.inner.Mark.{IsMark}
+use Rattle.bx_journal.specs.inner.Parsed.{AreMarked, entries_of}
+use Rattle.bx_journal.specs.Undoing.{IsFinished, IsOutOfStep}
+
+-- a text that was read again, as finished entries alone, with their places
+pub record IsReadAgain {A : Type 0} (text : List ℕ) (es : List (EntryRead A)) (count : ℕ) : Type 0 where
+  pub finished : IsFinished text (entries_of es)
+  pub mark : IsMark text (length text) (record { entries = entries_of es; stage = Between })
+  pub marked : AreMarked text [] 0 es (length text)
+  pub counted : length es ≡ count
+  pub few : length es ≤ 65535
+
+-- so many finished entries alone, as a text of this length was read again: the store's, where that is honest
+pub record IsReadFrom {A : Type 0} (honest : Type 0) (stored : List ℕ) (len : ℕ) (es : List (EntryRead A)) (count : ℕ) : Type 0 where
+  pub text : List ℕ
+  pub is : honest → stored ≡ text
+  pub long : len ≡ length text
+  pub countable : length text < 2 ^ 64
+  pub read : IsReadAgain text es count
+
+-- the text of a store, where that is honest, is these entries alone, with their places
+pub record AreReadFrom {A : Type 0} (honest : Type 0) (stored : List ℕ) (es : List (EntryRead A)) : Type 0 where
+  pub text : List ℕ
+  pub is : honest → stored ≡ text
+  pub mark : IsMark text (length text) (record { entries = entries_of es; stage = Between })
+  pub marked : AreMarked text [] 0 es (length text)
+
+-- what a fault of reading is, where the redo text was read
+abbrev pub redo_fault : SessionFault → SessionFault
+redo_fault (Damaged line) = RedoDamaged line
+redo_fault NoMemory = NoMemory
+redo_fault TooLarge = TooLarge
+redo_fault DeviceFailed = DeviceFailed
+redo_fault (TooFew have) = TooFew have
+redo_fault JournalFull = JournalFull
+redo_fault Interrupted = Interrupted
+redo_fault Broken = Broken
+redo_fault (LengthDiffers expected) = LengthDiffers expected
+redo_fault (NothingToRedo have) = NothingToRedo have
+redo_fault (RedoDamaged line) = RedoDamaged line
+
+-- which fault reading the redo text again may answer
+abbrev pub RedoAgainFault : Type 0 → List ℕ → ℕ → SessionFault → Type 0
+RedoAgainFault honest text count NoMemory = Unit {0}
+RedoAgainFault honest text count DeviceFailed = Unit {0}
+RedoAgainFault honest text count (RedoDamaged line) = honest → IsOutOfStep text count line
+RedoAgainFault honest text count TooLarge = ⊥
+RedoAgainFault honest text count (Damaged line) = ⊥
+RedoAgainFault honest text count (TooFew have) = ⊥
+RedoAgainFault honest text count JournalFull = ⊥
+RedoAgainFault honest text count Interrupted = ⊥
+RedoAgainFault honest text count Broken = ⊥
+RedoAgainFault honest text count (LengthDiffers expected) = ⊥
+RedoAgainFault honest text count (NothingToRedo have) = ⊥

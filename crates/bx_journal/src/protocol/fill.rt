@@ -1,0 +1,46 @@
+//! Records of what undos will take, filled one by one.
+ghost use Rattle.std.specs.Prelude.{◌≡◌, ◌<◌, List, ℕ, length, reverse, OnOk, is_err};
+ghost use Rattle.bx_image.specs.Device.{GoesOn};
+ghost use Rattle.bx_journal.specs.declared.read.types.EntryRead.{EntryRead};
+ghost use Rattle.bx_journal.specs.inner.Takens.{IsFirstBelow, AreZeros, AreReady, AllShaped, entries_len};
+
+use bx_image::{Device, DeviceFailed, Saved};
+use std::alloc::Allocator;
+
+/// Reads the bytes of the last record, if there is one, from the image.
+pub fn fill_last<D: Device, A: Allocator>(
+    device: &mut D,
+    takens: &mut Vec<Saved<A>, A>,
+) -> Result<(), DeviceFailed>
+    requires countable { D.failures device.old < u64.MAX }
+    requires range { D.honest device.old → IsFirstBelow (length (D.image device.old)) (reverse takens.old.items) }
+    ensures filled { D.honest device.old → OnOk result ((es : List (EntryRead A)) → AreZeros (length (D.image device.old)) es (reverse takens.old.items) → AreReady (D.image device.old) es (reverse takens.new.items)) }
+    ensures shaped { AllShaped takens.old.items → AllShaped takens.new.items }
+    ensures entries_len { entries_len takens.new.items ≡ entries_len takens.old.items }
+    ensures count { length takens.new.items ≡ length takens.old.items }
+    ensures image { D.honest device.old → D.image device.new ≡ D.image device.old }
+    ensures goes_on { GoesOn D.honest D.room D.failures (is_err result) device.old device.new }
+{
+    fill_end(device, takens.as_mut_slice())
+}
+
+// The same on a slice.
+fn fill_end<D: Device, A: Allocator>(
+    device: &mut D,
+    takens: &mut [Saved<A>],
+) -> Result<(), DeviceFailed>
+    requires countable { D.failures device.old < u64.MAX }
+    requires range { D.honest device.old → IsFirstBelow (length (D.image device.old)) (reverse takens.old) }
+    ensures filled { D.honest device.old → OnOk result ((es : List (EntryRead A)) → AreZeros (length (D.image device.old)) es (reverse takens.old) → AreReady (D.image device.old) es (reverse takens.new)) }
+    ensures shaped { AllShaped takens.old → AllShaped takens.new }
+    ensures entries_len { entries_len takens.new ≡ entries_len takens.old }
+    ensures count { length takens.new ≡ length takens.old }
+    ensures image { D.honest device.old → D.image device.new ≡ D.image device.old }
+    ensures goes_on { GoesOn D.honest D.room D.failures (is_err result) device.old device.new }
+{
+    let count = takens.len();
+    if count == 0 {
+        return Ok(());
+    }
+    takens[count - 1].fill(device)
+}

@@ -1,0 +1,68 @@
+//! Saving and restoring, in the journal's own records.
+ghost use Rattle.std.specs.Prelude.{◌≡◌, ◌<◌, ◌≤◌, [], map, List, ℕ, length, IfOk, OnOk, OnErr, IsErrOf, is_err};
+ghost use Rattle.bx_image.specs.Change.{effect, saved, restore, AllWithin, Covers, IsOf, IsAsGood};
+ghost use Rattle.bx_image.specs.Device.{GoesOn, has_failed};
+ghost use Rattle.bx_journal.specs.declared.format.version.Version.{Version as Form};
+ghost use Rattle.bx_journal.specs.Kept.{run_of, kept_of};
+ghost use Rattle.bx_journal.specs.inner.Phase.{IsOpen, IsOpenFor};
+ghost use Rattle.bx_journal.specs.Stack.{Recovers};
+
+use bx_image::{Change, Device, DeviceFailed, ImageFault, Saved, apply, save};
+use std::alloc::Allocator;
+
+/// Reads what a change takes from the image.
+pub fn save_image<D: Device, A: Allocator + Clone>(
+    alloc: A,
+    device: &mut D,
+    change: &Change<A>,
+) -> Result<Saved<A>, ImageFault>
+    requires countable { D.failures device.old < u64.MAX }
+    ensures saved { D.honest device.old → IfOk result (λ s. kept_of s ≡ kept_of (saved change.now (D.image device.old))) }
+    ensures kept { D.honest device.old → IfOk result (λ s. IsOf (kept_of s) (D.image device.old)) }
+    ensures within { IfOk result (λ s. AllWithin s.len s.runs) }
+    ensures image { D.honest device.old → D.image device.new ≡ D.image device.old }
+    ensures never_too_large { IsErrOf result ImageFault.TooLarge → ⊥ }
+    ensures goes_on { GoesOn D.honest D.room D.failures (has_failed result) device.old device.new }
+{
+    save(alloc, device, change)
+}
+
+/// Changes the image. Whatever it answers, what was saved gives the old image back, so a pair that is open on it
+/// stays open.
+pub fn change_image<D: Device, A: Allocator>(
+    device: &mut D,
+    change: &Change<A>,
+) -> Result<(), DeviceFailed>
+    requires countable { D.failures device.old < u64.MAX }
+    requires room { length (effect change.now []) ≤ D.room device.old }
+    ensures ok { D.honest device.old → OnOk result (D.image device.new ≡ effect change.now (D.image device.old)) }
+    ensures taken_back { D.honest device.old → IsAsGood (kept_of (saved change.now (D.image device.old))) (D.image device.old) (D.image device.new) }
+    ensures phase { D.honest device.old → (text : List ℕ) (stack : List (List ℕ)) → IsOpenFor change.now (D.image device.old) text (D.image device.old) stack
+        → IsOpenFor change.now (D.image device.old) text (D.image device.new) stack }
+    ensures fault { D.honest device.old → (text : List ℕ) (stack : List (List ℕ)) → IsOpenFor change.now (D.image device.old) text (D.image device.old) stack
+        → OnErr result (Recovers text (D.image device.new) stack) }
+    ensures goes_on { GoesOn D.honest D.room D.failures (is_err result) device.old device.new }
+{
+    apply(device, change)
+}
+
+/// Puts back what was saved. Whatever it answers, putting it back again gives the same image, so a pair that is
+/// open on it stays open.
+pub fn restore_image<D: Device, A: Allocator>(
+    device: &mut D,
+    kept: Saved<A>,
+) -> Result<(), DeviceFailed>
+    requires countable { D.failures device.old < u64.MAX }
+    requires within { AllWithin kept.len (map run_of kept.runs) }
+    requires room { kept.len ≤ D.room device.old }
+    ensures ok { D.honest device.old → OnOk result (D.image device.new ≡ restore (kept_of kept) (D.image device.old)) }
+    ensures again { D.honest device.old → Covers (kept_of kept) (D.image device.old) → IsAsGood (kept_of kept) (D.image device.old) (D.image device.new) }
+    ensures phase { D.honest device.old → (v : Form) (text : List ℕ) (stack : List (List ℕ)) → IsOpen v (kept_of kept) text (D.image device.old) stack
+        → IsOpen v (kept_of kept) text (D.image device.new) stack }
+    ensures fault { D.honest device.old → (v : Form) (text : List ℕ) (stack : List (List ℕ)) → IsOpen v (kept_of kept) text (D.image device.old) stack
+        → OnErr result (Recovers text (D.image device.new) stack) }
+    ensures goes_on { GoesOn D.honest D.room D.failures (is_err result) device.old device.new }
+{
+    let change = kept.into_change();
+    apply(device, &change)
+}

@@ -1,0 +1,240 @@
+//! Taking entries back: the newest, or some of them one after another.
+ghost use Rattle.std.specs.Prelude.{◌≡◌, ◌↔◌, ◌⊎◌, ◌+◌, ◌-◌, ◌<◌, ◌≤◌, [], ◌∷◌, ◌++◌, map, List, ℕ, length, take, drop, reverse, nat_le, vec_capacity, if◌then◌else◌, IfOk, OnOk, OnErr};
+ghost use Rattle.bx_image.specs.Change.{AllWithin, Covers, IsAsGood, restore};
+ghost use Rattle.bx_journal.specs.declared.format.version.Version.{Version as Form};
+ghost use Rattle.bx_journal.specs.Entry.{entry_text};
+ghost use Rattle.bx_journal.specs.Images.{Images as Pictures, undo_of};
+ghost use Rattle.bx_journal.specs.Kept.{run_of, kept_of};
+ghost use Rattle.bx_journal.specs.Opening.{OneMore, OneMoreOfThree};
+ghost use Rattle.bx_journal.specs.inner.Parsed.{AllKept, entries_of};
+ghost use Rattle.bx_journal.specs.Phase.{IsAtRest, RecoversEither};
+ghost use Rattle.bx_journal.specs.inner.Phase.{IsOpen};
+ghost use Rattle.bx_journal.specs.Redo.{Finds};
+ghost use Rattle.bx_journal.specs.inner.Redo.{LeavesEither};
+ghost use Rattle.bx_journal.specs.Stack.{Recovers, StandsFor};
+ghost use Rattle.bx_journal.specs.inner.Step.{TakesBack};
+ghost use Rattle.bx_journal.specs.inner.Takens.{AreReady, AllShaped, entries_len};
+ghost use Rattle.bx_journal.specs.Text.{Entry};
+ghost use Rattle.bx_journal.specs.inner.Turns.{AreAtRest, AreStanding, kept_text, side_of};
+ghost use Rattle.bx_journal.specs.Undoing.{HasLeft};
+ghost use Rattle.bx_journal.specs.inner.Undoing.{AreReadFrom};
+ghost use Rattle.bx_store.specs.Store.{IsPartlyCut};
+
+use crate::EntryRead;
+use crate::protocol::fill::fill_last;
+use crate::protocol::image::restore_image;
+use crate::protocol::redo_text::keep_undone;
+use crate::recovery::take_back::drop_tail;
+use bx_image::{Device, DeviceFailed, MAX_LEN, Saved};
+use bx_store::TextStore;
+use std::alloc::Allocator;
+
+/// Restores the image, and keeps the image that is undone. Whatever it answers, a pair that is open on what is
+/// restored stays open.
+fn change_undone<D: Device, T: TextStore, A: Allocator>(
+    device: &mut D,
+    redo_text: &mut T,
+    page: &mut Vec<u8, A>,
+    number: u32,
+    taken: &Saved<A>,
+    kept: Saved<A>,
+) -> Result<(), DeviceFailed>
+    requires device_countable { D.failures device.old < u64.MAX }
+    requires redo_countable { T.failures redo_text.old < u64.MAX }
+    requires within { AllWithin kept.len (map run_of kept.runs) }
+    requires image_room { kept.len ≤ D.room device.old }
+    requires taken_within { AllWithin taken.now.len taken.now.runs }
+    requires fits { T.honest redo_text.old → length (T.text redo_text.old) + length (entry_text number (kept_of taken.now) kept.len) ≤ T.room redo_text.old }
+    requires empty { page.old.items ≡ [] }
+    requires page_room { 82 ≤ vec_capacity page.old }
+    ensures phase { D.honest device.old → (v : Form) (text : List ℕ) (stack : List (List ℕ)) → IsOpen v (kept_of kept) text (D.image device.old) stack
+        → IsOpen v (kept_of kept) text (D.image device.new) stack }
+    ensures again { D.honest device.old → Covers (kept_of kept) (D.image device.old) → IsAsGood (kept_of kept) (D.image device.old) (D.image device.new) }
+    ensures image { D.honest device.old → OnOk result (D.image device.new ≡ restore (kept_of kept) (D.image device.old)) }
+    ensures redo { T.honest redo_text.old → OnOk result (T.text redo_text.new ≡ kept_text (T.text redo_text.old) (kept_of taken.now) number kept.len) }
+    ensures emptied { OnOk result (page.new.items ≡ []) }
+    ensures page_kept { vec_capacity page.old ≤ vec_capacity page.new }
+    ensures room { D.room device.old ≤ D.room device.new }
+    ensures redo_room { T.room redo_text.old ≤ T.room redo_text.new }
+    ensures device_honesty { D.honest device.new ↔ D.honest device.old }
+    ensures redo_honesty { T.honest redo_text.new ↔ T.honest redo_text.old }
+    ensures no_failure { OnOk result ((D.failures device.new ≡ D.failures device.old) × (T.failures redo_text.new ≡ T.failures redo_text.old)) }
+    ensures failure { OnErr result (OneMore (D.failures device.old) (T.failures redo_text.old) (D.failures device.new) (T.failures redo_text.new)) }
+{
+    let after = kept.len;
+    restore_image(device, kept)?;
+    keep_undone(redo_text, page, number, taken, after)
+}
+
+/// Cuts off the line that ends the newest entry, and only then touches image and redo text: restores the image, and
+/// keeps the image that is undone.
+fn open_and_change<D: Device, T: TextStore, A: Allocator>(
+    device: &mut D,
+    store: &mut T,
+    redo_text: &mut T,
+    page: &mut Vec<u8, A>,
+    number: u32,
+    taken: &Saved<A>,
+    kept: Saved<A>,
+    saved: u64,
+) -> Result<(), DeviceFailed>
+    requires device_countable { D.failures device.old < u64.MAX }
+    requires store_countable { T.failures store.old < u64.MAX }
+    requires redo_countable { T.failures redo_text.old < u64.MAX }
+    requires within_text { T.honest store.old → saved ≤ length (T.text store.old) }
+    requires within { AllWithin kept.len (map run_of kept.runs) }
+    requires image_room { kept.len ≤ D.room device.old }
+    requires taken_within { AllWithin taken.now.len taken.now.runs }
+    requires fits { T.honest redo_text.old → length (T.text redo_text.old) + length (entry_text number (kept_of taken.now) kept.len) ≤ T.room redo_text.old }
+    requires empty { page.old.items ≡ [] }
+    requires page_room { 82 ≤ vec_capacity page.old }
+    ensures order { T.honest store.old → OnErr result (((device.new ≡ device.old) × (redo_text.new ≡ redo_text.old) × IsPartlyCut saved (T.text store.old) (T.text store.new))
+        ⊎ (T.text store.new ≡ take saved (T.text store.old))) }
+    ensures phase { D.honest device.old → (v : Form) (text : List ℕ) (stack : List (List ℕ)) → IsOpen v (kept_of kept) text (D.image device.old) stack
+        → IsOpen v (kept_of kept) text (D.image device.new) stack }
+    ensures again { D.honest device.old → Covers (kept_of kept) (D.image device.old) → OnOk result (IsAsGood (kept_of kept) (D.image device.old) (D.image device.new)) }
+    ensures image { D.honest device.old → OnOk result (D.image device.new ≡ restore (kept_of kept) (D.image device.old)) }
+    ensures text { T.honest store.old → OnOk result (T.text store.new ≡ take saved (T.text store.old)) }
+    ensures redo { T.honest redo_text.old → OnOk result (T.text redo_text.new ≡ kept_text (T.text redo_text.old) (kept_of taken.now) number kept.len) }
+    ensures emptied { OnOk result (page.new.items ≡ []) }
+    ensures page_kept { vec_capacity page.old ≤ vec_capacity page.new }
+    ensures room { D.room device.old ≤ D.room device.new }
+    ensures redo_room { T.room redo_text.old ≤ T.room redo_text.new }
+    ensures device_honesty { D.honest device.new ↔ D.honest device.old }
+    ensures store_honesty { T.honest store.new ↔ T.honest store.old }
+    ensures redo_honesty { T.honest redo_text.new ↔ T.honest redo_text.old }
+    ensures no_failure { OnOk result ((D.failures device.new ≡ D.failures device.old) × (T.failures store.new ≡ T.failures store.old) × (T.failures redo_text.new ≡ T.failures redo_text.old)) }
+    ensures failure { OnErr result (OneMoreOfThree (D.failures device.old) (T.failures store.old) (T.failures redo_text.old) (D.failures device.new) (T.failures store.new) (T.failures redo_text.new)) }
+{
+    store.cut(saved)?;
+    change_undone(device, redo_text, page, number, taken, kept)?;
+    Ok(())
+}
+
+/// Takes the newest entry back: cuts the line that ends it, restores the image, keeps the image that is undone, and
+/// cuts the rest of the entry.
+pub fn undo_entry<D: Device, T: TextStore, A: Allocator>(
+    device: &mut D,
+    store: &mut T,
+    redo_text: &mut T,
+    page: &mut Vec<u8, A>,
+    number: u32,
+    taken: &Saved<A>,
+    kept: Saved<A>,
+    begins: u64,
+    saved: u64,
+) -> Result<(), DeviceFailed>
+    requires device_countable { D.failures device.old < u64.MAX }
+    requires store_countable { T.failures store.old < u64.MAX }
+    requires redo_countable { T.failures redo_text.old < u64.MAX }
+    requires order { begins ≤ saved }
+    requires within_text { T.honest store.old → saved ≤ length (T.text store.old) }
+    requires within { AllWithin kept.len (map run_of kept.runs) }
+    requires image_room { kept.len ≤ D.room device.old }
+    requires taken_within { AllWithin taken.now.len taken.now.runs }
+    requires fits { T.honest redo_text.old → length (T.text redo_text.old) + length (entry_text number (kept_of taken.now) kept.len) ≤ T.room redo_text.old }
+    requires empty { page.old.items ≡ [] }
+    requires page_room { 82 ≤ vec_capacity page.old }
+    ensures ok { D.honest device.old → T.honest store.old → (below : List (List ℕ)) (v : Form) (e : Entry)
+        → TakesBack (T.text store.old) (D.image device.old) below v e begins saved → kept_of kept ≡ e.saved
+        → OnOk result (IsAtRest (T.text store.new) (D.image device.new) below) }
+    ensures fault { D.honest device.old → T.honest store.old → (below : List (List ℕ)) (v : Form) (e : Entry)
+        → TakesBack (T.text store.old) (D.image device.old) below v e begins saved → kept_of kept ≡ e.saved
+        → OnErr result (RecoversEither (T.text store.new) (D.image device.new) (D.image device.old ∷ below) below) }
+    ensures left { D.honest device.old → T.honest store.old → T.honest redo_text.old → (below : List (List ℕ)) (v : Form) (e : Entry)
+        → TakesBack (T.text store.old) (D.image device.old) below v e begins saved → kept_of kept ≡ e.saved
+        → OnErr result (LeavesEither (T.text store.new) (D.image device.new) (T.text redo_text.new)
+        (side_of (D.image device.old ∷ below) (D.image device.old) (T.text redo_text.old))
+        (side_of below (restore e.saved (D.image device.old)) (kept_text (T.text redo_text.old) (kept_of taken.now) number kept.len))) }
+    ensures image { D.honest device.old → OnOk result (D.image device.new ≡ restore (kept_of kept) (D.image device.old)) }
+    ensures text { T.honest store.old → OnOk result (T.text store.new ≡ take begins (T.text store.old)) }
+    ensures redo { T.honest redo_text.old → OnOk result (T.text redo_text.new ≡ kept_text (T.text redo_text.old) (kept_of taken.now) number kept.len) }
+    ensures emptied { OnOk result (page.new.items ≡ []) }
+    ensures page_kept { vec_capacity page.old ≤ vec_capacity page.new }
+    ensures room { D.room device.old ≤ D.room device.new }
+    ensures redo_room { T.room redo_text.old ≤ T.room redo_text.new }
+    ensures device_honesty { D.honest device.new ↔ D.honest device.old }
+    ensures store_honesty { T.honest store.new ↔ T.honest store.old }
+    ensures redo_honesty { T.honest redo_text.new ↔ T.honest redo_text.old }
+    ensures no_failure { OnOk result ((D.failures device.new ≡ D.failures device.old) × (T.failures store.new ≡ T.failures store.old) × (T.failures redo_text.new ≡ T.failures redo_text.old)) }
+    ensures failure { OnErr result (OneMoreOfThree (D.failures device.old) (T.failures store.old) (T.failures redo_text.old) (D.failures device.new) (T.failures store.new) (T.failures redo_text.new)) }
+{
+    open_and_change(device, store, redo_text, page, number, taken, kept, saved)?;
+    drop_tail(store, begins)
+}
+
+/// How many changes are undone with one more, from an image of this length.
+fn undone_with(undone: u32, len: u64) -> u32
+    requires { undone < 65535 }
+    ensures { result ≡ (if nat_le len MAX_LEN then undone + 1 else 0) }
+{
+    if len <= MAX_LEN { undone + 1 } else { 0 }
+}
+
+/// Takes as many of the last entries back as there are records, the newest first, and answers how many changes are
+/// then undone.
+pub fn undo_entries<D: Device, T: TextStore, A: Allocator>(
+    device: &mut D,
+    store: &mut T,
+    redo_text: &mut T,
+    page: &mut Vec<u8, A>,
+    entries: &mut Vec<EntryRead<A>, A>,
+    takens: &mut Vec<Saved<A>, A>,
+    undone: u32,
+) -> Result<u32, DeviceFailed>
+    requires device_countable { D.failures device.old < u64.MAX }
+    requires store_countable { T.failures store.old < u64.MAX }
+    requires redo_countable { T.failures redo_text.old < u64.MAX }
+    requires few { length takens.old.items ≤ length entries.old.items }
+    requires bound { undone + length takens.old.items ≤ 65535 }
+    requires kept { AllKept (D.room device.old) (drop (length entries.old.items - length takens.old.items) entries.old.items) }
+    requires read { AreReadFrom (T.honest store.old) (T.text store.old) entries.old.items }
+    requires shaped { AllShaped takens.old.items }
+    requires ready { D.honest device.old → AreReady (D.image device.old) (reverse entries.old.items) (reverse takens.old.items) }
+    requires fits { T.honest redo_text.old → length (T.text redo_text.old) + entries_len takens.old.items ≤ T.room redo_text.old }
+    requires empty { page.old.items ≡ [] }
+    requires page_room { 82 ≤ vec_capacity page.old }
+    ensures ok { D.honest device.old → T.honest store.old → (stack : List (List ℕ)) → IsAtRest (T.text store.old) (D.image device.old) stack
+        → OnOk result (IsAtRest (T.text store.new) (D.image device.new) (drop (length takens.old.items) stack)) }
+    ensures stands { D.honest device.old → T.honest store.old → (stack : List (List ℕ)) → StandsFor (T.text store.old) (D.image device.old) stack
+        → OnOk result (StandsFor (T.text store.new) (D.image device.new) (drop (length takens.old.items) stack)) }
+    ensures left { T.honest store.old → OnOk result (HasLeft (T.text store.old) (T.text store.new) (drop (length takens.old.items) (entries_of entries.old.items))) }
+    ensures fault { D.honest device.old → T.honest store.old → (stack : List (List ℕ)) → IsAtRest (T.text store.old) (D.image device.old) stack
+        → OnErr result ((j : ℕ) × (j ≤ length takens.old.items) × Recovers (T.text store.new) (D.image device.new) (drop j stack)) }
+    ensures images { D.honest device.old → T.honest store.old → T.honest redo_text.old → (s : Pictures) → AreStanding (T.text store.old) (D.image device.old) (T.text redo_text.old) s
+        → undone ≡ length s.undone → IfOk result (λ n. (n ≡ length (undo_of (length takens.old.items) s).undone)
+        × AreStanding (T.text store.new) (D.image device.new) (T.text redo_text.new) (undo_of (length takens.old.items) s)) }
+    ensures few { IfOk result (λ n. n ≤ undone + length takens.old.items) }
+    ensures finds { D.honest device.old → T.honest store.old → T.honest redo_text.old → (s : Pictures) → AreAtRest (T.text store.old) (D.image device.old) (T.text redo_text.old) s
+        → undone ≡ length s.undone → OnErr result ((i : ℕ) × (i ≤ length takens.old.items) × Finds (T.text store.new) (D.image device.new) (T.text redo_text.new) (undo_of i s)) }
+    ensures device_honesty { D.honest device.new ↔ D.honest device.old }
+    ensures store_honesty { T.honest store.new ↔ T.honest store.old }
+    ensures redo_honesty { T.honest redo_text.new ↔ T.honest redo_text.old }
+    ensures no_failure { OnOk result ((D.failures device.new ≡ D.failures device.old) × (T.failures store.new ≡ T.failures store.old) × (T.failures redo_text.new ≡ T.failures redo_text.old)) }
+    ensures failure { OnErr result (OneMoreOfThree (D.failures device.old) (T.failures store.old) (T.failures redo_text.old) (D.failures device.new) (T.failures store.new) (T.failures redo_text.new)) }
+{
+    let k = takens.len();
+    let mut undone = undone;
+    for i in 0..k {
+        let Some(taken) = takens.pop() else {
+            return Ok(undone)
+        };
+        let Some(entry) = entries.pop() else {
+            return Ok(undone)
+        };
+        undo_entry(
+            device,
+            store,
+            redo_text,
+            page,
+            undone + 1,
+            &taken,
+            entry.kept,
+            entry.begins,
+            entry.saved,
+        )?;
+        undone = undone_with(undone, taken.len);
+        fill_last(device, takens)?;
+    }
+    Ok(undone)
+}

@@ -1,0 +1,77 @@
+//! What reading a journal finds when a pair is opened.
+ghost use Rattle.std.specs.Prelude.{◌≡◌, ◌↔◌, ◌<◌, ◌≤◌, List, ℕ, length, OnOk, IfOk, IfErr, IfSome, IfNone};
+ghost use Rattle.bx_journal.specs.inner.Journal.{HasRead};
+ghost use Rattle.bx_journal.specs.Opening.{FaultCounts};
+ghost use Rattle.bx_journal.specs.inner.Tally.{IsCounted};
+
+use crate::read::count::{Counted, count_entries};
+use crate::read::take_line::told_length;
+use crate::read::whole::{JournalRead, read_journal};
+use crate::session::fault::of_text;
+use crate::{SessionFault, StageRead};
+use bx_store::TextStore;
+use std::alloc::{Allocator, Global};
+
+/// What a journal's text is.
+#[derive(Drop)]
+pub enum Found<A: Allocator = Global> {
+    /// Finished entries alone, which were counted.
+    Finished(Counted),
+    /// Anything else that is accepted: something is to be cut off or taken back.
+    Unfinished(JournalRead<A>),
+}
+
+/// The count of what was read in a text of so many bytes, where it is finished entries alone.
+fn as_counted<A: Allocator>(journal: &JournalRead<A>, len: u64) -> Option<Counted>
+    requires few { length journal.now.entries.items ≤ 65535 }
+    ensures some { (text : List ℕ) → HasRead text journal.now → len ≡ length text → IfSome result (λ c. IsCounted text c.count c.told) }
+    ensures few { IfSome result (λ c. c.count ≤ 65535) }
+    ensures none { IfNone result (journal.now.stage ≡ StageRead.Between → journal.now.whole ≡ len → ⊥) }
+{
+    match &journal.stage {
+        StageRead::Between => {
+            if journal.whole != len {
+                return None;
+            }
+            Some(Counted {
+                count: journal.entries.len() as u32,
+                told: told_length(&journal.entries),
+            })
+        }
+        StageRead::Saving { .. } => None,
+        StageRead::Ending { .. } => None,
+    }
+}
+
+ghost use Rattle.bx_journal.specs.inner.Recovery.{FindFault, IsFoundIn};
+
+/// Reads a journal's text. It changes nothing, and of a text of finished entries alone it keeps nothing but the count.
+pub fn read_text<T: TextStore, A: Allocator + Clone>(
+    alloc: &A,
+    store: &mut T,
+) -> Result<Found<A>, SessionFault>
+    requires { T.failures store.old < u64.MAX }
+    ensures found { IfOk result (IsFoundIn (T.honest store.old) (T.text store.old)) }
+    ensures fault { IfErr result (FindFault (T.honest store.old) (T.text store.old)) }
+    ensures text { T.honest store.old → T.text store.new ≡ T.text store.old }
+    ensures honesty { T.honest store.new ↔ T.honest store.old }
+    ensures no_failure { OnOk result (T.failures store.new ≡ T.failures store.old) }
+    ensures counts { IfErr result (λ e. FaultCounts e 0 (T.failures store.old) 0 (T.failures store.new)) }
+{
+    let bytes = match store.read_all(alloc.clone()?) {
+        Ok(bytes) => bytes,
+        Err(fault) => return Err(of_text(fault)),
+    };
+    if let Some(counted) = count_entries(&bytes, false) {
+        return Ok(Found::Finished(counted));
+    }
+    let len = bytes.len() as u64;
+    let journal = match read_journal(alloc, bytes) {
+        Ok(journal) => journal,
+        Err(fault) => return Err(fault),
+    };
+    match as_counted(&journal, len) {
+        Some(counted) => Ok(Found::Finished(counted)),
+        None => Ok(Found::Unfinished(journal)),
+    }
+}

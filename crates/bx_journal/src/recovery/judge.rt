@@ -1,0 +1,200 @@
+//! Whether a text is a redo text: finished entries of the second form, no more than a journal holds beside its changes.
+ghost use Rattle.std.specs.Prelude.{◌≡◌, ◌↔◌, ◌⊎◌, ◌+◌, ◌<◌, ◌≤◌, List, ℕ, suc, length, take, Some, OnOk, IfOk, IfErr, IfSome, IfNone, MatchResult};
+ghost use Rattle.bx_journal.specs.inner.Journal.{HasRead};
+ghost use Rattle.bx_journal.specs.Judging.{RefusesRedo};
+ghost use Rattle.bx_journal.specs.inner.Judging.{AllTold, IsBeyondAt, IsFit, IsRedoCounted, IsUnfitAt, IsUnfitFrom, IsUntoldAt, JudgeFault, RedoTextFault, redo_fault};
+ghost use Rattle.bx_journal.specs.inner.Recovery.{HasUndoneCount};
+ghost use Rattle.bx_journal.specs.Redo.{IsRedoOf, IsRefusedAt};
+ghost use Rattle.bx_journal.specs.Opening.{FaultCounts};
+ghost use Rattle.bx_journal.specs.inner.Parsed.{entries_of};
+ghost use Rattle.bx_journal.specs.Text.{split};
+
+use crate::read::count::{Counted, count_entries};
+use crate::read::take_line::{MOST_CHANGES, told_length};
+use crate::read::whole::{JournalRead, read_journal};
+use crate::{EntryRead, SessionFault, StageRead};
+use bx_image::Device;
+use std::alloc::Allocator;
+
+/// How many newlines a text has.
+fn newlines(text: &[u8]) -> u64
+    ensures lines { result ≡ length (split text.now).lines }
+    ensures most { result ≤ length text.now }
+{
+    let mut count: u64 = 0;
+    for byte in text {
+        if *byte == b'\n' {
+            count += 1;
+        }
+    }
+    count
+}
+
+/// The number, from 1, of the line that begins at this place.
+pub fn line_at(text: &[u8], at: u64) -> u64
+    requires { at ≤ length text.now }
+    ensures { result ≡ suc (length (split (take at text.now)).lines) }
+{
+    let count = newlines(&text[..at as usize]);
+    count + 1
+}
+
+/// Where the first entry begins that tells no length.
+fn first_untold<A: Allocator>(entries: &[EntryRead<A>]) -> Option<u64>
+    ensures some { IfSome result (IsUntoldAt entries.now) }
+    ensures none { IfNone result (AllTold entries.now) }
+{
+    for entry in entries {
+        if entry.after.is_none() {
+            return Some(entry.begins);
+        }
+    }
+    None
+}
+
+/// Where the first entry begins that tells no length, or else the first that is too many beside so many changes.
+fn unfit_entry<A: Allocator>(entries: &[EntryRead<A>], changes: u32) -> Option<u64>
+    requires { changes ≤ 65535 }
+    ensures some { IfSome result (λ at. IsUntoldAt entries.now at ⊎ IsBeyondAt entries.now changes at) }
+    ensures none { IfNone result (AllTold entries.now × (changes + length entries.now ≤ 65535)) }
+{
+    if let Some(at) = first_untold(entries) {
+        return Some(at);
+    }
+    let most = (MOST_CHANGES - changes) as usize;
+    let entry = entries.get(most)?;
+    Some(entry.begins)
+}
+
+/// Where a text of this length that was read isn't a redo text beside so many changes: where it is unfinished, else at
+/// the first entry that tells no length, else at the first that is too many.
+pub fn unfit_place<A: Allocator>(journal: &JournalRead<A>, len: u64, changes: u32) -> Option<u64>
+    requires { changes ≤ 65535 }
+    ensures some { (text : List ℕ) → HasRead text journal.now → len ≡ length text → IfSome result (IsUnfitFrom text changes) }
+    ensures none { (text : List ℕ) → HasRead text journal.now → len ≡ length text → IfNone result (IsFit text changes (entries_of journal.now.entries.items)) }
+{
+    match &journal.stage {
+        StageRead::Between => {
+            if journal.whole != len {
+                return Some(journal.whole);
+            }
+            unfit_entry(&journal.entries, changes)
+        }
+        StageRead::Saving { begins, .. } => Some(*begins),
+        StageRead::Ending { begins, .. } => Some(*begins),
+    }
+}
+
+/// What a fault of reading a journal's text is where the text is the redo text.
+pub fn of_redo(fault: SessionFault) -> SessionFault
+where
+    ensures { result ≡ redo_fault fault }
+{
+    match fault {
+        SessionFault::Damaged { line } => SessionFault::RedoDamaged { line },
+        other => other,
+    }
+}
+
+/// How many entries were read in a text, where it is a redo text beside so many changes.
+fn counted_read<A: Allocator>(
+    text: &[u8],
+    journal: &JournalRead<A>,
+    changes: u32,
+) -> Result<Counted, SessionFault>
+    requires few { changes ≤ 65535 }
+    requires read { HasRead text.now journal.now }
+    ensures ok { IfOk result (λ c. IsRedoCounted text.now changes c.count c.told) }
+    ensures refused { IfErr result (RedoTextFault text.now changes) }
+{
+    if let Some(at) = unfit_place(journal, text.len() as u64, changes) {
+        return Err(SessionFault::RedoDamaged {
+            line: line_at(text, at),
+        });
+    }
+    Ok(Counted {
+        count: journal.entries.len() as u32,
+        told: told_length(&journal.entries),
+    })
+}
+
+/// How many entries a redo text beside so many changes has, and the length that the last one tells. The line that is
+/// told is the damaged one, else the first that is unfinished, else where the first entry of the first form begins, else
+/// where the first begins that is too many. Memory is taken only for a text that isn't counted at once: a copy of it.
+pub fn redo_counted<A: Allocator + Clone>(
+    alloc: &A,
+    text: &[u8],
+    changes: u32,
+) -> Result<Counted, SessionFault>
+    requires few { changes ≤ 65535 }
+    ensures ok { IfOk result (λ c. IsRedoCounted text.now changes c.count c.told) }
+    ensures refused { IfErr result (RedoTextFault text.now changes) }
+    ensures unfit { (line : ℕ) → IsUnfitAt text.now changes line → MatchResult result (λ _. ⊥) (RefusesRedo line) }
+{
+    if let Some(found) = count_entries(text, true) {
+        if found.count <= MOST_CHANGES - changes {
+            return Ok(found);
+        }
+    }
+    let copy = Vec::from_slice(alloc.clone()?, text)?;
+    match read_journal(alloc, copy) {
+        Ok(journal) => counted_read(text, &journal, changes),
+        Err(fault) => Err(of_redo(fault)),
+    }
+}
+
+/// Whether the image has the length that the last entry of a redo text tells, if there is one. A text whose last line
+/// tells another length is damaged at that line.
+pub fn check_redo_length<D: Device>(
+    device: &mut D,
+    text: &[u8],
+    told: Option<u64>,
+) -> Result<(), SessionFault>
+    requires { D.failures device.old < u64.MAX }
+    ensures same_length { D.honest device.old → OnOk result (IfSome told (λ n. length (D.image device.old) ≡ n)) }
+    ensures fault { IfErr result (λ e. (e ≡ SessionFault.DeviceFailed) ⊎ ((e ≡ SessionFault.RedoDamaged (length (split text.now).lines))
+        × (D.honest device.old → (n : ℕ) × (told ≡ Some n) × (length (D.image device.old) ≡ n → ⊥)))) }
+    ensures image { D.honest device.old → D.image device.new ≡ D.image device.old }
+    ensures honesty { D.honest device.new ↔ D.honest device.old }
+    ensures ok { OnOk result (D.failures device.new ≡ D.failures device.old) }
+    ensures counts { IfErr result (λ e. FaultCounts e (D.failures device.old) 0 (D.failures device.new) 0) }
+{
+    let Some(expected) = told else { return Ok(()) };
+    let len = device.len()?;
+    if len != expected {
+        return Err(SessionFault::RedoDamaged {
+            line: newlines(text),
+        });
+    }
+    Ok(())
+}
+
+/// How many changes are undone, where the text is the redo text of the image and of so many changes. It changes nothing.
+pub fn judge_redo<D: Device, A: Allocator + Clone>(
+    alloc: &A,
+    device: &mut D,
+    text: &[u8],
+    changes: u32,
+) -> Result<u32, SessionFault>
+    requires countable { D.failures device.old < u64.MAX }
+    requires few { changes ≤ 65535 }
+    ensures undone { D.honest device.old → IfOk result (HasUndoneCount text.now (D.image device.old) changes) }
+    ensures sum { IfOk result (λ n. changes + n ≤ 65535) }
+    ensures fault { IfErr result (JudgeFault (D.honest device.old) text.now (D.image device.old) changes) }
+    ensures unfit { D.honest device.old → (line : ℕ) → IsRefusedAt text.now (D.image device.old) changes line → MatchResult result (λ _. ⊥) (RefusesRedo line) }
+    ensures kept { D.honest device.old → (undone : List (List ℕ)) → IsRedoOf text.now (D.image device.old) changes undone
+        → IfErr result (λ e. (line : ℕ) → e ≡ SessionFault.RedoDamaged line → ⊥) }
+    ensures image { D.honest device.old → D.image device.new ≡ D.image device.old }
+    ensures honesty { D.honest device.new ↔ D.honest device.old }
+    ensures ok { OnOk result (D.failures device.new ≡ D.failures device.old) }
+    ensures counts { IfErr result (λ e. FaultCounts e (D.failures device.old) 0 (D.failures device.new) 0) }
+{
+    let found = match redo_counted(alloc, text, changes) {
+        Ok(found) => found,
+        Err(fault) => return Err(fault),
+    };
+    if let Err(fault) = check_redo_length(device, text, found.told) {
+        return Err(fault);
+    }
+    Ok(found.count)
+}

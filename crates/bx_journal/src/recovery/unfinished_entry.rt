@@ -1,0 +1,276 @@
+//! What is unfinished in a journal, and how opening takes it back.
+ghost use Rattle.std.specs.Prelude.{◌≡◌, ◌↔◌, ◌⊎◌, Some, ◌+◌, ◌<◌, ◌≤◌, [], List, ℕ, length, suc, OnOk, OnErr, IfOk, IfErr, IfSome, MatchResult};
+ghost use Rattle.bx_journal.specs.Calls.{AfterFault, Differs, OpenFault};
+ghost use Rattle.bx_journal.specs.Images.{Images};
+ghost use Rattle.bx_journal.specs.inner.Journal.{HasRead};
+ghost use Rattle.bx_journal.specs.Judging.{RefusesRedo};
+ghost use Rattle.bx_journal.specs.Opening.{FaultCounts, OneMore, OneMoreOfThree, ThreeCounts, IsOpened, RefusesLength, RefusesText};
+ghost use Rattle.bx_journal.specs.inner.Opening.{HasRoomFor, LookFault};
+ghost use Rattle.bx_journal.specs.inner.Parsed.{entries_of, reading_of, stage_of};
+ghost use Rattle.bx_journal.specs.Phase.{IsAtRest};
+ghost use Rattle.bx_journal.specs.Recovery.{OpenKind};
+ghost use Rattle.bx_journal.specs.inner.Recovery.{HasUndoneCount, IsUnfinishedIn, KeepsUndone, RecoverFault};
+ghost use Rattle.bx_journal.specs.Redo.{Finds, IsClean, RefusesRedoAt};
+ghost use Rattle.bx_journal.specs.Stack.{HaveLengths, Recovers, image_at};
+ghost use Rattle.bx_journal.specs.Text.{IsAccepted, IsDamagedAt, Reading, Reads};
+ghost use Rattle.bx_journal.specs.Undoing.{HasLeft};
+
+use crate::protocol::redo_text::cut_redo;
+use crate::read::take_line::told_length;
+use crate::read::whole::JournalRead;
+use crate::recovery::finished_journal::open_finished;
+use crate::recovery::journal::{Found, read_text};
+use crate::recovery::take_back::{drop_tail, take_back};
+use crate::{How, Recovered, SessionFault, StageRead};
+use bx_image::{Device, DeviceFailed};
+use bx_store::TextStore;
+use std::alloc::Allocator;
+
+/// Whether the image has the length that the last entry tells, if it tells one.
+pub fn check_length<D: Device>(device: &mut D, told: Option<u64>) -> Result<(), SessionFault>
+    requires { D.failures device.old < u64.MAX }
+    ensures same_length { D.honest device.old → OnOk result (IfSome told (λ n. length (D.image device.old) ≡ n)) }
+    ensures fault { IfErr result (λ e. (e ≡ SessionFault.DeviceFailed)
+        ⊎ ((n : ℕ) × (e ≡ SessionFault.LengthDiffers n) × (D.honest device.old → (told ≡ Some n) × (length (D.image device.old) ≡ n → ⊥)))) }
+    ensures image { D.honest device.old → D.image device.new ≡ D.image device.old }
+    ensures honesty { D.honest device.new ↔ D.honest device.old }
+    ensures ok { OnOk result (D.failures device.new ≡ D.failures device.old) }
+    ensures counts { IfErr result (λ e. FaultCounts e (D.failures device.old) 0 (D.failures device.new) 0) }
+{
+    let Some(expected) = told else { return Ok(()) };
+    let len = device.len()?;
+    if len != expected {
+        return Err(SessionFault::LengthDiffers { expected });
+    }
+    Ok(())
+}
+
+/// Compares the image's length with the one that the last finished entry tells, or makes room for what is to be
+/// restored. An entry that has its save line begins with the length that was told, so there is nothing to compare.
+fn prepare<D: Device, A: Allocator>(
+    device: &mut D,
+    journal: &JournalRead<A>,
+) -> Result<(), SessionFault>
+    requires { D.failures device.old < u64.MAX }
+    ensures lengths { D.honest device.old → (bytes : List ℕ) → HasRead bytes journal.now
+        → OnOk result (HaveLengths (entries_of journal.now.entries.items) (image_at (stage_of journal.now.stage) (D.image device.old))) }
+    ensures fault { IfErr result (LookFault (D.honest device.old) (entries_of journal.now.entries.items) (image_at (stage_of journal.now.stage) (D.image device.old))) }
+    ensures room { OnOk result (HasRoomFor journal.now.stage (D.room device.new)) }
+    ensures image { D.honest device.old → D.image device.new ≡ D.image device.old }
+    ensures honesty { D.honest device.new ↔ D.honest device.old }
+    ensures ok { OnOk result (D.failures device.new ≡ D.failures device.old) }
+    ensures counts { IfErr result (λ e. FaultCounts e (D.failures device.old) 0 (D.failures device.new) 0) }
+{
+    let told = told_length(&journal.entries);
+    match &journal.stage {
+        StageRead::Between => check_length(device, told),
+        StageRead::Saving { .. } => check_length(device, told),
+        StageRead::Ending { kept, .. } => {
+            device.reserve(kept.len)?;
+            Ok(())
+        }
+    }
+}
+
+/// Cuts off what is unfinished, and takes its change back where its save line stands.
+fn cut_unfinished<D: Device, T: TextStore, A: Allocator>(
+    device: &mut D,
+    store: &mut T,
+    journal: JournalRead<A>,
+) -> Result<Recovered, DeviceFailed>
+    requires device_countable { D.failures device.old < u64.MAX }
+    requires store_countable { T.failures store.old < u64.MAX }
+    requires read { IsUnfinishedIn (T.honest store.old) (T.text store.old) journal }
+    requires room { HasRoomFor journal.stage (D.room device.old) }
+    ensures opened { D.honest device.old → T.honest store.old → HaveLengths (entries_of journal.entries.items) (image_at (stage_of journal.stage) (D.image device.old))
+        → IfOk result (λ o. IsOpened (T.text store.old) (D.image device.old) (reading_of journal.entries.items journal.stage) (T.text store.new) (D.image device.new) o.how o.changes) }
+    ensures left { T.honest store.old → OnOk result (HasLeft (T.text store.old) (T.text store.new) (entries_of journal.entries.items)) }
+    ensures unclean { IfOk result (λ o. (o.how ≡ How.Clean → ⊥) × (o.undone ≡ 0)) }
+    ensures keeps { D.honest device.old → T.honest store.old → (stack : List (List ℕ)) → Recovers (T.text store.old) (D.image device.old) stack
+        → OnOk result (IsAtRest (T.text store.new) (D.image device.new) stack) }
+    ensures keeps_err { D.honest device.old → T.honest store.old → (stack : List (List ℕ)) → Recovers (T.text store.old) (D.image device.old) stack
+        → OnErr result (Recovers (T.text store.new) (D.image device.new) stack) }
+    ensures changes { IfOk result (λ o. o.changes ≡ length journal.entries.items) }
+    ensures device_honesty { D.honest device.new ↔ D.honest device.old }
+    ensures store_honesty { T.honest store.new ↔ T.honest store.old }
+    ensures no_failure { OnOk result ((D.failures device.new ≡ D.failures device.old) × (T.failures store.new ≡ T.failures store.old)) }
+    ensures failure { OnErr result (OneMore (D.failures device.old) (T.failures store.old) (D.failures device.new) (T.failures store.new)) }
+{
+    let JournalRead {
+        entries,
+        stage,
+        whole,
+    } = journal;
+    let changes = entries.len() as u32;
+    match stage {
+        StageRead::Between => {
+            drop_tail(store, whole)?;
+            Ok(Recovered {
+                how: How::Dropped,
+                changes,
+                undone: 0,
+            })
+        }
+        StageRead::Saving { begins, .. } => {
+            drop_tail(store, begins)?;
+            Ok(Recovered {
+                how: How::Dropped,
+                changes,
+                undone: 0,
+            })
+        }
+        StageRead::Ending { kept, begins, .. } => {
+            take_back(device, store, kept, begins)?;
+            Ok(Recovered {
+                how: How::Restored {
+                    number: changes + 1,
+                },
+                changes,
+                undone: 0,
+            })
+        }
+    }
+}
+
+/// Empties the redo text, and then takes back what is unfinished. So a journal of finished entries alone has no redo
+/// text that isn't its own.
+fn finish<D: Device, T: TextStore, A: Allocator>(
+    device: &mut D,
+    store: &mut T,
+    redo_text: &mut T,
+    journal: JournalRead<A>,
+) -> Result<Recovered, DeviceFailed>
+    requires device_countable { D.failures device.old < u64.MAX }
+    requires store_countable { T.failures store.old < u64.MAX }
+    requires redo_countable { T.failures redo_text.old < u64.MAX }
+    requires read { IsUnfinishedIn (T.honest store.old) (T.text store.old) journal }
+    requires room { HasRoomFor journal.stage (D.room device.old) }
+    ensures opened { D.honest device.old → T.honest store.old → HaveLengths (entries_of journal.entries.items) (image_at (stage_of journal.stage) (D.image device.old))
+        → IfOk result (λ o. IsOpened (T.text store.old) (D.image device.old) (reading_of journal.entries.items journal.stage) (T.text store.new) (D.image device.new) o.how o.changes) }
+    ensures left { T.honest store.old → OnOk result (HasLeft (T.text store.old) (T.text store.new) (entries_of journal.entries.items)) }
+    ensures unclean { IfOk result (λ o. (o.how ≡ How.Clean → ⊥) × (o.undone ≡ 0)) }
+    ensures keeps { D.honest device.old → T.honest store.old → (stack : List (List ℕ)) → Recovers (T.text store.old) (D.image device.old) stack
+        → OnOk result (IsAtRest (T.text store.new) (D.image device.new) stack) }
+    ensures keeps_err { D.honest device.old → T.honest store.old → (stack : List (List ℕ)) → Recovers (T.text store.old) (D.image device.old) stack
+        → OnErr result (Recovers (T.text store.new) (D.image device.new) stack) }
+    ensures changes { IfOk result (λ o. o.changes ≡ length journal.entries.items) }
+    ensures emptied { T.honest redo_text.old → OnOk result (T.text redo_text.new ≡ []) }
+    ensures emptied_first { T.honest redo_text.old → OnErr result ((store.new ≡ store.old) ⊎ (T.text redo_text.new ≡ [])) }
+    ensures device_honesty { D.honest device.new ↔ D.honest device.old }
+    ensures store_honesty { T.honest store.new ↔ T.honest store.old }
+    ensures redo_honesty { T.honest redo_text.new ↔ T.honest redo_text.old }
+    ensures no_failure { OnOk result ((D.failures device.new ≡ D.failures device.old) × (T.failures store.new ≡ T.failures store.old) × (T.failures redo_text.new ≡ T.failures redo_text.old)) }
+    ensures failure { OnErr result (OneMoreOfThree (D.failures device.old) (T.failures store.old) (T.failures redo_text.old) (D.failures device.new) (T.failures store.new) (T.failures redo_text.new)) }
+{
+    cut_redo(redo_text, 0)?;
+    cut_unfinished(device, store, journal)
+}
+
+/// Takes back what is unfinished in a journal that was read.
+pub fn recover_read<D: Device, T: TextStore, A: Allocator>(
+    device: &mut D,
+    store: &mut T,
+    redo_text: &mut T,
+    journal: JournalRead<A>,
+) -> Result<Recovered, SessionFault>
+    requires device_countable { D.failures device.old < u64.MAX }
+    requires store_countable { T.failures store.old < u64.MAX }
+    requires redo_countable { T.failures redo_text.old < u64.MAX }
+    requires read { IsUnfinishedIn (T.honest store.old) (T.text store.old) journal }
+    ensures opened { D.honest device.old → T.honest store.old → (r : Reading) → Reads (T.text store.old) r
+        → IfOk result (λ o. IsOpened (T.text store.old) (D.image device.old) r (T.text store.new) (D.image device.new) o.how o.changes) }
+    ensures left { T.honest store.old → (r : Reading) → Reads (T.text store.old) r → OnOk result (HasLeft (T.text store.old) (T.text store.new) r.entries) }
+    ensures unclean { IfOk result (λ o. (o.how ≡ How.Clean → ⊥) × (o.undone ≡ 0)) }
+    ensures sum { IfOk result (λ o. o.changes + o.undone ≤ 65535) }
+    ensures faults { D.honest device.old → T.honest store.old → (r : Reading) → Reads (T.text store.old) r → IfErr result (OpenFault r (D.image device.old)) }
+    ensures kind { IfErr result RecoverFault }
+    ensures differs { D.honest device.old → T.honest store.old → (r : Reading) (n : ℕ) → Reads (T.text store.old) r → Differs r.entries (image_at r.stage (D.image device.old)) n
+        → MatchResult result (λ _. ⊥) (RefusesLength n) }
+    ensures keeps { D.honest device.old → T.honest store.old → (stack : List (List ℕ)) → Recovers (T.text store.old) (D.image device.old) stack
+        → OnOk result (IsAtRest (T.text store.new) (D.image device.new) stack) }
+    ensures keeps_err { D.honest device.old → T.honest store.old → (stack : List (List ℕ)) → Recovers (T.text store.old) (D.image device.old) stack
+        → OnErr result (Recovers (T.text store.new) (D.image device.new) stack) }
+    ensures counted { D.honest device.old → T.honest store.old → (stack : List (List ℕ)) → Recovers (T.text store.old) (D.image device.old) stack
+        → IfOk result (λ o. length stack ≡ suc o.changes) }
+    ensures refused { D.honest device.old → T.honest store.old → IfErr result (λ e. AfterFault e (Unit {0})
+        ((T.text store.new ≡ T.text store.old) × (D.image device.new ≡ D.image device.old))) }
+    ensures emptied { T.honest redo_text.old → OnOk result (T.text redo_text.new ≡ []) }
+    ensures emptied_first { T.honest redo_text.old → OnErr result ((store.new ≡ store.old) ⊎ (T.text redo_text.new ≡ [])) }
+    ensures redo_same { T.honest redo_text.old → IfErr result (λ e. AfterFault e (Unit {0}) (T.text redo_text.new ≡ T.text redo_text.old)) }
+    ensures device_honesty { D.honest device.new ↔ D.honest device.old }
+    ensures store_honesty { T.honest store.new ↔ T.honest store.old }
+    ensures redo_honesty { T.honest redo_text.new ↔ T.honest redo_text.old }
+    ensures no_failure { OnOk result ((D.failures device.new ≡ D.failures device.old) × (T.failures store.new ≡ T.failures store.old) × (T.failures redo_text.new ≡ T.failures redo_text.old)) }
+    ensures counts { IfErr result (λ e. ThreeCounts e (D.failures device.old) (T.failures store.old) (T.failures redo_text.old) (D.failures device.new) (T.failures store.new) (T.failures redo_text.new)) }
+{
+    if let Err(fault) = prepare(device, &journal) {
+        return Err(fault);
+    }
+    match finish(device, store, redo_text, journal) {
+        Ok(found) => Ok(found),
+        Err(_) => Err(SessionFault::Interrupted),
+    }
+}
+
+/// Reads the journal. Beside finished entries alone the redo text is judged; anything else is taken back.
+pub fn recover<D: Device, T: TextStore, A: Allocator + Clone>(
+    alloc: &A,
+    device: &mut D,
+    store: &mut T,
+    redo_text: &mut T,
+) -> Result<Recovered, SessionFault>
+    requires device_countable { D.failures device.old < u64.MAX }
+    requires store_countable { T.failures store.old < u64.MAX }
+    requires redo_countable { T.failures redo_text.old < u64.MAX }
+    ensures opened { D.honest device.old → T.honest store.old → (r : Reading) → Reads (T.text store.old) r
+        → IfOk result (λ o. IsOpened (T.text store.old) (D.image device.old) r (T.text store.new) (D.image device.new) o.how o.changes) }
+    ensures left { T.honest store.old → (r : Reading) → Reads (T.text store.old) r → OnOk result (HasLeft (T.text store.old) (T.text store.new) r.entries) }
+    ensures clean { D.honest device.old → T.honest store.old → IfOk result (λ o. o.how ≡ How.Clean → (T.text store.new ≡ T.text store.old) × (D.image device.new ≡ D.image device.old)) }
+    ensures accepted { T.honest store.old → OnOk result (IsAccepted (T.text store.old)) }
+    ensures damaged { T.honest store.old → IfErr result (λ e. (line : ℕ) → e ≡ SessionFault.Damaged line → IsDamagedAt (T.text store.old) line) }
+    ensures unaccepted { T.honest store.old → (IsAccepted (T.text store.old) → ⊥) → MatchResult result (λ _. ⊥) RefusesText }
+    ensures faults { D.honest device.old → T.honest store.old → (r : Reading) → Reads (T.text store.old) r → IfErr result (OpenFault r (D.image device.old)) }
+    ensures kind { IfErr result OpenKind }
+    ensures unfinished { T.honest store.old → IfErr result (λ e. e ≡ SessionFault.Interrupted → IsClean (T.text store.old) → ⊥) }
+    ensures differs { D.honest device.old → T.honest store.old → (r : Reading) (n : ℕ) → Reads (T.text store.old) r → Differs r.entries (image_at r.stage (D.image device.old)) n
+        → MatchResult result (λ _. ⊥) (RefusesLength n) }
+    ensures keeps { D.honest device.old → T.honest store.old → (stack : List (List ℕ)) → Recovers (T.text store.old) (D.image device.old) stack
+        → OnOk result (IsAtRest (T.text store.new) (D.image device.new) stack) }
+    ensures keeps_err { D.honest device.old → T.honest store.old → (stack : List (List ℕ)) → Recovers (T.text store.old) (D.image device.old) stack
+        → OnErr result (Recovers (T.text store.new) (D.image device.new) stack) }
+    ensures counted { D.honest device.old → T.honest store.old → (stack : List (List ℕ)) → Recovers (T.text store.old) (D.image device.old) stack
+        → IfOk result (λ o. length stack ≡ suc o.changes) }
+    ensures refused { D.honest device.old → T.honest store.old → IfErr result (λ e. AfterFault e (Unit {0})
+        ((T.text store.new ≡ T.text store.old) × (D.image device.new ≡ D.image device.old))) }
+    ensures clean_redo { T.honest redo_text.old → IfOk result (λ o. o.how ≡ How.Clean → T.text redo_text.new ≡ T.text redo_text.old) }
+    ensures emptied { T.honest redo_text.old → IfOk result (λ o. (o.how ≡ How.Clean → ⊥) → (T.text redo_text.new ≡ []) × (o.undone ≡ 0)) }
+    ensures redo_same { T.honest redo_text.old → IfErr result (λ e. AfterFault e (Unit {0}) (T.text redo_text.new ≡ T.text redo_text.old)) }
+    ensures undone { D.honest device.old → T.honest store.old → T.honest redo_text.old
+        → IfOk result (λ o. HasUndoneCount (T.text redo_text.new) (D.image device.new) o.changes o.undone) }
+    ensures sum { IfOk result (λ o. o.changes + o.undone ≤ 65535) }
+    ensures redo_refused { D.honest device.old → T.honest store.old → T.honest redo_text.old → IfErr result (λ e. (line : ℕ) → e ≡ SessionFault.RedoDamaged line
+        → RefusesRedoAt (T.text store.old) (D.image device.old) (T.text redo_text.old) line) }
+    ensures redo_unfit { D.honest device.old → T.honest store.old → T.honest redo_text.old → (line : ℕ)
+        → RefusesRedoAt (T.text store.old) (D.image device.old) (T.text redo_text.old) line → MatchResult result (λ _. ⊥) (RefusesRedo line) }
+    ensures keeps_undone { D.honest device.old → T.honest store.old → T.honest redo_text.old → (s : Images) → Finds (T.text store.old) (D.image device.old) (T.text redo_text.old) s
+        → IfOk result (λ o. KeepsUndone (T.text redo_text.new) (D.image device.new) o s.undone) }
+    ensures finds_err { D.honest device.old → T.honest store.old → T.honest redo_text.old → (s : Images) → Finds (T.text store.old) (D.image device.old) (T.text redo_text.old) s
+        → IfErr result (λ e. AfterFault e (Finds (T.text store.new) (D.image device.new) (T.text redo_text.new) (record { stack = s.stack; undone = [] }))
+        (Finds (T.text store.new) (D.image device.new) (T.text redo_text.new) s)) }
+    ensures redo_kept { D.honest device.old → T.honest store.old → T.honest redo_text.old → (s : Images) → Finds (T.text store.old) (D.image device.old) (T.text redo_text.old) s
+        → IfErr result (λ e. (line : ℕ) → e ≡ SessionFault.RedoDamaged line → ⊥) }
+    ensures device_honesty { D.honest device.new ↔ D.honest device.old }
+    ensures store_honesty { T.honest store.new ↔ T.honest store.old }
+    ensures redo_honesty { T.honest redo_text.new ↔ T.honest redo_text.old }
+    ensures no_failure { OnOk result ((D.failures device.new ≡ D.failures device.old) × (T.failures store.new ≡ T.failures store.old) × (T.failures redo_text.new ≡ T.failures redo_text.old)) }
+    ensures counts { IfErr result (λ e. ThreeCounts e (D.failures device.old) (T.failures store.old) (T.failures redo_text.old) (D.failures device.new) (T.failures store.new) (T.failures redo_text.new)) }
+{
+    let found = match read_text(alloc, store) {
+        Ok(found) => found,
+        Err(fault) => return Err(fault),
+    };
+    match found {
+        Found::Finished(counted) => open_finished(alloc, device, redo_text, counted),
+        Found::Unfinished(journal) => recover_read(device, store, redo_text, journal),
+    }
+}

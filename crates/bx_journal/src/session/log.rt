@@ -1,0 +1,85 @@
+//! The rows of a log.
+ghost use Rattle.std.specs.Prelude.{◌≡◌, ◌↔◌, ◌+◌, ◌<◌, ◌≤◌, ◌^◌, List, ℕ, length, map, sum, All, true, IfOk, IfErr, OnOk, IsErrOf};
+ghost use Rattle.bx_journal.specs.Calls.{rows_of};
+ghost use Rattle.bx_journal.specs.inner.Parsed.{entries_of};
+ghost use Rattle.bx_journal.specs.Kept.{kept_of};
+ghost use Rattle.bx_journal.specs.inner.Rows.{saved_length};
+ghost use Rattle.bx_journal.specs.Text.{Entry};
+ghost use Rattle.bx_journal.specs.Undoing.{AgainFault, HasCount, IsFinished, IsOutOfStep};
+
+use crate::session::entries::read_again;
+use crate::{EntryRead, LogRow, Session, SessionFault};
+use bx_image::{Device, Saved};
+use bx_store::TextStore;
+use bx_text::NoMemory;
+use std::alloc::Allocator;
+
+/// How many bytes the saved lines of an entry have.
+fn saved_bytes<A: Allocator>(kept: &Saved<A>) -> u64
+    requires { saved_length (kept_of kept.now) < 2 ^ 64 }
+    ensures { result ≡ saved_length (kept_of kept.now) }
+{
+    let mut total: u64 = 0;
+    for run in kept.runs.as_slice() {
+        total += run.bytes.as_slice().len() as u64;
+    }
+    total
+}
+
+/// One row for each entry, the oldest first.
+fn rows<A: Allocator + Clone>(
+    alloc: &A,
+    entries: &[EntryRead<A>],
+) -> Result<Vec<LogRow, A>, NoMemory>
+    requires few { length entries.now ≤ 65535 }
+    requires countable { All (λ e. saved_length (kept_of e.kept) < 2 ^ 64) entries.now }
+    ensures { IfOk result (λ rows. rows.items ≡ rows_of (entries_of entries.now)) }
+{
+    let mut rows = Vec::new(alloc.clone().map_err(|_| NoMemory)?);
+    for i in 0..entries.len() {
+        let entry = &entries[i];
+        let row = LogRow {
+            number: i as u32 + 1,
+            old_len: entry.kept.len,
+            saved: saved_bytes(&entry.kept),
+        };
+        if rows.push(row).is_err() {
+            return Err(NoMemory);
+        }
+    }
+    Ok(rows)
+}
+
+impl<D: Device, T: TextStore, A: Allocator + Clone> Session<D, T, A> {
+    ghost use Rattle.bx_journal.specs.Opening.{FaultCounts};
+
+    /// One row for each change, the oldest first. It reads the journal's text again, and changes nothing.
+    pub fn log(&mut self) -> Result<Vec<LogRow, A>, SessionFault>
+        requires { T.failures self.old.store < u64.MAX }
+        ensures rows { T.honest self.old.store → (entries : List Entry) → IsFinished (T.text self.old.store) entries → IfOk result (λ rows. rows.items ≡ rows_of entries) }
+
+        // Nothing is changed. A broken session isn't even read.
+        ensures text { T.honest self.old.store → T.text self.new.store ≡ T.text self.old.store }
+        ensures device { self.new.device ≡ self.old.device }
+        ensures redo_text { self.new.redo_text ≡ self.old.redo_text }
+        ensures count { self.new.count ≡ self.old.count }
+        ensures undone { self.new.undone ≡ self.old.undone }
+        ensures is_broken { self.new.is_broken ≡ self.old.is_broken }
+        ensures broken { (self.old.is_broken ≡ true) ↔ IsErrOf result SessionFault.Broken }
+        ensures untouched { IsErrOf result SessionFault.Broken → self.new.store ≡ self.old.store }
+        ensures fault { IfErr result (λ e. (e ≡ SessionFault.Broken → ⊥) → AgainFault (T.honest self.old.store) (T.text self.old.store) self.old.count e) }
+
+        // The text is called damaged exactly where it isn't so many finished entries alone.
+        ensures undamaged { T.honest self.old.store → HasCount (T.text self.old.store) self.old.count → IfErr result (λ e. (line : ℕ) → e ≡ SessionFault.Damaged line → ⊥) }
+        ensures whole { T.honest self.old.store → OnOk result (HasCount (T.text self.old.store) self.old.count) }
+        ensures store_honesty { T.honest self.new.store ↔ T.honest self.old.store }
+        ensures no_failure { OnOk result (T.failures self.new.store ≡ T.failures self.old.store) }
+        ensures counts { IfErr result (λ e. FaultCounts e 0 (T.failures self.old.store) 0 (T.failures self.new.store)) }
+    {
+        if self.is_broken {
+            return Err(SessionFault::Broken);
+        }
+        let read = read_again(&self.alloc, &mut self.store, self.count)?;
+        Ok(rows(&self.alloc, &read.entries)?)
+    }
+}

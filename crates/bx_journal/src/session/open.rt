@@ -1,0 +1,128 @@
+//! Opening an image with its journal and its redo text.
+ghost use Rattle.std.specs.Prelude.{◌≡◌, ◌↔◌, ◌+◌, ◌<◌, [], List, ℕ, length, suc, false, IfOk, IfErr, OnOk, MatchResult};
+ghost use Rattle.bx_journal.specs.Text.{IsAccepted, IsDamagedAt, Reading, Reads};
+ghost use Rattle.bx_journal.specs.Stack.{Recovers, image_at, recovered};
+
+use crate::recovery::unfinished_entry::recover;
+use crate::{How, Recovered, Session, SessionFault};
+use bx_image::Device;
+use bx_store::TextStore;
+use std::alloc::Allocator;
+
+impl<D: Device, T: TextStore, A: Allocator + Clone> Session<D, T, A> {
+    ghost use Rattle.bx_journal.specs.Images.{Images as Pictures};
+    ghost use Rattle.bx_journal.specs.Judging.{RefusesRedo};
+    ghost use Rattle.bx_journal.specs.Redo.{Finds, IsClean, RefusesRedoAt, found_undone};
+    ghost use Rattle.bx_journal.specs.Recovery.{OpenKind};
+    ghost use Rattle.bx_journal.specs.Session.{HasUndone, IsReady};
+    ghost use Rattle.bx_journal.specs.Standing.{IsStanding};
+    ghost use Rattle.bx_journal.specs.Calls.{AfterFault, Differs, OpenFault};
+    ghost use Rattle.bx_journal.specs.Opening.{ThreeCounts, IsOpened, RefusesLength, RefusesText};
+    ghost use Rattle.bx_journal.specs.Undoing.{HasLeft};
+
+    /// Opens an image with its journal and its redo text. An unfinished entry is dropped, or its change is taken back;
+    /// the redo text is then emptied first. An `Err` hands all three back.
+    ///
+    /// The faults come in this order: `DeviceFailed` and `NoMemory` of reading the journal, and `Damaged`. Beside
+    /// finished entries alone `DeviceFailed` and `NoMemory` of reading the redo text, `DeviceFailed` of the image's length
+    /// and `LengthDiffers`, `NoMemory` where the redo text is read entry by entry, and `RedoDamaged`. Beside anything else
+    /// `DeviceFailed` of the length and `LengthDiffers`, `NoMemory` of reserving, and `Interrupted` from the first write
+    /// on. Each but the last changes nothing, and after that one the three can be opened again.
+    pub fn open(
+        alloc: A,
+        device: D,
+        store: T,
+        redo_text: T,
+    ) -> Result<(Self, Recovered), (D, T, T, SessionFault)>
+        requires device_countable { D.failures device < u64.MAX }
+        requires store_countable { T.failures store < u64.MAX }
+        requires redo_countable { T.failures redo_text < u64.MAX }
+
+        // What is found, whatever image it is: the pair that is left stands for the recovered stack.
+        ensures opened { D.honest device → T.honest store → (r : Reading) → Reads (T.text store) r
+            → IfOk result (λ o. IsOpened (T.text store) (D.image device) r (T.text o.0.store) (D.image o.0.device) o.1.how o.1.changes) }
+        ensures standing { D.honest device → T.honest store → (r : Reading) → Reads (T.text store) r
+            → IfOk result (λ o. IsStanding D.image T.text o.0 (recovered r (D.image device))) }
+        ensures left { T.honest store → (r : Reading) → Reads (T.text store) r → IfOk result (λ o. HasLeft (T.text store) (T.text o.0.store) r.entries) }
+        ensures fresh { IfOk result (λ o. (o.0.count ≡ o.1.changes) × (o.0.undone ≡ o.1.undone) × (o.0.is_broken ≡ false)) }
+        ensures clean { D.honest device → T.honest store → IfOk result (λ o. o.1.how ≡ How.Clean → (T.text o.0.store ≡ T.text store) × (D.image o.0.device ≡ D.image device)) }
+
+        // A text that isn't accepted is never opened, and one that is accepted is never called damaged.
+        ensures accepted { T.honest store → OnOk result (IsAccepted (T.text store)) }
+        ensures damaged { T.honest store → IfErr result (λ e. (line : ℕ) → e.3 ≡ SessionFault.Damaged line → IsDamagedAt (T.text store) line) }
+        ensures unaccepted { T.honest store → (IsAccepted (T.text store) → ⊥) → MatchResult result (λ _. ⊥) (λ e. RefusesText e.3) }
+
+        // A length differs exactly where the newest finished entry tells another one than that of the image below which it stands.
+        ensures faults { D.honest device → T.honest store → (r : Reading) → Reads (T.text store) r → IfErr result (λ e. OpenFault r (D.image device) e.3) }
+        ensures differs { D.honest device → T.honest store → (r : Reading) (n : ℕ) → Reads (T.text store) r → Differs r.entries (image_at r.stage (D.image device)) n
+            → MatchResult result (λ _. ⊥) (λ e. RefusesLength n e.3) }
+
+        // An interruption comes only where something was unfinished, and no fault of another call comes at all.
+        ensures unfinished { T.honest store → IfErr result (λ e. e.3 ≡ SessionFault.Interrupted → IsClean (T.text store) → ⊥) }
+        ensures kind { IfErr result (λ e. OpenKind e.3) }
+
+        // From a sound pair the stack is kept, whatever it answers.
+        ensures keeps { D.honest device → T.honest store → (stack : List (List ℕ)) → Recovers (T.text store) (D.image device) stack
+            → IfOk result (λ o. IsReady D.image T.text o.0 stack) }
+        ensures keeps_err { D.honest device → T.honest store → (stack : List (List ℕ)) → Recovers (T.text store) (D.image device) stack
+            → IfErr result (λ e. Recovers (T.text e.1) (D.image e.0) stack) }
+        ensures lengths_kept { D.honest device → T.honest store → (stack : List (List ℕ)) → Recovers (T.text store) (D.image device) stack
+            → IfErr result (λ e. (n : ℕ) → e.3 ≡ SessionFault.LengthDiffers n → ⊥) }
+        ensures refused { D.honest device → T.honest store → IfErr result (λ e. AfterFault e.3 (Unit {0})
+            ((T.text e.1 ≡ T.text store) × (D.image e.0 ≡ D.image device))) }
+
+        // Beside a finished journal the redo text stays, and stands for the undone images. What is unfinished empties it.
+        ensures clean_redo { T.honest redo_text → IfOk result (λ o. o.1.how ≡ How.Clean → T.text o.0.redo_text ≡ T.text redo_text) }
+        ensures emptied { T.honest redo_text → IfOk result (λ o. (o.1.how ≡ How.Clean → ⊥) → (T.text o.0.redo_text ≡ []) × (o.1.undone ≡ 0)) }
+        ensures undone { D.honest device → T.honest store → T.honest redo_text
+            → IfOk result (λ o. (undone : List (List ℕ)) × HasUndone D.image T.text o.0 undone) }
+
+        // A redo text is refused exactly where it isn't one of the image and of as many changes, and then at the one line.
+        ensures redo_refused { D.honest device → T.honest store → T.honest redo_text → IfErr result (λ e. (line : ℕ)
+            → e.3 ≡ SessionFault.RedoDamaged line → RefusesRedoAt (T.text store) (D.image device) (T.text redo_text) line) }
+        ensures redo_unfit { D.honest device → T.honest store → T.honest redo_text → (line : ℕ)
+            → RefusesRedoAt (T.text store) (D.image device) (T.text redo_text) line → MatchResult result (λ _. ⊥) (λ e. RefusesRedo line e.3) }
+
+        // From what an interruption left the undone images are kept, or given up where something is unfinished.
+        ensures keeps_undone { D.honest device → T.honest store → T.honest redo_text → (s : Pictures)
+            → Finds (T.text store) (D.image device) (T.text redo_text) s
+            → IfOk result (λ o. HasUndone D.image T.text o.0 (found_undone o.1.how s.undone)) }
+        ensures finds_err { D.honest device → T.honest store → T.honest redo_text → (s : Pictures)
+            → Finds (T.text store) (D.image device) (T.text redo_text) s
+            → IfErr result (λ e. AfterFault e.3 (Finds (T.text e.1) (D.image e.0) (T.text e.2) (record { stack = s.stack; undone = [] }))
+            (Finds (T.text e.1) (D.image e.0) (T.text e.2) s)) }
+        ensures redo_kept { D.honest device → T.honest store → T.honest redo_text → (s : Pictures)
+            → Finds (T.text store) (D.image device) (T.text redo_text) s
+            → IfErr result (λ e. (line : ℕ) → e.3 ≡ SessionFault.RedoDamaged line → ⊥) }
+        ensures redo_same { T.honest redo_text → IfErr result (λ e. AfterFault e.3 (Unit {0}) (T.text e.2 ≡ T.text redo_text)) }
+        ensures honesty { IfOk result (λ o. (D.honest o.0.device ↔ D.honest device) × (T.honest o.0.store ↔ T.honest store) × (T.honest o.0.redo_text ↔ T.honest redo_text)) }
+        ensures honesty_err { IfErr result (λ e. (D.honest e.0 ↔ D.honest device) × (T.honest e.1 ↔ T.honest store) × (T.honest e.2 ↔ T.honest redo_text)) }
+        ensures no_failure { IfOk result (λ o. (D.failures o.0.device ≡ D.failures device) × (T.failures o.0.store ≡ T.failures store)
+            × (T.failures o.0.redo_text ≡ T.failures redo_text)) }
+        ensures counts { IfErr result (λ e. ThreeCounts e.3 (D.failures device) (T.failures store) (T.failures redo_text)
+            (D.failures e.0) (T.failures e.1) (T.failures e.2)) }
+    {
+        let mut device = device;
+        let mut store = store;
+        let mut redo_text = redo_text;
+        match recover(&alloc, &mut device, &mut store, &mut redo_text) {
+            Ok(recovered) => {
+                let count = recovered.changes;
+                let undone = recovered.undone;
+                Ok((
+                    Session {
+                        alloc,
+                        device,
+                        store,
+                        redo_text,
+                        count,
+                        undone,
+                        is_broken: false,
+                    },
+                    recovered,
+                ))
+            }
+            Err(fault) => Err((device, store, redo_text, fault)),
+        }
+    }
+}

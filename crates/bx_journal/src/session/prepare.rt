@@ -1,0 +1,70 @@
+//! What a change takes before its first write.
+ghost use Rattle.std.specs.Prelude.{◌≡◌, ◌↔◌, ◌+◌, ◌<◌, ◌≤◌, [], List, ℕ, length, vec_capacity, IfOk, IfErr, OnOk, IsErrOf};
+ghost use Rattle.bx_image.specs.Change.{effect, saved, AllWithin, Fits, IsOf};
+ghost use Rattle.bx_journal.specs.Kept.{kept_of};
+ghost use Rattle.bx_journal.specs.Entry.{head_text, end_text};
+ghost use Rattle.bx_journal.specs.Opening.{FaultCounts};
+ghost use Rattle.bx_journal.specs.inner.Standing.{PrepareFault};
+
+use crate::SessionFault;
+use crate::format::length::head_len;
+use crate::format::words::Words;
+use crate::protocol::image::save_image;
+use crate::write::entry::entry_end;
+use crate::write::page::new_page;
+use bx_image::{Change, Device, MAX_LEN, Saved, check};
+use bx_store::TextStore;
+use std::alloc::{Allocator, Global};
+
+/// What was saved of the image, an empty page for the entry's text, and the line that ends the entry.
+#[derive(Drop)]
+pub struct Prepared<A: Allocator = Global> {
+    pub kept: Saved<A>,
+    pub page: Vec<u8, A>,
+    pub end: Words,
+}
+
+/// Checks a change, saves what it takes, and makes room for it and for its entry of this number. It changes nothing.
+pub fn prepare_change<D: Device, T: TextStore, A: Allocator + Clone>(
+    alloc: &A,
+    device: &mut D,
+    store: &mut T,
+    change: &Change<A>,
+    number: u32,
+) -> Result<Prepared<A>, SessionFault>
+    requires device_countable { D.failures device.old < u64.MAX }
+    requires store_countable { T.failures store.old < u64.MAX }
+    ensures saved { D.honest device.old → IfOk result (λ p. kept_of p.kept ≡ kept_of (saved change.now (D.image device.old))) }
+    ensures kept { D.honest device.old → IfOk result (λ p. IsOf (kept_of p.kept) (D.image device.old)) }
+    ensures fits { D.honest device.old → IfOk result (λ p. Fits change.now (length (D.image device.old)) MAX_LEN) }
+    ensures bound { D.honest device.old → IfOk result (λ p. length (effect change.now (D.image device.old)) ≤ MAX_LEN) }
+    ensures end { D.honest device.old → IfOk result (λ p. p.end ≡ end_text number (length (effect change.now (D.image device.old)))) }
+    ensures within { IfOk result (λ p. AllWithin p.kept.len p.kept.runs) }
+    ensures empty { IfOk result (λ p. p.page.items ≡ []) }
+    ensures page_room { IfOk result (λ p. 82 ≤ vec_capacity p.page) }
+    ensures image_room { OnOk result (length (effect change.now []) ≤ D.room device.new) }
+    ensures text_room { T.honest store.old → IfOk result (λ p. length (T.text store.new) + length (head_text number (kept_of p.kept)) + length p.end ≤ T.room store.new) }
+    ensures large { D.honest device.old → IsErrOf result SessionFault.TooLarge → Fits change.now (length (D.image device.old)) MAX_LEN → ⊥ }
+    ensures fitting { D.honest device.old → IsErrOf result SessionFault.NoMemory → Fits change.now (length (D.image device.old)) MAX_LEN }
+    ensures kind { IfErr result PrepareFault }
+    ensures image { D.honest device.old → D.image device.new ≡ D.image device.old }
+    ensures text { T.honest store.old → T.text store.new ≡ T.text store.old }
+    ensures device_honesty { D.honest device.new ↔ D.honest device.old }
+    ensures store_honesty { T.honest store.new ↔ T.honest store.old }
+    ensures no_failure { OnOk result ((D.failures device.new ≡ D.failures device.old) × (T.failures store.new ≡ T.failures store.old)) }
+    ensures counts { IfErr result (λ e. FaultCounts e (D.failures device.old) (T.failures store.old) (D.failures device.new) (T.failures store.new)) }
+{
+    let len = device.len()?;
+    let after = check(change, len)?;
+    let kept = save_image(alloc.clone()?, device, change)?;
+    let head = head_len(&kept);
+    let end = entry_end(number, after);
+    let page = new_page(alloc.clone()?, head)?;
+    device.reserve(after)?;
+    let text_len = store.len()?;
+    let most = text_len
+        .saturating_add(head)
+        .saturating_add(end.as_bytes().len() as u64);
+    store.reserve(most)?;
+    Ok(Prepared { kept, page, end })
+}

@@ -1,0 +1,5 @@
+-- What no public contract names.
+pub mod Full
+pub mod Lanes
+pub mod Next
+pub mod Steps

@@ -1,5 +1,0 @@
-use Rattle.std.proofs.Common.{rules}
-use Rattle.bx_text.proofs.field.hex_digit.Goals as goal
-
-pub returns-else-upper : goal.returns-else-upper
-returns-else-upper c = search rules

@@ -1,0 +1,5 @@
+use Rattle.std.proofs.Common.{rules}
+use Rattle.bx_text.proofs.number.field.hex_field.Goals as goal
+
+pub returns : goal.returns
+returns c = search rules

@@ -1,0 +1,15 @@
+use Rattle.std.proofs.Common.{arith, sym, ap, ◌∙◌, ◌-◌, ◌^◌, get_or, take}
+use Rattle.std.specs.Char.{digit_value}
+use Rattle.std.specs.Str.Parse.{digits_value}
+use Rattle.std.proofs.lemmas.Int.Digits.{digits_value_more}
+use Rattle.bx_text.specs.inner.Capped.{capped}
+use Rattle.bx_text.proofs.NumberLemmas.{digit_more}
+use Rattle.bx_text.proofs.number.read.number_of.Goals as goal
+
+pub loop-byte-preserved : goal.loop-byte-preserved
+loop-byte-preserved c =
+    let digits = c.args.digits.now in
+    let i = c.loop-byte.byte-index in
+    digit_more c.loop-byte.value c.saturating_mul.result c.from.result c.saturating_add-value.result (digit_value (get_or digits i 0)) c.args.base (2 ^ 64 - 1) (digits_value c.args.base (take i digits))
+    c.loop-byte.invariant c.saturating_mul.ensures (c.from.ensures ∙ c.value_of.ensures) c.saturating_add-value.ensures (omega arith)
+    ∙ ap capped (sym (digits_value_more c.args.base digits i c.loop-byte-test.true))

@@ -1,0 +1,13 @@
+use Rattle.std.proofs.Common.{◌≡◌, ◌≤◌, ◌<◌, ◌*◌, ℕ, get_or, drop}
+use Rattle.std.specs.Option.{option_map}
+use Rattle.bx_text.specs.inner.Capped.{capped, capped_value}
+use Rattle.bx_text.specs.Number.{factors_of, product_of}
+use Rattle.bx_text.proofs.number.read.product.Given as goal
+
+-- the product so far, times that of the rest, is all
+abbrev pub invariant-loop-i : goal.invariant-loop-i
+invariant-loop-i l = record {
+  before : l.start ≤ l.i;
+  none : (k : ℕ) → l.start ≤ k → k < l.i → get_or l.text k 0 ≡ 120 → ⊥;
+  all : capped_value (product_of (factors_of l.text)) ≡ option_map (λ rest. capped (l.value * rest)) (product_of (factors_of (drop l.start l.text)));
+}

@@ -1,0 +1,4 @@
+-- What no public contract names.
+pub mod Capped
+pub mod Fold
+pub mod Radix
