@@ -1,14 +1,14 @@
 #!/usr/bin/env bash
 # Times bx beside the real tools, all in one run: the least of several times, and the memory that each took.
 # Usage: bench/run.sh [quick] [programs]      (BX names the program, ./bx by default; ROUNDS how often each is timed, 3)
-#   quick: inputs of 32 MiB, else 256 MiB, 64 MiB where the real tool is slow, and 1 GiB for dd to a stream
+#   quick: inputs of 32 MiB, else 64 MiB, 32 MiB where the real tool is slow, and 1 GiB for dd to a stream
 #   programs: without the calls of the libraries, which are proved first
 # What isn't installed is left out. The rows go to standard output, and to bench/out/run.tsv, from which bench/plot.py writes
 # docs/SPEED.md. Run by hand, no part of the gate.
 set -euo pipefail
 BX=$(realpath "${BX:-./bx}")
 top=$(realpath "$(dirname "$0")/..")
-rounds=${ROUNDS:-3} big=256 mid=64 stream=1024 with_calls=yes
+rounds=${ROUNDS:-3} big=64 mid=32 stream=1024 with_calls=yes
 for word in "$@"; do
   case $word in
   quick) big=32 mid=32 stream=32 ;;
@@ -88,39 +88,10 @@ version() { has "$1" && echo "# $("$@" 2>&1 | head -n 1)" || true; }
 
 {
   echo "# $(sed -n 's/^model name[^:]*: //p' /proc/cpuinfo | head -n 1), $(nproc) processors, Linux $(uname -r)"
-  echo "# inputs of $big MiB, of $mid MiB where the row says less, and of $stream MiB for copies to a stream; the least of $rounds"
+  echo "# inputs of $big MiB, of $mid MiB for od, hexdump, busybox and changes, and of $stream MiB for copies to a stream; the least of $rounds"
   version "$BX" --version; version xxd --version; version od --version; version hexdump --version; version strings --version
   version rg --version; version busybox --help
 } > "$run"
-
-D=dumps
-dump $D 15 'xxd'                  'xxd'                     -- "$BX" xxd random              -- xxd random
-dump $D 15 'xxd -p'               'xxd -p'                  -- "$BX" xxd -p random           -- xxd -p random
-dump $D 8  'xxd -b'               'xxd -b'                  -- "$BX" xxd -b random           -- xxd -b random
-dump $D 20 'xxd -i'               'xxd -i'                  -- "$BX" xxd -i random           -- xxd -i random
-dump $D 8  'xxd -c 32 -g 4'       'xxd -c 32 -g 4'          -- "$BX" xxd -c 32 -g 4 random   -- xxd -c 32 -g 4 random
-dump $D 40 'od, less'             'od'                      -- "$BX" od less                 -- od less
-dump $D 40 'od -t x1, less'       'od -t x1'                -- "$BX" od -t x1 less           -- od -t x1 less
-dump $D 40 'od -c, less'          'od -c'                   -- "$BX" od -c less              -- od -c less
-dump $D 20 'od -t d4, less'       'od -t d4'                -- "$BX" od -t d4 less           -- od -t d4 less
-dump $D 20 'od -t u1, less'       'od -t u1'                -- "$BX" od -t u1 less           -- od -t u1 less
-dump $D 1  'od, less, zeros'      'od'                      -- "$BX" od few                  -- od few
-dump $D 60 'hexdump -C, less'     'hexdump -C'              -- "$BX" hexdump -C less         -- hexdump -C less
-dump $D 1  'hexdump -C, less, zeros' 'hexdump -C'           -- "$BX" hexdump -C few          -- hexdump -C few
-if has basenc; then dump $D - 'xxd -p' 'basenc --base16 -w 60' -- "$BX" xxd -p random        -- basenc --base16 -w 60 random; fi
-if box xxd; then dump $D - 'xxd, less' 'busybox xxd'        -- "$BX" xxd less                -- busybox xxd less; fi
-if box od; then dump $D - 'od, less' 'busybox od'           -- "$BX" od less                 -- busybox od less; fi
-if box hexdump; then dump $D - 'hexdump -C, less' 'busybox hexdump -C' -- "$BX" hexdump -C less -- busybox hexdump -C less; fi
-
-R='runs of text'
-row "$R" 4 'strings'              'strings'                 -- "$BX" strings random          -- strings -a random
-row "$R" 4 'strings, text'        'strings'                 -- "$BX" strings text            -- strings -a text
-row "$R" 4 'strings, zeros'       'strings'                 -- "$BX" strings zeros           -- strings -a zeros
-for file in random text zeros; do
-  name=strings; [ "$file" = random ] || name="strings, $file"
-  if has rg; then row "$R" - "$name" 'rg -o [ -~]{4,}' -- "$BX" strings "$file" -- rg -a -o -N --no-unicode '[ -~]{4,}' "$file"; fi
-  if box strings; then row "$R" - "$name" 'busybox strings' -- "$BX" strings "$file" -- busybox strings "$file"; fi
-done
 
 S='copies to a stream'
 head -c "${stream}M" /dev/urandom > long; head -c "$((stream * 3 / 4))M" long | base64 > prose
@@ -132,6 +103,35 @@ row "$S" 1.5 'dd conv=swab'       'dd conv=swab'            -- "$BX" dd if=long 
 row "$S" 1.5 'dd conv=block'      'dd conv=block'           -- "$BX" dd if=prose conv=block cbs=80 -- dd if=prose conv=block cbs=80
 row "$S" 1.5 'dd conv=unblock'    'dd conv=unblock'         -- "$BX" dd if=long conv=unblock cbs=80 -- dd if=long conv=unblock cbs=80
 rm long prose
+
+D=dumps
+dump $D 15 'xxd'                  'xxd'                     -- "$BX" xxd random              -- xxd random
+dump $D 15 'xxd -p'               'xxd -p'                  -- "$BX" xxd -p random           -- xxd -p random
+dump $D 8  'xxd -b'               'xxd -b'                  -- "$BX" xxd -b random           -- xxd -b random
+dump $D 20 'xxd -i'               'xxd -i'                  -- "$BX" xxd -i random           -- xxd -i random
+dump $D 8  'xxd -c 32 -g 4'       'xxd -c 32 -g 4'          -- "$BX" xxd -c 32 -g 4 random   -- xxd -c 32 -g 4 random
+dump $D 40 'od'             'od'                      -- "$BX" od less                 -- od less
+dump $D 40 'od -t x1'       'od -t x1'                -- "$BX" od -t x1 less           -- od -t x1 less
+dump $D 40 'od -c'          'od -c'                   -- "$BX" od -c less              -- od -c less
+dump $D 20 'od -t d4'       'od -t d4'                -- "$BX" od -t d4 less           -- od -t d4 less
+dump $D 20 'od -t u1'       'od -t u1'                -- "$BX" od -t u1 less           -- od -t u1 less
+dump $D 1  'od, zeros'      'od'                      -- "$BX" od few                  -- od few
+dump $D 60 'hexdump -C'     'hexdump -C'              -- "$BX" hexdump -C less         -- hexdump -C less
+dump $D 1  'hexdump -C, zeros' 'hexdump -C'           -- "$BX" hexdump -C few          -- hexdump -C few
+if has basenc; then dump $D - 'xxd -p' 'basenc --base16 -w 60' -- "$BX" xxd -p random        -- basenc --base16 -w 60 random; fi
+if box xxd; then dump $D - 'xxd' 'busybox xxd'        -- "$BX" xxd less                -- busybox xxd less; fi
+if box od; then dump $D - 'od' 'busybox od'           -- "$BX" od less                 -- busybox od less; fi
+if box hexdump; then dump $D - 'hexdump -C' 'busybox hexdump -C' -- "$BX" hexdump -C less -- busybox hexdump -C less; fi
+
+R='runs of text'
+row "$R" 4 'strings'              'strings'                 -- "$BX" strings random          -- strings -a random
+row "$R" 4 'strings, text'        'strings'                 -- "$BX" strings text            -- strings -a text
+row "$R" 4 'strings, zeros'       'strings'                 -- "$BX" strings zeros           -- strings -a zeros
+for file in random text zeros; do
+  name=strings; [ "$file" = random ] || name="strings, $file"
+  if has rg; then row "$R" - "$name" 'rg -o [ -~]{4,}' -- "$BX" strings "$file" -- rg -a -o -N --no-unicode '[ -~]{4,}' "$file"; fi
+  if box strings; then row "$R" - "$name" 'busybox strings' -- "$BX" strings "$file" -- busybox strings "$file"; fi
+done
 
 # Changes of an image: a dump of less bytes written onto an image, taken back and made again, and opening beside a full journal.
 C=changes
