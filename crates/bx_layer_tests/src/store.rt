@@ -46,6 +46,29 @@ fn assert_text<T: TextStore>(rt: &impl Abort, alloc: Global, store: &mut T, byte
     assert!(rt; has_text(rt, alloc, store, bytes) == Ok(true));
 }
 
+// The two bytes from a place on.
+fn assert_read<T: TextStore>(
+    rt: &impl Abort,
+    store: &mut T,
+    at: u64,
+    answer: Result<[u8; 2], DeviceFailed>,
+) {
+    assert!(rt; store.faults() < u64::MAX);
+    match store.len() {
+        Ok(len) => {
+            let mut bytes = [0; 2];
+            assert!(rt; len >= 2);
+            assert!(rt; at <= len - 2);
+            let read = match store.read_at(at, &mut bytes) {
+                Ok(()) => Ok(bytes),
+                Err(fault) => Err(fault),
+            };
+            assert!(rt; read == answer);
+        }
+        Err(_) => panic!(rt; "the length was not read"),
+    }
+}
+
 fn assert_append<T: TextStore>(
     rt: &impl Abort,
     store: &mut T,
@@ -90,6 +113,7 @@ fn assert_changes<T: TextStore>(rt: &impl Abort, alloc: Global, store: &mut T) {
     assert_append(rt, store, b"abc", Ok(()));
     assert_append(rt, store, b"de", Ok(()));
     assert_len(rt, store, Ok(5));
+    assert_read(rt, store, 2, Ok(*b"cd"));
     assert_cut(rt, store, 4, Ok(()));
     assert_text(rt, alloc, store, b"abcd");
 }
@@ -201,12 +225,23 @@ fn reads_fail_after_two(rt: HostRuntime) -> Result<(), Fail> {
     Ok(())
 }
 
+#[test]
+fn places_fail_after_three(rt: HostRuntime) -> Result<(), Fail> {
+    let text = MemText::from_vec(b"ABCD".to_vec(rt.alloc())?);
+    let mut text = FuseText::on_reads(text, 3);
+    assert_read(&rt, &mut text, 1, Ok(*b"BC"));
+    assert_read(&rt, &mut text, 1, Err(DeviceFailed));
+    assert_faults(&rt, &text, 1);
+    Ok(())
+}
+
 fn assert_written<T: TextStore>(rt: &impl Abort, alloc: Global, store: &mut T) {
     assert_reserve(rt, store, 1 << 62, Ok(()));
     assert_reserve(rt, store, (1 << 62) + 1, Err(NoMemory));
     assert_append(rt, store, b"one\n", Ok(()));
     assert_append(rt, store, b"two\n", Ok(()));
     assert_text(rt, alloc, store, b"one\ntwo\n");
+    assert_read(rt, store, 6, Ok(*b"o\n"));
     assert_cut(rt, store, 5, Ok(()));
     assert_append(rt, store, b"!", Ok(()));
     assert_len(rt, store, Ok(6));

@@ -112,6 +112,11 @@ impl<F: RandomAccess> TextStore for FileText<F> {
         outcome
     }
 
+    fn read_at(&mut self, at: u64, buf: &mut [u8]) -> Result<(), DeviceFailed> {
+        let outcome = read_full(&mut self.file, at, buf);
+        counted(&mut self.failures, outcome)
+    }
+
     fn append(&mut self, bytes: &[u8]) -> Result<(), DeviceFailed> {
         let outcome = append_to(&mut self.file, bytes);
         counted(&mut self.failures, outcome)

@@ -100,7 +100,7 @@ impl<T: TextStore> FuseText<T> {
         }
     }
 
-    /// Passes `pass` calls of `len` and `read_all`, then fails all. Calls that write pass.
+    /// Passes `pass` calls of `len`, `read_all` and `read_at`, then fails all. Calls that write pass.
     pub fn on_reads(store: T, pass: u64) -> Self
         requires { T.failures store ≡ 0 }
         ensures store { result.store ≡ store }
@@ -160,6 +160,15 @@ impl<T: TextStore> TextStore for FuseText<T> {
         }
         self.failures += 1;
         Err(TextFault::DeviceFailed)
+    }
+
+    fn read_at(&mut self, at: u64, buf: &mut [u8]) -> Result<(), DeviceFailed> {
+        if !self.reads.blows() {
+            if let Ok(()) = self.store.read_at(at, buf) {
+                return Ok(());
+            }
+        }
+        Err(failed(&mut self.failures))
     }
 
     fn append(&mut self, bytes: &[u8]) -> Result<(), DeviceFailed> {

@@ -54,6 +54,13 @@ impl<A: Allocator> TextStore for MemText<A> {
         Ok(Vec::from_slice(alloc, self.bytes.as_slice())?)
     }
 
+    fn read_at(&mut self, at: u64, buf: &mut [u8]) -> Result<(), DeviceFailed> {
+        let start = at as usize;
+        let end = start + buf.len();
+        buf.copy_from_slice(&self.bytes[start..end]);
+        Ok(())
+    }
+
     fn append(&mut self, bytes: &[u8]) -> Result<(), DeviceFailed> {
         self.bytes
             .extend_from_slice(bytes)

@@ -1,5 +1,5 @@
 //! What holds a text that grows and is cut at its end, as the text of a journal.
-ghost use Rattle.std.specs.Prelude.{◌≡◌, ◌+◌, ◌<◌, ◌≤◌, ◌^◌, List, ℕ, length, take, ◌++◌, IfOk, IsOk, OnOk, OnErr, is_err, false};
+ghost use Rattle.std.specs.Prelude.{◌≡◌, ◌+◌, ◌<◌, ◌≤◌, ◌^◌, List, ℕ, length, take, drop, ◌++◌, IfOk, IsOk, OnOk, OnErr, is_err, false};
 ghost use Rattle.bx_image.specs.Device.{GoesOn};
 ghost use Rattle.bx_store.specs.Store.{IsPartlyAppended, IsPartlyCut, has_failed};
 
@@ -46,6 +46,15 @@ pub trait TextStore {
         ensures bytes { honest self.old → IfOk result (λ bytes. bytes.items ≡ text self.old) }
         ensures text { honest self.old → text self.new ≡ text self.old }
         ensures goes_on { GoesOn honest room failures (has_failed result) self.old self.new };
+
+    /// Fills `buf` with the bytes from the place `at` on; the range has to lie within the text. The
+    /// text stays.
+    fn read_at(&mut self, at: u64, buf: &mut [u8]) -> Result<(), DeviceFailed>
+        requires countable { failures self.old < u64.MAX }
+        requires range { honest self.old → at + length buf.old ≤ length (text self.old) }
+        ensures bytes { honest self.old → OnOk result (buf.new ≡ take (length buf.old) (drop at (text self.old))) }
+        ensures text { honest self.old → text self.new ≡ text self.old }
+        ensures goes_on { GoesOn honest room failures (is_err result) self.old self.new };
 
     /// Adds the bytes at the end; the new length has to lie within the room.
     ///
