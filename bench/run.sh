@@ -159,7 +159,7 @@ row $C - 'log, 65,535 changes'      'xxd -r of as much'     -- "$BX" log many   
 # folder of its own over copies of the crates, since the gate proves every crate that stands in the repository. The
 # program stays in bench/out.
 build_calls() {
-  local crates=(bx_text bx_read bx_image bx_store bx_journal) crate
+  local crates=(bx_text bx_read bx_image bx_store bx_entries bx_journal) crate
   if [ -x "$calls" ] && [ -z "$(find "$top/bench/calls.rt.in" "${crates[@]/#/$top/crates/}" -name '*.rt*' -newer "$calls")" ]; then return; fi
   mkdir -p room/crates/calls/src "${calls%/*}"
   cp "$top/HANDLES" room; cp "$top/bench/calls.rt.in" room/crates/calls/src/main.rt

@@ -10,7 +10,9 @@ import pathlib
 import re
 import sys
 
-CRATES = ["bx_text", "bx_read", "bx_image", "bx_store", "bx_dump", "bx_dd", "bx_journal", "bx_cli"]
+CRATES = ["bx_text", "bx_read", "bx_image", "bx_store", "bx_dump", "bx_dd", "bx_entries", "bx_journal", "bx_cli"]
+# whose calls no other crate exports: their definitions count where a public contract above names them
+INNER = ["bx_entries"]
 NAME = re.compile(r"[A-Za-z_][A-Za-z0-9_'-]*")
 HEAD = re.compile(r"^(?:(?:abbrev|unfoldable|pub) )*(record |data )?([A-Za-z_][\w'-]*)(?= *[:({ ])")
 
@@ -200,6 +202,8 @@ def main():
     definitions, imports = read_specs(args.root)
     named = set()
     for crate in CRATES:
+        if crate in INNER:
+            continue
         named |= public_names(args.root, crate)
     met = closure(definitions, imports, named)
     needed = {key: d for key, d in definitions.items() if key in met}

@@ -1,23 +1,22 @@
 -- A text that is read again.
 use Rattle.std.proofs.Common.{◌≡◌, ℕ, zero, suc, ◌+◌, ◌<◌, ◌≤◌, List, [], ◌∷◌, ◌++◌, length, map, take, drop, refl, ap, sym, ◌∙◌, subst, inl, inr, arith, length-drop, get_or}
-use Rattle.bx_journal.specs.Kept.{run_of}
+use Rattle.bx_entries.specs.Kept.{run_of}
 use Rattle.bx_journal.specs.declared.session.fault.SessionFault.{SessionFault}
 use Rattle.bx_journal.specs.declared.session.fault.SessionFault.TheVariants.{Damaged}
-use Rattle.bx_journal.specs.declared.read.whole.JournalRead.{JournalRead}
-use Rattle.bx_journal.specs.declared.read.types.EntryRead.{EntryRead}
-use Rattle.bx_journal.specs.Text.{Entry, Between, Reading, Reads, split}
-use Rattle.bx_journal.specs.inner.Journal.{HasRead}
-use Rattle.bx_journal.specs.inner.Parsed.{entries_of, reading_of}
+use Rattle.bx_entries.specs.declared.read.whole.JournalRead.{JournalRead}
+use Rattle.bx_entries.specs.declared.read.types.EntryRead.{EntryRead}
+use Rattle.bx_entries.specs.Text.{Entry, Between, Reading, Reads, split}
+use Rattle.bx_entries.specs.inner.Journal.{HasRead}
+use Rattle.bx_entries.specs.inner.Parsed.{entries_of, reading_of, entry_of, entries_onto, AllKept}
 use Rattle.bx_journal.specs.Undoing.{HasCount, AgainFault, IsOutOfStep}
 use Rattle.bx_journal.specs.inner.Undoing.{IsReadAgain}
-use Rattle.bx_journal.proofs.ReadLemmas.{length-entries_of}
+use Rattle.bx_entries.proofs.ReadLemmas.{length-entries_of}
 use Rattle.bx_journal.proofs.OpenLemmas.{read_once}
 use Rattle.bx_journal.proofs.Judged.{undamaged}
 use Rattle.std.specs.Prelude.{All}
 use Rattle.std.proofs.lemmas.List.Elements.{All-head, All-tail, All-nil, All-cons, All-weaker, All-append}
 use Rattle.std.proofs.lemmas.List.{take_more}
 use Rattle.bx_image.specs.Change.{AllWithin}
-use Rattle.bx_journal.specs.inner.Parsed.{entry_of, entries_onto, AllKept}
 use Rattle.bx_journal.proofs.Sane.{AreSane, read_sane}
 use Rattle.bx_journal.proofs.UndoLoop.{kept_more}
 

@@ -3,20 +3,20 @@ use Rattle.std.proofs.Common.{◌≡◌, ℕ, ◌≤◌, List, [], ◌∷◌, �
 use Rattle.std.proofs.lemmas.List.{take-append-drop}
 use Rattle.std.specs.Prelude.{flat_map}
 use Rattle.bx_image.specs.declared.change.TheConstants.{MAX_LEN}
-use Rattle.bx_journal.specs.Kept.{Kept, kept_of}
-use Rattle.bx_journal.specs.inner.Kept.{with_runs}
+use Rattle.bx_entries.specs.Kept.{Kept, kept_of}
+use Rattle.bx_entries.specs.inner.Kept.{with_runs}
 use Rattle.bx_image.specs.declared.change.Change.{Change}
 use Rattle.bx_image.specs.Change.{effect, saved, IsAsGood}
-use Rattle.bx_journal.specs.declared.format.version.Version.TheVariants.{Second}
-use Rattle.bx_journal.specs.Entry.{head_text, end_text, rows}
-use Rattle.bx_journal.specs.Text.{IsPrefix}
+use Rattle.bx_entries.specs.declared.format.version.Version.TheVariants.{Second}
+use Rattle.bx_entries.specs.Entry.{head_text, end_text, rows}
+use Rattle.bx_entries.specs.Text.{IsPrefix}
 use Rattle.bx_journal.specs.Stack.{Recovers}
 use Rattle.bx_journal.specs.Phase.{IsAtRest, RecoversEither}
 use Rattle.bx_journal.specs.inner.Phase.{IsOpen, as_read}
 use Rattle.bx_journal.specs.inner.Step.{StartsEntry, EndsEntry, WritesEntry}
 use Rattle.bx_store.specs.Store.{IsPartlyAppended}
-use Rattle.bx_journal.proofs.Gathered.{as_read_byte}
-use Rattle.bx_journal.proofs.RowLemmas.{restore_same, covers_same}
+use Rattle.bx_entries.proofs.Gathered.{as_read_byte}
+use Rattle.bx_entries.proofs.RowLemmas.{restore_same, covers_same}
 use Rattle.bx_journal.proofs.Phases.{head_recovers, head_opens, end_recovers, end_rests, open_moves}
 
 front_of : (k : ℕ) (bytes text : List ℕ) → bytes ≡ text → IsPrefix (take k bytes) text

@@ -5,16 +5,16 @@ use Rattle.std.proofs.lemmas.List.{take-append-drop}
 use Rattle.std.proofs.lemmas.List.Folds.{list_all-append}
 use Rattle.std.proofs.Math.Seq.{take-add}
 use Rattle.bx_image.specs.Change.{restore, Covers}
-use Rattle.bx_journal.specs.declared.format.version.Version.{Version}
-use Rattle.bx_journal.specs.Text.{IsPrefix, Reading, Entry, Between, Ending, IsRest, Split, split, start, joined, after_lines, is_short}
+use Rattle.bx_entries.specs.declared.format.version.Version.{Version}
+use Rattle.bx_entries.specs.Text.{IsPrefix, Reading, Entry, Between, Ending, IsRest, Split, split, start, joined, after_lines, is_short}
 use Rattle.bx_journal.specs.Stack.{stack_of, HaveLengths, AllCover, Recovers}
 use Rattle.bx_journal.specs.Phase.{IsAtRest, RecoversEither}
 use Rattle.bx_journal.specs.inner.Phase.{IsOpen}
-use Rattle.bx_journal.specs.inner.Mark.{IsMark}
+use Rattle.bx_entries.specs.inner.Mark.{IsMark}
 use Rattle.bx_store.specs.Store.{IsPartlyCut}
-use Rattle.bx_journal.proofs.Splits.{split-append}
-use Rattle.bx_journal.proofs.Runs.{SafeRun, Goes, safe_prefix, after_lines-append, empty_rest}
-use Rattle.bx_journal.proofs.Foreign.{lines_plain, joined_lines, and_true, OnTheWay, foreign_run, way_in_end}
+use Rattle.bx_entries.proofs.Splits.{split-append}
+use Rattle.bx_entries.proofs.Runs.{SafeRun, Goes, safe_prefix, after_lines-append, empty_rest}
+use Rattle.bx_entries.proofs.Foreign.{lines_plain, joined_lines, and_true, OnTheWay, foreign_run, way_in_end}
 use Rattle.bx_journal.proofs.Phases.{Fine, IsWhole, ReadsShort, extends}
 
 -- a whole text of short lines

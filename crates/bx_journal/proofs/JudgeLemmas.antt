@@ -6,29 +6,29 @@ use Rattle.std.proofs.lemmas.List.{take_more, take-append-drop}
 use Rattle.std.proofs.Math.Seq.{drop-cons}
 use Rattle.bx_journal.specs.declared.session.fault.SessionFault.{SessionFault}
 use Rattle.bx_journal.specs.declared.session.fault.SessionFault.TheVariants.{NoMemory, TooLarge, DeviceFailed, Damaged, TooFew, JournalFull, Interrupted, Broken, LengthDiffers, NothingToRedo, RedoDamaged}
-use Rattle.bx_journal.specs.declared.read.whole.JournalRead.{JournalRead}
-use Rattle.bx_journal.specs.declared.read.types.EntryRead.{EntryRead}
-use Rattle.bx_journal.specs.declared.read.types.StageRead.TheVariants.{Between as BetweenRead, Saving as SavingRead, Ending as EndingRead}
-use Rattle.bx_journal.specs.declared.read.count.Counted.{Counted}
+use Rattle.bx_entries.specs.declared.read.whole.JournalRead.{JournalRead}
+use Rattle.bx_entries.specs.declared.read.types.EntryRead.{EntryRead}
+use Rattle.bx_entries.specs.declared.read.types.StageRead.TheVariants.{Between as BetweenRead, Saving as SavingRead, Ending as EndingRead}
+use Rattle.bx_entries.specs.declared.read.count.Counted.{Counted}
 use Rattle.bx_journal.specs.inner.Calls.{ReadFault}
-use Rattle.bx_journal.specs.inner.Journal.{HasRead}
+use Rattle.bx_entries.specs.inner.Journal.{HasRead}
 use Rattle.bx_journal.specs.Judging.{RefusesRedo}
 use Rattle.bx_journal.specs.inner.Judging.{AllTold, IsBeyondAt, IsFit, IsRedoCounted, IsUnfitAt, IsUnfitFrom, IsUntoldAt, JudgeFault, RedoTextFault, redo_fault}
-use Rattle.bx_journal.specs.inner.Mark.{IsMark, HasMarks}
-use Rattle.bx_journal.specs.inner.Parsed.{entry_of, entries_onto, entries_of, stage_of, reading_of, AreMarked, IsMarked}
-use Rattle.bx_journal.specs.Redo.{AllTell, BeginsAt, IsRedoOf, DamagedLine, Tail, FirstForm, IsRefusedAt, NoRedo, TooMany, Off}
+use Rattle.bx_entries.specs.inner.Mark.{IsMark, HasMarks}
+use Rattle.bx_entries.specs.inner.Parsed.{entry_of, entries_onto, entries_of, stage_of, reading_of, AreMarked, IsMarked}
+use Rattle.bx_entries.specs.Finished.{AllTell, IsFinished}
+use Rattle.bx_journal.specs.Redo.{BeginsAt, IsRedoOf, DamagedLine, Tail, FirstForm, IsRefusedAt, NoRedo, TooMany, Off}
 use Rattle.bx_journal.specs.Stack.{stack_of}
-use Rattle.bx_journal.specs.inner.Tally.{IsCounted}
-use Rattle.bx_journal.specs.Text.{Entry, Between, Reading, Reads, Split, split, with_front, start, after_lines}
-use Rattle.bx_journal.specs.Undoing.{IsFinished}
-use Rattle.bx_journal.proofs.Damage.{split_at_mark}
+use Rattle.bx_entries.specs.inner.Tally.{IsCounted}
+use Rattle.bx_entries.specs.Text.{Entry, Between, Reading, Reads, Split, split, with_front, start, after_lines}
+use Rattle.bx_entries.proofs.Damage.{split_at_mark}
 use Rattle.bx_journal.proofs.Phases.{length-stack_of}
-use Rattle.bx_journal.proofs.ReadLemmas.{length-entries_of}
+use Rattle.bx_entries.proofs.ReadLemmas.{length-entries_of}
 use Rattle.bx_journal.proofs.RedoText.{one_reading, one_list}
 use Rattle.bx_journal.proofs.Refused.{not_no_redo, too_many, refused_once, none_refused}
 use Rattle.bx_journal.proofs.TailLemmas.{begins_at, begin_mark}
 use Rattle.bx_journal.proofs.Tails.{rest_none}
-use Rattle.bx_journal.proofs.TallyLemmas.{counted_lengths}
+use Rattle.bx_journal.proofs.CountedLemmas.{counted_lengths}
 
 -- entries that were read, in parts
 onto-append : {A : Type 0} → (done : List Entry) (a b : List (EntryRead A)) → entries_onto done (a ++ b) ≡ entries_onto (entries_onto done a) b

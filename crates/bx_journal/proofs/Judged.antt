@@ -3,11 +3,11 @@ use Rattle.std.proofs.Common.{◌≡◌, ℕ, List, length, sym, subst, inl, inr
 use Rattle.std.proofs.lemmas.Bool.{cases_lt}
 use Rattle.bx_journal.specs.declared.session.fault.SessionFault.{SessionFault}
 use Rattle.bx_journal.specs.declared.session.fault.SessionFault.TheVariants.{NoMemory, TooLarge, DeviceFailed, Damaged, TooFew, JournalFull, Interrupted, Broken, LengthDiffers, NothingToRedo, RedoDamaged}
-use Rattle.bx_journal.specs.Text.{Reading, Reads, IsAccepted, IsDamagedAt, split, start}
+use Rattle.bx_entries.specs.Text.{Reading, Reads, IsAccepted, IsDamagedAt, split, start}
 use Rattle.bx_journal.specs.Calls.{OpenFault}
 use Rattle.bx_journal.specs.inner.Calls.{ReadFault}
 use Rattle.bx_journal.specs.Opening.{RefusesLength}
-use Rattle.bx_journal.proofs.Damage.{front_read, accepts, first_all}
+use Rattle.bx_entries.proofs.Damage.{front_read, accepts, first_all}
 
 pub undamaged : (text : List ℕ) (m : ℕ) → IsAccepted text → IsDamagedAt text m → ⊥
 undamaged text m read damage =

@@ -1,18 +1,18 @@
 -- The laws.
 use Rattle.std.proofs.Common.{◌≡◌, ℕ, suc, List, [], ◌∷◌, ◌++◌, length, refl, ap, sym, ◌∙◌, subst, inl, inr, arith, append_assoc, Some}
 use Rattle.std.proofs.lemmas.Bool.{cases_lt}
-use Rattle.bx_journal.specs.declared.format.version.Version.TheVariants.{Second}
+use Rattle.bx_entries.specs.declared.format.version.Version.TheVariants.{Second}
 use Rattle.bx_journal.specs.Laws.{WrittenIsRead, StandsForOne, DamagedAtOne, EmptyIsSound}
-use Rattle.bx_journal.specs.Line.{end_line}
-use Rattle.bx_journal.specs.Entry.{head_lines, entry_text}
-use Rattle.bx_journal.specs.Text.{Entry, Between, Reading, Reads, IsRest, split, joined, start, after_lines}
+use Rattle.bx_entries.specs.Line.{end_line}
+use Rattle.bx_entries.specs.Entry.{head_lines, entry_text}
+use Rattle.bx_entries.specs.Text.{Entry, Between, Reading, Reads, IsRest, split, joined, start, after_lines}
 use Rattle.bx_journal.specs.Stack.{stack_of}
 use Rattle.bx_journal.specs.inner.Phase.{as_read}
-use Rattle.bx_journal.proofs.Splits.{split-append}
-use Rattle.bx_journal.proofs.Runs.{SafeRun, GoesAllBy, safe_all, after_lines-append}
-use Rattle.bx_journal.proofs.Gathered.{as_read_byte}
-use Rattle.bx_journal.proofs.RowLemmas.{all_rows_are}
-use Rattle.bx_journal.proofs.EntryRun.{head_run, end_run, between}
+use Rattle.bx_entries.proofs.Splits.{split-append}
+use Rattle.bx_entries.proofs.Runs.{SafeRun, GoesAllBy, safe_all, after_lines-append}
+use Rattle.bx_entries.proofs.Gathered.{as_read_byte}
+use Rattle.bx_entries.proofs.RowLemmas.{all_rows_are}
+use Rattle.bx_entries.proofs.EntryRun.{head_run, end_run, between}
 use Rattle.bx_journal.proofs.Judged.{undamaged}
 
 pub joined-append : (a b : List (List ℕ)) → joined (a ++ b) ≡ joined a ++ joined b

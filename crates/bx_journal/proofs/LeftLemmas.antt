@@ -1,14 +1,15 @@
 -- What opening leaves of a journal's text: a front of it, which is its finished entries alone.
 use Rattle.std.proofs.Common.{◌≡◌, ℕ, List, [], ◌++◌, take, drop, refl, ap, sym, ◌∙◌, subst, inl, Option, Some, append-nil}
 use Rattle.std.proofs.lemmas.List.{take-append-drop}
-use Rattle.bx_journal.specs.declared.read.whole.JournalRead.{JournalRead}
-use Rattle.bx_journal.specs.declared.read.types.StageRead.{StageRead}
-use Rattle.bx_journal.specs.Text.{Entry, Between, Reading, Reads, IsRest, split}
-use Rattle.bx_journal.specs.inner.Mark.{IsMark}
-use Rattle.bx_journal.specs.inner.Journal.{HasRead}
-use Rattle.bx_journal.specs.inner.Parsed.{IsMarked, entries_of, stage_of, reading_of}
-use Rattle.bx_journal.specs.inner.Tally.{IsCounted}
-use Rattle.bx_journal.specs.Undoing.{IsFinished, HasLeft}
+use Rattle.bx_entries.specs.declared.read.whole.JournalRead.{JournalRead}
+use Rattle.bx_entries.specs.declared.read.types.StageRead.{StageRead}
+use Rattle.bx_entries.specs.Text.{Entry, Between, Reading, Reads, IsRest, split}
+use Rattle.bx_entries.specs.inner.Mark.{IsMark}
+use Rattle.bx_entries.specs.inner.Journal.{HasRead}
+use Rattle.bx_entries.specs.inner.Parsed.{IsMarked, entries_of, stage_of, reading_of}
+use Rattle.bx_entries.specs.inner.Tally.{IsCounted}
+use Rattle.bx_entries.specs.Finished.{IsFinished}
+use Rattle.bx_journal.specs.Undoing.{HasLeft}
 use Rattle.bx_journal.proofs.TailLemmas.{begins_at, begin_mark}
 
 -- the text was cut where what is unfinished begins

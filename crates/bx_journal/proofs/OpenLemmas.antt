@@ -3,25 +3,25 @@ use Rattle.std.proofs.Common.{◌≡◌, ℕ, suc, ◌+◌, ◌≤◌, true, Lis
 use Rattle.std.specs.Prelude.{IfSome}
 use Rattle.std.proofs.lemmas.Grind.{common_steps}
 use Rattle.bx_image.specs.declared.record.Saved.{Saved}
-use Rattle.bx_journal.specs.Kept.{kept_of}
+use Rattle.bx_entries.specs.Kept.{kept_of}
 use Rattle.bx_image.specs.Change.{restore}
-use Rattle.bx_journal.specs.declared.format.version.Version.{Version}
+use Rattle.bx_entries.specs.declared.format.version.Version.{Version}
 use Rattle.bx_journal.specs.declared.session.answers.How.{How}
 use Rattle.bx_journal.specs.declared.session.answers.How.TheVariants.{Clean, Dropped, Restored}
 use Rattle.bx_journal.specs.declared.session.fault.SessionFault.{SessionFault}
 use Rattle.bx_journal.specs.declared.session.fault.SessionFault.TheVariants.{NoMemory, TooLarge, DeviceFailed, Damaged, TooFew, JournalFull, Interrupted, Broken, LengthDiffers, NothingToRedo, RedoDamaged}
-use Rattle.bx_journal.specs.declared.read.whole.JournalRead.{JournalRead}
-use Rattle.bx_journal.specs.declared.read.types.StageRead.TheVariants.{Between as BetweenRead, Saving as SavingRead, Ending as EndingRead}
-use Rattle.bx_journal.specs.Text.{Entry, Between, Reading, Reads, IsRest, split, may_begin}
+use Rattle.bx_entries.specs.declared.read.whole.JournalRead.{JournalRead}
+use Rattle.bx_entries.specs.declared.read.types.StageRead.TheVariants.{Between as BetweenRead, Saving as SavingRead, Ending as EndingRead}
+use Rattle.bx_entries.specs.Text.{Entry, Between, Reading, Reads, IsRest, split, may_begin}
 use Rattle.bx_journal.specs.Stack.{HaveLengths, Recovers, image_at, stack_of}
-use Rattle.bx_journal.specs.inner.Mark.{IsMark}
-use Rattle.bx_journal.specs.inner.Journal.{HasRead}
-use Rattle.bx_journal.specs.Parsed.{told_by}
-use Rattle.bx_journal.specs.inner.Parsed.{entries_of, stage_of, reading_of}
+use Rattle.bx_entries.specs.inner.Mark.{IsMark}
+use Rattle.bx_entries.specs.inner.Journal.{HasRead}
+use Rattle.bx_entries.specs.Parsed.{told_by}
+use Rattle.bx_entries.specs.inner.Parsed.{entries_of, stage_of, reading_of}
 use Rattle.bx_journal.specs.Calls.{how_of, Differs, OpenFault, AfterFault}
 use Rattle.bx_journal.specs.Opening.{IsOpened, RefusesLength, FaultCounts}
 use Rattle.bx_journal.specs.inner.Opening.{LookFault}
-use Rattle.bx_journal.proofs.ReadLemmas.{length-entries_of}
+use Rattle.bx_entries.proofs.ReadLemmas.{length-entries_of}
 use Rattle.bx_journal.proofs.Sane.{IsSane, read_sane, have_lengths, length-restore}
 use Rattle.bx_journal.proofs.TailLemmas.{begins_at, begin_mark, tail_at, counted_at}
 use Rattle.bx_journal.proofs.Tails.{rest_none}

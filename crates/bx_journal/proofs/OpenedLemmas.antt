@@ -9,26 +9,26 @@ use Rattle.bx_journal.specs.declared.session.fault.SessionFault.{SessionFault}
 use Rattle.bx_journal.specs.declared.session.fault.SessionFault.TheVariants.{NoMemory, TooLarge, DeviceFailed, Damaged, TooFew, JournalFull, Interrupted, Broken, LengthDiffers, NothingToRedo, RedoDamaged}
 use Rattle.bx_journal.specs.declared.recovery.journal.Found.{Found}
 use Rattle.bx_journal.specs.declared.recovery.journal.Found.TheVariants.{Finished, Unfinished}
-use Rattle.bx_journal.specs.declared.read.whole.JournalRead.{JournalRead}
-use Rattle.bx_journal.specs.declared.read.count.Counted.{Counted}
+use Rattle.bx_entries.specs.declared.read.whole.JournalRead.{JournalRead}
+use Rattle.bx_entries.specs.declared.read.count.Counted.{Counted}
 use Rattle.bx_journal.specs.Calls.{AfterFault, OpenFault}
 use Rattle.bx_journal.specs.Images.{Images}
 use Rattle.bx_journal.specs.Judging.{RefusesRedo}
 use Rattle.bx_journal.specs.Machine.{changes_of}
 use Rattle.bx_journal.specs.Opening.{IsOpened, RefusesLength}
-use Rattle.bx_journal.specs.Parsed.{told_by}
+use Rattle.bx_entries.specs.Parsed.{told_by}
 use Rattle.bx_journal.specs.inner.Recovery.{FindFault, FinishedFault, HasToldLength, HasUndoneCount, IsCountedIn, IsFoundIn, IsUnfinishedIn, KeepsUndone, RecoverFault}
 use Rattle.bx_journal.specs.Redo.{Finds, IsClean, IsRedoOf, IsRefusedAt, RefusesRedoAt, found_undone}
 use Rattle.bx_journal.specs.Stack.{Recovers}
-use Rattle.bx_journal.specs.inner.Tally.{IsCounted}
-use Rattle.bx_journal.specs.Text.{Reading, Reads}
+use Rattle.bx_entries.specs.inner.Tally.{IsCounted}
+use Rattle.bx_entries.specs.Text.{Reading, Reads}
 use Rattle.bx_journal.proofs.Judged.{undamaged}
 use Rattle.bx_journal.proofs.OpenLemmas.{counted_of, differs_of}
-use Rattle.bx_journal.proofs.ReadLoop.{marked_few}
+use Rattle.bx_entries.proofs.ReadLoop.{marked_few}
 use Rattle.bx_journal.proofs.RecoverLemmas.{unfinished_apart}
 use Rattle.bx_journal.proofs.RedoText.{empty_is_redo, one_list}
 use Rattle.bx_journal.proofs.Refused.{none_refused}
-use Rattle.bx_journal.proofs.TallyLemmas.{counted_opened, counted_stack}
+use Rattle.bx_journal.proofs.CountedLemmas.{counted_opened, counted_stack}
 
 -- a fault of reading the journal, where the text is accepted
 module _ (H : Type 0) (text : List ℕ) (r : Reading) (h : H) (reads : Reads text r) where

@@ -1,8 +1,13 @@
 -- Text that goes to a store page by page.
 use Rattle.std.proofs.Common.{◌≡◌, ℕ, ◌+◌, ◌≤◌, min, List, [], ◌++◌, length, take, drop, refl, ap, sym, ◌∙◌, arith, append_assoc, append-nil, length-append, subst, Result, Ok, Err}
 use Rattle.std.specs.Prelude.{OnErr}
+use Rattle.std.specs.List.{range_with_len}
 use Rattle.std.proofs.lemmas.List.{take-append-drop, take-append-le, take_min, take_at}
 use Rattle.bx_store.specs.Store.{IsPartlyAppended}
+use Rattle.bx_entries.specs.Kept.{Run}
+use Rattle.bx_entries.specs.Entry.{row}
+use Rattle.bx_entries.specs.inner.Entry.{rows_text}
+use Rattle.bx_entries.proofs.WriterLemmas.{rows_split}
 use Rattle.bx_journal.specs.inner.Page.{IsPaged}
 
 -- where nothing was appended
@@ -76,3 +81,14 @@ paged_is b d old new p is paged = subst (λ t. IsPaged t old new p) is paged
 
 pub part_is : (b d old new : List ℕ) → b ≡ d → IsPartlyAppended b old new → IsPartlyAppended d old new
 part_is b d old new is part = subst (λ t. IsPartlyAppended t old new) is part
+
+-- where rows stand behind what waited in a page
+pub rows_grown : (text bytes : List ℕ) (run : Run) (k n : ℕ) (old new p q : List ℕ) → bytes ≡ run.bytes
+    → q ≡ p ++ rows_text (map (row (record { at = run.at; bytes = bytes })) (range_with_len k n))
+    → IsPaged (text ++ rows_text (map (row run) (range_with_len 0 k))) old new p
+    → IsPaged (text ++ rows_text (map (row run) (range_with_len 0 (k + n)))) old new q
+rows_grown text bytes run k n old new p q same is paged =
+    let done : List ℕ = rows_text (map (row run) (range_with_len 0 k)) in
+    let more : List ℕ = rows_text (map (row run) (range_with_len k n)) in
+    let all : q ≡ p ++ more = is ∙ ap (λ b. p ++ rows_text (map (row (record { at = run.at; bytes = b })) (range_with_len k n))) same in
+    paged_is _ _ _ _ _ (append_assoc text done more ∙ ap (λ t. text ++ t) (sym (rows_split run k n))) (paged_grown (text ++ done) more old new p q paged all)

@@ -2,18 +2,18 @@
 use Rattle.std.proofs.Common.{◌≡◌, ℕ, suc, ◌+◌, ◌≤◌, Bool, true, false, eqb, cond, List, [], ◌∷◌, ◌++◌, length, refl, ap, sym, ◌∙◌, subst, arith, append_assoc, append-nil}
 use Rattle.std.specs.Prelude.{IfSome}
 use Rattle.bx_image.specs.declared.change.TheConstants.{MAX_LEN}
-use Rattle.bx_journal.specs.Kept.{Kept, kept_of}
+use Rattle.bx_entries.specs.Kept.{Kept, kept_of}
 use Rattle.bx_image.specs.declared.change.Change.{Change}
 use Rattle.bx_image.specs.Change.{effect, saved, restore, IsOf, IsAsGood}
-use Rattle.bx_journal.specs.declared.format.version.Version.TheVariants.{Second}
+use Rattle.bx_entries.specs.declared.format.version.Version.TheVariants.{Second}
 use Rattle.bx_journal.specs.Laws.{HasBytes}
-use Rattle.bx_journal.specs.Line.{end_line}
-use Rattle.bx_journal.specs.Entry.{head_text, end_text, entry_text}
-use Rattle.bx_journal.specs.Text.{Entry, Between, Reads, Split, split, with_front}
+use Rattle.bx_entries.specs.Line.{end_line}
+use Rattle.bx_entries.specs.Entry.{head_text, end_text, entry_text}
+use Rattle.bx_entries.specs.Text.{Entry, Between, Reads, Split, split, with_front}
 use Rattle.bx_journal.specs.Stack.{StandsFor, HaveLengths, stack_of}
 use Rattle.bx_journal.specs.Machine.{top}
 use Rattle.bx_journal.proofs.Phases.{may_begin_of, length-stack_of, whole_behind}
-use Rattle.bx_journal.proofs.RowLemmas.{restore_same}
+use Rattle.bx_entries.proofs.RowLemmas.{restore_same}
 use Rattle.bx_journal.proofs.Ready.{IsPrepared, top_of}
 use Rattle.bx_journal.proofs.LawProofs.{written_is_read}
 

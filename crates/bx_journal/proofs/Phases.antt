@@ -5,22 +5,22 @@ use Rattle.std.specs.List.{list_all}
 use Rattle.std.proofs.lemmas.Grind.{common_steps}
 use Rattle.std.proofs.lemmas.List.Folds.{list_all-append}
 use Rattle.bx_image.specs.declared.change.TheConstants.{MAX_LEN}
-use Rattle.bx_journal.specs.Kept.{Kept}
-use Rattle.bx_journal.specs.inner.Kept.{with_runs}
+use Rattle.bx_entries.specs.Kept.{Kept}
+use Rattle.bx_entries.specs.inner.Kept.{with_runs}
 use Rattle.bx_image.specs.Change.{restore, IsOf, IsAsGood}
-use Rattle.bx_journal.specs.declared.format.version.Version.{Version}
-use Rattle.bx_journal.specs.declared.format.version.Version.TheVariants.{Second}
-use Rattle.bx_journal.specs.Line.{end_line}
-use Rattle.bx_journal.specs.Entry.{rows, head_lines, head_text, end_text}
-use Rattle.bx_journal.specs.Text.{IsPrefix, Reading, Entry, Ending, IsRest, split, start, may_begin, after_lines, is_short}
+use Rattle.bx_entries.specs.declared.format.version.Version.{Version}
+use Rattle.bx_entries.specs.declared.format.version.Version.TheVariants.{Second}
+use Rattle.bx_entries.specs.Line.{end_line}
+use Rattle.bx_entries.specs.Entry.{rows, head_lines, head_text, end_text}
+use Rattle.bx_entries.specs.Text.{IsPrefix, Reading, Entry, Ending, IsRest, split, start, may_begin, after_lines, is_short}
 use Rattle.bx_journal.specs.Stack.{stack_of, HaveLengths, AllCover, image_at, recovered, CoversAt, Recovers}
 use Rattle.bx_journal.specs.Phase.{IsAtRest, RecoversEither}
 use Rattle.bx_journal.specs.inner.Phase.{IsOpen, as_read}
-use Rattle.bx_journal.proofs.Splits.{split-append}
-use Rattle.bx_journal.proofs.Runs.{SafeRun, Goes, GoesAllBy, safe_prefix, safe_all, after_lines-append, empty_rest}
-use Rattle.bx_journal.proofs.Gathered.{as_read_byte}
-use Rattle.bx_journal.proofs.RowLemmas.{restore_same, covers_same, all_rows_are}
-use Rattle.bx_journal.proofs.EntryRun.{head_run, end_run, ending, between}
+use Rattle.bx_entries.proofs.Splits.{split-append}
+use Rattle.bx_entries.proofs.Runs.{SafeRun, Goes, GoesAllBy, safe_prefix, safe_all, after_lines-append, empty_rest}
+use Rattle.bx_entries.proofs.Gathered.{as_read_byte}
+use Rattle.bx_entries.proofs.RowLemmas.{restore_same, covers_same, all_rows_are}
+use Rattle.bx_entries.proofs.EntryRun.{head_run, end_run, ending, between}
 
 -- what a reading has for an image and a stack
 pub record Fine (x : List ℕ) (stack : List (List ℕ)) (r : Reading) : Type 0 where

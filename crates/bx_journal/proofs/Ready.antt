@@ -1,11 +1,11 @@
 -- What an entry takes, from what was read and prepared.
 use Rattle.std.proofs.Common.{◌≡◌, ℕ, suc, ◌+◌, ◌<◌, ◌≤◌, List, [], ◌∷◌, length, refl, ap, ◌∙◌, subst, arith}
 use Rattle.bx_image.specs.declared.change.TheConstants.{MAX_LEN}
-use Rattle.bx_journal.specs.Kept.{Kept, kept_of}
+use Rattle.bx_entries.specs.Kept.{Kept, kept_of}
 use Rattle.bx_image.specs.declared.change.Change.{Change}
 use Rattle.bx_image.specs.Change.{effect, saved, IsOf}
-use Rattle.bx_journal.specs.Entry.{head_text, end_text}
-use Rattle.bx_journal.specs.Text.{Entry}
+use Rattle.bx_entries.specs.Entry.{head_text, end_text}
+use Rattle.bx_entries.specs.Text.{Entry}
 use Rattle.bx_journal.specs.Stack.{stack_of}
 use Rattle.bx_journal.specs.Machine.{top}
 use Rattle.bx_journal.specs.Phase.{IsAtRest}

@@ -1,23 +1,23 @@
 -- What is found in a journal's text: finished entries alone, or something unfinished.
 use Rattle.std.proofs.Common.{◌≡◌, ℕ, ◌≤◌, List, length, refl, ap, sym, ◌∙◌, subst, arith, Option, length-drop}
 use Rattle.bx_image.specs.declared.record.Saved.{Saved}
-use Rattle.bx_journal.specs.declared.format.version.Version.{Version}
-use Rattle.bx_journal.specs.declared.read.whole.JournalRead.{JournalRead}
-use Rattle.bx_journal.specs.declared.read.types.StageRead.{StageRead}
-use Rattle.bx_journal.specs.declared.read.types.StageRead.TheVariants.{Between as BetweenRead, Saving as SavingRead, Ending as EndingRead}
+use Rattle.bx_entries.specs.declared.format.version.Version.{Version}
+use Rattle.bx_entries.specs.declared.read.whole.JournalRead.{JournalRead}
+use Rattle.bx_entries.specs.declared.read.types.StageRead.{StageRead}
+use Rattle.bx_entries.specs.declared.read.types.StageRead.TheVariants.{Between as BetweenRead, Saving as SavingRead, Ending as EndingRead}
 use Rattle.bx_journal.specs.declared.session.fault.SessionFault.{SessionFault}
 use Rattle.bx_journal.specs.declared.session.fault.SessionFault.TheVariants.{NoMemory, TooLarge, DeviceFailed, Damaged, TooFew, JournalFull, Interrupted, Broken, LengthDiffers, NothingToRedo, RedoDamaged}
-use Rattle.bx_journal.specs.inner.Journal.{HasRead}
+use Rattle.bx_entries.specs.inner.Journal.{HasRead}
 use Rattle.bx_journal.specs.Opening.{FaultCounts, OneMore, OneMoreOfThree, ThreeCounts}
 use Rattle.bx_journal.specs.inner.Opening.{LookFault}
-use Rattle.bx_journal.specs.Parsed.{told_by}
-use Rattle.bx_journal.specs.inner.Parsed.{entries_of, stage_of, reading_of}
+use Rattle.bx_entries.specs.Parsed.{told_by}
+use Rattle.bx_entries.specs.inner.Parsed.{entries_of, stage_of, reading_of}
 use Rattle.bx_journal.specs.inner.Recovery.{RecoverFault}
 use Rattle.bx_journal.specs.Redo.{IsClean, IsRefusedAt}
-use Rattle.bx_journal.specs.inner.Tally.{IsCounted}
-use Rattle.bx_journal.specs.Text.{Entry, Between, Reading, Reads}
+use Rattle.bx_entries.specs.inner.Tally.{IsCounted}
+use Rattle.bx_entries.specs.Text.{Entry, Between, Reading, Reads}
 use Rattle.bx_journal.proofs.OpenLemmas.{read_once}
-use Rattle.bx_journal.proofs.ReadLemmas.{length-entries_of}
+use Rattle.bx_entries.proofs.ReadLemmas.{length-entries_of}
 use Rattle.bx_journal.proofs.TailLemmas.{begins_at, begin_mark}
 use Rattle.bx_journal.proofs.Tails.{rest_none}
 

@@ -2,15 +2,15 @@
 use Rattle.std.proofs.Common.{◌≡◌, ℕ, ◌+◌, List, ◌∷◌, ◌++◌, length, take, drop, ap, sym, ◌∙◌, subst, append_assoc}
 use Rattle.bx_image.specs.declared.change.Change.{Change}
 use Rattle.bx_image.specs.Change.{effect, saved, restore, IsAsGood}
-use Rattle.bx_journal.specs.Entry.{head_text, entry_text}
+use Rattle.bx_entries.specs.Entry.{head_text, entry_text}
 use Rattle.bx_journal.specs.Images.{Images, redo_of}
-use Rattle.bx_journal.specs.Kept.{Kept, kept_of}
+use Rattle.bx_entries.specs.Kept.{Kept, kept_of}
 use Rattle.bx_journal.specs.Machine.{changes_of}
-use Rattle.bx_journal.specs.inner.Parsed.{entry_of}
+use Rattle.bx_entries.specs.inner.Parsed.{entry_of}
 use Rattle.bx_journal.specs.Stack.{StandsFor}
-use Rattle.bx_journal.specs.Text.{IsPrefix}
+use Rattle.bx_entries.specs.Text.{IsPrefix}
 use Rattle.bx_journal.specs.inner.Turns.{AreStanding, RedoesOne}
-use Rattle.bx_journal.specs.declared.read.types.EntryRead.{EntryRead}
+use Rattle.bx_entries.specs.declared.read.types.EntryRead.{EntryRead}
 use Rattle.bx_journal.proofs.LoopLemmas.{change_back}
 use Rattle.bx_journal.proofs.Performed.{performed}
 use Rattle.bx_journal.proofs.RedoLoop.{WritesAgain, count_one, redo_next}

@@ -4,7 +4,7 @@ use Rattle.bx_journal.specs.declared.session.fault.SessionFault.{SessionFault}
 use Rattle.bx_journal.specs.declared.session.fault.SessionFault.TheVariants.{NoMemory, TooLarge, DeviceFailed, Damaged, TooFew, JournalFull, Interrupted, Broken, LengthDiffers, NothingToRedo, RedoDamaged}
 use Rattle.bx_journal.specs.Images.{Images, redo_of, redone_by}
 use Rattle.bx_journal.specs.Opening.{FaultCounts}
-use Rattle.bx_journal.specs.Text.{Between}
+use Rattle.bx_entries.specs.Text.{Between}
 use Rattle.bx_journal.specs.Undoing.{AgainFault, HasCount}
 use Rattle.bx_journal.specs.inner.Undoing.{RedoAgainFault, redo_fault}
 use Rattle.bx_journal.proofs.Judged.{undamaged}

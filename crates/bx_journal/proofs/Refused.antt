@@ -3,15 +3,15 @@ use Rattle.std.proofs.Common.{◌≡◌, ℕ, zero, suc, ◌+◌, ◌-◌, ◌�
 use Rattle.std.specs.Prelude.{is_some, IsTrue, IfSome}
 use Rattle.std.proofs.lemmas.Bool.{cases_lt}
 use Rattle.std.proofs.Math.Seq.{take-add}
-use Rattle.bx_journal.specs.Parsed.{told_by}
-use Rattle.bx_journal.specs.Text.{Entry, Between, Reading, split, start, after_lines}
+use Rattle.bx_entries.specs.Parsed.{told_by}
+use Rattle.bx_entries.specs.Text.{Entry, Between, Reading, split, start, after_lines}
 use Rattle.bx_journal.specs.Stack.{HaveLengths}
-use Rattle.bx_journal.specs.Undoing.{IsFinished}
-use Rattle.bx_journal.proofs.Foreign.{no_way_back}
+use Rattle.bx_entries.specs.Finished.{IsFinished, AllTell}
+use Rattle.bx_entries.proofs.Foreign.{no_way_back}
 use Rattle.bx_journal.proofs.LawProofs.{damaged_at_one}
 use Rattle.bx_journal.proofs.Phases.{length-stack_of}
-use Rattle.bx_journal.proofs.Runs.{after_lines-append}
-use Rattle.bx_journal.specs.Redo.{AllTell, IsRedoOf, BeginsAt, HasTailAt, IsTooManyAt, IsNoRedoAt, DamagedLine, Tail, FirstForm, IsRefusedAt, NoRedo, TooMany, Off}
+use Rattle.bx_entries.proofs.Runs.{after_lines-append}
+use Rattle.bx_journal.specs.Redo.{IsRedoOf, BeginsAt, HasTailAt, IsTooManyAt, IsNoRedoAt, DamagedLine, Tail, FirstForm, IsRefusedAt, NoRedo, TooMany, Off}
 use Rattle.bx_journal.specs.RedoLaws.{RedoLineOne}
 use Rattle.bx_journal.proofs.RedoText.{one_reading, one_list}
 

@@ -3,19 +3,19 @@ use Rattle.std.proofs.Common.{◌≡◌, ℕ, suc, ◌+◌, ◌≤◌, Bool, tru
 use Rattle.std.specs.Prelude.{◌&&◌, IfSome, nat_le, if◌then◌else◌, option_map}
 use Rattle.std.specs.Str.{bytes_eq}
 use Rattle.std.proofs.lemmas.Grind.{common_steps}
-use Rattle.bx_journal.specs.Kept.{Run, Kept, with_run}
-use Rattle.bx_journal.proofs.Gathered.{with_run-within}
+use Rattle.bx_entries.specs.Kept.{Run, Kept, with_run}
+use Rattle.bx_entries.proofs.Gathered.{with_run-within}
 use Rattle.bx_image.specs.Image.{image_of, end_of}
 use Rattle.bx_image.specs.Change.{AllWithin, restore, byte_in}
 use Rattle.std.specs.Prelude.{unwrap_or, slice_index}
 use Rattle.std.proofs.lemmas.List.FromFn.{length-map-range_with_len}
-use Rattle.bx_journal.specs.declared.format.version.Version.{Version}
-use Rattle.bx_journal.specs.DumpLine.{piece_of}
-use Rattle.bx_journal.specs.Line.{save_line, saved_in}
-use Rattle.bx_journal.specs.Text.{Entry, Stage, Between, Saving, Ending, Reading, next, next_at, start, after_lines, may_begin}
+use Rattle.bx_entries.specs.declared.format.version.Version.{Version}
+use Rattle.bx_entries.specs.DumpLine.{piece_of}
+use Rattle.bx_entries.specs.Line.{save_line, saved_in}
+use Rattle.bx_entries.specs.Text.{Entry, Stage, Between, Saving, Ending, Reading, next, next_at, start, after_lines, may_begin}
 use Rattle.bx_journal.specs.Stack.{HaveLengths}
-use Rattle.bx_journal.proofs.Inverse.{bind_some, map_some, test_some, next_between, next_ending}
-use Rattle.bx_journal.proofs.Foreign.{and_true}
+use Rattle.bx_entries.proofs.Inverse.{bind_some, map_some, test_some, next_between, next_ending}
+use Rattle.bx_entries.proofs.Foreign.{and_true}
 
 abbrev pub AreSane : List Entry → Type 0
 AreSane [] = Unit {0}

@@ -3,19 +3,18 @@ use Rattle.std.proofs.Common.{◌≡◌, ℕ, suc, ◌+◌, ◌<◌, ◌≤◌, 
 use Rattle.std.specs.Prelude.{sum, All, option_map, if◌then◌else◌, ◌&&◌, nat_le}
 use Rattle.std.specs.Str.{bytes_eq}
 use Rattle.std.proofs.lemmas.List.Elements.{All-nil, All-cons, All-weaker}
-use Rattle.bx_journal.specs.Kept.{Run, with_run}
-use Rattle.bx_journal.proofs.Gathered.{with_run-sum}
-use Rattle.bx_journal.specs.Kept.{kept_of}
-use Rattle.bx_journal.specs.declared.read.types.EntryRead.{EntryRead}
-use Rattle.bx_journal.specs.DumpLine.{piece_of}
-use Rattle.bx_journal.specs.Line.{save_line, saved_in}
-use Rattle.bx_journal.specs.Text.{Entry, Stage, Between, Saving, Ending, Reading, Reads, next, next_at, start, after_lines, split, joined, ended}
+use Rattle.bx_entries.specs.Kept.{Run, with_run, kept_of}
+use Rattle.bx_entries.proofs.Gathered.{with_run-sum}
+use Rattle.bx_entries.specs.declared.read.types.EntryRead.{EntryRead}
+use Rattle.bx_entries.specs.DumpLine.{piece_of}
+use Rattle.bx_entries.specs.Line.{save_line, saved_in}
+use Rattle.bx_entries.specs.Text.{Entry, Stage, Between, Saving, Ending, Reading, Reads, next, next_at, start, after_lines, split, joined, ended}
 use Rattle.bx_journal.specs.inner.Rows.{saved_length}
-use Rattle.bx_journal.specs.inner.Parsed.{entry_of, entries_onto, entries_of}
-use Rattle.bx_journal.proofs.Inverse.{bind_some, map_some, test_some, next_between, next_ending}
+use Rattle.bx_entries.specs.inner.Parsed.{entry_of, entries_onto, entries_of}
+use Rattle.bx_entries.proofs.Inverse.{bind_some, map_some, test_some, next_between, next_ending}
 use Rattle.bx_journal.proofs.Tails.{joined_rest}
 use Rattle.bx_journal.proofs.LogLemmas.{run_length}
-use Rattle.bx_journal.proofs.PieceBound.{piece_short}
+use Rattle.bx_entries.proofs.PieceBound.{piece_short}
 
 abbrev run_size : Run → ℕ
 run_size = run_length {A = Unit {0}}

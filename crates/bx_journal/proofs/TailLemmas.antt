@@ -1,21 +1,21 @@
 -- The unfinished end of a text that was read.
 use Rattle.std.proofs.Common.{◌≡◌, ℕ, suc, List, [], length, map, ap, sym, ◌∙◌, subst}
 use Rattle.bx_image.specs.declared.record.Saved.{Saved}
-use Rattle.bx_journal.specs.Kept.{run_of}
+use Rattle.bx_entries.specs.Kept.{run_of}
 use Rattle.bx_image.specs.Change.{AllWithin}
-use Rattle.bx_journal.specs.declared.format.version.Version.{Version}
-use Rattle.bx_journal.specs.declared.read.whole.JournalRead.{JournalRead}
-use Rattle.bx_journal.specs.declared.read.types.EntryRead.{EntryRead}
-use Rattle.bx_journal.specs.declared.read.types.StageRead.{StageRead}
-use Rattle.bx_journal.specs.declared.read.types.StageRead.TheVariants.{Between as BetweenRead, Saving as SavingRead, Ending as EndingRead}
-use Rattle.bx_journal.specs.Text.{Entry, Stage, Between, Reads, split}
+use Rattle.bx_entries.specs.declared.format.version.Version.{Version}
+use Rattle.bx_entries.specs.declared.read.whole.JournalRead.{JournalRead}
+use Rattle.bx_entries.specs.declared.read.types.EntryRead.{EntryRead}
+use Rattle.bx_entries.specs.declared.read.types.StageRead.{StageRead}
+use Rattle.bx_entries.specs.declared.read.types.StageRead.TheVariants.{Between as BetweenRead, Saving as SavingRead, Ending as EndingRead}
+use Rattle.bx_entries.specs.Text.{Entry, Stage, Between, Reads, split}
 use Rattle.bx_journal.specs.Stack.{Recovers}
 use Rattle.bx_journal.specs.Phase.{IsAtRest}
 use Rattle.bx_journal.specs.inner.Step.{HasTail}
-use Rattle.bx_journal.specs.inner.Mark.{IsMark}
-use Rattle.bx_journal.specs.inner.Journal.{HasRead}
-use Rattle.bx_journal.specs.inner.Parsed.{entries_of, stage_of, reading_of, IsMarked}
-use Rattle.bx_journal.proofs.ReadLemmas.{length-entries_of}
+use Rattle.bx_entries.specs.inner.Mark.{IsMark}
+use Rattle.bx_entries.specs.inner.Journal.{HasRead}
+use Rattle.bx_entries.specs.inner.Parsed.{entries_of, stage_of, reading_of, IsMarked}
+use Rattle.bx_entries.proofs.ReadLemmas.{length-entries_of}
 use Rattle.bx_journal.proofs.Sane.{read_sane}
 use Rattle.bx_journal.proofs.Tails.{tail_of, counted_stack, clean_rest, rest_none}
 

@@ -6,24 +6,24 @@ use Rattle.std.proofs.lemmas.Grind.{common_steps}
 use Rattle.std.proofs.lemmas.List.{take-append-drop, take-append-le}
 use Rattle.std.proofs.lemmas.List.Folds.{list_all-append}
 use Rattle.std.proofs.Math.Seq.{take-append-add}
-use Rattle.bx_journal.specs.Kept.{Kept}
+use Rattle.bx_entries.specs.Kept.{Kept}
 use Rattle.bx_image.specs.Change.{IsAsGood}
-use Rattle.bx_journal.specs.declared.format.version.Version.{Version}
-use Rattle.bx_journal.specs.inner.Plain.{HasNoNewline}
-use Rattle.bx_journal.specs.Text.{IsPrefix, Reading, Entry, Stage, Between, Saving, Ending, IsRest, Reads, Split, split, with_front, start, joined, after_lines, is_short, begins_with_s}
+use Rattle.bx_entries.specs.declared.format.version.Version.{Version}
+use Rattle.bx_entries.specs.inner.Plain.{HasNoNewline}
+use Rattle.bx_entries.specs.Text.{IsPrefix, Reading, Entry, Stage, Between, Saving, Ending, IsRest, Reads, Split, split, with_front, start, joined, after_lines, is_short, begins_with_s}
 use Rattle.bx_journal.specs.Stack.{stack_of, HaveLengths, AllCover, image_at, recovered, IsSound, Recovers}
 use Rattle.bx_journal.specs.Phase.{IsAtRest}
-use Rattle.bx_journal.specs.inner.Mark.{IsMark}
+use Rattle.bx_entries.specs.inner.Mark.{IsMark}
 use Rattle.bx_journal.specs.inner.Step.{HasTail}
 use Rattle.bx_store.specs.Store.{IsPartlyCut}
-use Rattle.bx_journal.proofs.Splits.{split-append, split-plain, plain_front}
-use Rattle.bx_journal.proofs.EntryRun.{short_front}
-use Rattle.bx_journal.proofs.Runs.{SafeRun, GoesBy, GoesAllBy, Goes, safe_prefix, safe_all, after_lines-append}
-use Rattle.bx_journal.proofs.Foreign.{lines_plain, and_true, OnTheWay, foreign_run, IsEarly, way_in_tail}
+use Rattle.bx_entries.proofs.Splits.{split-append, split-plain, plain_front}
+use Rattle.bx_entries.proofs.EntryRun.{short_front}
+use Rattle.bx_entries.proofs.Runs.{SafeRun, GoesBy, GoesAllBy, Goes, safe_prefix, safe_all, after_lines-append}
+use Rattle.bx_entries.proofs.Foreign.{lines_plain, and_true, OnTheWay, foreign_run, IsEarly, way_in_tail}
 use Rattle.bx_journal.proofs.Phases.{Fine, IsWhole, ReadsShort, extends, length-stack_of}
 use Rattle.std.proofs.Math.ListN.{drop_of_length-le}
 use Rattle.bx_journal.proofs.Cuts.{Leaves, cut_front}
-use Rattle.bx_journal.proofs.Damage.{split_at_mark}
+use Rattle.bx_entries.proofs.Damage.{split_at_mark}
 
 prefix_of : (t a b : List ℕ) → IsPrefix t a → IsPrefix a b → IsPrefix t b
 prefix_of t a b p q = (p.0 ++ q.0, q.1 ∙ ap (λ s. s ++ q.0) p.1 ∙ append_assoc t p.0 q.0)

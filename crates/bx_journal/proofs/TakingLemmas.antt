@@ -4,12 +4,12 @@ use Rattle.std.specs.Prelude.{reverse, slice_index_or}
 use Rattle.std.proofs.lemmas.List.{take_more}
 use Rattle.bx_image.specs.declared.record.Saved.{Saved}
 use Rattle.bx_image.specs.Change.{AllWithin}
-use Rattle.bx_journal.specs.Kept.{kept_of}
-use Rattle.bx_journal.specs.Entry.{head_text, end_text}
+use Rattle.bx_entries.specs.Kept.{kept_of}
+use Rattle.bx_entries.specs.Entry.{head_text, end_text}
 use Rattle.bx_journal.specs.Images.{Images}
 use Rattle.bx_journal.specs.Machine.{changes_of}
 use Rattle.bx_journal.specs.Redo.{IsRedoOf}
-use Rattle.bx_journal.specs.declared.read.types.EntryRead.{EntryRead}
+use Rattle.bx_entries.specs.declared.read.types.EntryRead.{EntryRead}
 use Rattle.bx_journal.specs.inner.Takens.{IsZeros, AreZeros, AllShaped, entries_len, length_at}
 use Rattle.bx_journal.proofs.Shapes.{end_long}
 use Rattle.bx_journal.proofs.TakenLemmas.{reverse_last, len_pop}

@@ -1,16 +1,16 @@
 -- The loop of an undo.
 use Rattle.std.proofs.Common.{◌≡◌, ℕ, zero, suc, ◌+◌, ◌≤◌, List, [], ◌∷◌, ◌++◌, length, map, take, drop, refl, ap, sym, ◌∙◌, subst, arith, Some, length-take}
 use Rattle.std.proofs.lemmas.List.{take-take}
-use Rattle.bx_journal.specs.declared.read.types.EntryRead.{EntryRead}
-use Rattle.bx_journal.specs.Text.{Entry, Between, Ending, Reading, split, start, after_lines}
-use Rattle.bx_journal.specs.Kept.{run_of, kept_of}
+use Rattle.bx_entries.specs.declared.read.types.EntryRead.{EntryRead}
+use Rattle.bx_entries.specs.Text.{Entry, Between, Ending, Reading, split, start, after_lines}
+use Rattle.bx_entries.specs.Kept.{run_of, kept_of}
 use Rattle.bx_journal.specs.Phase.{IsAtRest}
-use Rattle.bx_journal.specs.inner.Mark.{IsMark, HasMarks}
+use Rattle.bx_entries.specs.inner.Mark.{IsMark, HasMarks}
 use Rattle.bx_journal.specs.inner.Step.{TakesBack}
 use Rattle.bx_journal.specs.Stack.{stack_of}
-use Rattle.bx_journal.specs.inner.Parsed.{entry_of, entries_of, AreMarked, AllKept}
+use Rattle.bx_entries.specs.inner.Parsed.{entry_of, entries_of, AreMarked, AllKept}
 use Rattle.bx_image.specs.Change.{AllWithin}
-use Rattle.bx_journal.proofs.ReadLemmas.{onto-push, marked-pop}
+use Rattle.bx_entries.proofs.ReadLemmas.{onto-push, marked-pop}
 use Rattle.bx_journal.proofs.UndoSteps.{mark_in}
 
 -- the entries that are left end at a place

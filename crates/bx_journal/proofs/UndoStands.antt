@@ -2,13 +2,14 @@
 use Rattle.std.proofs.Common.{◌≡◌, ℕ, zero, suc, ◌+◌, ◌≤◌, List, [], ◌∷◌, ◌++◌, length, map, take, drop, refl, ap, sym, ◌∙◌, subst, inl, arith, Some}
 use Rattle.std.proofs.lemmas.List.{take-append-drop}
 use Rattle.bx_image.specs.Change.{restore, AllWithin}
-use Rattle.bx_journal.specs.declared.read.types.EntryRead.{EntryRead}
-use Rattle.bx_journal.specs.Text.{Entry, Between, Reading, Reads, IsRest, split, start, after_lines}
+use Rattle.bx_entries.specs.declared.read.types.EntryRead.{EntryRead}
+use Rattle.bx_entries.specs.Text.{Entry, Between, Reading, Reads, IsRest, split, start, after_lines}
 use Rattle.bx_journal.specs.Stack.{StandsFor, HaveLengths, stack_of}
-use Rattle.bx_journal.specs.inner.Parsed.{entry_of, entries_of, AllKept}
-use Rattle.bx_journal.specs.Kept.{run_of, kept_of}
-use Rattle.bx_journal.specs.Undoing.{IsFinished, HasLeft}
-use Rattle.bx_journal.proofs.ReadLemmas.{onto-push}
+use Rattle.bx_entries.specs.inner.Parsed.{entry_of, entries_of, AllKept}
+use Rattle.bx_entries.specs.Kept.{run_of, kept_of}
+use Rattle.bx_entries.specs.Finished.{IsFinished}
+use Rattle.bx_journal.specs.Undoing.{HasLeft}
+use Rattle.bx_entries.proofs.ReadLemmas.{onto-push}
 use Rattle.bx_journal.proofs.UndoLoop.{IsUndone, popped, cut_at, kept_pop}
 
 -- the text at the mark

@@ -1,11 +1,11 @@
 -- The steps of taking an entry back, over texts and images.
 use Rattle.std.proofs.Common.{◌≡◌, ℕ, ◌≤◌, List, ◌∷◌, length, take, sym, subst, arith, length-take}
 use Rattle.std.proofs.lemmas.List.{take-take}
-use Rattle.bx_journal.specs.declared.format.version.Version.{Version}
-use Rattle.bx_journal.specs.Text.{Entry, Between, Ending, Reading}
+use Rattle.bx_entries.specs.declared.format.version.Version.{Version}
+use Rattle.bx_entries.specs.Text.{Entry, Between, Ending, Reading}
 use Rattle.bx_journal.specs.Phase.{RecoversEither}
 use Rattle.bx_journal.specs.inner.Phase.{IsOpen}
-use Rattle.bx_journal.specs.inner.Mark.{IsMark}
+use Rattle.bx_entries.specs.inner.Mark.{IsMark}
 use Rattle.bx_journal.specs.inner.Step.{HasTail, TakesBack}
 use Rattle.bx_store.specs.Store.{IsPartlyCut}
 use Rattle.bx_journal.proofs.Cuts.{Newest, newest_of, cut_end_fault, cut_end_ok}

@@ -1,12 +1,12 @@
 -- What a session's calls answer.
 use Rattle.std.specs.Prelude.{◌≡◌, ◌≤◌, ℕ, suc, Some, List, [], ◌∷◌, ◌++◌, length, drop, sum, map}
-use Rattle.bx_journal.specs.Kept.{Run}
+use Rattle.bx_entries.specs.Kept.{Run}
 use Rattle.bx_journal.specs.declared.session.answers.LogRow.{LogRow}
 use Rattle.bx_journal.specs.declared.session.answers.How.{How}
 use Rattle.bx_journal.specs.declared.session.answers.How.TheVariants.{Clean, Dropped, Restored}
 use Rattle.bx_journal.specs.declared.session.fault.SessionFault.{SessionFault}
 use Rattle.bx_journal.specs.declared.session.fault.SessionFault.TheVariants.{NoMemory, DeviceFailed, Interrupted, LengthDiffers, RedoDamaged}
-use Rattle.bx_journal.specs.Text.{Entry, Stage, Between, Saving, Ending, Reading}
+use Rattle.bx_entries.specs.Text.{Entry, Stage, Between, Saving, Ending, Reading}
 use Rattle.bx_journal.specs.Stack.{image_at, Recovers}
 
 -- a row for each entry, the oldest first

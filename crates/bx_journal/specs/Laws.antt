@@ -1,10 +1,10 @@
 -- Laws of the journal.
 use Rattle.std.specs.Prelude.{◌≡◌, ◌<◌, ◌≤◌, ℕ, suc, IsTrue, Some, List, [], ◌∷◌, ◌++◌, length}
 use Rattle.bx_image.specs.declared.change.TheConstants.{MAX_LEN}
-use Rattle.bx_journal.specs.Kept.{Kept}
+use Rattle.bx_entries.specs.Kept.{Kept}
 use Rattle.bx_image.specs.Change.{byte_in, AllWithin, HaveBytes}
-use Rattle.bx_journal.specs.Entry.{entry_text}
-use Rattle.bx_journal.specs.Text.{Entry, Between, Reads, split, may_begin, IsAccepted, IsDamagedAt}
+use Rattle.bx_entries.specs.Entry.{entry_text}
+use Rattle.bx_entries.specs.Text.{Entry, Between, Reads, split, may_begin, IsAccepted, IsDamagedAt}
 use Rattle.bx_journal.specs.Stack.{StandsFor}
 use Rattle.bx_journal.specs.Phase.{IsAtRest}
 

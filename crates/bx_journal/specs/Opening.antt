@@ -3,7 +3,7 @@ use Rattle.std.specs.Prelude.{◌≡◌, ◌≤◌, ℕ, ◌+◌, List, length}
 use Rattle.bx_journal.specs.declared.session.answers.How.{How}
 use Rattle.bx_journal.specs.declared.session.fault.SessionFault.{SessionFault}
 use Rattle.bx_journal.specs.declared.session.fault.SessionFault.TheVariants.{NoMemory, DeviceFailed, Damaged, Interrupted, LengthDiffers}
-use Rattle.bx_journal.specs.Text.{Reading, split}
+use Rattle.bx_entries.specs.Text.{Reading, split}
 use Rattle.bx_journal.specs.Stack.{StandsFor, recovered}
 use Rattle.bx_journal.specs.Calls.{how_of}
 

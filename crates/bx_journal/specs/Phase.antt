@@ -1,6 +1,6 @@
 -- The phases of a change and of an undo.
 use Rattle.std.specs.Prelude.{◌⊎◌, ℕ, List}
-use Rattle.bx_journal.specs.Text.{Between}
+use Rattle.bx_entries.specs.Text.{Between}
 use Rattle.bx_journal.specs.Stack.{StandsFor, IsSound, Recovers}
 
 -- the pair stands for the stack, and is sound

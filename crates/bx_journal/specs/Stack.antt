@@ -2,7 +2,7 @@
 use Rattle.std.specs.Prelude.{◌≡◌, ℕ, List, [], ◌∷◌, length, IfSome, IsTrue}
 use Rattle.std.specs.List.{list_all}
 use Rattle.bx_image.specs.Change.{restore, Covers}
-use Rattle.bx_journal.specs.Text.{Entry, Stage, Between, Saving, Ending, Reading, Reads, split, is_short}
+use Rattle.bx_entries.specs.Text.{Entry, Stage, Between, Saving, Ending, Reading, Reads, split, is_short}
 
 -- the image, and those that undoing the entries gives, one after another
 unfoldable pub stack_of : List Entry → List ℕ → List (List ℕ)

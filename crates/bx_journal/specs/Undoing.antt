@@ -1,13 +1,9 @@
 -- What undoing starts from and leaves.
-use Rattle.std.specs.Prelude.{◌≡◌, ◌⊎◌, ℕ, List, [], length}
+use Rattle.std.specs.Prelude.{◌≡◌, ◌⊎◌, ℕ, List, length}
 use Rattle.bx_journal.specs.declared.session.fault.SessionFault.{SessionFault}
 use Rattle.bx_journal.specs.declared.session.fault.SessionFault.TheVariants.{NoMemory, TooLarge, DeviceFailed, Damaged, TooFew, JournalFull, Interrupted, Broken, LengthDiffers, NothingToRedo, RedoDamaged}
-use Rattle.bx_journal.specs.Text.{Entry, Between, Reads, split, IsPrefix, IsDamagedAt, IsAccepted}
-
--- the text is these finished entries alone
-pub record IsFinished (text : List ℕ) (entries : List Entry) : Type 0 where
-  pub reads : Reads text (record { entries = entries; stage = Between })
-  pub whole : (split text).rest ≡ []
+use Rattle.bx_entries.specs.Finished.{IsFinished}
+use Rattle.bx_entries.specs.Text.{Entry, IsPrefix, IsDamagedAt, IsAccepted}
 
 -- what undoing leaves of the text: a front, which is these finished entries alone
 pub record HasLeft (old new : List ℕ) (entries : List Entry) : Type 0 where

@@ -1,20 +1,11 @@
 -- What no public contract names.
 pub mod Calls
-pub mod Entry
 pub mod Fault
-pub mod Followed
-pub mod Front
 pub mod Images
-pub mod Journal
 pub mod Judging
-pub mod Kept
-pub mod Line
-pub mod Mark
 pub mod Opening
 pub mod Page
-pub mod Parsed
 pub mod Phase
-pub mod Plain
 pub mod Recovery
 pub mod Redo
 pub mod RedoLaws
@@ -22,6 +13,5 @@ pub mod Rows
 pub mod Standing
 pub mod Step
 pub mod Takens
-pub mod Tally
 pub mod Turns
 pub mod Undoing

@@ -1,8 +1,8 @@
 //! A session: changes to an image, each with its entry in the journal.
 ghost use Rattle.std.specs.Prelude.{◌≡◌, ◌↔◌, ◌⊎◌, ◌+◌, ◌<◌, ◌≤◌, ◌^◌, [], ◌∷◌, ◌++◌, List, ℕ, length, true, false, IfOk, IfErr, OnOk, OnErr, IsErrOf, is_ok, if◌then◌else◌};
 ghost use Rattle.bx_image.specs.Change.{effect, saved, Fits, AllWithin};
-ghost use Rattle.bx_journal.specs.Kept.{kept_of};
-ghost use Rattle.bx_journal.specs.Entry.{head_text, end_text, entry_text};
+ghost use Rattle.bx_entries.specs.Kept.{kept_of};
+ghost use Rattle.bx_entries.specs.Entry.{head_text, end_text, entry_text};
 ghost use Rattle.bx_journal.specs.Images.{Images as Pictures, change_to};
 ghost use Rattle.bx_journal.specs.Machine.{PerformStep, top};
 ghost use Rattle.bx_journal.specs.Phase.{RecoversEither};
@@ -14,6 +14,7 @@ pub(crate) mod fault;
 mod log;
 mod open;
 mod prepare;
+pub(crate) mod read;
 mod records;
 mod redo;
 mod undo;
@@ -21,8 +22,8 @@ mod undo;
 use crate::SessionFault;
 use crate::protocol::entry::write_entry;
 use crate::protocol::redo_text::RedoCut;
-use crate::read::take_line::MOST_CHANGES;
 use crate::session::prepare::prepare_change;
+use bx_entries::MOST_CHANGES;
 use bx_image::{Change, Device, MAX_LEN};
 use bx_store::TextStore;
 use std::alloc::{Allocator, Global};

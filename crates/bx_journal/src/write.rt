@@ -1,3 +1,3 @@
-//! The text of an entry, gathered in pages and appended.
+//! The text of an entry, put to a store page by page.
 pub(crate) mod entry;
 pub(crate) mod page;

@@ -2,7 +2,7 @@
 use Rattle.std.specs.Prelude.{ℕ, List}
 use Rattle.bx_journal.specs.declared.session.fault.SessionFault.{SessionFault}
 use Rattle.bx_journal.specs.declared.session.fault.SessionFault.TheVariants.{NoMemory, Damaged}
-use Rattle.bx_journal.specs.Text.{IsDamagedAt}
+use Rattle.bx_entries.specs.Text.{IsDamagedAt}
 
 -- The one line at which a text that isn't accepted is damaged, or a fault that the text doesn't make
 abbrev pub ReadFault : List ℕ → SessionFault → Type 0

@@ -2,11 +2,11 @@
 use Rattle.std.specs.Prelude.{◌≡◌, ◌⊎◌, ◌≤◌, ℕ, suc, ◌+◌, is_some, IsTrue, Option, None, List, [], ◌++◌, ◌∷◌, length, take}
 use Rattle.bx_journal.specs.declared.session.fault.SessionFault.{SessionFault}
 use Rattle.bx_journal.specs.declared.session.fault.SessionFault.TheVariants.{NoMemory, TooLarge, DeviceFailed, Damaged, TooFew, JournalFull, Interrupted, Broken, LengthDiffers, NothingToRedo, RedoDamaged}
-use Rattle.bx_journal.specs.declared.read.types.EntryRead.{EntryRead}
-use Rattle.bx_journal.specs.Parsed.{told_by}
-use Rattle.bx_journal.specs.Redo.{AllTell, IsNoRedoAt, IsRefusedAt, IsTooManyAt}
-use Rattle.bx_journal.specs.Text.{Entry, split}
-use Rattle.bx_journal.specs.Undoing.{IsFinished}
+use Rattle.bx_entries.specs.declared.read.types.EntryRead.{EntryRead}
+use Rattle.bx_entries.specs.Parsed.{told_by}
+use Rattle.bx_entries.specs.Finished.{AllTell, IsFinished}
+use Rattle.bx_journal.specs.Redo.{IsNoRedoAt, IsRefusedAt, IsTooManyAt}
+use Rattle.bx_entries.specs.Text.{Entry, split}
 
 -- why a text isn't a redo text beside so many changes, whatever the image is
 abbrev pub IsUnfitAt : List ℕ → ℕ → ℕ → Type 0

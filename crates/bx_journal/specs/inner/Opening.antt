@@ -2,9 +2,9 @@
 use Rattle.std.specs.Prelude.{◌≤◌, ℕ, List}
 use Rattle.bx_journal.specs.declared.session.fault.SessionFault.{SessionFault}
 use Rattle.bx_journal.specs.declared.session.fault.SessionFault.TheVariants.{NoMemory, TooLarge, DeviceFailed, Damaged, TooFew, JournalFull, Interrupted, Broken, LengthDiffers, NothingToRedo, RedoDamaged}
-use Rattle.bx_journal.specs.declared.read.types.StageRead.{StageRead}
-use Rattle.bx_journal.specs.declared.read.types.StageRead.TheVariants.{Between as BetweenRead, Saving as SavingRead, Ending as EndingRead}
-use Rattle.bx_journal.specs.Text.{Entry}
+use Rattle.bx_entries.specs.declared.read.types.StageRead.{StageRead}
+use Rattle.bx_entries.specs.declared.read.types.StageRead.TheVariants.{Between as BetweenRead, Saving as SavingRead, Ending as EndingRead}
+use Rattle.bx_entries.specs.Text.{Entry}
 use Rattle.bx_journal.specs.Calls.{Differs}
 
 -- which fault may come between reading the text and the first write

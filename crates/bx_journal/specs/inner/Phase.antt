@@ -1,13 +1,13 @@
 -- What proofs alone need: the phases of a change and of an undo.
 use Rattle.std.specs.Prelude.{◌≡◌, ℕ, List, [], flat_map}
-use Rattle.bx_journal.specs.Kept.{Kept, kept_of}
-use Rattle.bx_journal.specs.inner.Kept.{with_runs}
+use Rattle.bx_entries.specs.Kept.{Kept, kept_of}
+use Rattle.bx_entries.specs.inner.Kept.{with_runs}
 use Rattle.bx_image.specs.declared.change.Change.{Change}
 use Rattle.bx_image.specs.Change.{restore, saved}
-use Rattle.bx_journal.specs.declared.format.version.Version.{Version}
-use Rattle.bx_journal.specs.declared.format.version.Version.TheVariants.{Second}
-use Rattle.bx_journal.specs.Text.{Entry, Ending, Reads, split}
-use Rattle.bx_journal.specs.Entry.{rows}
+use Rattle.bx_entries.specs.declared.format.version.Version.{Version}
+use Rattle.bx_entries.specs.declared.format.version.Version.TheVariants.{Second}
+use Rattle.bx_entries.specs.Text.{Entry, Ending, Reads, split}
+use Rattle.bx_entries.specs.Entry.{rows}
 use Rattle.bx_journal.specs.Stack.{stack_of, IsSound, HaveLengths}
 
 -- The text ends with the save line of an entry that keeps s, and restoring s gives the image of the stack's top. The pair is sound.

@@ -5,12 +5,12 @@ use Rattle.bx_journal.specs.declared.session.fault.SessionFault.{SessionFault}
 use Rattle.bx_journal.specs.declared.session.fault.SessionFault.TheVariants.{NoMemory, TooLarge, DeviceFailed, Damaged, TooFew, JournalFull, Interrupted, Broken, LengthDiffers, NothingToRedo, RedoDamaged}
 use Rattle.bx_journal.specs.declared.recovery.journal.Found.{Found}
 use Rattle.bx_journal.specs.declared.recovery.journal.Found.TheVariants.{Finished, Unfinished}
-use Rattle.bx_journal.specs.declared.read.whole.JournalRead.{JournalRead}
-use Rattle.bx_journal.specs.declared.read.types.StageRead.TheVariants.{Between as BetweenRead}
-use Rattle.bx_journal.specs.inner.Journal.{HasRead}
+use Rattle.bx_entries.specs.declared.read.whole.JournalRead.{JournalRead}
+use Rattle.bx_entries.specs.declared.read.types.StageRead.TheVariants.{Between as BetweenRead}
+use Rattle.bx_entries.specs.inner.Journal.{HasRead}
 use Rattle.bx_journal.specs.Redo.{IsRedoOf, IsRefusedAt, found_undone}
-use Rattle.bx_journal.specs.inner.Tally.{IsCounted}
-use Rattle.bx_journal.specs.Text.{IsDamagedAt}
+use Rattle.bx_entries.specs.inner.Tally.{IsCounted}
+use Rattle.bx_entries.specs.Text.{IsDamagedAt}
 
 -- so many finished entries alone were counted: the store's, where that is honest
 pub record IsCountedIn (honest : Type 0) (stored : List ℕ) (count : ℕ) (told : Option ℕ) : Type 0 where

@@ -4,16 +4,16 @@ use Rattle.bx_image.specs.declared.change.Change.{Change}
 use Rattle.bx_image.specs.declared.change.TheConstants.{MAX_LEN}
 use Rattle.bx_image.specs.declared.record.Saved.{Saved}
 use Rattle.bx_image.specs.Change.{saved, restore, IsOf, AllWithin, Restores}
-use Rattle.bx_journal.specs.Kept.{Kept, kept_of}
-use Rattle.bx_journal.specs.Entry.{entry_text}
+use Rattle.bx_entries.specs.Kept.{Kept, kept_of}
+use Rattle.bx_entries.specs.Entry.{entry_text}
 use Rattle.bx_journal.specs.Machine.{changes_of}
-use Rattle.bx_journal.specs.inner.Mark.{HasMarks}
+use Rattle.bx_entries.specs.inner.Mark.{HasMarks}
 use Rattle.bx_journal.specs.inner.Phase.{IsOpen}
 use Rattle.bx_journal.specs.inner.Step.{EndsEntry, TakesBack}
 use Rattle.bx_journal.specs.Stack.{Recovers}
-use Rattle.bx_journal.specs.Text.{Entry}
-use Rattle.bx_journal.specs.Undoing.{IsFinished}
-use Rattle.bx_journal.specs.declared.format.version.Version.{Version}
+use Rattle.bx_entries.specs.Text.{Entry}
+use Rattle.bx_entries.specs.Finished.{IsFinished}
+use Rattle.bx_entries.specs.declared.format.version.Version.{Version}
 use Rattle.bx_store.specs.Store.{IsPartlyCut, IsPartlyAppended}
 use Rattle.bx_journal.specs.Images.{Images, undone_by, redone_by, undo_of, redo_of}
 use Rattle.bx_journal.specs.Redo.{IsRedoOf, Finds}

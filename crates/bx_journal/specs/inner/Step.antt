@@ -1,17 +1,17 @@
 -- What the steps of a change start from.
 use Rattle.std.specs.Prelude.{◌≡◌, ◌≤◌, ℕ, List, ◌∷◌, length}
-use Rattle.bx_journal.specs.Kept.{Kept, kept_of}
+use Rattle.bx_entries.specs.Kept.{Kept, kept_of}
 use Rattle.bx_image.specs.declared.change.Change.{Change}
 use Rattle.bx_image.specs.declared.change.TheConstants.{MAX_LEN}
 use Rattle.bx_image.specs.Change.{effect, saved, IsOf}
-use Rattle.bx_journal.specs.declared.format.version.Version.TheVariants.{Second}
-use Rattle.bx_journal.specs.Entry.{head_text, end_text}
+use Rattle.bx_entries.specs.declared.format.version.Version.TheVariants.{Second}
+use Rattle.bx_entries.specs.Entry.{head_text, end_text}
 use Rattle.bx_journal.specs.Phase.{IsAtRest}
 use Rattle.bx_journal.specs.inner.Phase.{IsOpen}
-use Rattle.bx_journal.specs.Text.{Entry, Stage, Between, Reads}
+use Rattle.bx_entries.specs.Text.{Entry, Stage, Between, Reads}
 use Rattle.bx_journal.specs.Stack.{IsSound, HaveLengths, image_at, stack_of}
-use Rattle.bx_journal.specs.inner.Mark.{IsMark, HasMarks}
-use Rattle.bx_journal.specs.declared.format.version.Version.{Version}
+use Rattle.bx_entries.specs.inner.Mark.{IsMark, HasMarks}
+use Rattle.bx_entries.specs.declared.format.version.Version.{Version}
 
 -- what the head of an entry for x keeps
 pub record StartsEntry (text x : List ℕ) (stack : List (List ℕ)) (s : Kept) (head : List ℕ) : Type 0 where

@@ -6,11 +6,11 @@ use Rattle.bx_image.specs.declared.record.Saved.{Saved}
 use Rattle.bx_image.specs.Change.{saved, AllWithin, IsOf, Restores}
 use Rattle.bx_image.specs.Image.{zeros}
 use Rattle.bx_image.specs.Runs.{LieBelow}
-use Rattle.bx_journal.specs.Kept.{kept_of}
-use Rattle.bx_journal.specs.Entry.{entry_text}
+use Rattle.bx_entries.specs.Kept.{kept_of}
+use Rattle.bx_entries.specs.Entry.{entry_text}
 use Rattle.bx_journal.specs.declared.session.fault.SessionFault.{SessionFault}
 use Rattle.bx_journal.specs.declared.session.fault.SessionFault.TheVariants.{NoMemory, TooLarge, DeviceFailed, Damaged, TooFew, JournalFull, Interrupted, Broken, LengthDiffers, NothingToRedo, RedoDamaged}
-use Rattle.bx_journal.specs.declared.read.types.EntryRead.{EntryRead}
+use Rattle.bx_entries.specs.declared.read.types.EntryRead.{EntryRead}
 
 -- a record with zeros of what restoring an entry overwrites in an image of this length, if an entry can tell it
 pub record IsZeros {A : Type 0} (len : ℕ) (e : EntryRead A) (t : Saved A) : Type 0 where

@@ -4,15 +4,15 @@ use Rattle.bx_image.specs.declared.change.Change.{Change}
 use Rattle.bx_image.specs.declared.change.TheConstants.{MAX_LEN}
 use Rattle.bx_image.specs.declared.record.Saved.{Saved}
 use Rattle.bx_image.specs.Change.{effect, saved, restore, IsOf}
-use Rattle.bx_journal.specs.Kept.{Kept, kept_of}
-use Rattle.bx_journal.specs.Entry.{entry_text}
+use Rattle.bx_entries.specs.Kept.{Kept, kept_of}
+use Rattle.bx_entries.specs.Entry.{entry_text}
 use Rattle.bx_journal.specs.Machine.{changes_of}
-use Rattle.bx_journal.specs.inner.Mark.{HasMarks}
+use Rattle.bx_entries.specs.inner.Mark.{HasMarks}
 use Rattle.bx_journal.specs.Phase.{IsAtRest}
 use Rattle.bx_journal.specs.Stack.{StandsFor}
-use Rattle.bx_journal.specs.Text.{Entry}
-use Rattle.bx_journal.specs.Undoing.{IsFinished}
-use Rattle.bx_journal.specs.declared.format.version.Version.{Version}
+use Rattle.bx_entries.specs.Text.{Entry}
+use Rattle.bx_entries.specs.Finished.{IsFinished}
+use Rattle.bx_entries.specs.declared.format.version.Version.{Version}
 use Rattle.bx_journal.specs.declared.protocol.redo_text.RedoCut.{RedoCut}
 use Rattle.bx_journal.specs.declared.protocol.redo_text.RedoCut.TheVariants.{All, From}
 use Rattle.bx_journal.specs.Images.{Images, undo_of, redo_of, change_to}

@@ -2,11 +2,12 @@
 use Rattle.std.specs.Prelude.{◌≡◌, ◌≤◌, ◌<◌, ◌^◌, ℕ, List, [], length}
 use Rattle.bx_journal.specs.declared.session.fault.SessionFault.{SessionFault}
 use Rattle.bx_journal.specs.declared.session.fault.SessionFault.TheVariants.{NoMemory, TooLarge, DeviceFailed, Damaged, TooFew, JournalFull, Interrupted, Broken, LengthDiffers, NothingToRedo, RedoDamaged}
-use Rattle.bx_journal.specs.declared.read.types.EntryRead.{EntryRead}
-use Rattle.bx_journal.specs.Text.{Between}
-use Rattle.bx_journal.specs.inner.Mark.{IsMark}
-use Rattle.bx_journal.specs.inner.Parsed.{AreMarked, entries_of}
-use Rattle.bx_journal.specs.Undoing.{IsFinished, IsOutOfStep}
+use Rattle.bx_entries.specs.declared.read.types.EntryRead.{EntryRead}
+use Rattle.bx_entries.specs.Text.{Between}
+use Rattle.bx_entries.specs.inner.Mark.{IsMark}
+use Rattle.bx_entries.specs.inner.Parsed.{AreMarked, entries_of}
+use Rattle.bx_entries.specs.Finished.{IsFinished}
+use Rattle.bx_journal.specs.Undoing.{IsOutOfStep}
 
 -- a text that was read again, as finished entries alone, with their places
 pub record IsReadAgain {A : Type 0} (text : List ℕ) (es : List (EntryRead A)) (count : ℕ) : Type 0 where

@@ -1,11 +1,10 @@
 //! The entry of a change: its head, its end, and both with the change of the image between them, which cuts the redo text.
 ghost use Rattle.std.specs.Prelude.{◌≡◌, ◌↔◌, ◌⊎◌, ◌+◌, ◌<◌, ◌≤◌, [], ◌∷◌, ◌++◌, List, ℕ, length, take, vec_capacity, OnOk, OnErr, is_err};
-ghost use Rattle.bx_journal.specs.Kept.{Kept as Record};
+ghost use Rattle.bx_entries.specs.Kept.{Kept as Record, kept_of};
 ghost use Rattle.bx_image.specs.Change.{effect, saved, AllWithin, IsAsGood};
 ghost use Rattle.bx_image.specs.Device.{GoesOn};
-ghost use Rattle.bx_journal.specs.declared.format.version.Version.TheVariants.{Second};
-ghost use Rattle.bx_journal.specs.Kept.{kept_of};
-ghost use Rattle.bx_journal.specs.Entry.{head_text};
+ghost use Rattle.bx_entries.specs.declared.format.version.Version.TheVariants.{Second};
+ghost use Rattle.bx_entries.specs.Entry.{head_text};
 ghost use Rattle.bx_journal.specs.Stack.{Recovers};
 ghost use Rattle.bx_journal.specs.Phase.{IsAtRest, RecoversEither};
 ghost use Rattle.bx_journal.specs.inner.Phase.{IsOpen, IsOpenFor, as_read};

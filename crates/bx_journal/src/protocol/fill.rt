@@ -1,7 +1,7 @@
 //! Records of what undos will take, filled one by one.
 ghost use Rattle.std.specs.Prelude.{◌≡◌, ◌<◌, List, ℕ, length, reverse, OnOk, is_err};
 ghost use Rattle.bx_image.specs.Device.{GoesOn};
-ghost use Rattle.bx_journal.specs.declared.read.types.EntryRead.{EntryRead};
+ghost use Rattle.bx_entries.specs.declared.read.types.EntryRead.{EntryRead};
 ghost use Rattle.bx_journal.specs.inner.Takens.{IsFirstBelow, AreZeros, AreReady, AllShaped, entries_len};
 
 use bx_image::{Device, DeviceFailed, Saved};

@@ -2,8 +2,8 @@
 ghost use Rattle.std.specs.Prelude.{◌≡◌, ◌<◌, ◌≤◌, [], map, List, ℕ, length, IfOk, OnOk, OnErr, IsErrOf, is_err};
 ghost use Rattle.bx_image.specs.Change.{effect, saved, restore, AllWithin, Covers, IsOf, IsAsGood};
 ghost use Rattle.bx_image.specs.Device.{GoesOn, has_failed};
-ghost use Rattle.bx_journal.specs.declared.format.version.Version.{Version as Form};
-ghost use Rattle.bx_journal.specs.Kept.{run_of, kept_of};
+ghost use Rattle.bx_entries.specs.declared.format.version.Version.{Version as Form};
+ghost use Rattle.bx_entries.specs.Kept.{run_of, kept_of};
 ghost use Rattle.bx_journal.specs.inner.Phase.{IsOpen, IsOpenFor};
 ghost use Rattle.bx_journal.specs.Stack.{Recovers};
 

@@ -3,19 +3,18 @@ ghost use Rattle.std.specs.Prelude.{◌≡◌, ◌↔◌, ◌+◌, ◌-◌, ◌<
 ghost use Rattle.bx_journal.specs.Images.{Images as Pictures, redo_of};
 ghost use Rattle.bx_journal.specs.Machine.{changes_of};
 ghost use Rattle.bx_journal.specs.Opening.{OneMoreOfThree};
-ghost use Rattle.bx_journal.specs.inner.Parsed.{AllKept, entries_of};
+ghost use Rattle.bx_entries.specs.inner.Parsed.{AllKept, entries_of};
 ghost use Rattle.bx_journal.specs.Redo.{Finds};
 ghost use Rattle.bx_journal.specs.inner.Takens.{AreReady, AllShaped, entries_len};
-ghost use Rattle.bx_journal.specs.Text.{IsPrefix};
+ghost use Rattle.bx_entries.specs.Text.{IsPrefix};
 ghost use Rattle.bx_journal.specs.inner.Turns.{AreAtRest, AreStanding};
 ghost use Rattle.bx_journal.specs.Undoing.{HasLeft};
 ghost use Rattle.bx_journal.specs.inner.Undoing.{AreReadFrom};
 
-use crate::EntryRead;
 use crate::protocol::entry::write_entry;
 use crate::protocol::fill::fill_last;
 use crate::protocol::redo_text::RedoCut;
-use crate::write::entry::entry_end;
+use bx_entries::{EntryRead, entry_end};
 use bx_image::{Device, DeviceFailed, Saved};
 use bx_store::TextStore;
 use std::alloc::Allocator;

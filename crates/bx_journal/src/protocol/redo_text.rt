@@ -2,11 +2,12 @@
 ghost use Rattle.std.specs.Prelude.{◌≡◌, ◌+◌, ◌<◌, ◌≤◌, ◌++◌, [], List, ℕ, length, take, vec_capacity, OnOk, is_err};
 ghost use Rattle.bx_image.specs.Change.{AllWithin};
 ghost use Rattle.bx_image.specs.Device.{GoesOn};
-ghost use Rattle.bx_journal.specs.Kept.{kept_of};
-ghost use Rattle.bx_journal.specs.Entry.{entry_text};
+ghost use Rattle.bx_entries.specs.Kept.{kept_of};
+ghost use Rattle.bx_entries.specs.Entry.{entry_text};
 ghost use Rattle.bx_journal.specs.inner.Turns.{kept_text};
 
-use crate::write::entry::{entry_end, put_head};
+use crate::write::entry::put_head;
+use bx_entries::entry_end;
 use bx_image::{DeviceFailed, MAX_LEN, Saved};
 use bx_store::TextStore;
 use std::alloc::Allocator;

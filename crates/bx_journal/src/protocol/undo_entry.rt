@@ -1,12 +1,12 @@
 //! Taking entries back: the newest, or some of them one after another.
 ghost use Rattle.std.specs.Prelude.{◌≡◌, ◌↔◌, ◌⊎◌, ◌+◌, ◌-◌, ◌<◌, ◌≤◌, [], ◌∷◌, ◌++◌, map, List, ℕ, length, take, drop, reverse, nat_le, vec_capacity, if◌then◌else◌, IfOk, OnOk, OnErr};
 ghost use Rattle.bx_image.specs.Change.{AllWithin, Covers, IsAsGood, restore};
-ghost use Rattle.bx_journal.specs.declared.format.version.Version.{Version as Form};
-ghost use Rattle.bx_journal.specs.Entry.{entry_text};
+ghost use Rattle.bx_entries.specs.declared.format.version.Version.{Version as Form};
+ghost use Rattle.bx_entries.specs.Entry.{entry_text};
 ghost use Rattle.bx_journal.specs.Images.{Images as Pictures, undo_of};
-ghost use Rattle.bx_journal.specs.Kept.{run_of, kept_of};
+ghost use Rattle.bx_entries.specs.Kept.{run_of, kept_of};
 ghost use Rattle.bx_journal.specs.Opening.{OneMore, OneMoreOfThree};
-ghost use Rattle.bx_journal.specs.inner.Parsed.{AllKept, entries_of};
+ghost use Rattle.bx_entries.specs.inner.Parsed.{AllKept, entries_of};
 ghost use Rattle.bx_journal.specs.Phase.{IsAtRest, RecoversEither};
 ghost use Rattle.bx_journal.specs.inner.Phase.{IsOpen};
 ghost use Rattle.bx_journal.specs.Redo.{Finds};
@@ -14,17 +14,17 @@ ghost use Rattle.bx_journal.specs.inner.Redo.{LeavesEither};
 ghost use Rattle.bx_journal.specs.Stack.{Recovers, StandsFor};
 ghost use Rattle.bx_journal.specs.inner.Step.{TakesBack};
 ghost use Rattle.bx_journal.specs.inner.Takens.{AreReady, AllShaped, entries_len};
-ghost use Rattle.bx_journal.specs.Text.{Entry};
+ghost use Rattle.bx_entries.specs.Text.{Entry};
 ghost use Rattle.bx_journal.specs.inner.Turns.{AreAtRest, AreStanding, kept_text, side_of};
 ghost use Rattle.bx_journal.specs.Undoing.{HasLeft};
 ghost use Rattle.bx_journal.specs.inner.Undoing.{AreReadFrom};
 ghost use Rattle.bx_store.specs.Store.{IsPartlyCut};
 
-use crate::EntryRead;
 use crate::protocol::fill::fill_last;
 use crate::protocol::image::restore_image;
 use crate::protocol::redo_text::keep_undone;
 use crate::recovery::take_back::drop_tail;
+use bx_entries::EntryRead;
 use bx_image::{Device, DeviceFailed, MAX_LEN, Saved};
 use bx_store::TextStore;
 use std::alloc::Allocator;

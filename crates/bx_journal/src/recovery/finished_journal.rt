@@ -5,11 +5,11 @@ ghost use Rattle.bx_journal.specs.Opening.{FaultCounts, RefusesLength};
 ghost use Rattle.bx_journal.specs.inner.Recovery.{FinishedFault, HasOtherLength, HasToldLength, HasUndoneCount};
 ghost use Rattle.bx_journal.specs.Redo.{IsRefusedAt};
 
-use crate::read::count::Counted;
 use crate::recovery::judge::judge_redo;
 use crate::recovery::unfinished_entry::check_length;
 use crate::session::fault::of_text;
 use crate::{How, Recovered, SessionFault};
+use bx_entries::Counted;
 use bx_image::Device;
 use bx_store::TextStore;
 use std::alloc::Allocator;

@@ -1,14 +1,13 @@
 //! What reading a journal finds when a pair is opened.
 ghost use Rattle.std.specs.Prelude.{◌≡◌, ◌↔◌, ◌<◌, ◌≤◌, List, ℕ, length, OnOk, IfOk, IfErr, IfSome, IfNone};
-ghost use Rattle.bx_journal.specs.inner.Journal.{HasRead};
+ghost use Rattle.bx_entries.specs.inner.Journal.{HasRead};
 ghost use Rattle.bx_journal.specs.Opening.{FaultCounts};
-ghost use Rattle.bx_journal.specs.inner.Tally.{IsCounted};
+ghost use Rattle.bx_entries.specs.inner.Tally.{IsCounted};
 
-use crate::read::count::{Counted, count_entries};
-use crate::read::take_line::told_length;
-use crate::read::whole::{JournalRead, read_journal};
 use crate::session::fault::of_text;
-use crate::{SessionFault, StageRead};
+use crate::session::read::read_journal;
+use crate::SessionFault;
+use bx_entries::{Counted, JournalRead, StageRead, count_entries, told_length};
 use bx_store::TextStore;
 use std::alloc::{Allocator, Global};
 

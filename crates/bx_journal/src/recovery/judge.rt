@@ -1,18 +1,17 @@
 //! Whether a text is a redo text: finished entries of the second form, no more than a journal holds beside its changes.
 ghost use Rattle.std.specs.Prelude.{◌≡◌, ◌↔◌, ◌⊎◌, ◌+◌, ◌<◌, ◌≤◌, List, ℕ, suc, length, take, Some, OnOk, IfOk, IfErr, IfSome, IfNone, MatchResult};
-ghost use Rattle.bx_journal.specs.inner.Journal.{HasRead};
+ghost use Rattle.bx_entries.specs.inner.Journal.{HasRead};
 ghost use Rattle.bx_journal.specs.Judging.{RefusesRedo};
 ghost use Rattle.bx_journal.specs.inner.Judging.{AllTold, IsBeyondAt, IsFit, IsRedoCounted, IsUnfitAt, IsUnfitFrom, IsUntoldAt, JudgeFault, RedoTextFault, redo_fault};
 ghost use Rattle.bx_journal.specs.inner.Recovery.{HasUndoneCount};
 ghost use Rattle.bx_journal.specs.Redo.{IsRedoOf, IsRefusedAt};
 ghost use Rattle.bx_journal.specs.Opening.{FaultCounts};
-ghost use Rattle.bx_journal.specs.inner.Parsed.{entries_of};
-ghost use Rattle.bx_journal.specs.Text.{split};
+ghost use Rattle.bx_entries.specs.inner.Parsed.{entries_of};
+ghost use Rattle.bx_entries.specs.Text.{split};
 
-use crate::read::count::{Counted, count_entries};
-use crate::read::take_line::{MOST_CHANGES, told_length};
-use crate::read::whole::{JournalRead, read_journal};
-use crate::{EntryRead, SessionFault, StageRead};
+use crate::SessionFault;
+use crate::session::read::read_journal;
+use bx_entries::{Counted, EntryRead, JournalRead, MOST_CHANGES, StageRead, count_entries, told_length};
 use bx_image::Device;
 use std::alloc::Allocator;
 

@@ -2,9 +2,9 @@
 ghost use Rattle.std.specs.Prelude.{◌≡◌, ◌↔◌, ◌+◌, ◌<◌, ◌≤◌, ◌∷◌, List, ℕ, length, take, OnOk, OnErr, map, is_err};
 ghost use Rattle.bx_image.specs.Change.{AllWithin, restore};
 ghost use Rattle.bx_image.specs.Device.{GoesOn};
-ghost use Rattle.bx_journal.specs.Kept.{run_of, kept_of};
-ghost use Rattle.bx_journal.specs.declared.format.version.Version.{Version as Form};
-ghost use Rattle.bx_journal.specs.Text.{Entry, Stage, Ending};
+ghost use Rattle.bx_entries.specs.Kept.{run_of, kept_of};
+ghost use Rattle.bx_entries.specs.declared.format.version.Version.{Version as Form};
+ghost use Rattle.bx_entries.specs.Text.{Entry, Stage, Ending};
 ghost use Rattle.bx_journal.specs.Stack.{Recovers, image_at};
 ghost use Rattle.bx_journal.specs.Phase.{IsAtRest};
 ghost use Rattle.bx_journal.specs.inner.Step.{HasTail};

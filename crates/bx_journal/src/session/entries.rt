@@ -1,13 +1,14 @@
 //! The journal of an open session, read once more.
 ghost use Rattle.std.specs.Prelude.{◌≡◌, ◌↔◌, ◌+◌, ◌<◌, ◌≤◌, List, ℕ, length, IfOk, IfErr, IfSome, IfNone, OnOk};
-ghost use Rattle.bx_journal.specs.inner.Journal.{HasRead};
+ghost use Rattle.bx_entries.specs.inner.Journal.{HasRead};
 ghost use Rattle.bx_journal.specs.Opening.{FaultCounts};
 ghost use Rattle.bx_journal.specs.Undoing.{AgainFault, HasCount};
 ghost use Rattle.bx_journal.specs.inner.Undoing.{IsReadAgain, IsReadFrom};
 
-use crate::read::whole::{JournalRead, read_journal};
 use crate::session::fault::of_text;
-use crate::{EntryRead, SessionFault, StageRead};
+use crate::session::read::read_journal;
+use crate::SessionFault;
+use bx_entries::{EntryRead, JournalRead, StageRead};
 use bx_store::TextStore;
 use std::alloc::{Allocator, Global};
 

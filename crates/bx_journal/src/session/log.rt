@@ -1,14 +1,16 @@
 //! The rows of a log.
 ghost use Rattle.std.specs.Prelude.{◌≡◌, ◌↔◌, ◌+◌, ◌<◌, ◌≤◌, ◌^◌, List, ℕ, length, map, sum, All, true, IfOk, IfErr, OnOk, IsErrOf};
 ghost use Rattle.bx_journal.specs.Calls.{rows_of};
-ghost use Rattle.bx_journal.specs.inner.Parsed.{entries_of};
-ghost use Rattle.bx_journal.specs.Kept.{kept_of};
+ghost use Rattle.bx_entries.specs.inner.Parsed.{entries_of};
+ghost use Rattle.bx_entries.specs.Kept.{kept_of};
 ghost use Rattle.bx_journal.specs.inner.Rows.{saved_length};
-ghost use Rattle.bx_journal.specs.Text.{Entry};
-ghost use Rattle.bx_journal.specs.Undoing.{AgainFault, HasCount, IsFinished, IsOutOfStep};
+ghost use Rattle.bx_entries.specs.Text.{Entry};
+ghost use Rattle.bx_journal.specs.Undoing.{AgainFault, HasCount, IsOutOfStep};
+ghost use Rattle.bx_entries.specs.Finished.{IsFinished};
 
 use crate::session::entries::read_again;
-use crate::{EntryRead, LogRow, Session, SessionFault};
+use crate::{LogRow, Session, SessionFault};
+use bx_entries::EntryRead;
 use bx_image::{Device, Saved};
 use bx_store::TextStore;
 use bx_text::NoMemory;

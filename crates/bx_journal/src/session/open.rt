@@ -1,6 +1,6 @@
 //! Opening an image with its journal and its redo text.
 ghost use Rattle.std.specs.Prelude.{◌≡◌, ◌↔◌, ◌+◌, ◌<◌, [], List, ℕ, length, suc, false, IfOk, IfErr, OnOk, MatchResult};
-ghost use Rattle.bx_journal.specs.Text.{IsAccepted, IsDamagedAt, Reading, Reads};
+ghost use Rattle.bx_entries.specs.Text.{IsAccepted, IsDamagedAt, Reading, Reads};
 ghost use Rattle.bx_journal.specs.Stack.{Recovers, image_at, recovered};
 
 use crate::recovery::unfinished_entry::recover;

@@ -1,17 +1,14 @@
 //! What a change takes before its first write.
 ghost use Rattle.std.specs.Prelude.{◌≡◌, ◌↔◌, ◌+◌, ◌<◌, ◌≤◌, [], List, ℕ, length, vec_capacity, IfOk, IfErr, OnOk, IsErrOf};
 ghost use Rattle.bx_image.specs.Change.{effect, saved, AllWithin, Fits, IsOf};
-ghost use Rattle.bx_journal.specs.Kept.{kept_of};
-ghost use Rattle.bx_journal.specs.Entry.{head_text, end_text};
+ghost use Rattle.bx_entries.specs.Kept.{kept_of};
+ghost use Rattle.bx_entries.specs.Entry.{head_text, end_text};
 ghost use Rattle.bx_journal.specs.Opening.{FaultCounts};
 ghost use Rattle.bx_journal.specs.inner.Standing.{PrepareFault};
 
 use crate::SessionFault;
-use crate::format::length::head_len;
-use crate::format::words::Words;
 use crate::protocol::image::save_image;
-use crate::write::entry::entry_end;
-use crate::write::page::new_page;
+use bx_entries::{Words, entry_end, head_len, new_page};
 use bx_image::{Change, Device, MAX_LEN, Saved, check};
 use bx_store::TextStore;
 use std::alloc::{Allocator, Global};

@@ -2,15 +2,14 @@
 ghost use Rattle.std.specs.Prelude.{◌≡◌, ◌↔◌, ◌+◌, ◌-◌, ◌^◌, ◌<◌, ◌≤◌, [], List, ℕ, length, drop, min, reverse, vec_capacity, All, IfOk, IfErr, OnOk};
 ghost use Rattle.bx_image.specs.Change.{AllWithin};
 ghost use Rattle.bx_journal.specs.Opening.{ThreeCounts};
-ghost use Rattle.bx_journal.specs.inner.Parsed.{AllKept};
+ghost use Rattle.bx_entries.specs.inner.Parsed.{AllKept};
 ghost use Rattle.bx_journal.specs.inner.Takens.{AreZeros, AreReady, AllShaped, IsZeros, TakenFault, length_at, entries_len as entries_long};
 ghost use Rattle.bx_journal.specs.inner.Undoing.{IsReadAgain};
 
-use crate::format::length::head_len;
 use crate::protocol::fill::fill_last;
 use crate::session::entries::FinishedRead;
-use crate::write::page::new_page;
-use crate::{EntryRead, SessionFault};
+use crate::SessionFault;
+use bx_entries::{EntryRead, head_len, new_page};
 use bx_image::{Device, MAX_LEN, Saved, room_to_restore};
 use bx_store::TextStore;
 use bx_text::{NoMemory, Pieces};

@@ -3,8 +3,9 @@ ghost use Rattle.std.specs.Prelude.{◌≡◌, ◌↔◌, ◌+◌, ◌<◌, ◌�
 ghost use Rattle.bx_journal.specs.Images.{Images as Pictures, redo_of};
 ghost use Rattle.bx_journal.specs.Machine.{RedoStep};
 ghost use Rattle.bx_journal.specs.Opening.{FaultCounts};
-ghost use Rattle.bx_journal.specs.Text.{Entry, IsPrefix};
-ghost use Rattle.bx_journal.specs.Undoing.{HasCount, HasLeft, IsFinished};
+ghost use Rattle.bx_entries.specs.Text.{Entry, IsPrefix};
+ghost use Rattle.bx_journal.specs.Undoing.{HasCount, HasLeft};
+ghost use Rattle.bx_entries.specs.Finished.{IsFinished};
 ghost use Rattle.bx_journal.specs.inner.Undoing.{IsReadFrom, RedoAgainFault, redo_fault};
 
 use crate::protocol::redo_entry::redo_entries;

@@ -2,8 +2,9 @@
 ghost use Rattle.std.specs.Prelude.{◌≡◌, ◌↔◌, ◌+◌, ◌<◌, ◌≤◌, List, ℕ, drop, true, false, IfOk, IfErr, OnOk, IsErrOf, Ok as Done};
 ghost use Rattle.bx_journal.specs.Images.{Images as Pictures, undo_of, undone_by};
 ghost use Rattle.bx_journal.specs.Machine.{UndoStep};
-ghost use Rattle.bx_journal.specs.Text.{Entry};
-ghost use Rattle.bx_journal.specs.Undoing.{AgainFault, HasCount, HasLeft, IsFinished};
+ghost use Rattle.bx_entries.specs.Text.{Entry};
+ghost use Rattle.bx_journal.specs.Undoing.{AgainFault, HasCount, HasLeft};
+ghost use Rattle.bx_entries.specs.Finished.{IsFinished};
 
 use crate::protocol::undo_entry::undo_entries;
 use crate::session::entries::read_again;

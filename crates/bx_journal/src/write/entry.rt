@@ -1,29 +1,22 @@
-//! The text of an entry.
-ghost use Rattle.std.specs.Prelude.{◌≡◌, ◌+◌, ◌*◌, ◌<◌, ◌≤◌, ◌^◌, ◌++◌, [], ◌∷◌, flat_map, length, map, vec_capacity, OnOk, OnErr, is_err};
-ghost use Rattle.std.specs.List.{range_with_len};
+//! The text of an entry, put to a store page by page.
+ghost use Rattle.std.specs.Prelude.{◌≡◌, ◌+◌, ◌*◌, ◌<◌, ◌≤◌, ◌^◌, ◌++◌, [], flat_map, length, map, vec_capacity, OnOk, OnErr, is_err};
 ghost use Rattle.bx_image.specs.Change.{AllWithin};
 ghost use Rattle.bx_image.specs.Device.{GoesOn};
 ghost use Rattle.bx_image.specs.Image.{end_of};
 ghost use Rattle.bx_store.specs.Store.{IsPartlyAppended};
-ghost use Rattle.bx_journal.specs.Kept.{run_of, kept_of};
-ghost use Rattle.bx_journal.specs.declared.format.version.Version.TheVariants.{Second};
-ghost use Rattle.bx_journal.specs.DumpLine.{dump_line};
-ghost use Rattle.bx_journal.specs.Line.{start_line, end_line};
-ghost use Rattle.bx_journal.specs.Entry.{row, rows, head_text, end_text};
-ghost use Rattle.bx_journal.specs.inner.Entry.{rows_text};
+ghost use Rattle.bx_entries.specs.Kept.{run_of, kept_of};
+ghost use Rattle.bx_entries.specs.DumpLine.{dump_line};
+ghost use Rattle.bx_entries.specs.Entry.{rows, head_text};
+ghost use Rattle.bx_entries.specs.inner.Entry.{rows_text};
 ghost use Rattle.bx_journal.specs.inner.Page.{IsPaged};
-ghost use Rattle.bx_journal.specs.Text.{ended};
+ghost use Rattle.bx_entries.specs.Text.{ended};
 
-use crate::Version;
-use crate::format::words::{Words, end_head, push_number, save_text, start_head};
 use crate::write::page::{append_page, make_room, put_bytes};
+use bx_entries::{Words, push_full_row, push_rows, row_of, save_text, start_words};
 use bx_image::{DeviceFailed, Saved};
 use bx_store::TextStore;
-use bx_text::{LineText, Piece, put_full_line, xxd_line};
+use bx_text::Piece;
 use std::alloc::Allocator;
-
-/// So many rows are written at once, at most.
-const ROWS: usize = 128;
 
 /// Appends the text of an entry up to and with its save line, page by page. The page is empty before it.
 pub fn put_head<T: TextStore, A: Allocator>(
@@ -47,27 +40,6 @@ pub fn put_head<T: TextStore, A: Allocator>(
     put_runs(store, page, kept)?;
     put_words(store, page, save_text(number))?;
     append_page(store, page)
-}
-
-/// The line that ends an entry, with the length of the image after the change.
-#[tactic(auto, unfolding(crate::specs::Line::end_line))]
-pub fn entry_end(number: u32, after: u64) -> Words
-    ensures text { result ≡ end_text number after }
-{
-    let mut line = end_head(Version::Second, number);
-    push_number(&mut line, 16, after);
-    line.push(b'\n');
-    line
-}
-
-#[tactic(auto, unfolding(crate::specs::Line::start_line))]
-fn start_words(number: u32, len: u64) -> Words
-    ensures text { result ≡ start_line Second number len }
-    ensures short { length result < 34 }
-{
-    let mut line = start_head(Version::Second, number);
-    push_number(&mut line, 16, len);
-    line
 }
 
 /// Puts a line with its newline.
@@ -141,76 +113,6 @@ fn put_run<T: TextStore, A: Allocator>(
     Ok(())
 }
 
-/// Writes rows from this one on into the page: as many as it has room for, at most `ROWS`, and not the last of the run. The
-/// answer is how many.
-fn push_rows<A: Allocator>(page: &mut Vec<u8, A>, at: u64, bytes: &[u8], first: usize) -> usize
-    requires inside { 16 * first < length bytes.now }
-    ensures inside { 16 * (first + result) < length bytes.now }
-    ensures rows { page.new.items ≡ page.old.items ++ rows_text (map (row (record { at = at; bytes = bytes.now })) (range_with_len first result)) }
-    ensures room { vec_capacity page.old ≤ vec_capacity page.new }
-{
-    if at > u32::MAX as u64 {
-        return 0;
-    }
-    if bytes.len() as u64 > u32::MAX as u64 - at {
-        return 0;
-    }
-    let whole = (bytes.len() - 16 * first - 1) / 16;
-    let free = (page.capacity() - page.len()) / 68;
-    let count = whole.min(free).min(ROWS);
-    push_full_rows(page, at as u32, bytes, first, count);
-    count
-}
-
-/// Writes rows of 16 bytes into the page, behind what waits there.
-fn push_full_rows<A: Allocator>(
-    page: &mut Vec<u8, A>,
-    at: u32,
-    bytes: &[u8],
-    first: usize,
-    count: usize,
-)
-    requires inside { 16 * (first + count) ≤ length bytes.now }
-    requires address { at + length bytes.now < 2 ^ 32 }
-    requires free { length page.old.items + 68 * count ≤ vec_capacity page.old }
-    ensures rows { page.new.items ≡ page.old.items ++ rows_text (map (row (record { at = at; bytes = bytes.now })) (range_with_len first count)) }
-    ensures room { vec_capacity page.old ≤ vec_capacity page.new }
-{
-    let from = page.len();
-    let _ = page.resize(from + 68 * count, b' ');
-    let (_, lines) = page.as_mut_slice().split_at_mut(from);
-    full_rows(lines, at, bytes, first, count);
-}
-
-/// The lines of rows of 16 bytes at their places.
-fn full_rows(lines: &mut [u8], at: u32, bytes: &[u8], first: usize, count: usize)
-    requires inside { 16 * (first + count) ≤ length bytes.now }
-    requires address { at + length bytes.now < 2 ^ 32 }
-    requires long { length lines.old ≡ 68 * count }
-    ensures { lines.new ≡ rows_text (map (row (record { at = at; bytes = bytes.now })) (range_with_len first count)) }
-{
-    for k in 0..count {
-        let from = 16 * (first + k);
-        whole_row(
-            &mut lines[68 * k..68 * k + 68],
-            at + from as u32,
-            &bytes[from..from + 16],
-        );
-    }
-}
-
-/// The line of 16 bytes at its place.
-#[inline(always)]
-fn whole_row(line: &mut [u8], at: u32, bytes: &[u8])
-    requires line { length line.old ≡ 68 }
-    requires bytes { length bytes.now ≡ 16 }
-    ensures { line.new ≡ ended (dump_line at bytes.now) }
-{
-    let mut all = [0; 16];
-    all.copy_from_slice(bytes);
-    full_row(line, at, &all);
-}
-
 /// Puts a saved line of at most 16 bytes.
 fn put_row<T: TextStore, A: Allocator>(
     store: &mut T,
@@ -237,15 +139,6 @@ fn put_row<T: TextStore, A: Allocator>(
     }
 }
 
-#[tactic(auto, unfolding(crate::specs::DumpLine::dump_line))]
-fn row_of(at: u64, bytes: &[u8]) -> LineText
-    requires some { 0 < length bytes.now }
-    requires few { length bytes.now ≤ 16 }
-    ensures { result ≡ ended (dump_line at bytes.now) }
-{
-    xxd_line(at, bytes)
-}
-
 /// Puts a saved line of 16 bytes at an address of 8 digits.
 fn put_full_row<T: TextStore, A: Allocator>(
     store: &mut T,
@@ -264,26 +157,4 @@ fn put_full_row<T: TextStore, A: Allocator>(
     make_room(store, page, 68)?;
     push_full_row(page, at, bytes);
     Ok(())
-}
-
-/// Writes the line into the page, behind what waits there.
-fn push_full_row<A: Allocator>(page: &mut Vec<u8, A>, at: u32, bytes: &[u8; 16])
-    requires { length page.old.items + 68 ≤ vec_capacity page.old }
-    ensures line { page.new.items ≡ page.old.items ++ ended (dump_line at bytes.now) }
-    ensures room { vec_capacity page.old ≤ vec_capacity page.new }
-{
-    let from = page.len();
-    let _ = page.extend_from_slice(&[b' '; 68]);
-    let (_, line) = page.as_mut_slice().split_at_mut(from);
-    full_row(line, at, bytes);
-}
-
-/// The line at its place.
-#[inline]
-#[tactic(auto, unfolding(crate::specs::DumpLine::dump_line))]
-fn full_row(line: &mut [u8], at: u32, bytes: &[u8; 16])
-    requires { length line.old ≡ 68 }
-    ensures { line.new ≡ ended (dump_line at bytes.now) }
-{
-    put_full_line(line, at, bytes);
 }

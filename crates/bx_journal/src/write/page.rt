@@ -1,27 +1,12 @@
 //! Text that is gathered in a page, and appended when the page is full.
-ghost use Rattle.std.specs.Prelude.{◌≡◌, ◌+◌, ◌<◌, ◌≤◌, ◌++◌, [], length, vec_capacity, IfOk, OnOk, OnErr, is_err};
+ghost use Rattle.std.specs.Prelude.{◌≡◌, ◌+◌, ◌<◌, ◌≤◌, ◌++◌, [], length, vec_capacity, OnOk, OnErr, is_err};
 ghost use Rattle.bx_image.specs.Device.{GoesOn};
 ghost use Rattle.bx_store.specs.Store.{IsPartlyAppended};
 ghost use Rattle.bx_journal.specs.inner.Page.{IsPaged};
 
 use bx_image::DeviceFailed;
 use bx_store::TextStore;
-use bx_text::NoMemory;
 use std::alloc::Allocator;
-
-/// A page has at most so many bytes, and room for each line.
-const MOST: u64 = 262_144;
-
-const LEAST: u64 = 82;
-
-/// An empty page for a text of so many bytes: with room for all of them, or for as many as a page has at most.
-pub fn new_page<A: Allocator>(alloc: A, len: u64) -> Result<Vec<u8, A>, NoMemory>
-    ensures empty { IfOk result (λ page. page.items ≡ []) }
-    ensures room { IfOk result (λ page. 82 ≤ vec_capacity page) }
-{
-    let room = len.max(LEAST).min(MOST);
-    Vec::with_capacity(alloc, room as usize).map_err(|_| NoMemory)
-}
 
 /// Appends what waits in the page, and empties it.
 pub fn append_page<T: TextStore, A: Allocator>(

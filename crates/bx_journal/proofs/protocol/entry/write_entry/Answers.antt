@@ -2,14 +2,14 @@ use Rattle.std.proofs.Common.{◌≡◌, ◌⊎◌, ℕ, List, ◌∷◌, take, 
 use Rattle.std.specs.Prelude.{OnErr}
 use Rattle.std.proofs.lemmas.Result.{on_ok_weaker, on_err_weaker}
 use Rattle.bx_image.specs.Change.{effect, saved}
-use Rattle.bx_journal.specs.Kept.{Kept, kept_of}
-use Rattle.bx_journal.specs.Entry.{head_text}
+use Rattle.bx_entries.specs.Kept.{Kept, kept_of}
+use Rattle.bx_entries.specs.Entry.{head_text}
 use Rattle.bx_journal.specs.Phase.{IsAtRest, RecoversEither}
 use Rattle.bx_journal.specs.inner.Phase.{as_read}
 use Rattle.bx_journal.specs.inner.Redo.{RecoversOpen}
 use Rattle.bx_journal.specs.Stack.{Recovers}
 use Rattle.bx_journal.specs.inner.Turns.{place_of, side_of}
-use Rattle.bx_journal.specs.declared.format.version.Version.TheVariants.{Second}
+use Rattle.bx_entries.specs.declared.format.version.Version.TheVariants.{Second}
 use Rattle.bx_journal.proofs.ChangeSteps.{ends_of}
 use Rattle.bx_journal.proofs.Phases.{open_recovers}
 use Rattle.bx_journal.proofs.Sharper.{either_of}

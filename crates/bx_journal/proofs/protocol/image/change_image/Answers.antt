@@ -1,11 +1,11 @@
 use Rattle.std.proofs.Common.{Result, Ok, Err}
 use Rattle.std.specs.Prelude.{OnErr}
 use Rattle.bx_image.specs.Change.{saved, IsAsGood}
-use Rattle.bx_journal.specs.Kept.{kept_of}
+use Rattle.bx_entries.specs.Kept.{kept_of}
 use Rattle.bx_journal.specs.inner.Phase.{as_read}
-use Rattle.bx_journal.specs.declared.format.version.Version.TheVariants.{Second}
+use Rattle.bx_entries.specs.declared.format.version.Version.TheVariants.{Second}
 use Rattle.bx_journal.proofs.ChangeSteps.{change_moves}
-use Rattle.bx_journal.proofs.KeptLemmas.{good_in}
+use Rattle.bx_entries.proofs.KeptLemmas.{good_in}
 use Rattle.bx_journal.proofs.Phases.{open_recovers}
 use Rattle.bx_journal.proofs.protocol.image.change_image.Goals as goal
 

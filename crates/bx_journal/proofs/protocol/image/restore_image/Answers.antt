@@ -2,8 +2,8 @@ use Rattle.std.proofs.Common.{◌∙◌, sym, arith, Result, Ok, Err}
 use Rattle.std.specs.Prelude.{OnErr}
 use Rattle.std.proofs.lemmas.Result.{on_ok_weaker}
 use Rattle.bx_image.specs.Change.{Restores, IsAsGood}
-use Rattle.bx_journal.specs.Kept.{kept_of}
-use Rattle.bx_journal.proofs.KeptLemmas.{within_out, same_restore, covers_out, good_in}
+use Rattle.bx_entries.specs.Kept.{kept_of}
+use Rattle.bx_entries.proofs.KeptLemmas.{within_out, same_restore, covers_out, good_in}
 use Rattle.bx_journal.proofs.Phases.{open_moves, open_recovers}
 use Rattle.bx_journal.proofs.protocol.image.restore_image.Goals as goal
 

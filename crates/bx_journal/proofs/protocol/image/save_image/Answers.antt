@@ -1,7 +1,7 @@
 use Rattle.std.proofs.Common.{ap}
 use Rattle.std.proofs.lemmas.Result.{IfOk-weaker}
-use Rattle.bx_journal.specs.Kept.{kept_of}
-use Rattle.bx_journal.proofs.KeptLemmas.{is_of_in}
+use Rattle.bx_entries.specs.Kept.{kept_of}
+use Rattle.bx_entries.proofs.KeptLemmas.{is_of_in}
 use Rattle.bx_journal.proofs.protocol.image.save_image.Goals as goal
 
 pub returns-clause-saved : goal.returns-clause-saved

@@ -2,17 +2,17 @@ use Rattle.std.proofs.Common.{◌≡◌, ◌∙◌, ◌+◌, ◌-◌, ◌++◌, 
 use Rattle.std.specs.Prelude.{OnErr, reverse}
 use Rattle.std.proofs.lemmas.List.{take_all}
 use Rattle.bx_image.specs.Change.{effect, saved, restore, IsAsGood}
-use Rattle.bx_journal.specs.Kept.{kept_of}
-use Rattle.bx_journal.specs.Entry.{head_text, end_text}
+use Rattle.bx_entries.specs.Kept.{kept_of}
+use Rattle.bx_entries.specs.Entry.{head_text, end_text}
 use Rattle.bx_journal.specs.Images.{redo_of}
-use Rattle.bx_journal.specs.inner.Parsed.{AllKept, entries_of}
+use Rattle.bx_entries.specs.inner.Parsed.{AllKept, entries_of}
 use Rattle.bx_journal.specs.Phase.{IsAtRest}
 use Rattle.bx_journal.specs.Redo.{Finds}
 use Rattle.bx_journal.specs.inner.Redo.{LeavesEither}
 use Rattle.bx_journal.specs.inner.Step.{WritesEntry}
 use Rattle.bx_journal.specs.inner.Takens.{AreReady, AllShaped, entries_len}
 use Rattle.bx_journal.specs.inner.Turns.{AreAtRest, AreStanding, side_of}
-use Rattle.bx_journal.proofs.KeptLemmas.{within_out, same_restore}
+use Rattle.bx_entries.proofs.KeptLemmas.{within_out, same_restore}
 use Rattle.bx_journal.proofs.LoopLemmas.{change_back, ready_pop, first_below, zeros_at}
 use Rattle.bx_journal.proofs.RedoLoop.{redone, redo_stopped, writes_again, writes_redo, redoes_from, redoes_one, at_entry, change_is}
 use Rattle.bx_journal.proofs.RedoStanding.{redone_stands, redone_standing, prefix_more}

@@ -2,9 +2,9 @@ use Rattle.std.proofs.Common.{◌≡◌, ◌+◌, ◌≤◌, ◌↔◌, ◌-◌,
 use Rattle.std.specs.Prelude.{reverse, vec_capacity}
 use Rattle.bx_journal.specs.Images.{Images, redo_of}
 use Rattle.bx_journal.specs.Machine.{changes_of}
-use Rattle.bx_journal.specs.inner.Parsed.{AllKept, entries_of}
+use Rattle.bx_entries.specs.inner.Parsed.{AllKept, entries_of}
 use Rattle.bx_journal.specs.inner.Takens.{AreReady, AllShaped, entries_len}
-use Rattle.bx_journal.specs.Text.{IsPrefix}
+use Rattle.bx_entries.specs.Text.{IsPrefix}
 use Rattle.bx_journal.specs.inner.Turns.{AreAtRest, AreStanding}
 use Rattle.bx_journal.proofs.UndoLoop.{IsUndoing}
 use Rattle.bx_journal.proofs.protocol.redo_entry.redo_entries.Given as goal

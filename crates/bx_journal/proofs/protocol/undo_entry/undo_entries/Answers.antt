@@ -3,10 +3,10 @@ use Rattle.std.specs.Prelude.{OnErr, reverse, nat_le, if◌then◌else◌}
 use Rattle.std.proofs.lemmas.List.{take_all}
 use Rattle.bx_image.specs.declared.change.TheConstants.{MAX_LEN}
 use Rattle.bx_image.specs.Change.{restore}
-use Rattle.bx_journal.specs.Kept.{kept_of}
-use Rattle.bx_journal.specs.Entry.{entry_text}
+use Rattle.bx_entries.specs.Kept.{kept_of}
+use Rattle.bx_entries.specs.Entry.{entry_text}
 use Rattle.bx_journal.specs.Images.{undo_of}
-use Rattle.bx_journal.specs.inner.Parsed.{AllKept, entry_of, entries_of}
+use Rattle.bx_entries.specs.inner.Parsed.{AllKept, entry_of, entries_of}
 use Rattle.bx_journal.specs.Phase.{IsAtRest}
 use Rattle.bx_journal.specs.Redo.{Finds}
 use Rattle.bx_journal.specs.Stack.{Recovers, StandsFor}

@@ -1,7 +1,7 @@
 use Rattle.std.proofs.Common.{◌≡◌, ◌+◌, ◌≤◌, ◌↔◌, ◌-◌, ℕ, [], List, length, drop}
 use Rattle.std.specs.Prelude.{reverse, vec_capacity}
 use Rattle.bx_journal.specs.Images.{Images, undo_of}
-use Rattle.bx_journal.specs.inner.Parsed.{AllKept, entries_of}
+use Rattle.bx_entries.specs.inner.Parsed.{AllKept, entries_of}
 use Rattle.bx_journal.specs.Phase.{IsAtRest}
 use Rattle.bx_journal.specs.Stack.{StandsFor}
 use Rattle.bx_journal.specs.inner.Takens.{AreReady, AllShaped, entries_len}

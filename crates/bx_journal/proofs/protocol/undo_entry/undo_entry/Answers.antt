@@ -2,12 +2,12 @@ use Rattle.std.proofs.Common.{◌≡◌, ◌⊎◌, ◌∙◌, ℕ, List, ◌∷
 use Rattle.std.specs.Prelude.{OnOk, OnErr}
 use Rattle.std.proofs.lemmas.Result.{on_err_weaker}
 use Rattle.bx_image.specs.Change.{restore}
-use Rattle.bx_journal.specs.Kept.{Kept, kept_of}
+use Rattle.bx_entries.specs.Kept.{Kept, kept_of}
 use Rattle.bx_journal.specs.inner.Phase.{IsOpen}
 use Rattle.bx_journal.specs.inner.Redo.{RecoversOpen, Side}
 use Rattle.bx_journal.specs.Stack.{Recovers}
 use Rattle.bx_journal.specs.inner.Step.{HasTail}
-use Rattle.bx_journal.specs.Text.{Ending}
+use Rattle.bx_entries.specs.Text.{Ending}
 use Rattle.bx_journal.specs.inner.Turns.{kept_text, side_of}
 use Rattle.bx_journal.proofs.Tails.{tail_moves}
 use Rattle.bx_journal.proofs.Phases.{open_recovers}

@@ -1,6 +1,6 @@
 use Rattle.std.proofs.Common.{arith, ap, ◌∙◌, length}
-use Rattle.bx_journal.specs.Parsed.{told_by}
-use Rattle.bx_journal.specs.inner.Parsed.{entries_of}
+use Rattle.bx_entries.specs.Parsed.{told_by}
+use Rattle.bx_entries.specs.inner.Parsed.{entries_of}
 use Rattle.bx_journal.proofs.RecoverLemmas.{read_counted}
 use Rattle.bx_journal.proofs.recovery.journal.as_counted.Goals as goal
 

@@ -1,6 +1,6 @@
 use Rattle.std.proofs.Common.{◌≡◌, get_or, refl, ◌∙◌, arith}
 use Rattle.std.proofs.lemmas.Grind.{common_steps}
-use Rattle.bx_journal.specs.Text.{split}
+use Rattle.bx_entries.specs.Text.{split}
 use Rattle.bx_journal.proofs.JudgeLemmas.{newline_more, newline_same}
 use Rattle.bx_journal.proofs.recovery.judge.newlines.Goals.{then-byte-eq10, else-byte-eq10}
 use Rattle.bx_journal.proofs.recovery.judge.newlines.Goals as goal

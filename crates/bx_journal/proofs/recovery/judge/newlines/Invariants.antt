@@ -1,5 +1,5 @@
 use Rattle.std.proofs.Common.{◌≡◌, ◌≤◌, length, take}
-use Rattle.bx_journal.specs.Text.{split}
+use Rattle.bx_entries.specs.Text.{split}
 use Rattle.bx_journal.proofs.recovery.judge.newlines.Given as goal
 
 abbrev pub invariant-loop-byte : goal.invariant-loop-byte

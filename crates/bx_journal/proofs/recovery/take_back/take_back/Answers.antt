@@ -1,7 +1,7 @@
 use Rattle.std.proofs.Common.{◌∙◌, sym, Result, Ok, Err}
 use Rattle.std.specs.Prelude.{OnErr}
-use Rattle.bx_journal.specs.Kept.{kept_of}
-use Rattle.bx_journal.specs.Text.{Ending}
+use Rattle.bx_entries.specs.Kept.{kept_of}
+use Rattle.bx_entries.specs.Text.{Ending}
 use Rattle.bx_journal.proofs.Tails.{tail_recovers, tail_moves}
 use Rattle.bx_journal.proofs.recovery.take_back.take_back.Goals as goal
 

@@ -1,7 +1,7 @@
 use Rattle.std.proofs.Common.{refl, arith, Result, Ok, Err}
 use Rattle.std.specs.Prelude.{OnErr}
-use Rattle.bx_journal.specs.declared.read.types.StageRead.TheVariants.{Between as BetweenRead}
-use Rattle.bx_journal.specs.Text.{Between}
+use Rattle.bx_entries.specs.declared.read.types.StageRead.TheVariants.{Between as BetweenRead}
+use Rattle.bx_entries.specs.Text.{Between}
 use Rattle.bx_journal.proofs.TailLemmas.{tail_at, ending_within}
 use Rattle.bx_journal.proofs.RecoverLemmas.{ending_begins}
 use Rattle.bx_journal.proofs.OpenLemmas.{opened_dropped, opened_saving, opened_ending}

@@ -2,7 +2,7 @@ use Rattle.std.proofs.Common.{rules, arith, inr}
 use Rattle.std.proofs.lemmas.Grind.{common_steps}
 use Rattle.std.proofs.lemmas.Result.{on_err_weaker, on_ok_weaker}
 use Rattle.bx_journal.proofs.RecoverLemmas.{one_more_beside}
-use Rattle.bx_journal.proofs.TallyLemmas.{err_always, ok_always}
+use Rattle.bx_journal.proofs.CountedLemmas.{err_always, ok_always}
 use Rattle.bx_journal.proofs.recovery.unfinished_entry.finish.Goals as goal
 
 pub returns-clause-emptied : goal.returns-clause-emptied

@@ -1,9 +1,9 @@
 use Rattle.std.proofs.Common.{◌≡◌, List, ℕ, Option, length, ap, ◌∙◌, subst}
 use Rattle.std.specs.Prelude.{IfSome}
 use Rattle.std.proofs.lemmas.Result.{on_ok_weaker}
-use Rattle.bx_journal.specs.declared.read.types.EntryRead.{EntryRead}
-use Rattle.bx_journal.specs.Parsed.{told_by}
-use Rattle.bx_journal.specs.inner.Parsed.{entries_of, stage_of}
+use Rattle.bx_entries.specs.declared.read.types.EntryRead.{EntryRead}
+use Rattle.bx_entries.specs.Parsed.{told_by}
+use Rattle.bx_entries.specs.inner.Parsed.{entries_of, stage_of}
 use Rattle.bx_journal.specs.Stack.{image_at}
 use Rattle.bx_journal.proofs.OpenLemmas.{lengths_early, lengths_ending}
 use Rattle.bx_journal.proofs.recovery.unfinished_entry.prepare.Goals as goal

@@ -3,10 +3,10 @@ use Rattle.std.specs.Prelude.{IfErr, OnErr}
 use Rattle.bx_journal.specs.Calls.{AfterFault}
 use Rattle.bx_journal.specs.Phase.{IsAtRest}
 use Rattle.bx_journal.specs.Stack.{Recovers}
-use Rattle.bx_journal.specs.Text.{Between}
+use Rattle.bx_entries.specs.Text.{Between}
 use Rattle.bx_journal.proofs.OpenedLemmas.{emptied_keeps, emptied_undone, err_then, find_opens, find_redo, find_refuses, finished_kept, finished_opened, finished_stack, finished_unfit, found_counted, found_few, found_read, found_unclean, recover_kind, unfinished_finds}
 use Rattle.bx_journal.proofs.LeftLemmas.{left_whole}
-use Rattle.bx_journal.proofs.TallyLemmas.{counted_rest, ok_always}
+use Rattle.bx_journal.proofs.CountedLemmas.{counted_rest, ok_always}
 use Rattle.bx_journal.proofs.recovery.unfinished_entry.recover.Goals as goal
 
 pub returns-in-Err-clause-faults : goal.returns-in-Err-clause-faults

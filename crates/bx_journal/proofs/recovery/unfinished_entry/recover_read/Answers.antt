@@ -1,11 +1,11 @@
 use Rattle.std.proofs.Common.{◌≡◌, ℕ, suc, List, refl, ap, sym, ◌∙◌, subst, arith}
-use Rattle.bx_journal.specs.Text.{Reading}
+use Rattle.bx_entries.specs.Text.{Reading}
 use Rattle.bx_journal.specs.Stack.{Recovers, image_at, HaveLengths}
 use Rattle.bx_journal.specs.Calls.{Differs}
 use Rattle.bx_journal.specs.Opening.{IsOpened}
-use Rattle.bx_journal.specs.inner.Parsed.{entries_of, stage_of, reading_of}
+use Rattle.bx_entries.specs.inner.Parsed.{entries_of, stage_of, reading_of}
 use Rattle.bx_journal.proofs.OpenLemmas.{counted_of, read_once, look_opens, look_refuses, after_same, same_lengths}
-use Rattle.bx_journal.proofs.ReadLoop.{marked_few}
+use Rattle.bx_entries.proofs.ReadLoop.{marked_few}
 use Rattle.bx_journal.proofs.RecoverLemmas.{counts_among, look_kind}
 use Rattle.bx_journal.specs.Undoing.{HasLeft}
 use Rattle.bx_journal.proofs.recovery.unfinished_entry.recover_read.Goals as goal

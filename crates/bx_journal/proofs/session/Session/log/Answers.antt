@@ -1,9 +1,10 @@
 use Rattle.std.proofs.Common.{◌≡◌, ℕ, ◌≤◌, length, ap, sym, ◌∙◌, subst, arith}
 use Rattle.std.proofs.lemmas.Grind.{common_steps}
 use Rattle.bx_journal.specs.declared.session.fault.SessionFault.TheVariants.{Damaged}
-use Rattle.bx_journal.specs.inner.Parsed.{entries_of}
-use Rattle.bx_journal.specs.Undoing.{AgainFault, IsFinished}
-use Rattle.bx_journal.proofs.ReadLemmas.{length-entries_of}
+use Rattle.bx_entries.specs.inner.Parsed.{entries_of}
+use Rattle.bx_journal.specs.Undoing.{AgainFault}
+use Rattle.bx_entries.specs.Finished.{IsFinished}
+use Rattle.bx_entries.proofs.ReadLemmas.{length-entries_of}
 use Rattle.bx_journal.proofs.AgainLemmas.{in_step}
 use Rattle.bx_journal.proofs.SavedBound.{saved_countable}
 use Rattle.bx_journal.proofs.session.Session.log.Goals as goal

@@ -4,16 +4,17 @@ use Rattle.std.proofs.lemmas.Grind.{common_steps}
 use Rattle.bx_journal.specs.declared.session.fault.SessionFault.TheVariants.{RedoDamaged}
 use Rattle.bx_journal.specs.Images.{redo_of}
 use Rattle.bx_journal.specs.Machine.{changes_of}
-use Rattle.bx_journal.specs.inner.Parsed.{AllKept, entries_of}
+use Rattle.bx_entries.specs.inner.Parsed.{AllKept, entries_of}
 use Rattle.bx_journal.specs.Phase.{IsAtRest}
 use Rattle.bx_journal.specs.Redo.{Finds, IsRedoOf}
 use Rattle.bx_journal.specs.Stack.{StandsFor}
 use Rattle.bx_journal.specs.inner.Takens.{AreReady}
-use Rattle.bx_journal.specs.Text.{Entry, Between, Reading, IsPrefix}
+use Rattle.bx_entries.specs.Text.{Entry, Between, Reading, IsPrefix}
 use Rattle.bx_journal.specs.inner.Turns.{AreAtRest, AreStanding}
-use Rattle.bx_journal.specs.Undoing.{HasLeft, IsFinished, IsOutOfStep}
+use Rattle.bx_journal.specs.Undoing.{HasLeft, IsOutOfStep}
+use Rattle.bx_entries.specs.Finished.{IsFinished}
 use Rattle.bx_journal.specs.inner.Undoing.{RedoAgainFault}
-use Rattle.bx_journal.proofs.ReadLemmas.{length-entries_of}
+use Rattle.bx_entries.proofs.ReadLemmas.{length-entries_of}
 use Rattle.bx_journal.proofs.RedoingLemmas.{redo_in_step, length_redone}
 use Rattle.bx_journal.proofs.TakingLemmas.{redo_moved}
 use Rattle.bx_journal.proofs.session.Session.redo.Goals as goal

@@ -7,13 +7,14 @@ use Rattle.bx_journal.specs.Images.{undo_of}
 use Rattle.bx_journal.specs.Machine.{changes_of}
 use Rattle.bx_journal.specs.Phase.{IsAtRest}
 use Rattle.bx_journal.specs.Redo.{Finds, IsRedoOf}
-use Rattle.bx_journal.specs.inner.Parsed.{AllKept, entries_of}
+use Rattle.bx_entries.specs.inner.Parsed.{AllKept, entries_of}
 use Rattle.bx_journal.specs.Stack.{StandsFor}
-use Rattle.bx_journal.specs.Text.{Entry, Between, Reading}
+use Rattle.bx_entries.specs.Text.{Entry, Between, Reading}
 use Rattle.bx_journal.specs.inner.Takens.{AreReady}
 use Rattle.bx_journal.specs.inner.Turns.{AreStanding}
-use Rattle.bx_journal.specs.Undoing.{AgainFault, HasLeft, IsFinished, IsOutOfStep}
-use Rattle.bx_journal.proofs.ReadLemmas.{length-entries_of}
+use Rattle.bx_journal.specs.Undoing.{AgainFault, HasLeft, IsOutOfStep}
+use Rattle.bx_entries.specs.Finished.{IsFinished}
+use Rattle.bx_entries.proofs.ReadLemmas.{length-entries_of}
 use Rattle.bx_journal.proofs.AgainLemmas.{in_step}
 use Rattle.bx_journal.proofs.TakingLemmas.{redo_moved, changes_left}
 use Rattle.bx_journal.proofs.session.Session.undo.Goals as goal

@@ -1,6 +1,6 @@
 use Rattle.std.proofs.Common.{◌≡◌, take}
 use Rattle.bx_journal.specs.Calls.{rows_of}
-use Rattle.bx_journal.specs.inner.Parsed.{entries_of}
+use Rattle.bx_entries.specs.inner.Parsed.{entries_of}
 use Rattle.bx_journal.proofs.session.log.rows.Given as goal
 
 abbrev pub invariant-loop-i : goal.invariant-loop-i

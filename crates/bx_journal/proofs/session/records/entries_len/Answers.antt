@@ -3,8 +3,8 @@ use Rattle.std.specs.Prelude.{slice_index_or}
 use Rattle.std.proofs.lemmas.List.{take_all}
 use Rattle.bx_image.specs.declared.record.Saved.{Saved}
 use Rattle.bx_image.specs.Change.{AllWithin}
-use Rattle.bx_journal.specs.Entry.{head_text}
-use Rattle.bx_journal.specs.Kept.{kept_of}
+use Rattle.bx_entries.specs.Entry.{head_text}
+use Rattle.bx_entries.specs.Kept.{kept_of}
 use Rattle.bx_journal.specs.inner.Takens.{entries_len}
 use Rattle.bx_journal.proofs.TakingLemmas.{shaped_at, len_more}
 use Rattle.bx_journal.proofs.session.records.entries_len.Goals as goal

@@ -1,5 +1,5 @@
-use Rattle.bx_journal.specs.DumpLine.{dump_line}
-use Rattle.bx_journal.specs.Text.{ended}
+use Rattle.bx_entries.specs.DumpLine.{dump_line}
+use Rattle.bx_entries.specs.Text.{ended}
 use Rattle.bx_journal.proofs.PageLemmas.{part_front, at_err}
 use Rattle.bx_journal.proofs.write.entry.put_full_row.Goals as goal
 

@@ -1,15 +1,15 @@
 use Rattle.std.proofs.Common.{◌≡◌, ℕ, List, [], ◌++◌, ap, sym, ◌∙◌, arith, append_assoc, length-append}
 use Rattle.std.specs.Prelude.{flat_map}
 use Rattle.std.proofs.lemmas.Result.{on_ok_weaker, on_err_weaker}
-use Rattle.bx_journal.specs.Kept.{Kept, kept_of}
-use Rattle.bx_journal.specs.declared.format.version.Version.TheVariants.{Second}
-use Rattle.bx_journal.specs.Line.{start_line, save_line}
-use Rattle.bx_journal.specs.Entry.{rows, head_text}
-use Rattle.bx_journal.specs.inner.Entry.{rows_text}
+use Rattle.bx_entries.specs.Kept.{Kept, kept_of}
+use Rattle.bx_entries.specs.declared.format.version.Version.TheVariants.{Second}
+use Rattle.bx_entries.specs.Line.{start_line, save_line}
+use Rattle.bx_entries.specs.Entry.{rows, head_text}
+use Rattle.bx_entries.specs.inner.Entry.{rows_text}
 use Rattle.bx_journal.specs.inner.Page.{IsPaged}
-use Rattle.bx_journal.specs.Text.{ended}
+use Rattle.bx_entries.specs.Text.{ended}
 use Rattle.bx_journal.proofs.PageLemmas.{paged_is, paged_more, paged_all, paged_length, part_is, part_front, part_behind, part_last, at_err}
-use Rattle.bx_journal.proofs.WriterLemmas.{head_is, head_long, start_long}
+use Rattle.bx_entries.proofs.WriterLemmas.{head_is, head_long, start_long}
 use Rattle.bx_journal.proofs.write.entry.put_head.Goals as goal
 
 abbrev first_of : ℕ → Kept → List ℕ

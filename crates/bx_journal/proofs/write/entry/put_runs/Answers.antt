@@ -1,11 +1,11 @@
 use Rattle.std.proofs.Common.{ℕ, ◌+◌, ◌<◌, List, [], ◌++◌, length, map, take, drop, get_or, ap, sym, ◌∙◌, arith, append_assoc, append-nil, length-append}
 use Rattle.std.specs.Prelude.{flat_map}
-use Rattle.bx_journal.specs.Kept.{run_of}
-use Rattle.bx_journal.specs.Entry.{rows}
-use Rattle.bx_journal.specs.inner.Entry.{rows_text}
+use Rattle.bx_entries.specs.Kept.{run_of}
+use Rattle.bx_entries.specs.Entry.{rows}
+use Rattle.bx_entries.specs.inner.Entry.{rows_text}
 use Rattle.bx_image.proofs.Devices.{GoesOn_refl, GoesOn_then}
 use Rattle.bx_journal.proofs.PageLemmas.{paged_here, paged_is, paged_step, part_step, paged_length, at_err}
-use Rattle.bx_journal.proofs.WriterLemmas.{within_at, runs_step, runs_front, take_whole}
+use Rattle.bx_entries.proofs.WriterLemmas.{within_at, runs_step, runs_front, take_whole}
 use Rattle.bx_journal.proofs.write.entry.put_runs.Goals as goal
 
 pub loop-run-init : goal.loop-run-init

@@ -1,9 +1,9 @@
 use Rattle.std.proofs.Common.{◌≤◌, ◌++◌, map, take, false}
 use Rattle.std.specs.Prelude.{vec_capacity, flat_map}
 use Rattle.bx_image.specs.Device.{GoesOn}
-use Rattle.bx_journal.specs.Kept.{run_of}
-use Rattle.bx_journal.specs.Entry.{rows}
-use Rattle.bx_journal.specs.inner.Entry.{rows_text}
+use Rattle.bx_entries.specs.Kept.{run_of}
+use Rattle.bx_entries.specs.Entry.{rows}
+use Rattle.bx_entries.specs.inner.Entry.{rows_text}
 use Rattle.bx_journal.specs.inner.Page.{IsPaged}
 use Rattle.bx_journal.proofs.write.entry.put_runs.Given as goal
 

@@ -1,0 +1,6 @@
+use Rattle.std.proofs.lemmas.Bool.{eqb-true}
+use Rattle.bx_entries.proofs.DigitLanes.{are_small}
+use Rattle.bx_entries.proofs.format.hex.are_digits.Goals as goal
+
+pub returns : goal.returns
+returns c is = are_small c.args.values c.fits-values.0 (eqb-true _ _ is)

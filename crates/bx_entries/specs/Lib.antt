@@ -1,0 +1,9 @@
+pub mod DumpLine
+pub mod Kept
+pub mod Entry
+pub mod Hex
+pub mod Line
+pub mod Parsed
+pub mod Text
+pub mod Finished
+pub mod inner

@@ -1,0 +1,12 @@
+-- What no public contract names.
+pub mod Entry
+pub mod Fault
+pub mod Followed
+pub mod Front
+pub mod Journal
+pub mod Kept
+pub mod Line
+pub mod Mark
+pub mod Parsed
+pub mod Plain
+pub mod Tally

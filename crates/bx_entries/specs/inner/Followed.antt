@@ -1,0 +1,30 @@
+-- Full saved lines that go on with a run, one after another.
+use Rattle.std.specs.Prelude.{◌≡◌, ◌+◌, ◌*◌, ◌≤◌, ℕ, suc, Some, List, [], ◌∷◌, ◌++◌, length, take, drop}
+use Rattle.bx_entries.specs.declared.format.version.Version.{Version}
+use Rattle.bx_entries.specs.Kept.{Run}
+use Rattle.bx_entries.specs.Line.{saved_in}
+use Rattle.bx_entries.specs.inner.Mark.{IsMark}
+use Rattle.bx_entries.specs.inner.Plain.{HasNoNewline}
+use Rattle.bx_entries.specs.Text.{Entry, Saving, split}
+
+-- the text begins with a full line, which gives these bytes at an address
+pub record IsFullSaved (len at : ℕ) (text bytes : List ℕ) : Type 0 where
+  pub long : 68 ≤ length text
+  pub plain : HasNoNewline (take 67 text)
+  pub ended : text ≡ take 67 text ++ 10 ∷ drop 68 text
+  pub saved : saved_in len (take 67 text) ≡ Some (record { at = at; bytes = bytes })
+
+-- the text is read up to a place among the saved lines of an entry, of which `line` is the number of the next one
+pub record IsSavingTo (text : List ℕ) (entries : List Entry) (v : Version) (len : ℕ) (runs : List Run) (at line : ℕ) : Type 0 where
+  pub mark : IsMark text at (record { entries = entries; stage = Saving v (record { len = len; runs = runs }) })
+  pub counted : line ≡ suc (length (split (take at text)).lines)
+
+-- so many full lines, with which a text goes on, lead from these runs to those
+pub record GoesOnBy (len : ℕ) (rest : List ℕ) (old new : List Run) (count : ℕ) : Type 0 where
+  pub within : 68 * count ≤ length rest
+  pub leads : (text : List ℕ) (entries : List Entry) (v : Version) (at line : ℕ) → rest ≡ drop at text → IsSavingTo text entries v len old at line
+      → IsSavingTo text entries v len new (at + 68 * count) (line + count)
+
+-- the runs, and one more behind them
+abbrev pub with_last : List Run → ℕ → List ℕ → List Run
+with_last front at bytes = front ++ record { at = at; bytes = bytes } ∷ []

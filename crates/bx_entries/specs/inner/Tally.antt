@@ -1,0 +1,32 @@
+-- Entries that are counted, and not kept.
+use Rattle.std.specs.Prelude.{◌≡◌, ℕ, Bool, IsTrue, Option, Some, List, length}
+use Rattle.bx_entries.specs.declared.read.count.Place.{Place}
+use Rattle.bx_entries.specs.declared.read.count.Place.TheVariants.{Between as BetweenPlace, Saving as SavingPlace, Ending as EndingPlace}
+use Rattle.bx_entries.specs.declared.read.count.Tally.{Tally}
+use Rattle.bx_entries.specs.Text.{Entry, Stage, Between, Saving, Ending, Reading, next}
+use Rattle.bx_entries.specs.Parsed.{told_by}
+use Rattle.bx_entries.specs.Finished.{AllTell, IsFinished}
+
+-- a stage without what was saved
+abbrev pub place_of : Stage → Place
+place_of Between = BetweenPlace
+place_of (Saving v s) = SavingPlace v s.len
+place_of (Ending v s) = EndingPlace v
+
+-- a reading without what was saved
+abbrev pub tally_of : Reading → Tally
+tally_of r = record { count = length r.entries; told = told_by r.entries; place = place_of r.stage }
+
+-- where a line leads from a reading, seen as a tally: where only entries that tell their lengths are taken, all go on doing so
+pub record LeadsTo (only_second : Bool) (r : Reading) (line : List ℕ) (t : Tally) : Type 0 where
+  pub reading : Reading
+  pub leads : next r line ≡ Some reading
+  pub is : tally_of reading ≡ t
+  pub tell : IsTrue only_second → AllTell r.entries → AllTell reading.entries
+
+-- the text is so many finished entries alone, and the newest tells this length
+pub record IsCounted (text : List ℕ) (count : ℕ) (told : Option ℕ) : Type 0 where
+  pub entries : List Entry
+  pub finished : IsFinished text entries
+  pub counted : count ≡ length entries
+  pub told_is : told ≡ told_by entries

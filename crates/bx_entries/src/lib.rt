@@ -1,0 +1,20 @@
+//! The text of a journal's entries: as it is written, read and counted. No device is in it. An inner part of `bx_journal`.
+#![tactic(auto)]
+
+mod fault;
+mod format;
+mod read;
+mod write;
+
+pub use bx_text::NoMemory;
+pub use fault::EntryFault;
+pub use format::length::head_len;
+pub use format::version::Version;
+pub use format::words::{Words, save_text};
+pub use read::count::{Counted, count_entries};
+pub use read::take_line::{MOST_CHANGES, told_length};
+pub use read::types::{EntryRead, StageRead};
+pub use read::whole::{JournalRead, read_journal};
+pub use write::entry::{entry_end, start_words};
+pub use write::page::new_page;
+pub use write::rows::{push_full_row, push_rows, row_of};

@@ -1,0 +1,182 @@
+//! A journal's text whose entries are counted, and of which nothing else is kept.
+ghost use Rattle.std.specs.Prelude.{◌≡◌, ◌+◌, ◌<◌, ◌≤◌, ◌++◌, ◌∷◌, List, ℕ, suc, length, take, drop, is_some, IsTrue, Some, IfSome, IfNone};
+ghost use Rattle.bx_entries.specs.Kept.{Kept as Record};
+ghost use Rattle.bx_entries.specs.Line.{after_in as after_at};
+ghost use Rattle.bx_entries.specs.inner.Plain.{HasNoNewline};
+ghost use Rattle.bx_entries.specs.Finished.{AllTell, IsFinished};
+ghost use Rattle.bx_entries.specs.inner.Tally.{IsCounted, LeadsTo, tally_of, place_of};
+ghost use Rattle.bx_entries.specs.Text.{Between as Resting, Saving as Keeping, Entry, Reading, Stage, next, next_at};
+ghost use Rattle.bx_entries.specs.Parsed.{told_by};
+
+use crate::Version;
+use crate::format::line::{after_in, is_save, saved_in};
+use crate::format::newline::{end_at, line_end};
+use crate::read::take_line::{MOST_CHANGES, begin};
+
+/// Between two entries, or in one: among its saved lines, or behind its save line.
+#[derive(Clone, Copy)]
+pub enum Place {
+    Between,
+    Saving { version: Version, len: u64 },
+    Ending { version: Version },
+}
+
+/// How many entries are finished, the length that the last one tells, and where the next line stands.
+#[derive(Clone, Copy)]
+pub struct Tally {
+    pub count: u32,
+    pub told: Option<u64>,
+    pub place: Place,
+}
+
+/// Where a line leads that begins an entry.
+#[inline]
+fn start(number: u32, told: Option<u64>, line: &[u8]) -> Option<Place>
+    requires { number ≤ 65535 }
+    ensures { (es : List Entry) → suc (length es) ≡ number → told ≡ told_by es
+        → IfSome result (λ p. (s : Stage) × (next_at es Resting line.now ≡ Some (record { entries = es; stage = s })) × (place_of s ≡ p)) }
+{
+    if let Some(len) = begin(Version::First, number, told, line) {
+        return Some(Place::Saving {
+            version: Version::First,
+            len,
+        });
+    }
+    let len = begin(Version::Second, number, told, line)?;
+    Some(Place::Saving {
+        version: Version::Second,
+        len,
+    })
+}
+
+/// Where a line leads among the saved lines of an entry.
+#[inline]
+fn save(number: u32, version: Version, len: u64, line: &[u8]) -> Option<Place>
+    ensures { (es : List Entry) (s : Record) → suc (length es) ≡ number → s.len ≡ len
+        → IfSome result (λ p. (t : Stage) × (next_at es (Keeping version s) line.now ≡ Some (record { entries = es; stage = t })) × (place_of t ≡ p)) }
+{
+    if is_save(number, line) {
+        return Some(Place::Ending { version });
+    }
+    let _ = saved_in(len, line)?;
+    Some(Place::Saving { version, len })
+}
+
+/// The length that an end line tells, if any. With `only_second` a line that tells none isn't taken.
+#[inline]
+fn told_in(only_second: bool, version: Version, number: u32, line: &[u8]) -> Option<Option<u64>>
+    ensures found { IfSome result (λ told. Some told ≡ after_at version number line.now) }
+    ensures second { IsTrue only_second → IfSome result (λ told. IsTrue (is_some told)) }
+{
+    let told = after_in(version, number, line)?;
+    if !only_second {
+        return Some(told);
+    }
+    let after = told?;
+    Some(Some(after))
+}
+
+/// The tally after one more line, where the line is in place. With `only_second` an entry that tells no length isn't
+/// counted.
+#[inline]
+fn take_one(tally: Tally, line: &[u8], only_second: bool) -> Option<Tally>
+    ensures leads { (r : Reading) → tally_of r ≡ tally → IfSome result (LeadsTo only_second r line.now) }
+    ensures few { tally.count ≤ 65535 → IfSome result (λ t. t.count ≤ 65535) }
+{
+    if tally.count >= MOST_CHANGES {
+        return None;
+    }
+    let number = tally.count + 1;
+    match tally.place {
+        Place::Between => {
+            let place = start(number, tally.told, line)?;
+            Some(Tally {
+                count: tally.count,
+                told: tally.told,
+                place,
+            })
+        }
+        Place::Saving { version, len } => {
+            let place = save(number, version, len, line)?;
+            Some(Tally {
+                count: tally.count,
+                told: tally.told,
+                place,
+            })
+        }
+        Place::Ending { version } => {
+            let told = told_in(only_second, version, number, line)?;
+            Some(Tally {
+                count: number,
+                told,
+                place: Place::Between,
+            })
+        }
+    }
+}
+
+/// Where the first newline is, if the line is of the length that most lines have at this place: those of the second
+/// version, and saved lines of 16 bytes.
+#[inline(always)]
+fn usual_end(place: Place, text: &[u8]) -> Option<usize>
+    ensures { IfSome result (λ i. (i < length text.now) × HasNoNewline (take i text.now) × (text.now ≡ take i text.now ++ 10 ∷ drop (i + 1) text.now)) }
+{
+    match place {
+        Place::Between => end_at(33, text),
+        Place::Saving { .. } => match end_at(67, text) {
+            Some(i) => Some(i),
+            None => end_at(13, text),
+        },
+        Place::Ending { .. } => end_at(31, text),
+    }
+}
+
+/// Where the first newline is.
+#[inline(always)]
+fn next_end(place: Place, text: &[u8]) -> Option<usize>
+    ensures found { IfSome result (λ i. (i < length text.now) × HasNoNewline (take i text.now) × (text.now ≡ take i text.now ++ 10 ∷ drop (i + 1) text.now)) }
+    ensures none { IfNone result (HasNoNewline text.now) }
+{
+    match usual_end(place, text) {
+        Some(i) => Some(i),
+        None => line_end(text),
+    }
+}
+
+/// How many entries a text has, and the length that the last one tells.
+#[derive(Clone, Copy)]
+pub struct Counted {
+    pub count: u32,
+    pub told: Option<u64>,
+}
+
+/// Counts the entries of a text of finished entries alone. It answers none where the text is anything else, and with
+/// `only_second` also where an entry tells no length.
+pub fn count_entries(text: &[u8], only_second: bool) -> Option<Counted>
+    ensures counted { IfSome result (λ c. IsCounted text.now c.count c.told) }
+    ensures few { IfSome result (λ c. c.count ≤ 65535) }
+    ensures second { IsTrue only_second → IfSome result (λ _. (entries : List Entry) × IsFinished text.now entries × AllTell entries) }
+{
+    let mut tally = Tally {
+        count: 0,
+        told: None,
+        place: Place::Between,
+    };
+    let mut rest = text;
+    while let Some(i) = next_end(tally.place, rest) {
+        tally = take_one(tally, &rest[..i], only_second)?;
+        let (_, behind) = rest.split_at(i + 1);
+        rest = behind;
+    }
+    if !rest.is_empty() {
+        return None;
+    }
+    match tally.place {
+        Place::Between => Some(Counted {
+            count: tally.count,
+            told: tally.told,
+        }),
+        Place::Saving { .. } => None,
+        Place::Ending { .. } => None,
+    }
+}

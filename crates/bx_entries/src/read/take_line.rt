@@ -1,0 +1,197 @@
+//! One more line of a journal's text.
+ghost use Rattle.std.specs.Prelude.{◌≡◌, ◌+◌, ◌<◌, ◌≤◌, List, ℕ, length, map, IfOk, IfSome, IfNone, MatchOption, None, Some, suc, [], true, false};
+ghost use Rattle.bx_entries.specs.Kept.{run_of};
+ghost use Rattle.bx_entries.specs.declared.format.version.Version.{Version as Form};
+ghost use Rattle.bx_entries.specs.declared.read.types.EntryRead.{EntryRead as Finished};
+ghost use Rattle.bx_entries.specs.inner.Mark.{IsMark};
+ghost use Rattle.bx_entries.specs.Text.{Between as Resting, Saving as Keeping, Ending as Closing, Entry, Reading, begins as begun, next_at, next};
+ghost use Rattle.bx_entries.specs.Parsed.{told_by};
+ghost use Rattle.bx_entries.specs.inner.Parsed.{Leads, KeepsMarks, stage_of, reading_of, entries_of, IsMarked, AreMarked};
+
+use crate::format::line::{after_in, is_save, length_in, push_line, saved_in};
+use crate::{EntryRead, StageRead, Version};
+use bx_image::Saved;
+use bx_text::{NoMemory, Piece, Pieces};
+use std::alloc::Allocator;
+
+/// How many changes a journal holds.
+pub const MOST_CHANGES: u32 = 65_535;
+
+/// The length in a line that begins an entry of this version, where the entry may begin with it.
+#[inline]
+pub fn begin(version: Version, number: u32, told: Option<u64>, line: &[u8]) -> Option<u64>
+    ensures { (es : List Entry) → suc (length es) ≡ number → told ≡ told_by es → MatchOption result
+        (begun es version line.now ≡ None) (λ len. begun es version line.now ≡ Some (Keeping version (record { len = len; runs = [] }))) }
+{
+    let len = length_in(version, number, line)?;
+    match told {
+        Some(after) => { if len == after { Some(len) } else { None } }
+        None => Some(len),
+    }
+}
+
+/// Takes a line between two entries, at this place. The answer is none where it is out of place.
+pub fn take_start<A: Allocator + Clone>(
+    alloc: &A,
+    number: u32,
+    told: Option<u64>,
+    at: u64,
+    line: &[u8],
+) -> Result<Option<StageRead<A>>, NoMemory>
+    ensures leads { (es : List Entry) → suc (length es) ≡ number → told ≡ told_by es
+        → IfOk result (Leads (record { entries = es; stage = Resting }) line.now es) }
+    ensures marked { (text : List ℕ) (es : List (Finished A)) (after : ℕ) → IsMarked text es StageRead.Between at → suc (length es) ≡ number
+        → IsMark text at (record { entries = entries_of es; stage = Resting }) → at ≤ after → IfOk result (KeepsMarks text es after) }
+{
+    if number > MOST_CHANGES {
+        return Ok(None);
+    }
+    if let Some(len) = begin(Version::First, number, told, line) {
+        let runs = no_runs(alloc)?;
+        return Ok(Some(StageRead::Saving {
+            version: Version::First,
+            len,
+            runs,
+            begins: at,
+        }));
+    }
+    if let Some(len) = begin(Version::Second, number, told, line) {
+        let runs = no_runs(alloc)?;
+        return Ok(Some(StageRead::Saving {
+            version: Version::Second,
+            len,
+            runs,
+            begins: at,
+        }));
+    }
+    Ok(None)
+}
+
+fn no_runs<A: Allocator + Clone>(alloc: &A) -> Result<Vec<Piece<A>, A>, NoMemory>
+    ensures { IfOk result (λ runs. runs.items ≡ []) }
+{
+    Ok(Vec::new(alloc.clone().map_err(|_| NoMemory)?))
+}
+
+/// Takes a line among the saved lines of an entry, that ends at `after`. The answer is none where it is out of place.
+#[tactic(auto, using(crate::proofs::StepLemmas::saving_steps))]
+pub fn take_saved<A: Allocator + Clone>(
+    alloc: &A,
+    number: u32,
+    version: Version,
+    len: u64,
+    mut runs: Vec<Piece<A>, A>,
+    begins: u64,
+    after: u64,
+    line: &[u8],
+) -> Result<Option<StageRead<A>>, NoMemory>
+    ensures leads { (es : List Entry) → suc (length es) ≡ number
+        → IfOk result (Leads (record { entries = es; stage = Keeping version (record { len = len; runs = map run_of runs.items }) }) line.now es) }
+    ensures marked { (text : List ℕ) (es : List (Finished A)) (at : ℕ) → IsMarked text es (StageRead.Saving version len runs begins) at → at ≤ after
+        → IfOk result (KeepsMarks text es after) }
+{
+    if is_save(number, line) {
+        let kept = Saved {
+            len,
+            runs: Pieces::from_vec(runs),
+        };
+        return Ok(Some(StageRead::Ending {
+            version,
+            kept,
+            begins,
+            saved: after,
+        }));
+    }
+    let Some(read) = saved_in(len, line) else {
+        return Ok(None);
+    };
+    push_line(alloc, &mut runs, read.at, &read.bytes[..read.count])?;
+    Ok(Some(StageRead::Saving {
+        version,
+        len,
+        runs,
+        begins,
+    }))
+}
+
+/// Takes a line behind the save line of an entry: the entry is finished. The answer is whether it is in place.
+pub fn take_end<A: Allocator>(
+    number: u32,
+    entries: &mut Vec<EntryRead<A>, A>,
+    version: Version,
+    kept: Saved<A>,
+    begins: u64,
+    saved: u64,
+    line: &[u8],
+) -> Result<bool, NoMemory>
+    ensures taken { suc (length entries.old.items) ≡ number
+        → IfOk result (λ b. b ≡ true → next (reading_of entries.old.items (StageRead.Ending version kept begins saved)) line.now ≡ Some (reading_of entries.new.items StageRead.Between)) }
+    ensures damaged { suc (length entries.old.items) ≡ number
+        → IfOk result (λ b. b ≡ false → next (reading_of entries.old.items (StageRead.Ending version kept begins saved)) line.now ≡ None) }
+    ensures marked { (text : List ℕ) (at after : ℕ) → IsMarked text entries.old.items (StageRead.Ending version kept begins saved) at → at ≤ after
+        → IfOk result (λ b. b ≡ true → IsMarked text entries.new.items StageRead.Between after) }
+{
+    let Some(after) = after_in(version, number, line) else {
+        return Ok(false);
+    };
+    let entry = EntryRead {
+        version,
+        kept,
+        after,
+        begins,
+        saved,
+    };
+    if entries.push(entry).is_err() {
+        return Err(NoMemory);
+    }
+    Ok(true)
+}
+
+/// Takes a line at a place, which ends at another. The answer is none where it is out of place.
+pub fn take_line<A: Allocator + Clone>(
+    alloc: &A,
+    entries: &mut Vec<EntryRead<A>, A>,
+    stage: StageRead<A>,
+    at: u64,
+    after: u64,
+    line: &[u8],
+) -> Result<Option<StageRead<A>>, NoMemory>
+    requires few { length entries.old.items ≤ 65535 }
+    ensures leads { IfOk result (Leads (reading_of entries.old.items stage) line.now (entries_of entries.new.items)) }
+    ensures marked { (text : List ℕ) → IsMarked text entries.old.items stage at → IsMark text at (reading_of entries.old.items stage) → at ≤ after
+        → IfOk result (KeepsMarks text entries.new.items after) }
+{
+    let number = entries.len() as u32 + 1;
+    match stage {
+        StageRead::Between => {
+            let told = told_length(entries);
+            take_start(alloc, number, told, at, line)
+        }
+        StageRead::Saving {
+            version,
+            len,
+            runs,
+            begins,
+        } => { take_saved(alloc, number, version, len, runs, begins, after, line) }
+        StageRead::Ending {
+            version,
+            kept,
+            begins,
+            saved,
+        } => {
+            if take_end(number, entries, version, kept, begins, saved, line)? {
+                Ok(Some(StageRead::Between))
+            } else {
+                Ok(None)
+            }
+        }
+    }
+}
+
+/// The length that the next entry has to begin with, where the last one tells it.
+pub fn told_length<A: Allocator>(entries: &[EntryRead<A>]) -> Option<u64>
+    ensures { result ≡ told_by (entries_of entries.now) }
+{
+    let last = entries.last()?;
+    last.after
+}

@@ -1,0 +1,67 @@
+//! All of a journal's text.
+ghost use Rattle.std.specs.Prelude.{IfOk, IfErr};
+ghost use Rattle.bx_entries.specs.Text.{Reads, split};
+ghost use Rattle.bx_entries.specs.inner.Parsed.{reading_of};
+
+use crate::format::newline::line_end;
+use crate::read::extend::go_on;
+use crate::read::full_lines::ENDED;
+use crate::read::tail::rest_fits;
+use crate::read::take_line::{take_line, told_length};
+use crate::read::text::{Unread, behind, rest_of};
+use crate::{EntryFault, EntryRead, StageRead};
+use std::alloc::{Allocator, Global};
+
+/// What was read. The last newline is before `whole`.
+#[derive(Drop)]
+pub struct JournalRead<A: Allocator = Global> {
+    pub entries: Vec<EntryRead<A>, A>,
+    pub stage: StageRead<A>,
+    pub whole: u64,
+}
+
+ghost use Rattle.bx_entries.specs.inner.Journal.{HasRead};
+ghost use Rattle.bx_entries.specs.inner.Fault.{StopsReading};
+
+/// Reads a journal's text, or says at which line it is damaged. What it reads takes the text's memory where it can.
+pub fn read_journal<A: Allocator + Clone>(
+    alloc: &A,
+    bytes: Vec<u8, A>,
+) -> Result<JournalRead<A>, EntryFault>
+    ensures reads { IfOk result (λ j. Reads bytes.items (reading_of j.entries.items j.stage)) }
+    ensures read { IfOk result (λ j. HasRead bytes.items j) }
+    ensures fault { IfErr result (StopsReading bytes.items) }
+{
+    let mut entries = Vec::new(alloc.clone()?);
+    let mut stage = StageRead::Between;
+    let mut at: u64 = 0;
+    let mut line: u64 = 1;
+    let mut text = Unread { bytes, from: 0 };
+    while let Some(i) = line_end(rest_of(&text)) {
+        let after = at + i as u64 + 1;
+        let (now, _) = rest_of(&text).split_at(i);
+        let Ok(taken) = take_line(alloc, &mut entries, stage, at, after, now) else {
+            return Err(EntryFault::NoMemory);
+        };
+        let Some(next) = taken else {
+            return Err(EntryFault::Damaged { line });
+        };
+        let Ok(gone) = go_on(alloc, next, behind(text, i + 1)) else {
+            return Err(EntryFault::NoMemory);
+        };
+        at = after + (ENDED * gone.count) as u64;
+        line = line + 1 + gone.count as u64;
+        stage = gone.stage;
+        text = gone.text;
+    }
+    let number = entries.len() as u32 + 1;
+    let told = told_length(&entries);
+    if !rest_fits(number, told, &stage, rest_of(&text)) {
+        return Err(EntryFault::Damaged { line });
+    }
+    Ok(JournalRead {
+        entries,
+        stage,
+        whole: at,
+    })
+}
