@@ -8,3 +8,4 @@ pub(crate) mod take_line;
 mod text;
 pub(crate) mod types;
 pub(crate) mod whole;
+pub(crate) mod window;

@@ -1,9 +1,9 @@
 -- Entries that are counted, and not kept.
-use Rattle.std.specs.Prelude.{◌≡◌, ℕ, Bool, IsTrue, Option, Some, List, length}
+use Rattle.std.specs.Prelude.{◌≡◌, ℕ, Bool, IsTrue, Option, Some, List, [], length}
 use Rattle.bx_entries.specs.declared.read.count.Place.{Place}
 use Rattle.bx_entries.specs.declared.read.count.Place.TheVariants.{Between as BetweenPlace, Saving as SavingPlace, Ending as EndingPlace}
 use Rattle.bx_entries.specs.declared.read.count.Tally.{Tally}
-use Rattle.bx_entries.specs.Text.{Entry, Stage, Between, Saving, Ending, Reading, next}
+use Rattle.bx_entries.specs.Text.{Entry, Stage, Between, Saving, Ending, Reading, next, split, start, after_lines}
 use Rattle.bx_entries.specs.Parsed.{told_by}
 use Rattle.bx_entries.specs.Finished.{AllTell, IsFinished}
 
@@ -30,3 +30,18 @@ pub record IsCounted (text : List ℕ) (count : ℕ) (told : Option ℕ) : Type 
   pub finished : IsFinished text entries
   pub counted : count ≡ length entries
   pub told_is : told ≡ told_by entries
+
+-- a text of so many whole lines leads to this tally; where only entries that tell their lengths are taken, all of them do
+pub record IsTallied (only_second : Bool) (text : List ℕ) (t : Tally) (lines : ℕ) : Type 0 where
+  pub reading : Reading
+  pub reads : after_lines start (split text).lines ≡ Some reading
+  pub whole : (split text).rest ≡ []
+  pub many : lines ≡ length (split text).lines
+  pub is : tally_of reading ≡ t
+  pub tell : IsTrue only_second → AllTell reading.entries
+
+-- a text that is counted, with the number of its lines; where only entries that tell their lengths are taken, all of them do
+pub record IsCountedAll (only_second : Bool) (text : List ℕ) (count : ℕ) (told : Option ℕ) (lines : ℕ) : Type 0 where
+  pub counted : IsCounted text count told
+  pub tell : IsTrue only_second → AllTell counted.entries
+  pub many : lines ≡ length (split text).lines

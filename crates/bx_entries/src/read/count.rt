@@ -1,10 +1,9 @@
-//! A journal's text whose entries are counted, and of which nothing else is kept.
+//! One more line of a journal's text whose entries are counted, and of which nothing else is kept.
 ghost use Rattle.std.specs.Prelude.{◌≡◌, ◌+◌, ◌<◌, ◌≤◌, ◌++◌, ◌∷◌, List, ℕ, suc, length, take, drop, is_some, IsTrue, Some, IfSome, IfNone};
 ghost use Rattle.bx_entries.specs.Kept.{Kept as Record};
 ghost use Rattle.bx_entries.specs.Line.{after_in as after_at};
 ghost use Rattle.bx_entries.specs.inner.Plain.{HasNoNewline};
-ghost use Rattle.bx_entries.specs.Finished.{AllTell, IsFinished};
-ghost use Rattle.bx_entries.specs.inner.Tally.{IsCounted, LeadsTo, tally_of, place_of};
+ghost use Rattle.bx_entries.specs.inner.Tally.{LeadsTo, tally_of, place_of};
 ghost use Rattle.bx_entries.specs.Text.{Between as Resting, Saving as Keeping, Entry, Reading, Stage, next, next_at};
 ghost use Rattle.bx_entries.specs.Parsed.{told_by};
 
@@ -79,7 +78,7 @@ fn told_in(only_second: bool, version: Version, number: u32, line: &[u8]) -> Opt
 /// The tally after one more line, where the line is in place. With `only_second` an entry that tells no length isn't
 /// counted.
 #[inline]
-fn take_one(tally: Tally, line: &[u8], only_second: bool) -> Option<Tally>
+pub fn take_one(tally: Tally, line: &[u8], only_second: bool) -> Option<Tally>
     ensures leads { (r : Reading) → tally_of r ≡ tally → IfSome result (LeadsTo only_second r line.now) }
     ensures few { tally.count ≤ 65535 → IfSome result (λ t. t.count ≤ 65535) }
 {
@@ -133,50 +132,12 @@ fn usual_end(place: Place, text: &[u8]) -> Option<usize>
 
 /// Where the first newline is.
 #[inline(always)]
-fn next_end(place: Place, text: &[u8]) -> Option<usize>
+pub fn next_end(place: Place, text: &[u8]) -> Option<usize>
     ensures found { IfSome result (λ i. (i < length text.now) × HasNoNewline (take i text.now) × (text.now ≡ take i text.now ++ 10 ∷ drop (i + 1) text.now)) }
     ensures none { IfNone result (HasNoNewline text.now) }
 {
     match usual_end(place, text) {
         Some(i) => Some(i),
         None => line_end(text),
-    }
-}
-
-/// How many entries a text has, and the length that the last one tells.
-#[derive(Clone, Copy)]
-pub struct Counted {
-    pub count: u32,
-    pub told: Option<u64>,
-}
-
-/// Counts the entries of a text of finished entries alone. It answers none where the text is anything else, and with
-/// `only_second` also where an entry tells no length.
-pub fn count_entries(text: &[u8], only_second: bool) -> Option<Counted>
-    ensures counted { IfSome result (λ c. IsCounted text.now c.count c.told) }
-    ensures few { IfSome result (λ c. c.count ≤ 65535) }
-    ensures second { IsTrue only_second → IfSome result (λ _. (entries : List Entry) × IsFinished text.now entries × AllTell entries) }
-{
-    let mut tally = Tally {
-        count: 0,
-        told: None,
-        place: Place::Between,
-    };
-    let mut rest = text;
-    while let Some(i) = next_end(tally.place, rest) {
-        tally = take_one(tally, &rest[..i], only_second)?;
-        let (_, behind) = rest.split_at(i + 1);
-        rest = behind;
-    }
-    if !rest.is_empty() {
-        return None;
-    }
-    match tally.place {
-        Place::Between => Some(Counted {
-            count: tally.count,
-            told: tally.told,
-        }),
-        Place::Saving { .. } => None,
-        Place::Ending { .. } => None,
     }
 }

@@ -1,0 +1,75 @@
+//! A journal's text that is counted a window at a time: no line of it is kept.
+ghost use Rattle.std.specs.Prelude.{◌≡◌, ◌+◌, ◌≤◌, ◌++◌, [], Bool, List, ℕ, length, take, IfSome};
+ghost use Rattle.bx_entries.specs.inner.Tally.{IsTallied, IsCountedAll};
+
+use crate::read::count::{Place, Tally, next_end, take_one};
+
+/// Where the whole lines of a window lead, how many they are, and how many bytes they have.
+#[derive(Clone, Copy)]
+pub struct Passed {
+    pub tally: Tally,
+    pub lines: u64,
+    pub taken: usize,
+}
+
+/// How many entries a text has, and the length that the last one tells.
+#[derive(Clone, Copy)]
+pub struct Counted {
+    pub count: u32,
+    pub told: Option<u64>,
+}
+
+/// The tally of no text.
+pub fn no_entries() -> Tally
+    ensures tallied { (only : Bool) → IsTallied only [] result 0 }
+    ensures count { result.count ≡ 0 }
+{
+    Tally {
+        count: 0,
+        told: None,
+        place: Place::Between,
+    }
+}
+
+/// Counts the whole lines at the start of a window: all of them, where each is in place. It answers none where one isn't,
+/// and with `only_second` also where an entry tells no length.
+pub fn count_lines(tally: Tally, window: &[u8], only_second: bool) -> Option<Passed>
+    ensures tallied { (front : List ℕ) (n : ℕ) → IsTallied only_second front tally n
+        → IfSome result (λ p. IsTallied only_second (front ++ take p.taken window.now) p.tally (n + p.lines)) }
+    ensures within { IfSome result (λ p. p.taken ≤ length window.now) }
+    ensures lines { IfSome result (λ p. p.lines ≤ p.taken) }
+    ensures few { tally.count ≤ 65535 → IfSome result (λ p. p.tally.count ≤ 65535) }
+{
+    let mut now = tally;
+    let mut lines: u64 = 0;
+    let mut taken: usize = 0;
+    let mut rest = window;
+    while let Some(i) = next_end(now.place, rest) {
+        now = take_one(now, &rest[..i], only_second)?;
+        let (_, behind) = rest.split_at(i + 1);
+        rest = behind;
+        lines += 1;
+        taken += i + 1;
+    }
+    Some(Passed {
+        tally: now,
+        lines,
+        taken,
+    })
+}
+
+/// What was counted, where no entry is unfinished.
+pub fn counted_by(tally: Tally) -> Option<Counted>
+    ensures counted { (only : Bool) (text : List ℕ) (lines : ℕ) → IsTallied only text tally lines
+        → IfSome result (λ c. IsCountedAll only text c.count c.told lines) }
+    ensures few { tally.count ≤ 65535 → IfSome result (λ c. c.count ≤ 65535) }
+{
+    match tally.place {
+        Place::Between => Some(Counted {
+            count: tally.count,
+            told: tally.told,
+        }),
+        Place::Saving { .. } => None,
+        Place::Ending { .. } => None,
+    }
+}
