@@ -1,5 +1,5 @@
 -- Texts of finished entries alone.
-use Rattle.std.specs.Prelude.{◌≡◌, is_some, IsTrue, List, [], ◌∷◌}
+use Rattle.std.specs.Prelude.{◌≡◌, ℕ, is_some, IsTrue, List, [], ◌∷◌}
 use Rattle.bx_entries.specs.Text.{Entry, Between, Reads, split}
 
 -- the text is these finished entries alone
