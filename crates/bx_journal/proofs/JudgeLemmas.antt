@@ -9,7 +9,7 @@ use Rattle.bx_journal.specs.declared.session.fault.SessionFault.TheVariants.{NoM
 use Rattle.bx_entries.specs.declared.read.whole.JournalRead.{JournalRead}
 use Rattle.bx_entries.specs.declared.read.types.EntryRead.{EntryRead}
 use Rattle.bx_entries.specs.declared.read.types.StageRead.TheVariants.{Between as BetweenRead, Saving as SavingRead, Ending as EndingRead}
-use Rattle.bx_entries.specs.declared.read.count.Counted.{Counted}
+use Rattle.bx_journal.specs.declared.recovery.windows.CountedText.{CountedText}
 use Rattle.bx_journal.specs.inner.Calls.{ReadFault}
 use Rattle.bx_entries.specs.inner.Journal.{HasRead}
 use Rattle.bx_journal.specs.Judging.{RefusesRedo}
@@ -19,7 +19,7 @@ use Rattle.bx_entries.specs.inner.Parsed.{entry_of, entries_onto, entries_of, st
 use Rattle.bx_entries.specs.Finished.{AllTell, IsFinished}
 use Rattle.bx_journal.specs.Redo.{BeginsAt, IsRedoOf, DamagedLine, Tail, FirstForm, IsRefusedAt, NoRedo, TooMany, Off}
 use Rattle.bx_journal.specs.Stack.{stack_of}
-use Rattle.bx_entries.specs.inner.Tally.{IsCounted}
+use Rattle.bx_entries.specs.inner.Tally.{IsCounted, IsCountedAll}
 use Rattle.bx_entries.specs.Text.{Entry, Between, Reading, Reads, Split, split, with_front, start, after_lines}
 use Rattle.bx_entries.proofs.Damage.{split_at_mark}
 use Rattle.bx_journal.proofs.Phases.{length-stack_of}
@@ -175,16 +175,16 @@ module _ {A : Type 0} (text : List ℕ) (changes : ℕ) (j : JournalRead A) (rea
   }
 
 -- a text that was counted
-pub counted_fit : (text : List ℕ) (changes count : ℕ) (told : Option ℕ) → IsCounted text count told → (entries : List Entry) × IsFinished text entries × AllTell entries → changes + count ≤ 65535 → IsRedoCounted text changes count told
-counted_fit text changes count told c second few = record {
-  entries = c.entries;
+pub counted_fit : (text : List ℕ) (changes count lines : ℕ) (told : Option ℕ) (c : IsCountedAll true text count told lines) → changes + count ≤ 65535 → IsRedoCounted text changes count told
+counted_fit text changes count lines told c few = record {
+  entries = c.counted.entries;
   fit = record {
-    finished = c.finished;
-    tell = subst AllTell (one_list text second.0 c.entries second.1.reads c.finished.reads) second.2;
-    few = omega (arith, few, c.counted);
+    finished = c.counted.finished;
+    tell = c.tell refl;
+    few = omega (arith, few, c.counted.counted);
   };
-  counted = c.counted;
-  told_is = c.told_is;
+  counted = c.counted.counted;
+  told_is = c.counted.told_is;
 }
 
 -- where a text is unfit no image makes it a redo text
@@ -210,7 +210,7 @@ fault_refuses text changes line Broken h unfit = h
 fault_refuses text changes line (LengthDiffers n) h unfit = h
 fault_refuses text changes line (NothingToRedo have) h unfit = h
 
-pub unfit_refuses : (text : List ℕ) (changes line : ℕ) (r : Result Counted SessionFault) → IfOk r (λ c. IsRedoCounted text changes c.count c.told) → IfErr r (RedoTextFault text changes) → IsUnfitAt text changes line
+pub unfit_refuses : (text : List ℕ) (changes line : ℕ) (r : Result CountedText SessionFault) → IfOk r (λ c. IsRedoCounted text changes c.counted.count c.counted.told) → IfErr r (RedoTextFault text changes) → IsUnfitAt text changes line
     → MatchResult r (λ _. ⊥) (RefusesRedo line)
 unfit_refuses text changes line (Ok c) ok refused unfit = fit_apart text changes line ok.entries ok.fit unfit
 unfit_refuses text changes line (Err e) ok refused unfit = fault_refuses text changes line e refused unfit
@@ -386,6 +386,11 @@ text_judged H text x changes (NothingToRedo have) h = h
 -- what comparing the length may answer
 abbrev pub OffFault : Type 0 → List ℕ → List ℕ → Option ℕ → SessionFault → Type 0
 OffFault H text x told e = (e ≡ DeviceFailed) ⊎ ((e ≡ RedoDamaged (length (split text).lines)) × (H → (n : ℕ) × (told ≡ Some n) × (length x ≡ n → ⊥)))
+
+-- the number of the text's lines was counted before
+pub lines_off : (H : Type 0) (text x : List ℕ) (lines : ℕ) (told : Option ℕ) (e : SessionFault) → lines ≡ length (split text).lines
+    → (e ≡ DeviceFailed) ⊎ ((e ≡ RedoDamaged lines) × (H → (n : ℕ) × (told ≡ Some n) × (length x ≡ n → ⊥))) → OffFault H text x told e
+lines_off H text x lines told e many fault = subst (λ n. (e ≡ DeviceFailed) ⊎ ((e ≡ RedoDamaged n) × (H → (n : ℕ) × (told ≡ Some n) × (length x ≡ n → ⊥)))) many fault
 
 pub length_judged : (H : Type 0) (text x : List ℕ) (changes count : ℕ) (told : Option ℕ) (e : SessionFault) → IsRedoCounted text changes count told → OffFault H text x told e → JudgeFault H text x changes e
 length_judged H text x changes count told e c fault =

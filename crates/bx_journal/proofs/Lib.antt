@@ -37,3 +37,4 @@ pub mod Refused
 pub mod JudgeLemmas
 pub mod OpenedLemmas
 pub mod LeftLemmas
+pub mod WindowLemmas

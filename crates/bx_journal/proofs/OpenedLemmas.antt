@@ -10,7 +10,7 @@ use Rattle.bx_journal.specs.declared.session.fault.SessionFault.TheVariants.{NoM
 use Rattle.bx_journal.specs.declared.recovery.journal.Found.{Found}
 use Rattle.bx_journal.specs.declared.recovery.journal.Found.TheVariants.{Finished, Unfinished}
 use Rattle.bx_entries.specs.declared.read.whole.JournalRead.{JournalRead}
-use Rattle.bx_entries.specs.declared.read.count.Counted.{Counted}
+use Rattle.bx_entries.specs.declared.read.window.Counted.{Counted}
 use Rattle.bx_journal.specs.Calls.{AfterFault, OpenFault}
 use Rattle.bx_journal.specs.Images.{Images}
 use Rattle.bx_journal.specs.Judging.{RefusesRedo}

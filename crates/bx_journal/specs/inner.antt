@@ -15,3 +15,5 @@ pub mod Step
 pub mod Takens
 pub mod Turns
 pub mod Undoing
+pub mod Windows
+pub mod RedoFound

@@ -6,3 +6,4 @@ mod redo;
 mod rows;
 mod script;
 mod tools;
+mod windows;

@@ -1,34 +1,74 @@
 //! Opening beside a journal of finished entries alone: the redo text is read and judged.
-ghost use Rattle.std.specs.Prelude.{◌≡◌, ◌↔◌, ◌⊎◌, ◌+◌, ◌<◌, ◌≤◌, List, ℕ, length, OnOk, IfOk, IfErr, MatchResult};
+ghost use Rattle.std.specs.Prelude.{◌≡◌, ◌↔◌, ◌⊎◌, ◌+◌, ◌<◌, ◌≤◌, List, ℕ, length, OnOk, IfOk, IfErr, IfSome, MatchResult};
 ghost use Rattle.bx_journal.specs.Judging.{RefusesRedo};
 ghost use Rattle.bx_journal.specs.Opening.{FaultCounts, RefusesLength};
 ghost use Rattle.bx_journal.specs.inner.Recovery.{FinishedFault, HasOtherLength, HasToldLength, HasUndoneCount};
 ghost use Rattle.bx_journal.specs.Redo.{IsRefusedAt};
+ghost use Rattle.bx_journal.specs.inner.RedoFound.{IsRedoCountedIn, IsRedoIn};
 
-use crate::recovery::judge::judge_redo;
+use crate::recovery::judge::{RedoFound, judge_redo};
 use crate::recovery::unfinished_entry::check_length;
+use crate::recovery::windows::{CountedText, count_text};
 use crate::session::fault::of_text;
 use crate::{How, Recovered, SessionFault};
-use bx_entries::Counted;
+use bx_entries::{Counted, MOST_CHANGES};
 use bx_image::Device;
 use bx_store::TextStore;
 use std::alloc::Allocator;
 
-/// All of the redo text. It changes nothing.
-fn read_redo<T: TextStore, A: Allocator + Clone>(
+/// Counts the entries of the redo text, where it is one beside so many changes. It changes nothing.
+fn count_redo<T: TextStore, A: Allocator + Clone>(
     alloc: &A,
     redo_text: &mut T,
-) -> Result<Vec<u8, A>, SessionFault>
-    requires { T.failures redo_text.old < u64.MAX }
-    ensures bytes { T.honest redo_text.old → IfOk result (λ bytes. bytes.items ≡ T.text redo_text.old) }
+    changes: u32,
+) -> Result<Option<CountedText>, SessionFault>
+    requires countable { T.failures redo_text.old < u64.MAX }
+    requires few { changes ≤ 65535 }
+    ensures counted { IfOk result (λ found. IfSome found (λ c. IsRedoCountedIn (T.honest redo_text.old) (T.text redo_text.old) changes c.counted.count c.counted.told c.lines)) }
     ensures fault { IfErr result (λ e. (e ≡ SessionFault.NoMemory) ⊎ (e ≡ SessionFault.DeviceFailed)) }
     ensures text { T.honest redo_text.old → T.text redo_text.new ≡ T.text redo_text.old }
     ensures honesty { T.honest redo_text.new ↔ T.honest redo_text.old }
     ensures no_failure { OnOk result (T.failures redo_text.new ≡ T.failures redo_text.old) }
     ensures counts { IfErr result (λ e. FaultCounts e 0 (T.failures redo_text.old) 0 (T.failures redo_text.new)) }
 {
+    let found = match count_text(alloc, redo_text, true) {
+        Ok(found) => found,
+        Err(fault) => return Err(fault),
+    };
+    let Some(text) = found else {
+        return Ok(None);
+    };
+    if text.counted.count > MOST_CHANGES - changes {
+        return Ok(None);
+    }
+    Ok(Some(text))
+}
+
+/// What the redo text is beside so many changes: counted in windows, and read whole only where it isn't counted so. It
+/// changes nothing.
+fn find_redo<T: TextStore, A: Allocator + Clone>(
+    alloc: &A,
+    redo_text: &mut T,
+    changes: u32,
+) -> Result<RedoFound<A>, SessionFault>
+    requires countable { T.failures redo_text.old < u64.MAX }
+    requires few { changes ≤ 65535 }
+    ensures found { IfOk result (IsRedoIn (T.honest redo_text.old) (T.text redo_text.old) changes) }
+    ensures fault { IfErr result (λ e. (e ≡ SessionFault.NoMemory) ⊎ (e ≡ SessionFault.DeviceFailed)) }
+    ensures text { T.honest redo_text.old → T.text redo_text.new ≡ T.text redo_text.old }
+    ensures honesty { T.honest redo_text.new ↔ T.honest redo_text.old }
+    ensures no_failure { OnOk result (T.failures redo_text.new ≡ T.failures redo_text.old) }
+    ensures counts { IfErr result (λ e. FaultCounts e 0 (T.failures redo_text.old) 0 (T.failures redo_text.new)) }
+{
+    let counted = match count_redo(alloc, redo_text, changes) {
+        Ok(counted) => counted,
+        Err(fault) => return Err(fault),
+    };
+    if let Some(text) = counted {
+        return Ok(RedoFound::Counted(text));
+    }
     match redo_text.read_all(alloc.clone()?) {
-        Ok(bytes) => Ok(bytes),
+        Ok(bytes) => Ok(RedoFound::Text(bytes)),
         Err(fault) => Err(of_text(fault)),
     }
 }
@@ -60,14 +100,14 @@ pub fn open_finished<D: Device, T: TextStore, A: Allocator + Clone>(
     ensures no_failure { OnOk result ((D.failures device.new ≡ D.failures device.old) × (T.failures redo_text.new ≡ T.failures redo_text.old)) }
     ensures counts { IfErr result (λ e. FaultCounts e (D.failures device.old) (T.failures redo_text.old) (D.failures device.new) (T.failures redo_text.new)) }
 {
-    let bytes = match read_redo(alloc, redo_text) {
-        Ok(bytes) => bytes,
+    let redo = match find_redo(alloc, redo_text, found.count) {
+        Ok(redo) => redo,
         Err(fault) => return Err(fault),
     };
     if let Err(fault) = check_length(device, found.told) {
         return Err(fault);
     }
-    let undone = match judge_redo(alloc, device, &bytes, found.count) {
+    let undone = match judge_redo(alloc, device, redo, found.count) {
         Ok(undone) => undone,
         Err(fault) => return Err(fault),
     };

@@ -7,7 +7,8 @@ ghost use Rattle.bx_entries.specs.inner.Tally.{IsCounted};
 use crate::session::fault::of_text;
 use crate::session::read::read_journal;
 use crate::SessionFault;
-use bx_entries::{Counted, JournalRead, StageRead, count_entries, told_length};
+use crate::recovery::windows::count_text;
+use bx_entries::{Counted, JournalRead, StageRead, told_length};
 use bx_store::TextStore;
 use std::alloc::{Allocator, Global};
 
@@ -44,8 +45,8 @@ fn as_counted<A: Allocator>(journal: &JournalRead<A>, len: u64) -> Option<Counte
 
 ghost use Rattle.bx_journal.specs.inner.Recovery.{FindFault, IsFoundIn};
 
-/// Reads a journal's text. It changes nothing, and of a text of finished entries alone it keeps nothing but the count.
-pub fn read_text<T: TextStore, A: Allocator + Clone>(
+/// Reads all of a journal's text. It changes nothing.
+fn read_whole<T: TextStore, A: Allocator + Clone>(
     alloc: &A,
     store: &mut T,
 ) -> Result<Found<A>, SessionFault>
@@ -61,9 +62,6 @@ pub fn read_text<T: TextStore, A: Allocator + Clone>(
         Ok(bytes) => bytes,
         Err(fault) => return Err(of_text(fault)),
     };
-    if let Some(counted) = count_entries(&bytes, false) {
-        return Ok(Found::Finished(counted));
-    }
     let len = bytes.len() as u64;
     let journal = match read_journal(alloc, bytes) {
         Ok(journal) => journal,
@@ -72,5 +70,29 @@ pub fn read_text<T: TextStore, A: Allocator + Clone>(
     match as_counted(&journal, len) {
         Some(counted) => Ok(Found::Finished(counted)),
         None => Ok(Found::Unfinished(journal)),
+    }
+}
+
+/// Reads a journal's text. It changes nothing. A text of finished entries alone is counted in windows, and only what isn't
+/// counted so is read whole.
+pub fn read_text<T: TextStore, A: Allocator + Clone>(
+    alloc: &A,
+    store: &mut T,
+) -> Result<Found<A>, SessionFault>
+    requires { T.failures store.old < u64.MAX }
+    ensures found { IfOk result (IsFoundIn (T.honest store.old) (T.text store.old)) }
+    ensures fault { IfErr result (FindFault (T.honest store.old) (T.text store.old)) }
+    ensures text { T.honest store.old → T.text store.new ≡ T.text store.old }
+    ensures honesty { T.honest store.new ↔ T.honest store.old }
+    ensures no_failure { OnOk result (T.failures store.new ≡ T.failures store.old) }
+    ensures counts { IfErr result (λ e. FaultCounts e 0 (T.failures store.old) 0 (T.failures store.new)) }
+{
+    let counted = match count_text(alloc, store, false) {
+        Ok(counted) => counted,
+        Err(fault) => return Err(fault),
+    };
+    match counted {
+        Some(found) => Ok(Found::Finished(found.counted)),
+        None => read_whole(alloc, store),
     }
 }

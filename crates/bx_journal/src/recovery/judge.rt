@@ -11,9 +11,21 @@ ghost use Rattle.bx_entries.specs.Text.{split};
 
 use crate::SessionFault;
 use crate::session::read::read_journal;
-use bx_entries::{Counted, EntryRead, JournalRead, MOST_CHANGES, StageRead, count_entries, told_length};
+use crate::recovery::windows::CountedText;
+use bx_entries::{Counted, EntryRead, JournalRead, MOST_CHANGES, StageRead, told_length};
 use bx_image::Device;
-use std::alloc::Allocator;
+use std::alloc::{Allocator, Global};
+
+/// What a redo text is.
+#[derive(Drop)]
+pub enum RedoFound<A: Allocator = Global> {
+    /// Entries of the second form alone, and not too many, which were counted.
+    Counted(CountedText),
+    /// Any other text, as it is.
+    Text(Vec<u8, A>),
+}
+
+ghost use Rattle.bx_journal.specs.inner.RedoFound.{IsRedoFound};
 
 /// How many newlines a text has.
 fn newlines(text: &[u8]) -> u64
@@ -100,10 +112,11 @@ fn counted_read<A: Allocator>(
     text: &[u8],
     journal: &JournalRead<A>,
     changes: u32,
-) -> Result<Counted, SessionFault>
+) -> Result<CountedText, SessionFault>
     requires few { changes ≤ 65535 }
     requires read { HasRead text.now journal.now }
-    ensures ok { IfOk result (λ c. IsRedoCounted text.now changes c.count c.told) }
+    ensures ok { IfOk result (λ c. IsRedoCounted text.now changes c.counted.count c.counted.told) }
+    ensures lines { IfOk result (λ c. c.lines ≡ length (split text.now).lines) }
     ensures refused { IfErr result (RedoTextFault text.now changes) }
 {
     if let Some(at) = unfit_place(journal, text.len() as u64, changes) {
@@ -111,30 +124,30 @@ fn counted_read<A: Allocator>(
             line: line_at(text, at),
         });
     }
-    Ok(Counted {
+    let counted = Counted {
         count: journal.entries.len() as u32,
         told: told_length(&journal.entries),
+    };
+    Ok(CountedText {
+        counted,
+        lines: newlines(text),
     })
 }
 
-/// How many entries a redo text beside so many changes has, and the length that the last one tells. The line that is
-/// told is the damaged one, else the first that is unfinished, else where the first entry of the first form begins, else
-/// where the first begins that is too many. Memory is taken only for a text that isn't counted at once: a copy of it.
+/// How many entries and lines a redo text beside so many changes has, and the length that the last one tells. The line
+/// that is told is the damaged one, else the first that is unfinished, else where the first entry of the first form begins,
+/// else where the first begins that is too many.
 pub fn redo_counted<A: Allocator + Clone>(
     alloc: &A,
     text: &[u8],
     changes: u32,
-) -> Result<Counted, SessionFault>
+) -> Result<CountedText, SessionFault>
     requires few { changes ≤ 65535 }
-    ensures ok { IfOk result (λ c. IsRedoCounted text.now changes c.count c.told) }
+    ensures ok { IfOk result (λ c. IsRedoCounted text.now changes c.counted.count c.counted.told) }
+    ensures lines { IfOk result (λ c. c.lines ≡ length (split text.now).lines) }
     ensures refused { IfErr result (RedoTextFault text.now changes) }
     ensures unfit { (line : ℕ) → IsUnfitAt text.now changes line → MatchResult result (λ _. ⊥) (RefusesRedo line) }
 {
-    if let Some(found) = count_entries(text, true) {
-        if found.count <= MOST_CHANGES - changes {
-            return Ok(found);
-        }
-    }
     let copy = Vec::from_slice(alloc.clone()?, text)?;
     match read_journal(alloc, copy) {
         Ok(journal) => counted_read(text, &journal, changes),
@@ -142,16 +155,34 @@ pub fn redo_counted<A: Allocator + Clone>(
     }
 }
 
-/// Whether the image has the length that the last entry of a redo text tells, if there is one. A text whose last line
-/// tells another length is damaged at that line.
+/// What a redo text beside so many changes was counted as. Where it wasn't counted yet it is read entry by entry, from a
+/// copy of it.
+fn count_found<A: Allocator + Clone>(
+    alloc: &A,
+    found: RedoFound<A>,
+    changes: u32,
+) -> Result<CountedText, SessionFault>
+    requires few { changes ≤ 65535 }
+    ensures ok { (text : List ℕ) → IsRedoFound text changes found → IfOk result (λ c. IsRedoCounted text changes c.counted.count c.counted.told) }
+    ensures lines { (text : List ℕ) → IsRedoFound text changes found → IfOk result (λ c. c.lines ≡ length (split text).lines) }
+    ensures refused { (text : List ℕ) → IsRedoFound text changes found → IfErr result (RedoTextFault text changes) }
+{
+    match found {
+        RedoFound::Counted(counted) => Ok(counted),
+        RedoFound::Text(bytes) => redo_counted(alloc, &bytes, changes),
+    }
+}
+
+/// Whether the image has the length that the last entry of a redo text of so many lines tells, if there is one. A text
+/// whose last line tells another length is damaged at that line.
 pub fn check_redo_length<D: Device>(
     device: &mut D,
-    text: &[u8],
+    lines: u64,
     told: Option<u64>,
 ) -> Result<(), SessionFault>
     requires { D.failures device.old < u64.MAX }
     ensures same_length { D.honest device.old → OnOk result (IfSome told (λ n. length (D.image device.old) ≡ n)) }
-    ensures fault { IfErr result (λ e. (e ≡ SessionFault.DeviceFailed) ⊎ ((e ≡ SessionFault.RedoDamaged (length (split text.now).lines))
+    ensures fault { IfErr result (λ e. (e ≡ SessionFault.DeviceFailed) ⊎ ((e ≡ SessionFault.RedoDamaged lines)
         × (D.honest device.old → (n : ℕ) × (told ≡ Some n) × (length (D.image device.old) ≡ n → ⊥)))) }
     ensures image { D.honest device.old → D.image device.new ≡ D.image device.old }
     ensures honesty { D.honest device.new ↔ D.honest device.old }
@@ -161,39 +192,39 @@ pub fn check_redo_length<D: Device>(
     let Some(expected) = told else { return Ok(()) };
     let len = device.len()?;
     if len != expected {
-        return Err(SessionFault::RedoDamaged {
-            line: newlines(text),
-        });
+        return Err(SessionFault::RedoDamaged { line: lines });
     }
     Ok(())
 }
 
-/// How many changes are undone, where the text is the redo text of the image and of so many changes. It changes nothing.
+/// How many changes are undone, where the text that was found is the redo text of the image and of so many changes. It
+/// changes nothing.
 pub fn judge_redo<D: Device, A: Allocator + Clone>(
     alloc: &A,
     device: &mut D,
-    text: &[u8],
+    found: RedoFound<A>,
     changes: u32,
 ) -> Result<u32, SessionFault>
     requires countable { D.failures device.old < u64.MAX }
     requires few { changes ≤ 65535 }
-    ensures undone { D.honest device.old → IfOk result (HasUndoneCount text.now (D.image device.old) changes) }
-    ensures sum { IfOk result (λ n. changes + n ≤ 65535) }
-    ensures fault { IfErr result (JudgeFault (D.honest device.old) text.now (D.image device.old) changes) }
-    ensures unfit { D.honest device.old → (line : ℕ) → IsRefusedAt text.now (D.image device.old) changes line → MatchResult result (λ _. ⊥) (RefusesRedo line) }
-    ensures kept { D.honest device.old → (undone : List (List ℕ)) → IsRedoOf text.now (D.image device.old) changes undone
+    ensures undone { D.honest device.old → (text : List ℕ) → IsRedoFound text changes found → IfOk result (HasUndoneCount text (D.image device.old) changes) }
+    ensures sum { (text : List ℕ) → IsRedoFound text changes found → IfOk result (λ n. changes + n ≤ 65535) }
+    ensures fault { (text : List ℕ) → IsRedoFound text changes found → IfErr result (JudgeFault (D.honest device.old) text (D.image device.old) changes) }
+    ensures unfit { D.honest device.old → (text : List ℕ) → IsRedoFound text changes found → (line : ℕ) → IsRefusedAt text (D.image device.old) changes line
+        → MatchResult result (λ _. ⊥) (RefusesRedo line) }
+    ensures kept { D.honest device.old → (text : List ℕ) → IsRedoFound text changes found → (undone : List (List ℕ)) → IsRedoOf text (D.image device.old) changes undone
         → IfErr result (λ e. (line : ℕ) → e ≡ SessionFault.RedoDamaged line → ⊥) }
     ensures image { D.honest device.old → D.image device.new ≡ D.image device.old }
     ensures honesty { D.honest device.new ↔ D.honest device.old }
     ensures ok { OnOk result (D.failures device.new ≡ D.failures device.old) }
-    ensures counts { IfErr result (λ e. FaultCounts e (D.failures device.old) 0 (D.failures device.new) 0) }
+    ensures counts { (text : List ℕ) → IsRedoFound text changes found → IfErr result (λ e. FaultCounts e (D.failures device.old) 0 (D.failures device.new) 0) }
 {
-    let found = match redo_counted(alloc, text, changes) {
-        Ok(found) => found,
+    let counted = match count_found(alloc, found, changes) {
+        Ok(counted) => counted,
         Err(fault) => return Err(fault),
     };
-    if let Err(fault) = check_redo_length(device, text, found.told) {
+    if let Err(fault) = check_redo_length(device, counted.lines, counted.counted.told) {
         return Err(fault);
     }
-    Ok(found.count)
+    Ok(counted.counted.count)
 }

@@ -348,7 +348,7 @@ fn two(is_redo: bool, answer: Result<u32, SessionFault>) -> Step<'static> {
 
 // The text that is moved from is read, then the lengths of the image and of the other text, then the bytes that will be
 // overwritten: each is refused, and changes nothing. Between the two changes the image is read again. Opening asked for the
-// image's length twice, and read both texts.
+// image's length twice, and for that of each text, and read a window of each.
 fn later_read_fails(
     alloc: Global,
     rt: &impl Abort,
@@ -360,19 +360,19 @@ fn later_read_fails(
     for passes in [
         (2, NONE, NONE),
         (3, NONE, NONE),
-        (NONE, 1, NONE),
-        (NONE, NONE, 1),
+        (NONE, 2, NONE),
+        (NONE, NONE, 2),
     ] {
         let left = with_reads(alloc, rt, start, passes, found, &[refused])?;
         let (image, journal) = (start.image.as_slice(), start.journal.as_slice());
         assert_held(rt, &left, image, journal, start.redo.as_slice());
     }
     let stopped = two(is_redo, INTERRUPTED);
-    let left = with_reads(alloc, rt, start, (4, 2, 2), found, &[stopped])?;
+    let left = with_reads(alloc, rt, start, (4, 3, 3), found, &[stopped])?;
     let (changes, undone, all) = if is_redo { (3, 1, 4) } else { (1, 3, 0) };
     let _opened = reopened(alloc, rt, &left, How::Clean, changes, undone)?;
     let whole = two(is_redo, Ok(all));
-    let _whole = with_reads(alloc, rt, start, (5, 2, 2), found, &[whole])?;
+    let _whole = with_reads(alloc, rt, start, (5, 3, 3), found, &[whole])?;
     Ok(())
 }
 
@@ -416,7 +416,7 @@ fn change_passes(alloc: Global, rt: &impl Abort, start: &Held) -> Result<(), Fai
 
 // A change reads the length of the image twice, what it overwrites or cuts off, and the length of the journal: each is refused,
 // and changes nothing. Once the head of its entry is written it reads the image's length again, where its piece stands at its base.
-// Opening read both texts.
+// Opening asked for the length of both texts, which are empty.
 #[test]
 fn reads_of_changes_fail(rt: HostRuntime) -> Result<(), Fail> {
     let start = pair_of(rt.alloc(), b"ABCDEFGH", b"")?;

@@ -1,38 +1,43 @@
-use Rattle.bx_journal.proofs.JudgeLemmas.{counted_redo, judged_keeps, judged_refuses, length_judged, text_judged}
+use Rattle.std.proofs.Common.{ℕ, List}
+use Rattle.bx_journal.proofs.JudgeLemmas.{counted_redo, judged_keeps, judged_refuses, length_judged, lines_off, text_judged}
 use Rattle.bx_journal.proofs.Refused.{none_refused}
 use Rattle.bx_journal.proofs.recovery.judge.judge_redo.Goals as goal
 
 pub returns-in-Err-clause-fault : goal.returns-in-Err-clause-fault
-returns-in-Err-clause-fault g c = text_judged (g.D.Device.honest c.args.device.now) c.args.text.now (g.D.Device.image c.args.device.now) c.args.changes c.in-Err.fault c.in-Err.ensures.refused
+returns-in-Err-clause-fault g c text found = text_judged (g.D.Device.honest c.args.device.now) text (g.D.Device.image c.args.device.now) c.args.changes c.in-Err.fault (c.in-Err.ensures.refused text found)
 
 pub returns-in-Err-clause-unfit : goal.returns-in-Err-clause-unfit
-returns-in-Err-clause-unfit g c dh line refused =
-    judged_refuses (g.D.Device.honest c.args.device.now) c.args.text.now (g.D.Device.image c.args.device.now) c.args.changes line c.in-Err.fault dh
-    (text_judged (g.D.Device.honest c.args.device.now) c.args.text.now (g.D.Device.image c.args.device.now) c.args.changes c.in-Err.fault c.in-Err.ensures.refused) refused
+returns-in-Err-clause-unfit g c dh text found line refused =
+    judged_refuses (g.D.Device.honest c.args.device.now) text (g.D.Device.image c.args.device.now) c.args.changes line c.in-Err.fault dh
+    (text_judged (g.D.Device.honest c.args.device.now) text (g.D.Device.image c.args.device.now) c.args.changes c.in-Err.fault (c.in-Err.ensures.refused text found)) refused
 
 pub returns-in-Err-clause-kept : goal.returns-in-Err-clause-kept
-returns-in-Err-clause-kept g c dh undone redo =
-    judged_keeps (g.D.Device.honest c.args.device.now) c.args.text.now (g.D.Device.image c.args.device.now) c.args.changes undone c.in-Err.fault dh redo
-    (text_judged (g.D.Device.honest c.args.device.now) c.args.text.now (g.D.Device.image c.args.device.now) c.args.changes c.in-Err.fault c.in-Err.ensures.refused)
+returns-in-Err-clause-kept g c dh text found undone redo =
+    judged_keeps (g.D.Device.honest c.args.device.now) text (g.D.Device.image c.args.device.now) c.args.changes undone c.in-Err.fault dh redo
+    (text_judged (g.D.Device.honest c.args.device.now) text (g.D.Device.image c.args.device.now) c.args.changes c.in-Err.fault (c.in-Err.ensures.refused text found))
 
 pub returns-in-Err-check_redo_length-clause-fault : goal.returns-in-Err-check_redo_length-clause-fault
-returns-in-Err-check_redo_length-clause-fault g c = length_judged (g.D.Device.honest c.args.device.now) c.args.text.now (g.D.Device.image c.args.device.now) c.args.changes c.in-Ok.found.count c.in-Ok.found.told c.in-Err-check_redo_length.fault c.in-Ok.ensures.ok c.in-Err-check_redo_length.ensures.fault
+returns-in-Err-check_redo_length-clause-fault g c text found =
+    length_judged (g.D.Device.honest c.args.device.now) text (g.D.Device.image c.args.device.now) c.args.changes c.in-Ok.counted.counted.count c.in-Ok.counted.counted.told c.in-Err-check_redo_length.fault (c.in-Ok.ensures.ok text found)
+    (lines_off (g.D.Device.honest c.args.device.now) text (g.D.Device.image c.args.device.now) c.in-Ok.counted.lines c.in-Ok.counted.counted.told c.in-Err-check_redo_length.fault (c.in-Ok.ensures.lines text found) c.in-Err-check_redo_length.ensures.fault)
 
 pub returns-in-Err-check_redo_length-clause-unfit : goal.returns-in-Err-check_redo_length-clause-unfit
-returns-in-Err-check_redo_length-clause-unfit g c dh line refused =
-    judged_refuses (g.D.Device.honest c.args.device.now) c.args.text.now (g.D.Device.image c.args.device.now) c.args.changes line c.in-Err-check_redo_length.fault dh
-    (length_judged (g.D.Device.honest c.args.device.now) c.args.text.now (g.D.Device.image c.args.device.now) c.args.changes c.in-Ok.found.count c.in-Ok.found.told c.in-Err-check_redo_length.fault c.in-Ok.ensures.ok c.in-Err-check_redo_length.ensures.fault) refused
+returns-in-Err-check_redo_length-clause-unfit g c dh text found line refused =
+    judged_refuses (g.D.Device.honest c.args.device.now) text (g.D.Device.image c.args.device.now) c.args.changes line c.in-Err-check_redo_length.fault dh
+    (length_judged (g.D.Device.honest c.args.device.now) text (g.D.Device.image c.args.device.now) c.args.changes c.in-Ok.counted.counted.count c.in-Ok.counted.counted.told c.in-Err-check_redo_length.fault (c.in-Ok.ensures.ok text found)
+    (lines_off (g.D.Device.honest c.args.device.now) text (g.D.Device.image c.args.device.now) c.in-Ok.counted.lines c.in-Ok.counted.counted.told c.in-Err-check_redo_length.fault (c.in-Ok.ensures.lines text found) c.in-Err-check_redo_length.ensures.fault)) refused
 
 pub returns-in-Err-check_redo_length-clause-kept : goal.returns-in-Err-check_redo_length-clause-kept
-returns-in-Err-check_redo_length-clause-kept g c dh undone redo =
-    judged_keeps (g.D.Device.honest c.args.device.now) c.args.text.now (g.D.Device.image c.args.device.now) c.args.changes undone c.in-Err-check_redo_length.fault dh redo
-    (length_judged (g.D.Device.honest c.args.device.now) c.args.text.now (g.D.Device.image c.args.device.now) c.args.changes c.in-Ok.found.count c.in-Ok.found.told c.in-Err-check_redo_length.fault c.in-Ok.ensures.ok c.in-Err-check_redo_length.ensures.fault)
+returns-in-Err-check_redo_length-clause-kept g c dh text found undone redo =
+    judged_keeps (g.D.Device.honest c.args.device.now) text (g.D.Device.image c.args.device.now) c.args.changes undone c.in-Err-check_redo_length.fault dh redo
+    (length_judged (g.D.Device.honest c.args.device.now) text (g.D.Device.image c.args.device.now) c.args.changes c.in-Ok.counted.counted.count c.in-Ok.counted.counted.told c.in-Err-check_redo_length.fault (c.in-Ok.ensures.ok text found)
+    (lines_off (g.D.Device.honest c.args.device.now) text (g.D.Device.image c.args.device.now) c.in-Ok.counted.lines c.in-Ok.counted.counted.told c.in-Err-check_redo_length.fault (c.in-Ok.ensures.lines text found) c.in-Err-check_redo_length.ensures.fault))
 
 pub returns-clause-undone : goal.returns-clause-undone
-returns-clause-undone g c dh =
-    counted_redo c.args.text.now (g.D.Device.image c.args.device.now) c.args.changes c.in-Ok.found.count c.in-Ok.found.told c.in-Ok.ensures.ok (c.in_default.ensures.same_length dh)
+returns-clause-undone g c dh text found =
+    counted_redo text (g.D.Device.image c.args.device.now) c.args.changes c.in-Ok.counted.counted.count c.in-Ok.counted.counted.told (c.in-Ok.ensures.ok text found) (c.in_default.ensures.same_length dh)
 
 pub returns-clause-unfit : goal.returns-clause-unfit
-returns-clause-unfit g c dh line refused =
-    let redo = counted_redo c.args.text.now (g.D.Device.image c.args.device.now) c.args.changes c.in-Ok.found.count c.in-Ok.found.told c.in-Ok.ensures.ok (c.in_default.ensures.same_length dh) in
-    none_refused c.args.text.now (g.D.Device.image c.args.device.now) c.args.changes line redo.0 redo.1 refused
+returns-clause-unfit g c dh text found line refused =
+    let redo = counted_redo text (g.D.Device.image c.args.device.now) c.args.changes c.in-Ok.counted.counted.count c.in-Ok.counted.counted.told (c.in-Ok.ensures.ok text found) (c.in_default.ensures.same_length dh) in
+    none_refused text (g.D.Device.image c.args.device.now) c.args.changes line redo.0 redo.1 refused

@@ -1,13 +1,8 @@
-use Rattle.std.proofs.Common.{refl, sym, subst, arith}
+use Rattle.std.proofs.Common.{sym, subst}
 use Rattle.bx_journal.specs.inner.Calls.{ReadFault}
 use Rattle.bx_journal.specs.inner.Judging.{RedoTextFault}
-use Rattle.bx_journal.proofs.JudgeLemmas.{counted_fit, fit_apart, fault_refuses, read_fault_redo, unfit_refuses}
+use Rattle.bx_journal.proofs.JudgeLemmas.{fault_refuses, read_fault_redo, unfit_refuses}
 use Rattle.bx_journal.proofs.recovery.judge.redo_counted.Goals as goal
-
-pub returns-then-found-changes-clause-unfit : goal.returns-then-found-changes-clause-unfit
-returns-then-found-changes-clause-unfit g c line unfit =
-    let fit = counted_fit c.args.text.now c.args.changes c.in-Some.found.count c.in-Some.found.told c.in-Some.ensures.counted (c.in-Some.ensures.second refl) (omega arith) in
-    fit_apart c.args.text.now c.args.changes line fit.entries fit.fit unfit
 
 pub returns-in-Ok-clause-unfit : goal.returns-in-Ok-clause-unfit
 returns-in-Ok-clause-unfit g c line unfit = unfit_refuses c.args.text.now c.args.changes line c.counted_read.result c.counted_read.ensures.ok c.counted_read.ensures.refused unfit

@@ -1,0 +1,46 @@
+-- Counting in windows: a window more.
+use Rattle.std.proofs.Common.{◌≡◌, ℕ, zero, suc, ◌+◌, ◌-◌, ◌≤◌, Bool, List, [], ◌∷◌, ◌++◌, length, take, drop, refl, ap, sym, ◌∙◌, arith, length-take}
+use Rattle.std.proofs.lemmas.List.{take-append-drop, drop-take}
+use Rattle.bx_entries.specs.declared.read.count.Tally.{Tally}
+use Rattle.bx_entries.specs.declared.read.window.Passed.{Passed}
+use Rattle.bx_journal.specs.inner.Windows.{IsPassed, IsCountedTo}
+
+take_less : (n m : ℕ) (xs : List ℕ) → take n (take (n + m) xs) ≡ take n xs
+take_less zero m xs = refl
+take_less (suc n) m [] = let e : suc n + m ≡ suc (n + m) = omega arith in ap (λ k. take (suc n) (take k [])) e
+take_less (suc n) m (x ∷ xs) =
+    let e : suc n + m ≡ suc (n + m) = omega arith in
+    ap (λ k. take (suc n) (take k (x ∷ xs))) e ∙ ap (λ l. x ∷ l) (take_less n m xs)
+
+-- so many bytes, and so many more
+take_sum : (n m : ℕ) (xs : List ℕ) → take (n + m) xs ≡ take n xs ++ take m (drop n xs)
+take_sum n m xs =
+    sym (take-append-drop n (take (n + m) xs)) ∙ ap (λ l. l ++ drop n (take (n + m) xs)) (take_less n m xs) ∙ ap (λ l. take n xs ++ l) (drop-take n m xs)
+
+-- a front of a window that was filled
+pub front_of : (n m : ℕ) (window from : List ℕ) → n ≤ length window → window ≡ take m from → take n window ≡ take n from
+front_of n m window from less is =
+    let more : n + (m - n) ≡ m = omega (arith, less, ap length is, length-take m from) in
+    ap (take n) is ∙ ap (λ k. take n (take k from)) (sym more) ∙ take_less n (m - n) from
+
+-- a window of a store that is the same as before
+pub passed_from : (honest now : Type 0) (stored text : List ℕ) (only : Bool) (at len : ℕ) (t : Tally) (p : Passed) → (honest → now) → (honest → text ≡ stored) → IsPassed now text only at len t p
+    → IsPassed honest stored only at len t p
+passed_from honest now stored text only at len t p still same passed = record {
+  bytes = passed.bytes;
+  is = λ h. passed.is (still h) ∙ ap (λ l. take p.taken (drop at l)) (same h);
+  leads = passed.leads;
+  some = passed.some;
+  within = passed.within;
+  lines = passed.lines;
+  few = passed.few;
+}
+
+-- a window more
+pub counted_on : (honest : Type 0) (stored : List ℕ) (only : Bool) (at len lines : ℕ) (t : Tally) (p : Passed) → IsCountedTo honest stored only at t lines → IsPassed honest stored only at len t p
+    → IsCountedTo honest stored only (at + p.taken) p.tally (lines + p.lines)
+counted_on honest stored only at len lines t p to passed = record {
+  front = to.front ++ passed.bytes;
+  is = λ h. ap (λ l. l ++ passed.bytes) (to.is h) ∙ ap (λ l. take at stored ++ l) (passed.is h) ∙ sym (take_sum at p.taken stored);
+  tallied = passed.leads to.front lines to.tallied;
+}

@@ -1,0 +1,24 @@
+-- What proofs alone need: what was found of a redo text.
+use Rattle.std.specs.Prelude.{◌≡◌, ℕ, Option, List, length}
+use Rattle.bx_journal.specs.declared.recovery.judge.RedoFound.{RedoFound}
+use Rattle.bx_journal.specs.declared.recovery.judge.RedoFound.TheVariants.{Counted, Text}
+use Rattle.bx_entries.specs.Text.{split}
+use Rattle.bx_journal.specs.inner.Judging.{IsRedoCounted}
+
+-- the text was counted as a redo text beside so many changes, or is there as it is
+abbrev pub IsRedoFound : {A : Type 0} → List ℕ → ℕ → RedoFound A → Type 0
+IsRedoFound text changes (Counted c) = IsRedoCounted text changes c.counted.count c.counted.told × (c.lines ≡ length (split text).lines)
+IsRedoFound text changes (Text bytes) = bytes.items ≡ text
+
+-- what was found is of the store's text, where that is honest
+pub record IsRedoIn {A : Type 0} (honest : Type 0) (stored : List ℕ) (changes : ℕ) (found : RedoFound A) : Type 0 where
+  pub text : List ℕ
+  pub is : honest → stored ≡ text
+  pub found : IsRedoFound text changes found
+
+-- a text was counted as a redo text beside so many changes: the store's, where that is honest
+pub record IsRedoCountedIn (honest : Type 0) (stored : List ℕ) (changes count : ℕ) (told : Option ℕ) (lines : ℕ) : Type 0 where
+  pub text : List ℕ
+  pub is : honest → stored ≡ text
+  pub counted : IsRedoCounted text changes count told
+  pub many : lines ≡ length (split text).lines

@@ -1,0 +1,28 @@
+-- What proofs alone need: a store's text that is counted in windows.
+use Rattle.std.specs.Prelude.{◌≡◌, ◌<◌, ◌≤◌, ℕ, ◌+◌, Bool, Option, List, ◌++◌, length, take, drop}
+use Rattle.bx_entries.specs.declared.read.count.Tally.{Tally}
+use Rattle.bx_entries.specs.declared.read.window.Passed.{Passed}
+use Rattle.bx_entries.specs.inner.Tally.{IsTallied, IsCountedAll}
+
+-- whole lines at a place, before `len`, lead from a tally to another; they are the store's, where that is honest
+pub record IsPassed (honest : Type 0) (stored : List ℕ) (only_second : Bool) (at len : ℕ) (t : Tally) (p : Passed) : Type 0 where
+  pub bytes : List ℕ
+  pub is : honest → bytes ≡ take p.taken (drop at stored)
+  pub leads : (front : List ℕ) (n : ℕ) → IsTallied only_second front t n → IsTallied only_second (front ++ bytes) p.tally (n + p.lines)
+  pub some : 0 < p.taken
+  pub within : at + p.taken ≤ len
+  pub lines : p.lines ≤ p.taken
+  pub few : t.count ≤ 65535 → p.tally.count ≤ 65535
+
+-- the text up to a place is so many whole lines, and leads to a tally: the store's, where that is honest
+pub record IsCountedTo (honest : Type 0) (stored : List ℕ) (only_second : Bool) (at : ℕ) (t : Tally) (lines : ℕ) : Type 0 where
+  pub front : List ℕ
+  pub is : honest → front ≡ take at stored
+  pub tallied : IsTallied only_second front t lines
+
+-- all of a text was counted: the store's, where that is honest
+pub record IsAllCounted (honest : Type 0) (stored : List ℕ) (only_second : Bool) (count : ℕ) (told : Option ℕ) (lines : ℕ) : Type 0 where
+  pub text : List ℕ
+  pub is : honest → stored ≡ text
+  pub counted : IsCountedAll only_second text count told lines
+  pub few : count ≤ 65535

@@ -1,0 +1,105 @@
+//! A text that is counted in windows: so much of it is in memory at a time, however long it is.
+ghost use Rattle.std.specs.Prelude.{◌≡◌, ◌↔◌, ◌⊎◌, ◌<◌, ◌≤◌, length, is_err, OnOk, IfOk, IfErr, IfSome};
+ghost use Rattle.bx_image.specs.Device.{GoesOn};
+ghost use Rattle.bx_journal.specs.Opening.{FaultCounts};
+ghost use Rattle.bx_journal.specs.inner.Windows.{IsAllCounted, IsPassed};
+
+use crate::SessionFault;
+use bx_entries::{Counted, Passed, Tally, count_lines, counted_by, no_entries};
+use bx_image::DeviceFailed;
+use bx_store::TextStore;
+use std::alloc::Allocator;
+
+/// So many bytes of a text are read at a time.
+const WINDOW: u64 = 262_144;
+
+/// What a text's entries were counted as, and how many lines it has.
+#[derive(Clone, Copy)]
+pub struct CountedText {
+    pub counted: Counted,
+    pub lines: u64,
+}
+
+/// Counts the whole lines of the window at a place, in a text of `len` bytes. It answers none where no line ends in it, or
+/// one isn't counted.
+fn pass_window<T: TextStore>(
+    store: &mut T,
+    window: &mut [u8],
+    at: u64,
+    len: u64,
+    tally: Tally,
+    only_second: bool,
+) -> Result<Option<Passed>, DeviceFailed>
+    requires countable { T.failures store.old < u64.MAX }
+    requires within { T.honest store.old → len ≤ length (T.text store.old) }
+    requires below { at ≤ len }
+    ensures passed { IfOk result (λ found. IfSome found (IsPassed (T.honest store.old) (T.text store.old) only_second at len tally)) }
+    ensures text { T.honest store.old → T.text store.new ≡ T.text store.old }
+    ensures goes_on { GoesOn T.honest T.room T.failures (is_err result) store.old store.new }
+{
+    let more = (window.len() as u64).min(len - at) as usize;
+    let (now, _) = window.split_at_mut(more);
+    store.read_at(at, now)?;
+    let Some(passed) = count_lines(tally, now, only_second) else {
+        return Ok(None);
+    };
+    if passed.taken == 0 {
+        return Ok(None);
+    }
+    Ok(Some(passed))
+}
+
+/// Counts the entries of a text of `len` bytes, a window at a time. What is left of a window's last line is read again with
+/// the next one. It answers none where the text is anything but finished entries, with `only_second` also where one tells no
+/// length, and where a line is longer than the window.
+fn count_windows<T: TextStore>(
+    store: &mut T,
+    window: &mut [u8],
+    len: u64,
+    only_second: bool,
+) -> Result<Option<CountedText>, DeviceFailed>
+    requires countable { T.failures store.old < u64.MAX }
+    requires long { T.honest store.old → len ≡ length (T.text store.old) }
+    ensures counted { IfOk result (λ found. IfSome found (λ c. IsAllCounted (T.honest store.old) (T.text store.old) only_second c.counted.count c.counted.told c.lines)) }
+    ensures text { T.honest store.old → T.text store.new ≡ T.text store.old }
+    ensures goes_on { GoesOn T.honest T.room T.failures (is_err result) store.old store.new }
+{
+    let mut at: u64 = 0;
+    let mut lines: u64 = 0;
+    let mut tally = no_entries();
+    while at < len {
+        let found = pass_window(store, window, at, len, tally, only_second)?;
+        let Some(passed) = found else {
+            return Ok(None);
+        };
+        at += passed.taken as u64;
+        lines += passed.lines;
+        tally = passed.tally;
+    }
+    let Some(counted) = counted_by(tally) else {
+        return Ok(None);
+    };
+    Ok(Some(CountedText { counted, lines }))
+}
+
+/// Counts the entries of a text in as much memory for any length. It answers none where it can't be counted so: where it is
+/// anything but finished entries, with `only_second` also where one tells no length, and where a line is very long.
+pub fn count_text<T: TextStore, A: Allocator + Clone>(
+    alloc: &A,
+    store: &mut T,
+    only_second: bool,
+) -> Result<Option<CountedText>, SessionFault>
+    requires { T.failures store.old < u64.MAX }
+    ensures counted { IfOk result (λ found. IfSome found (λ c. IsAllCounted (T.honest store.old) (T.text store.old) only_second c.counted.count c.counted.told c.lines)) }
+    ensures fault { IfErr result (λ e. (e ≡ SessionFault.NoMemory) ⊎ (e ≡ SessionFault.DeviceFailed)) }
+    ensures text { T.honest store.old → T.text store.new ≡ T.text store.old }
+    ensures honesty { T.honest store.new ↔ T.honest store.old }
+    ensures no_failure { OnOk result (T.failures store.new ≡ T.failures store.old) }
+    ensures counts { IfErr result (λ e. FaultCounts e 0 (T.failures store.old) 0 (T.failures store.new)) }
+{
+    let len = store.len()?;
+    let size = WINDOW.min(len) as usize;
+    let mut window = vec![in alloc.clone()?; 0u8; size]?;
+    let found = count_windows(store, window.as_mut_slice(), len, only_second)?;
+    Ok(found)
+}
