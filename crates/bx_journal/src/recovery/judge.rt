@@ -1,11 +1,11 @@
 //! Whether a text is a redo text: finished entries of the second form, no more than a journal holds beside its changes.
-ghost use Rattle.std.specs.Prelude.{◌≡◌, ◌↔◌, ◌⊎◌, ◌+◌, ◌<◌, ◌≤◌, List, ℕ, suc, length, take, Some, OnOk, IfOk, IfErr, IfSome, IfNone, MatchResult};
+ghost use Rattle.std.specs.Prelude.{◌≡◌, ◌⊎◌, ◌+◌, ◌<◌, ◌≤◌, List, ℕ, suc, length, take, Some, OnOk, IfOk, IfErr, IfSome, IfNone, MatchResult};
 ghost use Rattle.bx_entries.specs.inner.Journal.{HasRead};
 ghost use Rattle.bx_journal.specs.Judging.{RefusesRedo};
+ghost use Rattle.bx_journal.specs.inner.Devices.{LooksAt};
 ghost use Rattle.bx_journal.specs.inner.Judging.{AllTold, IsBeyondAt, IsFit, IsRedoCounted, IsUnfitAt, IsUnfitFrom, IsUntoldAt, JudgeFault, RedoTextFault, redo_fault};
 ghost use Rattle.bx_journal.specs.inner.Recovery.{HasUndoneCount};
 ghost use Rattle.bx_journal.specs.Redo.{IsRedoOf, IsRefusedAt};
-ghost use Rattle.bx_journal.specs.Opening.{FaultCounts};
 ghost use Rattle.bx_entries.specs.inner.Parsed.{entries_of};
 ghost use Rattle.bx_entries.specs.Text.{split};
 
@@ -153,10 +153,7 @@ pub fn check_redo_length<D: Device>(
     ensures same_length { D.honest device.old → OnOk result (IfSome told (λ n. length (D.image device.old) ≡ n)) }
     ensures fault { IfErr result (λ e. (e ≡ SessionFault.DeviceFailed) ⊎ ((e ≡ SessionFault.RedoDamaged (length (split text.now).lines))
         × (D.honest device.old → (n : ℕ) × (told ≡ Some n) × (length (D.image device.old) ≡ n → ⊥)))) }
-    ensures image { D.honest device.old → D.image device.new ≡ D.image device.old }
-    ensures honesty { D.honest device.new ↔ D.honest device.old }
-    ensures ok { OnOk result (D.failures device.new ≡ D.failures device.old) }
-    ensures counts { IfErr result (λ e. FaultCounts e (D.failures device.old) 0 (D.failures device.new) 0) }
+    ensures looks { LooksAt D.honest D.image D.failures result device.old device.new }
 {
     let Some(expected) = told else { return Ok(()) };
     let len = device.len()?;
@@ -183,10 +180,7 @@ pub fn judge_redo<D: Device, A: Allocator + Clone>(
     ensures unfit { D.honest device.old → (line : ℕ) → IsRefusedAt text.now (D.image device.old) changes line → MatchResult result (λ _. ⊥) (RefusesRedo line) }
     ensures kept { D.honest device.old → (undone : List (List ℕ)) → IsRedoOf text.now (D.image device.old) changes undone
         → IfErr result (λ e. (line : ℕ) → e ≡ SessionFault.RedoDamaged line → ⊥) }
-    ensures image { D.honest device.old → D.image device.new ≡ D.image device.old }
-    ensures honesty { D.honest device.new ↔ D.honest device.old }
-    ensures ok { OnOk result (D.failures device.new ≡ D.failures device.old) }
-    ensures counts { IfErr result (λ e. FaultCounts e (D.failures device.old) 0 (D.failures device.new) 0) }
+    ensures looks { LooksAt D.honest D.image D.failures result device.old device.new }
 {
     let found = match redo_counted(alloc, text, changes) {
         Ok(found) => found,

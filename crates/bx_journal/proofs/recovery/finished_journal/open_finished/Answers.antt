@@ -4,10 +4,10 @@ use Rattle.bx_journal.proofs.recovery.finished_journal.open_finished.Goals as go
 
 pub returns-in-Err-judge_redo-clause-unfit : goal.returns-in-Err-judge_redo-clause-unfit
 returns-in-Err-judge_redo-clause-unfit g c dh rh line told refused =
-    c.in-Err-judge_redo.ensures.unfit (c.check_length.ensures.honesty.1 dh) line
-    (refused_at _ _ _ _ c.args.found.count line (sym (c.deref.ensures.value ∙ c.in-Ok.ensures.bytes rh)) (sym (c.check_length.ensures.image dh)) refused)
+    c.in-Err-judge_redo.ensures.unfit (c.check_length.ensures.looks.honesty.1 dh) line
+    (refused_at _ _ _ _ c.args.found.count line (sym (c.deref.ensures.value ∙ c.in-Ok.ensures.bytes rh)) (sym (c.check_length.ensures.looks.image dh)) refused)
 
 pub returns-clause-unfit : goal.returns-clause-unfit
 returns-clause-unfit g c dh rh line told refused =
-    c.in-Ok-judge_redo.ensures.unfit (c.check_length.ensures.honesty.1 dh) line
-    (refused_at _ _ _ _ c.args.found.count line (sym (c.deref.ensures.value ∙ c.in-Ok.ensures.bytes rh)) (sym (c.check_length.ensures.image dh)) refused)
+    c.in-Ok-judge_redo.ensures.unfit (c.check_length.ensures.looks.honesty.1 dh) line
+    (refused_at _ _ _ _ c.args.found.count line (sym (c.deref.ensures.value ∙ c.in-Ok.ensures.bytes rh)) (sym (c.check_length.ensures.looks.image dh)) refused)
