@@ -19,3 +19,12 @@ returns-clause-steps_on g c = record {
   no_failure = on_ok_weaker c.cut_unfinished.result (λ h. (h.0, h.1, search rules)) c.cut_unfinished.ensures.no_failure;
   failure = on_err_weaker c.cut_unfinished.result (one_more_beside _ _ _ _ _ _ (search rules)) c.cut_unfinished.ensures.failure;
 }
+
+pub returns-in_err-cut_redo-clause-steps_on : goal.returns-in_err-cut_redo-clause-steps_on
+returns-in_err-cut_redo-clause-steps_on g c = record {
+  device_honesty = search rules;
+  store_honesty = search rules;
+  redo_honesty = search rules;
+  no_failure = search rules;
+  failure = search rules;
+}
