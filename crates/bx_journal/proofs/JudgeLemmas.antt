@@ -13,6 +13,7 @@ use Rattle.bx_journal.specs.declared.recovery.windows.CountedText.{CountedText}
 use Rattle.bx_journal.specs.inner.Calls.{ReadFault}
 use Rattle.bx_entries.specs.inner.Journal.{HasRead}
 use Rattle.bx_journal.specs.Judging.{RefusesRedo}
+use Rattle.bx_journal.specs.Opening.{FaultCounts}
 use Rattle.bx_journal.specs.inner.Judging.{AllTold, IsBeyondAt, IsFit, IsRedoCounted, IsUnfitAt, IsUnfitFrom, IsUntoldAt, JudgeFault, RedoTextFault, redo_fault}
 use Rattle.bx_entries.specs.inner.Mark.{IsMark, HasMarks}
 use Rattle.bx_entries.specs.inner.Parsed.{entry_of, entries_onto, entries_of, stage_of, reading_of, AreMarked, IsMarked}
@@ -386,6 +387,20 @@ text_judged H text x changes (NothingToRedo have) h = h
 -- what comparing the length may answer
 abbrev pub OffFault : Type 0 → List ℕ → List ℕ → Option ℕ → SessionFault → Type 0
 OffFault H text x told e = (e ≡ DeviceFailed) ⊎ ((e ≡ RedoDamaged (length (split text).lines)) × (H → (n : ℕ) × (told ≡ Some n) × (length x ≡ n → ⊥)))
+
+-- a fault of the text is none of a device
+pub text_counts : (text : List ℕ) (changes d t : ℕ) (e : SessionFault) → RedoTextFault text changes e → FaultCounts e d t d t
+text_counts text changes d t NoMemory h = (refl, refl)
+text_counts text changes d t (RedoDamaged line) h = (refl, refl)
+text_counts text changes d t TooLarge h = absurd h
+text_counts text changes d t DeviceFailed h = absurd h
+text_counts text changes d t (Damaged line) h = absurd h
+text_counts text changes d t (TooFew have) h = absurd h
+text_counts text changes d t JournalFull h = absurd h
+text_counts text changes d t Interrupted h = absurd h
+text_counts text changes d t Broken h = absurd h
+text_counts text changes d t (LengthDiffers n) h = absurd h
+text_counts text changes d t (NothingToRedo have) h = absurd h
 
 -- the number of the text's lines was counted before
 pub lines_off : (H : Type 0) (text x : List ℕ) (lines : ℕ) (told : Option ℕ) (e : SessionFault) → lines ≡ length (split text).lines

@@ -1,5 +1,5 @@
 -- What a session over a device and a store is.
-use Rattle.std.specs.Prelude.{◌≡◌, ◌⊎◌, ℕ, suc, false, List, length}
+use Rattle.std.specs.Prelude.{◌≡◌, ◌⊎◌, ℕ, suc, false, true, List, length}
 use Rattle.bx_journal.specs.SessionView.{SessionView}
 use Rattle.bx_journal.specs.Phase.{IsAtRest}
 use Rattle.bx_journal.specs.Images.{Images}
@@ -23,6 +23,14 @@ pub record IsSame {D T : Type 0} (image : D → List ℕ) (text : T → List ℕ
 -- the counts of changes and of undone changes, and whether it is broken, are as they were
 abbrev pub IsUnmoved : {D T : Type 0} → SessionView D T → SessionView D T → Type 0
 IsUnmoved old new = (new.count ≡ old.count) × (new.undone ≡ old.undone) × (new.is_broken ≡ old.is_broken)
+
+-- after an interruption: the session is broken, and its counts are as they were
+abbrev pub Breaks : {D T : Type 0} → SessionView D T → SessionView D T → Type 0
+Breaks old new = (new.is_broken ≡ true) × (new.count ≡ old.count) × (new.undone ≡ old.undone)
+
+-- the devices are the same
+abbrev pub HasSameDevices : {D T : Type 0} → SessionView D T → SessionView D T → Type 0
+HasSameDevices old new = (new.device ≡ old.device) × (new.store ≡ old.store) × (new.redo_text ≡ old.redo_text)
 
 -- the session's redo text and image stand for the undone images
 pub record HasUndone {D T : Type 0} (image : D → List ℕ) (text : T → List ℕ) (s : SessionView D T) (undone : List (List ℕ)) : Type 0 where

@@ -1,5 +1,6 @@
 -- What no public contract names.
 pub mod Calls
+pub mod Devices
 pub mod Fault
 pub mod Images
 pub mod Judging

@@ -1,8 +1,8 @@
 //! A session: changes to an image, each with its entry in the journal.
-ghost use Rattle.std.specs.Prelude.{◌≡◌, ◌↔◌, ◌⊎◌, ◌+◌, ◌<◌, ◌≤◌, ◌^◌, [], ◌∷◌, ◌++◌, List, ℕ, length, true, false, IfOk, IfErr, OnOk, OnErr, IsErrOf, is_ok, if◌then◌else◌};
-ghost use Rattle.bx_image.specs.Change.{effect, saved, Fits, AllWithin};
+ghost use Rattle.std.specs.Prelude.{◌≡◌, ◌↔◌, ◌+◌, ◌<◌, ◌≤◌, [], ◌∷◌, ◌++◌, List, ℕ, length, true, false, IfOk, IfErr, OnOk, IsErrOf};
+ghost use Rattle.bx_image.specs.Change.{effect, saved, Fits};
 ghost use Rattle.bx_entries.specs.Kept.{kept_of};
-ghost use Rattle.bx_entries.specs.Entry.{head_text, end_text, entry_text};
+ghost use Rattle.bx_entries.specs.Entry.{entry_text};
 ghost use Rattle.bx_journal.specs.Images.{Images as Pictures, change_to};
 ghost use Rattle.bx_journal.specs.Machine.{PerformStep, top};
 ghost use Rattle.bx_journal.specs.Phase.{RecoversEither};
@@ -53,7 +53,7 @@ impl<D: Device, T: TextStore, A: Allocator> Model for Session<D, T, A> {
 
 impl<D: Device, T: TextStore, A: Allocator + Clone> Session<D, T, A> {
     ghost use Rattle.bx_journal.specs.Calls.{AfterFault};
-    ghost use Rattle.bx_journal.specs.Session.{FindsEither, HasUndone, IsReady, IsRedoSame, IsSame, IsUnfailed, IsUnmoved, SessionCounts};
+    ghost use Rattle.bx_journal.specs.Session.{Breaks, FindsEither, HasSameDevices, HasUndone, IsReady, IsRedoSame, IsSame, IsUnfailed, IsUnmoved, SessionCounts};
     ghost use Rattle.bx_journal.specs.Standing.{IsStanding, PerformFault};
 
     /// Changes the image, and answers the change's number, which is how many changes then stand. What was undone is
@@ -88,17 +88,18 @@ impl<D: Device, T: TextStore, A: Allocator + Clone> Session<D, T, A> {
             (RecoversEither (T.text self.new.store) (D.image self.new.device) stack (effect change.now (top stack) ∷ stack))
             (IsSame D.image T.text self.old self.new)) }
 
-        ensures refused { D.honest self.old.device → T.honest self.old.store → IfErr result (λ e. AfterFault e (Unit {0}) (IsSame D.image T.text self.old self.new)) }
+        ensures refused { D.honest self.old.device → T.honest self.old.store
+            → IfErr result (λ e. AfterFault e (Unit {0}) (IsSame D.image T.text self.old self.new)) }
         ensures finds { D.honest self.old.device → T.honest self.old.store → T.honest self.old.redo_text → (s : Pictures)
             → IsReady D.image T.text self.old s.stack → HasUndone D.image T.text self.old s.undone
             → IfErr result (λ e. AfterFault e (FindsEither D.image T.text self.new s (change_to (effect change.now (top s.stack)) s)) (Unit {0})) }
         ensures redo_same { T.honest self.old.redo_text → IfErr result (λ e. AfterFault e (Unit {0}) (IsRedoSame T.text self.old self.new)) }
         ensures unmoved { IfErr result (λ e. AfterFault e (Unit {0}) (IsUnmoved self.old self.new)) }
-        ensures breaks { IsErrOf result SessionFault.Interrupted → (self.new.is_broken ≡ true) × (self.new.count ≡ self.old.count) × (self.new.undone ≡ self.old.undone) }
+        ensures breaks { IsErrOf result SessionFault.Interrupted → Breaks self.old self.new }
 
         ensures kind { IfErr result PerformFault }
         ensures broken { (self.old.is_broken ≡ true) ↔ IsErrOf result SessionFault.Broken }
-        ensures untouched { IsErrOf result SessionFault.Broken → (self.new.device ≡ self.old.device) × (self.new.store ≡ self.old.store) × (self.new.redo_text ≡ self.old.redo_text) }
+        ensures untouched { IsErrOf result SessionFault.Broken → HasSameDevices self.old self.new }
         ensures same { IsErrOf result SessionFault.Broken → self.new ≡ self.old }
         ensures full { IsErrOf result SessionFault.JournalFull ↔ ((self.old.is_broken ≡ false) × (65535 ≤ self.old.count)) }
         ensures large { D.honest self.old.device → IsErrOf result SessionFault.TooLarge → Fits change.now (length (D.image self.old.device)) MAX_LEN → ⊥ }

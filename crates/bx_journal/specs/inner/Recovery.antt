@@ -1,5 +1,5 @@
 -- What proofs alone need: what opening finds in a journal's text, and what it leaves of the redo text.
-use Rattle.std.specs.Prelude.{◌≡◌, ◌≤◌, ℕ, Option, Some, List, length, IfSome}
+use Rattle.std.specs.Prelude.{◌≡◌, ◌≤◌, ℕ, Option, Some, List, length, IfSome, Result, OnOk, OnErr}
 use Rattle.bx_journal.specs.declared.session.answers.Recovered.{Recovered}
 use Rattle.bx_journal.specs.declared.session.fault.SessionFault.{SessionFault}
 use Rattle.bx_journal.specs.declared.session.fault.SessionFault.TheVariants.{NoMemory, TooLarge, DeviceFailed, Damaged, TooFew, JournalFull, Interrupted, Broken, LengthDiffers, NothingToRedo, RedoDamaged}
@@ -8,7 +8,11 @@ use Rattle.bx_journal.specs.declared.recovery.journal.Found.TheVariants.{Finishe
 use Rattle.bx_entries.specs.declared.read.whole.JournalRead.{JournalRead}
 use Rattle.bx_entries.specs.declared.read.types.StageRead.TheVariants.{Between as BetweenRead}
 use Rattle.bx_entries.specs.inner.Journal.{HasRead}
+use Rattle.bx_journal.specs.Opening.{IsOpened}
+use Rattle.bx_journal.specs.Phase.{IsAtRest}
+use Rattle.bx_journal.specs.Stack.{HaveLengths, Recovers, image_at}
 use Rattle.bx_journal.specs.Redo.{IsRedoOf, IsRefusedAt, found_undone}
+use Rattle.bx_entries.specs.inner.Parsed.{entries_of, reading_of, stage_of}
 use Rattle.bx_entries.specs.inner.Tally.{IsCounted}
 use Rattle.bx_entries.specs.Text.{IsDamagedAt}
 
@@ -30,6 +34,19 @@ pub record IsUnfinishedIn {A : Type 0} (honest : Type 0) (stored : List ℕ) (j 
 abbrev pub IsFoundIn : {A : Type 0} → Type 0 → List ℕ → Found A → Type 0
 IsFoundIn honest stored (Finished counted) = IsCountedIn honest stored counted.count counted.told
 IsFoundIn honest stored (Unfinished journal) = IsUnfinishedIn honest stored journal
+
+-- the lengths that the entries of a journal tell are those of the images
+abbrev pub HasLengths : {A : Type 0} → JournalRead A → List ℕ → Type 0
+HasLengths j x = HaveLengths (entries_of j.entries.items) (image_at (stage_of j.stage) x)
+
+-- what opening leaves stands for the journal that was read
+abbrev pub IsOpenedOf : {A : Type 0} → JournalRead A → List ℕ → List ℕ → List ℕ → List ℕ → Recovered → Type 0
+IsOpenedOf j text x new y o = IsOpened text x (reading_of j.entries.items j.stage) new y o.how o.changes
+
+-- a sound pair keeps its stack: at rest, or behind a fault so that opening finds it again
+abbrev pub KeepsStack : {T E : Type 0} → Result T E → List ℕ → List ℕ → List ℕ → List ℕ → Type 0
+KeepsStack result text x new y =
+    (stack : List (List ℕ)) → Recovers text x stack → OnOk result (IsAtRest new y stack) × OnErr result (Recovers new y stack)
 
 -- which fault reading the journal may answer
 abbrev pub FindFault : Type 0 → List ℕ → SessionFault → Type 0

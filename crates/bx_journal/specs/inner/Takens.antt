@@ -1,5 +1,5 @@
 -- What some undos, or some redos, will take of the image: for each entry, the newest first, a record.
-use Rattle.std.specs.Prelude.{◌≡◌, ◌≤◌, ℕ, ◌+◌, List, [], ◌∷◌, length}
+use Rattle.std.specs.Prelude.{◌≡◌, ◌≤◌, ℕ, ◌+◌, List, [], ◌∷◌, length, reverse}
 use Rattle.bx_image.specs.declared.change.Change.{Change}
 use Rattle.bx_image.specs.declared.change.TheConstants.{MAX_LEN}
 use Rattle.bx_image.specs.declared.record.Saved.{Saved}
@@ -35,6 +35,10 @@ abbrev pub AreReady : {A : Type 0} → List ℕ → List (EntryRead A) → List 
 AreReady x es [] = Unit {0}
 AreReady x [] (t ∷ ts) = ⊥
 AreReady x (e ∷ es) (t ∷ ts) = IsTakenBy x e t × AreZeros e.kept.len es ts
+
+-- the last record was filled from the image x: whatever entries the records are for, they are ready
+abbrev pub AreFilled : {A : Type 0} → List ℕ → List (Saved A) → List (Saved A) → Type 0
+AreFilled {A = A} x old new = (es : List (EntryRead A)) → AreZeros (length x) es (reverse old) → AreReady x es (reverse new)
 
 -- the runs of each end within its length
 abbrev pub AllShaped : {A : Type 0} → List (Saved A) → Type 0

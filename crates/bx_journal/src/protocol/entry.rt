@@ -7,10 +7,11 @@ ghost use Rattle.bx_entries.specs.declared.format.version.Version.TheVariants.{S
 ghost use Rattle.bx_entries.specs.Entry.{head_text};
 ghost use Rattle.bx_journal.specs.Stack.{Recovers};
 ghost use Rattle.bx_journal.specs.Phase.{IsAtRest, RecoversEither};
+ghost use Rattle.bx_journal.specs.inner.Devices.{AreBelow, StepsOn};
 ghost use Rattle.bx_journal.specs.inner.Phase.{IsOpen, IsOpenFor, as_read};
 ghost use Rattle.bx_journal.specs.inner.Redo.{LeavesEither, RecoversOpen};
 ghost use Rattle.bx_journal.specs.inner.Step.{StartsEntry, EndsEntry, WritesEntry};
-ghost use Rattle.bx_journal.specs.Opening.{OneMore, OneMoreOfThree};
+ghost use Rattle.bx_journal.specs.Opening.{OneMore};
 ghost use Rattle.bx_journal.specs.inner.Turns.{place_of, side_of};
 
 use crate::protocol::image::change_image;
@@ -32,9 +33,11 @@ pub fn append_head<T: TextStore, A: Allocator>(
     requires fits { T.honest store.old → length (T.text store.old) + length (head_text number (kept_of kept.now)) ≤ T.room store.old }
     requires empty { page.old.items ≡ [] }
     requires room { 82 ≤ vec_capacity page.old }
-    ensures ok { T.honest store.old → (x : List ℕ) (stack : List (List ℕ)) (s : Record) → StartsEntry (T.text store.old) x stack s (head_text number (kept_of kept.now))
+    ensures ok { T.honest store.old → (x : List ℕ) (stack : List (List ℕ)) (s : Record)
+        → StartsEntry (T.text store.old) x stack s (head_text number (kept_of kept.now))
         → OnOk result (IsOpen Second (as_read s) (T.text store.new) x stack) }
-    ensures fault { T.honest store.old → (x : List ℕ) (stack : List (List ℕ)) (s : Record) → StartsEntry (T.text store.old) x stack s (head_text number (kept_of kept.now))
+    ensures fault { T.honest store.old → (x : List ℕ) (stack : List (List ℕ)) (s : Record)
+        → StartsEntry (T.text store.old) x stack s (head_text number (kept_of kept.now))
         → OnErr result (Recovers (T.text store.new) x stack) }
     ensures text { T.honest store.old → OnOk result (T.text store.new ≡ T.text store.old ++ head_text number (kept_of kept.now)) }
     ensures emptied { OnOk result (page.new.items ≡ []) }
@@ -105,9 +108,7 @@ pub fn write_entry<D: Device, T: TextStore, A: Allocator>(
     end: &[u8],
     part: RedoCut,
 ) -> Result<(), DeviceFailed>
-    requires device_countable { D.failures device.old < u64.MAX }
-    requires store_countable { T.failures store.old < u64.MAX }
-    requires redo_countable { T.failures redo_text.old < u64.MAX }
+    requires countable { AreBelow u64.MAX (D.failures device.old) (T.failures store.old) (T.failures redo_text.old) }
     requires kept_within { AllWithin kept.now.len kept.now.runs }
     requires empty { page.old.items ≡ [] }
     requires page_room { 82 ≤ vec_capacity page.old }
@@ -133,11 +134,7 @@ pub fn write_entry<D: Device, T: TextStore, A: Allocator>(
     ensures page_kept { vec_capacity page.old ≤ vec_capacity page.new }
     ensures room { D.room device.old ≤ D.room device.new }
     ensures store_room { T.room store.old ≤ T.room store.new }
-    ensures device_honesty { D.honest device.new ↔ D.honest device.old }
-    ensures store_honesty { T.honest store.new ↔ T.honest store.old }
-    ensures redo_honesty { T.honest redo_text.new ↔ T.honest redo_text.old }
-    ensures no_failure { OnOk result ((D.failures device.new ≡ D.failures device.old) × (T.failures store.new ≡ T.failures store.old) × (T.failures redo_text.new ≡ T.failures redo_text.old)) }
-    ensures failure { OnErr result (OneMoreOfThree (D.failures device.old) (T.failures store.old) (T.failures redo_text.old) (D.failures device.new) (T.failures store.new) (T.failures redo_text.new)) }
+    ensures steps_on { StepsOn D.honest T.honest D.failures T.failures result device.old store.old redo_text.old device.new store.new redo_text.new }
 {
     append_head(store, page, number, kept)?;
     change_with(device, redo_text, change, part)?;

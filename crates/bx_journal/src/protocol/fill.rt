@@ -1,8 +1,7 @@
 //! Records of what undos will take, filled one by one.
-ghost use Rattle.std.specs.Prelude.{◌≡◌, ◌<◌, List, ℕ, length, reverse, OnOk, is_err};
+ghost use Rattle.std.specs.Prelude.{◌≡◌, ◌<◌, length, reverse, OnOk, is_err};
 ghost use Rattle.bx_image.specs.Device.{GoesOn};
-ghost use Rattle.bx_entries.specs.declared.read.types.EntryRead.{EntryRead};
-ghost use Rattle.bx_journal.specs.inner.Takens.{IsFirstBelow, AreZeros, AreReady, AllShaped, entries_len};
+ghost use Rattle.bx_journal.specs.inner.Takens.{IsFirstBelow, AreFilled, AllShaped, entries_len};
 
 use bx_image::{Device, DeviceFailed, Saved};
 use std::alloc::Allocator;
@@ -14,7 +13,7 @@ pub fn fill_last<D: Device, A: Allocator>(
 ) -> Result<(), DeviceFailed>
     requires countable { D.failures device.old < u64.MAX }
     requires range { D.honest device.old → IsFirstBelow (length (D.image device.old)) (reverse takens.old.items) }
-    ensures filled { D.honest device.old → OnOk result ((es : List (EntryRead A)) → AreZeros (length (D.image device.old)) es (reverse takens.old.items) → AreReady (D.image device.old) es (reverse takens.new.items)) }
+    ensures filled { D.honest device.old → OnOk result (AreFilled (D.image device.old) takens.old.items takens.new.items) }
     ensures shaped { AllShaped takens.old.items → AllShaped takens.new.items }
     ensures entries_len { entries_len takens.new.items ≡ entries_len takens.old.items }
     ensures count { length takens.new.items ≡ length takens.old.items }
@@ -31,7 +30,7 @@ fn fill_end<D: Device, A: Allocator>(
 ) -> Result<(), DeviceFailed>
     requires countable { D.failures device.old < u64.MAX }
     requires range { D.honest device.old → IsFirstBelow (length (D.image device.old)) (reverse takens.old) }
-    ensures filled { D.honest device.old → OnOk result ((es : List (EntryRead A)) → AreZeros (length (D.image device.old)) es (reverse takens.old) → AreReady (D.image device.old) es (reverse takens.new)) }
+    ensures filled { D.honest device.old → OnOk result (AreFilled (D.image device.old) takens.old takens.new) }
     ensures shaped { AllShaped takens.old → AllShaped takens.new }
     ensures entries_len { entries_len takens.new ≡ entries_len takens.old }
     ensures count { length takens.new ≡ length takens.old }

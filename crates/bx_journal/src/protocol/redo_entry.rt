@@ -1,10 +1,10 @@
 //! Making undone changes again: some entries of the redo text, the last first.
-ghost use Rattle.std.specs.Prelude.{◌≡◌, ◌↔◌, ◌+◌, ◌-◌, ◌<◌, ◌≤◌, [], ℕ, length, drop, reverse, vec_capacity, IfOk, OnOk, OnErr};
+ghost use Rattle.std.specs.Prelude.{◌≡◌, ◌+◌, ◌-◌, ◌<◌, ◌≤◌, [], ℕ, length, drop, reverse, vec_capacity, IfOk, OnOk, OnErr};
 ghost use Rattle.bx_journal.specs.Images.{Images as Pictures, redo_of};
 ghost use Rattle.bx_journal.specs.Machine.{changes_of};
-ghost use Rattle.bx_journal.specs.Opening.{OneMoreOfThree};
 ghost use Rattle.bx_entries.specs.inner.Parsed.{AllKept, entries_of};
 ghost use Rattle.bx_journal.specs.Redo.{Finds};
+ghost use Rattle.bx_journal.specs.inner.Devices.{AreBelow, StepsOn};
 ghost use Rattle.bx_journal.specs.inner.Takens.{AreReady, AllShaped, entries_len};
 ghost use Rattle.bx_entries.specs.Text.{IsPrefix};
 ghost use Rattle.bx_journal.specs.inner.Turns.{AreAtRest, AreStanding};
@@ -30,9 +30,7 @@ pub fn redo_entries<D: Device, T: TextStore, A: Allocator>(
     takens: &mut Vec<Saved<A>, A>,
     count: u32,
 ) -> Result<u32, DeviceFailed>
-    requires device_countable { D.failures device.old < u64.MAX }
-    requires store_countable { T.failures store.old < u64.MAX }
-    requires redo_countable { T.failures redo_text.old < u64.MAX }
+    requires countable { AreBelow u64.MAX (D.failures device.old) (T.failures store.old) (T.failures redo_text.old) }
     requires few { length takens.old.items ≤ length entries.old.items }
     requires bound { count + length takens.old.items ≤ 65535 }
     requires kept { AllKept (D.room device.old) (drop (length entries.old.items - length takens.old.items) entries.old.items) }
@@ -42,20 +40,20 @@ pub fn redo_entries<D: Device, T: TextStore, A: Allocator>(
     requires fits { T.honest store.old → length (T.text store.old) + entries_len takens.old.items ≤ T.room store.old }
     requires empty { page.old.items ≡ [] }
     requires page_room { 82 ≤ vec_capacity page.old }
-    ensures found { D.honest device.old → T.honest store.old → T.honest redo_text.old → (s : Pictures) → AreAtRest (T.text store.old) (D.image device.old) (T.text redo_text.old) s
-        → count ≡ changes_of s.stack → OnOk result (AreAtRest (T.text store.new) (D.image device.new) (T.text redo_text.new) (redo_of (length takens.old.items) s)) }
-    ensures images { D.honest device.old → T.honest store.old → T.honest redo_text.old → (s : Pictures) → AreStanding (T.text store.old) (D.image device.old) (T.text redo_text.old) s
-        → count ≡ changes_of s.stack → OnOk result (AreStanding (T.text store.new) (D.image device.new) (T.text redo_text.new) (redo_of (length takens.old.items) s)) }
+    ensures found { D.honest device.old → T.honest store.old → T.honest redo_text.old → (s : Pictures)
+        → AreAtRest (T.text store.old) (D.image device.old) (T.text redo_text.old) s → count ≡ changes_of s.stack
+        → OnOk result (AreAtRest (T.text store.new) (D.image device.new) (T.text redo_text.new) (redo_of (length takens.old.items) s)) }
+    ensures images { D.honest device.old → T.honest store.old → T.honest redo_text.old → (s : Pictures)
+        → AreStanding (T.text store.old) (D.image device.old) (T.text redo_text.old) s → count ≡ changes_of s.stack
+        → OnOk result (AreStanding (T.text store.new) (D.image device.new) (T.text redo_text.new) (redo_of (length takens.old.items) s)) }
     ensures number { IfOk result (λ n. n ≡ count + length takens.old.items) }
-    ensures left { T.honest redo_text.old → OnOk result (HasLeft (T.text redo_text.old) (T.text redo_text.new) (drop (length takens.old.items) (entries_of entries.old.items))) }
+    ensures left { T.honest redo_text.old
+        → OnOk result (HasLeft (T.text redo_text.old) (T.text redo_text.new) (drop (length takens.old.items) (entries_of entries.old.items))) }
     ensures front { T.honest store.old → OnOk result (IsPrefix (T.text store.old) (T.text store.new)) }
-    ensures finds { D.honest device.old → T.honest store.old → T.honest redo_text.old → (s : Pictures) → AreAtRest (T.text store.old) (D.image device.old) (T.text redo_text.old) s
-        → count ≡ changes_of s.stack → OnErr result ((i : ℕ) × (i ≤ length takens.old.items) × Finds (T.text store.new) (D.image device.new) (T.text redo_text.new) (redo_of i s)) }
-    ensures device_honesty { D.honest device.new ↔ D.honest device.old }
-    ensures store_honesty { T.honest store.new ↔ T.honest store.old }
-    ensures redo_honesty { T.honest redo_text.new ↔ T.honest redo_text.old }
-    ensures no_failure { OnOk result ((D.failures device.new ≡ D.failures device.old) × (T.failures store.new ≡ T.failures store.old) × (T.failures redo_text.new ≡ T.failures redo_text.old)) }
-    ensures failure { OnErr result (OneMoreOfThree (D.failures device.old) (T.failures store.old) (T.failures redo_text.old) (D.failures device.new) (T.failures store.new) (T.failures redo_text.new)) }
+    ensures finds { D.honest device.old → T.honest store.old → T.honest redo_text.old → (s : Pictures)
+        → AreAtRest (T.text store.old) (D.image device.old) (T.text redo_text.old) s → count ≡ changes_of s.stack
+        → OnErr result ((i : ℕ) × (i ≤ length takens.old.items) × Finds (T.text store.new) (D.image device.new) (T.text redo_text.new) (redo_of i s)) }
+    ensures steps_on { StepsOn D.honest T.honest D.failures T.failures result device.old store.old redo_text.old device.new store.new redo_text.new }
 {
     let k = takens.len();
     let mut count = count;

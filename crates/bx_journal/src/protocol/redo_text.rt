@@ -1,5 +1,5 @@
 //! What is written to the redo text: an entry more, or a cut.
-ghost use Rattle.std.specs.Prelude.{◌≡◌, ◌+◌, ◌<◌, ◌≤◌, ◌++◌, [], List, ℕ, length, take, vec_capacity, OnOk, is_err};
+ghost use Rattle.std.specs.Prelude.{◌≡◌, ◌+◌, ◌<◌, ◌≤◌, ◌++◌, [], length, take, vec_capacity, OnOk, is_err};
 ghost use Rattle.bx_image.specs.Change.{AllWithin};
 ghost use Rattle.bx_image.specs.Device.{GoesOn};
 ghost use Rattle.bx_entries.specs.Kept.{kept_of};

@@ -1,13 +1,14 @@
 //! Taking entries back: the newest, or some of them one after another.
-ghost use Rattle.std.specs.Prelude.{◌≡◌, ◌↔◌, ◌⊎◌, ◌+◌, ◌-◌, ◌<◌, ◌≤◌, [], ◌∷◌, ◌++◌, map, List, ℕ, length, take, drop, reverse, nat_le, vec_capacity, if◌then◌else◌, IfOk, OnOk, OnErr};
+ghost use Rattle.std.specs.Prelude.{◌≡◌, ◌↔◌, ◌⊎◌, ◌+◌, ◌-◌, ◌<◌, ◌≤◌, [], ◌∷◌, map, List, ℕ, length, take, drop, reverse, nat_le, vec_capacity, if◌then◌else◌, IfOk, OnOk, OnErr};
 ghost use Rattle.bx_image.specs.Change.{AllWithin, Covers, IsAsGood, restore};
 ghost use Rattle.bx_entries.specs.declared.format.version.Version.{Version as Form};
 ghost use Rattle.bx_entries.specs.Entry.{entry_text};
 ghost use Rattle.bx_journal.specs.Images.{Images as Pictures, undo_of};
 ghost use Rattle.bx_entries.specs.Kept.{run_of, kept_of};
-ghost use Rattle.bx_journal.specs.Opening.{OneMore, OneMoreOfThree};
+ghost use Rattle.bx_journal.specs.Opening.{OneMore};
 ghost use Rattle.bx_entries.specs.inner.Parsed.{AllKept, entries_of};
 ghost use Rattle.bx_journal.specs.Phase.{IsAtRest, RecoversEither};
+ghost use Rattle.bx_journal.specs.inner.Devices.{AreBelow, StepsOn};
 ghost use Rattle.bx_journal.specs.inner.Phase.{IsOpen};
 ghost use Rattle.bx_journal.specs.Redo.{Finds};
 ghost use Rattle.bx_journal.specs.inner.Redo.{LeavesEither};
@@ -78,9 +79,7 @@ fn open_and_change<D: Device, T: TextStore, A: Allocator>(
     kept: Saved<A>,
     saved: u64,
 ) -> Result<(), DeviceFailed>
-    requires device_countable { D.failures device.old < u64.MAX }
-    requires store_countable { T.failures store.old < u64.MAX }
-    requires redo_countable { T.failures redo_text.old < u64.MAX }
+    requires countable { AreBelow u64.MAX (D.failures device.old) (T.failures store.old) (T.failures redo_text.old) }
     requires within_text { T.honest store.old → saved ≤ length (T.text store.old) }
     requires within { AllWithin kept.len (map run_of kept.runs) }
     requires image_room { kept.len ≤ D.room device.old }
@@ -88,11 +87,13 @@ fn open_and_change<D: Device, T: TextStore, A: Allocator>(
     requires fits { T.honest redo_text.old → length (T.text redo_text.old) + length (entry_text number (kept_of taken.now) kept.len) ≤ T.room redo_text.old }
     requires empty { page.old.items ≡ [] }
     requires page_room { 82 ≤ vec_capacity page.old }
-    ensures order { T.honest store.old → OnErr result (((device.new ≡ device.old) × (redo_text.new ≡ redo_text.old) × IsPartlyCut saved (T.text store.old) (T.text store.new))
+    ensures order { T.honest store.old → OnErr result (
+        ((device.new ≡ device.old) × (redo_text.new ≡ redo_text.old) × IsPartlyCut saved (T.text store.old) (T.text store.new))
         ⊎ (T.text store.new ≡ take saved (T.text store.old))) }
     ensures phase { D.honest device.old → (v : Form) (text : List ℕ) (stack : List (List ℕ)) → IsOpen v (kept_of kept) text (D.image device.old) stack
         → IsOpen v (kept_of kept) text (D.image device.new) stack }
-    ensures again { D.honest device.old → Covers (kept_of kept) (D.image device.old) → OnOk result (IsAsGood (kept_of kept) (D.image device.old) (D.image device.new)) }
+    ensures again { D.honest device.old → Covers (kept_of kept) (D.image device.old)
+        → OnOk result (IsAsGood (kept_of kept) (D.image device.old) (D.image device.new)) }
     ensures image { D.honest device.old → OnOk result (D.image device.new ≡ restore (kept_of kept) (D.image device.old)) }
     ensures text { T.honest store.old → OnOk result (T.text store.new ≡ take saved (T.text store.old)) }
     ensures redo { T.honest redo_text.old → OnOk result (T.text redo_text.new ≡ kept_text (T.text redo_text.old) (kept_of taken.now) number kept.len) }
@@ -100,11 +101,7 @@ fn open_and_change<D: Device, T: TextStore, A: Allocator>(
     ensures page_kept { vec_capacity page.old ≤ vec_capacity page.new }
     ensures room { D.room device.old ≤ D.room device.new }
     ensures redo_room { T.room redo_text.old ≤ T.room redo_text.new }
-    ensures device_honesty { D.honest device.new ↔ D.honest device.old }
-    ensures store_honesty { T.honest store.new ↔ T.honest store.old }
-    ensures redo_honesty { T.honest redo_text.new ↔ T.honest redo_text.old }
-    ensures no_failure { OnOk result ((D.failures device.new ≡ D.failures device.old) × (T.failures store.new ≡ T.failures store.old) × (T.failures redo_text.new ≡ T.failures redo_text.old)) }
-    ensures failure { OnErr result (OneMoreOfThree (D.failures device.old) (T.failures store.old) (T.failures redo_text.old) (D.failures device.new) (T.failures store.new) (T.failures redo_text.new)) }
+    ensures steps_on { StepsOn D.honest T.honest D.failures T.failures result device.old store.old redo_text.old device.new store.new redo_text.new }
 {
     store.cut(saved)?;
     change_undone(device, redo_text, page, number, taken, kept)?;
@@ -124,9 +121,7 @@ pub fn undo_entry<D: Device, T: TextStore, A: Allocator>(
     begins: u64,
     saved: u64,
 ) -> Result<(), DeviceFailed>
-    requires device_countable { D.failures device.old < u64.MAX }
-    requires store_countable { T.failures store.old < u64.MAX }
-    requires redo_countable { T.failures redo_text.old < u64.MAX }
+    requires countable { AreBelow u64.MAX (D.failures device.old) (T.failures store.old) (T.failures redo_text.old) }
     requires order { begins ≤ saved }
     requires within_text { T.honest store.old → saved ≤ length (T.text store.old) }
     requires within { AllWithin kept.len (map run_of kept.runs) }
@@ -153,11 +148,7 @@ pub fn undo_entry<D: Device, T: TextStore, A: Allocator>(
     ensures page_kept { vec_capacity page.old ≤ vec_capacity page.new }
     ensures room { D.room device.old ≤ D.room device.new }
     ensures redo_room { T.room redo_text.old ≤ T.room redo_text.new }
-    ensures device_honesty { D.honest device.new ↔ D.honest device.old }
-    ensures store_honesty { T.honest store.new ↔ T.honest store.old }
-    ensures redo_honesty { T.honest redo_text.new ↔ T.honest redo_text.old }
-    ensures no_failure { OnOk result ((D.failures device.new ≡ D.failures device.old) × (T.failures store.new ≡ T.failures store.old) × (T.failures redo_text.new ≡ T.failures redo_text.old)) }
-    ensures failure { OnErr result (OneMoreOfThree (D.failures device.old) (T.failures store.old) (T.failures redo_text.old) (D.failures device.new) (T.failures store.new) (T.failures redo_text.new)) }
+    ensures steps_on { StepsOn D.honest T.honest D.failures T.failures result device.old store.old redo_text.old device.new store.new redo_text.new }
 {
     open_and_change(device, store, redo_text, page, number, taken, kept, saved)?;
     drop_tail(store, begins)
@@ -182,9 +173,7 @@ pub fn undo_entries<D: Device, T: TextStore, A: Allocator>(
     takens: &mut Vec<Saved<A>, A>,
     undone: u32,
 ) -> Result<u32, DeviceFailed>
-    requires device_countable { D.failures device.old < u64.MAX }
-    requires store_countable { T.failures store.old < u64.MAX }
-    requires redo_countable { T.failures redo_text.old < u64.MAX }
+    requires countable { AreBelow u64.MAX (D.failures device.old) (T.failures store.old) (T.failures redo_text.old) }
     requires few { length takens.old.items ≤ length entries.old.items }
     requires bound { undone + length takens.old.items ≤ 65535 }
     requires kept { AllKept (D.room device.old) (drop (length entries.old.items - length takens.old.items) entries.old.items) }
@@ -198,20 +187,19 @@ pub fn undo_entries<D: Device, T: TextStore, A: Allocator>(
         → OnOk result (IsAtRest (T.text store.new) (D.image device.new) (drop (length takens.old.items) stack)) }
     ensures stands { D.honest device.old → T.honest store.old → (stack : List (List ℕ)) → StandsFor (T.text store.old) (D.image device.old) stack
         → OnOk result (StandsFor (T.text store.new) (D.image device.new) (drop (length takens.old.items) stack)) }
-    ensures left { T.honest store.old → OnOk result (HasLeft (T.text store.old) (T.text store.new) (drop (length takens.old.items) (entries_of entries.old.items))) }
+    ensures left { T.honest store.old
+        → OnOk result (HasLeft (T.text store.old) (T.text store.new) (drop (length takens.old.items) (entries_of entries.old.items))) }
     ensures fault { D.honest device.old → T.honest store.old → (stack : List (List ℕ)) → IsAtRest (T.text store.old) (D.image device.old) stack
         → OnErr result ((j : ℕ) × (j ≤ length takens.old.items) × Recovers (T.text store.new) (D.image device.new) (drop j stack)) }
-    ensures images { D.honest device.old → T.honest store.old → T.honest redo_text.old → (s : Pictures) → AreStanding (T.text store.old) (D.image device.old) (T.text redo_text.old) s
-        → undone ≡ length s.undone → IfOk result (λ n. (n ≡ length (undo_of (length takens.old.items) s).undone)
+    ensures images { D.honest device.old → T.honest store.old → T.honest redo_text.old → (s : Pictures)
+        → AreStanding (T.text store.old) (D.image device.old) (T.text redo_text.old) s → undone ≡ length s.undone
+        → IfOk result (λ n. (n ≡ length (undo_of (length takens.old.items) s).undone)
         × AreStanding (T.text store.new) (D.image device.new) (T.text redo_text.new) (undo_of (length takens.old.items) s)) }
     ensures few { IfOk result (λ n. n ≤ undone + length takens.old.items) }
-    ensures finds { D.honest device.old → T.honest store.old → T.honest redo_text.old → (s : Pictures) → AreAtRest (T.text store.old) (D.image device.old) (T.text redo_text.old) s
-        → undone ≡ length s.undone → OnErr result ((i : ℕ) × (i ≤ length takens.old.items) × Finds (T.text store.new) (D.image device.new) (T.text redo_text.new) (undo_of i s)) }
-    ensures device_honesty { D.honest device.new ↔ D.honest device.old }
-    ensures store_honesty { T.honest store.new ↔ T.honest store.old }
-    ensures redo_honesty { T.honest redo_text.new ↔ T.honest redo_text.old }
-    ensures no_failure { OnOk result ((D.failures device.new ≡ D.failures device.old) × (T.failures store.new ≡ T.failures store.old) × (T.failures redo_text.new ≡ T.failures redo_text.old)) }
-    ensures failure { OnErr result (OneMoreOfThree (D.failures device.old) (T.failures store.old) (T.failures redo_text.old) (D.failures device.new) (T.failures store.new) (T.failures redo_text.new)) }
+    ensures finds { D.honest device.old → T.honest store.old → T.honest redo_text.old → (s : Pictures)
+        → AreAtRest (T.text store.old) (D.image device.old) (T.text redo_text.old) s → undone ≡ length s.undone
+        → OnErr result ((i : ℕ) × (i ≤ length takens.old.items) × Finds (T.text store.new) (D.image device.new) (T.text redo_text.new) (undo_of i s)) }
+    ensures steps_on { StepsOn D.honest T.honest D.failures T.failures result device.old store.old redo_text.old device.new store.new redo_text.new }
 {
     let k = takens.len();
     let mut undone = undone;

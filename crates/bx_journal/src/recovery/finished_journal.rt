@@ -1,5 +1,5 @@
 //! Opening beside a journal of finished entries alone: the redo text is read and judged.
-ghost use Rattle.std.specs.Prelude.{◌≡◌, ◌↔◌, ◌⊎◌, ◌+◌, ◌<◌, ◌≤◌, List, ℕ, length, OnOk, IfOk, IfErr, IfSome, MatchResult};
+ghost use Rattle.std.specs.Prelude.{◌≡◌, ◌↔◌, ◌⊎◌, ◌+◌, ◌<◌, ◌≤◌, ℕ, length, OnOk, IfOk, IfErr, IfSome, MatchResult};
 ghost use Rattle.bx_journal.specs.Judging.{RefusesRedo};
 ghost use Rattle.bx_journal.specs.Opening.{FaultCounts, RefusesLength};
 ghost use Rattle.bx_journal.specs.inner.Recovery.{FinishedFault, HasOtherLength, HasToldLength, HasUndoneCount};
@@ -86,7 +86,8 @@ pub fn open_finished<D: Device, T: TextStore, A: Allocator + Clone>(
     requires few { found.count ≤ 65535 }
     ensures clean { IfOk result (λ o. (o.how ≡ How.Clean) × (o.changes ≡ found.count)) }
     ensures same_length { D.honest device.old → OnOk result (HasToldLength found.told (D.image device.old)) }
-    ensures undone { D.honest device.old → T.honest redo_text.old → IfOk result (λ o. HasUndoneCount (T.text redo_text.old) (D.image device.old) found.count o.undone) }
+    ensures undone { D.honest device.old → T.honest redo_text.old
+        → IfOk result (λ o. HasUndoneCount (T.text redo_text.old) (D.image device.old) found.count o.undone) }
     ensures sum { IfOk result (λ o. o.changes + o.undone ≤ 65535) }
     ensures fault { IfErr result (FinishedFault (D.honest device.old) (D.honest device.old × T.honest redo_text.old)
         (T.text redo_text.old) (D.image device.old) found.count found.told) }

@@ -1,11 +1,11 @@
 //! Whether a text is a redo text: finished entries of the second form, no more than a journal holds beside its changes.
-ghost use Rattle.std.specs.Prelude.{◌≡◌, ◌↔◌, ◌⊎◌, ◌+◌, ◌<◌, ◌≤◌, List, ℕ, suc, length, take, Some, OnOk, IfOk, IfErr, IfSome, IfNone, MatchResult};
+ghost use Rattle.std.specs.Prelude.{◌≡◌, ◌⊎◌, ◌+◌, ◌<◌, ◌≤◌, List, ℕ, suc, length, take, Some, OnOk, IfOk, IfErr, IfSome, IfNone, MatchResult};
 ghost use Rattle.bx_entries.specs.inner.Journal.{HasRead};
 ghost use Rattle.bx_journal.specs.Judging.{RefusesRedo};
+ghost use Rattle.bx_journal.specs.inner.Devices.{LooksAt};
 ghost use Rattle.bx_journal.specs.inner.Judging.{AllTold, IsBeyondAt, IsFit, IsRedoCounted, IsUnfitAt, IsUnfitFrom, IsUntoldAt, JudgeFault, RedoTextFault, redo_fault};
 ghost use Rattle.bx_journal.specs.inner.Recovery.{HasUndoneCount};
 ghost use Rattle.bx_journal.specs.Redo.{IsRedoOf, IsRefusedAt};
-ghost use Rattle.bx_journal.specs.Opening.{FaultCounts};
 ghost use Rattle.bx_entries.specs.inner.Parsed.{entries_of};
 ghost use Rattle.bx_entries.specs.Text.{split};
 
@@ -166,6 +166,7 @@ fn count_found<A: Allocator + Clone>(
     ensures ok { (text : List ℕ) → IsRedoFound text changes found → IfOk result (λ c. IsRedoCounted text changes c.counted.count c.counted.told) }
     ensures lines { (text : List ℕ) → IsRedoFound text changes found → IfOk result (λ c. c.lines ≡ length (split text).lines) }
     ensures refused { (text : List ℕ) → IsRedoFound text changes found → IfErr result (RedoTextFault text changes) }
+    ensures kind { IfErr result (λ e. (text : List ℕ) × RedoTextFault text changes e) }
 {
     match found {
         RedoFound::Counted(counted) => Ok(counted),
@@ -184,10 +185,7 @@ pub fn check_redo_length<D: Device>(
     ensures same_length { D.honest device.old → OnOk result (IfSome told (λ n. length (D.image device.old) ≡ n)) }
     ensures fault { IfErr result (λ e. (e ≡ SessionFault.DeviceFailed) ⊎ ((e ≡ SessionFault.RedoDamaged lines)
         × (D.honest device.old → (n : ℕ) × (told ≡ Some n) × (length (D.image device.old) ≡ n → ⊥)))) }
-    ensures image { D.honest device.old → D.image device.new ≡ D.image device.old }
-    ensures honesty { D.honest device.new ↔ D.honest device.old }
-    ensures ok { OnOk result (D.failures device.new ≡ D.failures device.old) }
-    ensures counts { IfErr result (λ e. FaultCounts e (D.failures device.old) 0 (D.failures device.new) 0) }
+    ensures looks { LooksAt D.honest D.image D.failures result device.old device.new }
 {
     let Some(expected) = told else { return Ok(()) };
     let len = device.len()?;
@@ -214,10 +212,7 @@ pub fn judge_redo<D: Device, A: Allocator + Clone>(
         → MatchResult result (λ _. ⊥) (RefusesRedo line) }
     ensures kept { D.honest device.old → (text : List ℕ) → IsRedoFound text changes found → (undone : List (List ℕ)) → IsRedoOf text (D.image device.old) changes undone
         → IfErr result (λ e. (line : ℕ) → e ≡ SessionFault.RedoDamaged line → ⊥) }
-    ensures image { D.honest device.old → D.image device.new ≡ D.image device.old }
-    ensures honesty { D.honest device.new ↔ D.honest device.old }
-    ensures ok { OnOk result (D.failures device.new ≡ D.failures device.old) }
-    ensures counts { (text : List ℕ) → IsRedoFound text changes found → IfErr result (λ e. FaultCounts e (D.failures device.old) 0 (D.failures device.new) 0) }
+    ensures looks { LooksAt D.honest D.image D.failures result device.old device.new }
 {
     let counted = match count_found(alloc, found, changes) {
         Ok(counted) => counted,

@@ -1,5 +1,5 @@
 //! Taking back what is unfinished.
-ghost use Rattle.std.specs.Prelude.{◌≡◌, ◌↔◌, ◌+◌, ◌<◌, ◌≤◌, ◌∷◌, List, ℕ, length, take, OnOk, OnErr, map, is_err};
+ghost use Rattle.std.specs.Prelude.{◌≡◌, ◌↔◌, ◌<◌, ◌≤◌, List, ℕ, length, take, OnOk, OnErr, map, is_err};
 ghost use Rattle.bx_image.specs.Change.{AllWithin, restore};
 ghost use Rattle.bx_image.specs.Device.{GoesOn};
 ghost use Rattle.bx_entries.specs.Kept.{run_of, kept_of};
@@ -42,9 +42,11 @@ pub fn take_back<D: Device, T: TextStore, A: Allocator>(
     requires within { AllWithin kept.len (map run_of kept.runs) }
     requires image_room { kept.len ≤ D.room device.old }
     ensures ok { D.honest device.old → T.honest store.old → (stack : List (List ℕ)) (es : List Entry) (v : Form)
-        → HasTail (T.text store.old) (D.image device.old) stack es (Ending v (kept_of kept)) begins → OnOk result (IsAtRest (T.text store.new) (D.image device.new) stack) }
+        → HasTail (T.text store.old) (D.image device.old) stack es (Ending v (kept_of kept)) begins
+        → OnOk result (IsAtRest (T.text store.new) (D.image device.new) stack) }
     ensures fault { D.honest device.old → T.honest store.old → (stack : List (List ℕ)) (es : List Entry) (v : Form)
-        → HasTail (T.text store.old) (D.image device.old) stack es (Ending v (kept_of kept)) begins → OnErr result (Recovers (T.text store.new) (D.image device.new) stack) }
+        → HasTail (T.text store.old) (D.image device.old) stack es (Ending v (kept_of kept)) begins
+        → OnErr result (Recovers (T.text store.new) (D.image device.new) stack) }
     ensures image { D.honest device.old → OnOk result (D.image device.new ≡ restore (kept_of kept) (D.image device.old)) }
     ensures text { T.honest store.old → OnOk result (T.text store.new ≡ take begins (T.text store.old)) }
     ensures device_honesty { D.honest device.new ↔ D.honest device.old }

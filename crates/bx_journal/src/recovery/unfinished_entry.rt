@@ -4,14 +4,14 @@ ghost use Rattle.bx_journal.specs.Calls.{AfterFault, Differs, OpenFault};
 ghost use Rattle.bx_journal.specs.Images.{Images};
 ghost use Rattle.bx_entries.specs.inner.Journal.{HasRead};
 ghost use Rattle.bx_journal.specs.Judging.{RefusesRedo};
-ghost use Rattle.bx_journal.specs.Opening.{FaultCounts, OneMore, OneMoreOfThree, ThreeCounts, IsOpened, RefusesLength, RefusesText};
+ghost use Rattle.bx_journal.specs.Opening.{OneMore, ThreeCounts, IsOpened, RefusesLength, RefusesText};
+ghost use Rattle.bx_journal.specs.inner.Devices.{LooksAt, AreBelow, StepsOn};
 ghost use Rattle.bx_journal.specs.inner.Opening.{HasRoomFor, LookFault};
-ghost use Rattle.bx_entries.specs.inner.Parsed.{entries_of, reading_of, stage_of};
-ghost use Rattle.bx_journal.specs.Phase.{IsAtRest};
+ghost use Rattle.bx_entries.specs.inner.Parsed.{entries_of, stage_of};
 ghost use Rattle.bx_journal.specs.Recovery.{OpenKind};
-ghost use Rattle.bx_journal.specs.inner.Recovery.{HasUndoneCount, IsUnfinishedIn, KeepsUndone, RecoverFault};
+ghost use Rattle.bx_journal.specs.inner.Recovery.{HasLengths, HasUndoneCount, IsOpenedOf, IsUnfinishedIn, KeepsStack, KeepsUndone, RecoverFault};
 ghost use Rattle.bx_journal.specs.Redo.{Finds, IsClean, RefusesRedoAt};
-ghost use Rattle.bx_journal.specs.Stack.{HaveLengths, Recovers, image_at};
+ghost use Rattle.bx_journal.specs.Stack.{Recovers, image_at};
 ghost use Rattle.bx_entries.specs.Text.{IsAccepted, IsDamagedAt, Reading, Reads};
 ghost use Rattle.bx_journal.specs.Undoing.{HasLeft};
 
@@ -31,10 +31,7 @@ pub fn check_length<D: Device>(device: &mut D, told: Option<u64>) -> Result<(), 
     ensures same_length { D.honest device.old → OnOk result (IfSome told (λ n. length (D.image device.old) ≡ n)) }
     ensures fault { IfErr result (λ e. (e ≡ SessionFault.DeviceFailed)
         ⊎ ((n : ℕ) × (e ≡ SessionFault.LengthDiffers n) × (D.honest device.old → (told ≡ Some n) × (length (D.image device.old) ≡ n → ⊥)))) }
-    ensures image { D.honest device.old → D.image device.new ≡ D.image device.old }
-    ensures honesty { D.honest device.new ↔ D.honest device.old }
-    ensures ok { OnOk result (D.failures device.new ≡ D.failures device.old) }
-    ensures counts { IfErr result (λ e. FaultCounts e (D.failures device.old) 0 (D.failures device.new) 0) }
+    ensures looks { LooksAt D.honest D.image D.failures result device.old device.new }
 {
     let Some(expected) = told else { return Ok(()) };
     let len = device.len()?;
@@ -52,13 +49,11 @@ fn prepare<D: Device, A: Allocator>(
 ) -> Result<(), SessionFault>
     requires { D.failures device.old < u64.MAX }
     ensures lengths { D.honest device.old → (bytes : List ℕ) → HasRead bytes journal.now
-        → OnOk result (HaveLengths (entries_of journal.now.entries.items) (image_at (stage_of journal.now.stage) (D.image device.old))) }
-    ensures fault { IfErr result (LookFault (D.honest device.old) (entries_of journal.now.entries.items) (image_at (stage_of journal.now.stage) (D.image device.old))) }
+        → OnOk result (HasLengths journal.now (D.image device.old)) }
+    ensures fault { IfErr result (LookFault (D.honest device.old) (entries_of journal.now.entries.items)
+        (image_at (stage_of journal.now.stage) (D.image device.old))) }
     ensures room { OnOk result (HasRoomFor journal.now.stage (D.room device.new)) }
-    ensures image { D.honest device.old → D.image device.new ≡ D.image device.old }
-    ensures honesty { D.honest device.new ↔ D.honest device.old }
-    ensures ok { OnOk result (D.failures device.new ≡ D.failures device.old) }
-    ensures counts { IfErr result (λ e. FaultCounts e (D.failures device.old) 0 (D.failures device.new) 0) }
+    ensures looks { LooksAt D.honest D.image D.failures result device.old device.new }
 {
     let told = told_length(&journal.entries);
     match &journal.stage {
@@ -81,14 +76,12 @@ fn cut_unfinished<D: Device, T: TextStore, A: Allocator>(
     requires store_countable { T.failures store.old < u64.MAX }
     requires read { IsUnfinishedIn (T.honest store.old) (T.text store.old) journal }
     requires room { HasRoomFor journal.stage (D.room device.old) }
-    ensures opened { D.honest device.old → T.honest store.old → HaveLengths (entries_of journal.entries.items) (image_at (stage_of journal.stage) (D.image device.old))
-        → IfOk result (λ o. IsOpened (T.text store.old) (D.image device.old) (reading_of journal.entries.items journal.stage) (T.text store.new) (D.image device.new) o.how o.changes) }
+    ensures opened { D.honest device.old → T.honest store.old → HasLengths journal (D.image device.old)
+        → IfOk result (IsOpenedOf journal (T.text store.old) (D.image device.old) (T.text store.new) (D.image device.new)) }
     ensures left { T.honest store.old → OnOk result (HasLeft (T.text store.old) (T.text store.new) (entries_of journal.entries.items)) }
     ensures unclean { IfOk result (λ o. (o.how ≡ How.Clean → ⊥) × (o.undone ≡ 0)) }
-    ensures keeps { D.honest device.old → T.honest store.old → (stack : List (List ℕ)) → Recovers (T.text store.old) (D.image device.old) stack
-        → OnOk result (IsAtRest (T.text store.new) (D.image device.new) stack) }
-    ensures keeps_err { D.honest device.old → T.honest store.old → (stack : List (List ℕ)) → Recovers (T.text store.old) (D.image device.old) stack
-        → OnErr result (Recovers (T.text store.new) (D.image device.new) stack) }
+    ensures keeps { D.honest device.old → T.honest store.old
+        → KeepsStack result (T.text store.old) (D.image device.old) (T.text store.new) (D.image device.new) }
     ensures changes { IfOk result (λ o. o.changes ≡ length journal.entries.items) }
     ensures device_honesty { D.honest device.new ↔ D.honest device.old }
     ensures store_honesty { T.honest store.new ↔ T.honest store.old }
@@ -139,27 +132,19 @@ fn finish<D: Device, T: TextStore, A: Allocator>(
     redo_text: &mut T,
     journal: JournalRead<A>,
 ) -> Result<Recovered, DeviceFailed>
-    requires device_countable { D.failures device.old < u64.MAX }
-    requires store_countable { T.failures store.old < u64.MAX }
-    requires redo_countable { T.failures redo_text.old < u64.MAX }
+    requires countable { AreBelow u64.MAX (D.failures device.old) (T.failures store.old) (T.failures redo_text.old) }
     requires read { IsUnfinishedIn (T.honest store.old) (T.text store.old) journal }
     requires room { HasRoomFor journal.stage (D.room device.old) }
-    ensures opened { D.honest device.old → T.honest store.old → HaveLengths (entries_of journal.entries.items) (image_at (stage_of journal.stage) (D.image device.old))
-        → IfOk result (λ o. IsOpened (T.text store.old) (D.image device.old) (reading_of journal.entries.items journal.stage) (T.text store.new) (D.image device.new) o.how o.changes) }
+    ensures opened { D.honest device.old → T.honest store.old → HasLengths journal (D.image device.old)
+        → IfOk result (IsOpenedOf journal (T.text store.old) (D.image device.old) (T.text store.new) (D.image device.new)) }
     ensures left { T.honest store.old → OnOk result (HasLeft (T.text store.old) (T.text store.new) (entries_of journal.entries.items)) }
     ensures unclean { IfOk result (λ o. (o.how ≡ How.Clean → ⊥) × (o.undone ≡ 0)) }
-    ensures keeps { D.honest device.old → T.honest store.old → (stack : List (List ℕ)) → Recovers (T.text store.old) (D.image device.old) stack
-        → OnOk result (IsAtRest (T.text store.new) (D.image device.new) stack) }
-    ensures keeps_err { D.honest device.old → T.honest store.old → (stack : List (List ℕ)) → Recovers (T.text store.old) (D.image device.old) stack
-        → OnErr result (Recovers (T.text store.new) (D.image device.new) stack) }
+    ensures keeps { D.honest device.old → T.honest store.old
+        → KeepsStack result (T.text store.old) (D.image device.old) (T.text store.new) (D.image device.new) }
     ensures changes { IfOk result (λ o. o.changes ≡ length journal.entries.items) }
     ensures emptied { T.honest redo_text.old → OnOk result (T.text redo_text.new ≡ []) }
     ensures emptied_first { T.honest redo_text.old → OnErr result ((store.new ≡ store.old) ⊎ (T.text redo_text.new ≡ [])) }
-    ensures device_honesty { D.honest device.new ↔ D.honest device.old }
-    ensures store_honesty { T.honest store.new ↔ T.honest store.old }
-    ensures redo_honesty { T.honest redo_text.new ↔ T.honest redo_text.old }
-    ensures no_failure { OnOk result ((D.failures device.new ≡ D.failures device.old) × (T.failures store.new ≡ T.failures store.old) × (T.failures redo_text.new ≡ T.failures redo_text.old)) }
-    ensures failure { OnErr result (OneMoreOfThree (D.failures device.old) (T.failures store.old) (T.failures redo_text.old) (D.failures device.new) (T.failures store.new) (T.failures redo_text.new)) }
+    ensures steps_on { StepsOn D.honest T.honest D.failures T.failures result device.old store.old redo_text.old device.new store.new redo_text.new }
 {
     cut_redo(redo_text, 0)?;
     cut_unfinished(device, store, journal)
@@ -172,9 +157,7 @@ pub fn recover_read<D: Device, T: TextStore, A: Allocator>(
     redo_text: &mut T,
     journal: JournalRead<A>,
 ) -> Result<Recovered, SessionFault>
-    requires device_countable { D.failures device.old < u64.MAX }
-    requires store_countable { T.failures store.old < u64.MAX }
-    requires redo_countable { T.failures redo_text.old < u64.MAX }
+    requires countable { AreBelow u64.MAX (D.failures device.old) (T.failures store.old) (T.failures redo_text.old) }
     requires read { IsUnfinishedIn (T.honest store.old) (T.text store.old) journal }
     ensures opened { D.honest device.old → T.honest store.old → (r : Reading) → Reads (T.text store.old) r
         → IfOk result (λ o. IsOpened (T.text store.old) (D.image device.old) r (T.text store.new) (D.image device.new) o.how o.changes) }
@@ -183,12 +166,11 @@ pub fn recover_read<D: Device, T: TextStore, A: Allocator>(
     ensures sum { IfOk result (λ o. o.changes + o.undone ≤ 65535) }
     ensures faults { D.honest device.old → T.honest store.old → (r : Reading) → Reads (T.text store.old) r → IfErr result (OpenFault r (D.image device.old)) }
     ensures kind { IfErr result RecoverFault }
-    ensures differs { D.honest device.old → T.honest store.old → (r : Reading) (n : ℕ) → Reads (T.text store.old) r → Differs r.entries (image_at r.stage (D.image device.old)) n
+    ensures differs { D.honest device.old → T.honest store.old → (r : Reading) (n : ℕ) → Reads (T.text store.old) r
+        → Differs r.entries (image_at r.stage (D.image device.old)) n
         → MatchResult result (λ _. ⊥) (RefusesLength n) }
-    ensures keeps { D.honest device.old → T.honest store.old → (stack : List (List ℕ)) → Recovers (T.text store.old) (D.image device.old) stack
-        → OnOk result (IsAtRest (T.text store.new) (D.image device.new) stack) }
-    ensures keeps_err { D.honest device.old → T.honest store.old → (stack : List (List ℕ)) → Recovers (T.text store.old) (D.image device.old) stack
-        → OnErr result (Recovers (T.text store.new) (D.image device.new) stack) }
+    ensures keeps { D.honest device.old → T.honest store.old
+        → KeepsStack result (T.text store.old) (D.image device.old) (T.text store.new) (D.image device.new) }
     ensures counted { D.honest device.old → T.honest store.old → (stack : List (List ℕ)) → Recovers (T.text store.old) (D.image device.old) stack
         → IfOk result (λ o. length stack ≡ suc o.changes) }
     ensures refused { D.honest device.old → T.honest store.old → IfErr result (λ e. AfterFault e (Unit {0})
@@ -199,8 +181,10 @@ pub fn recover_read<D: Device, T: TextStore, A: Allocator>(
     ensures device_honesty { D.honest device.new ↔ D.honest device.old }
     ensures store_honesty { T.honest store.new ↔ T.honest store.old }
     ensures redo_honesty { T.honest redo_text.new ↔ T.honest redo_text.old }
-    ensures no_failure { OnOk result ((D.failures device.new ≡ D.failures device.old) × (T.failures store.new ≡ T.failures store.old) × (T.failures redo_text.new ≡ T.failures redo_text.old)) }
-    ensures counts { IfErr result (λ e. ThreeCounts e (D.failures device.old) (T.failures store.old) (T.failures redo_text.old) (D.failures device.new) (T.failures store.new) (T.failures redo_text.new)) }
+    ensures no_failure { OnOk result ((D.failures device.new ≡ D.failures device.old) × (T.failures store.new ≡ T.failures store.old)
+        × (T.failures redo_text.new ≡ T.failures redo_text.old)) }
+    ensures counts { IfErr result (λ e. ThreeCounts e (D.failures device.old) (T.failures store.old) (T.failures redo_text.old)
+        (D.failures device.new) (T.failures store.new) (T.failures redo_text.new)) }
 {
     if let Err(fault) = prepare(device, &journal) {
         return Err(fault);
@@ -218,25 +202,23 @@ pub fn recover<D: Device, T: TextStore, A: Allocator + Clone>(
     store: &mut T,
     redo_text: &mut T,
 ) -> Result<Recovered, SessionFault>
-    requires device_countable { D.failures device.old < u64.MAX }
-    requires store_countable { T.failures store.old < u64.MAX }
-    requires redo_countable { T.failures redo_text.old < u64.MAX }
+    requires countable { AreBelow u64.MAX (D.failures device.old) (T.failures store.old) (T.failures redo_text.old) }
     ensures opened { D.honest device.old → T.honest store.old → (r : Reading) → Reads (T.text store.old) r
         → IfOk result (λ o. IsOpened (T.text store.old) (D.image device.old) r (T.text store.new) (D.image device.new) o.how o.changes) }
     ensures left { T.honest store.old → (r : Reading) → Reads (T.text store.old) r → OnOk result (HasLeft (T.text store.old) (T.text store.new) r.entries) }
-    ensures clean { D.honest device.old → T.honest store.old → IfOk result (λ o. o.how ≡ How.Clean → (T.text store.new ≡ T.text store.old) × (D.image device.new ≡ D.image device.old)) }
+    ensures clean { D.honest device.old → T.honest store.old → IfOk result (λ o. o.how ≡ How.Clean
+        → (T.text store.new ≡ T.text store.old) × (D.image device.new ≡ D.image device.old)) }
     ensures accepted { T.honest store.old → OnOk result (IsAccepted (T.text store.old)) }
     ensures damaged { T.honest store.old → IfErr result (λ e. (line : ℕ) → e ≡ SessionFault.Damaged line → IsDamagedAt (T.text store.old) line) }
     ensures unaccepted { T.honest store.old → (IsAccepted (T.text store.old) → ⊥) → MatchResult result (λ _. ⊥) RefusesText }
     ensures faults { D.honest device.old → T.honest store.old → (r : Reading) → Reads (T.text store.old) r → IfErr result (OpenFault r (D.image device.old)) }
     ensures kind { IfErr result OpenKind }
     ensures unfinished { T.honest store.old → IfErr result (λ e. e ≡ SessionFault.Interrupted → IsClean (T.text store.old) → ⊥) }
-    ensures differs { D.honest device.old → T.honest store.old → (r : Reading) (n : ℕ) → Reads (T.text store.old) r → Differs r.entries (image_at r.stage (D.image device.old)) n
+    ensures differs { D.honest device.old → T.honest store.old → (r : Reading) (n : ℕ) → Reads (T.text store.old) r
+        → Differs r.entries (image_at r.stage (D.image device.old)) n
         → MatchResult result (λ _. ⊥) (RefusesLength n) }
-    ensures keeps { D.honest device.old → T.honest store.old → (stack : List (List ℕ)) → Recovers (T.text store.old) (D.image device.old) stack
-        → OnOk result (IsAtRest (T.text store.new) (D.image device.new) stack) }
-    ensures keeps_err { D.honest device.old → T.honest store.old → (stack : List (List ℕ)) → Recovers (T.text store.old) (D.image device.old) stack
-        → OnErr result (Recovers (T.text store.new) (D.image device.new) stack) }
+    ensures keeps { D.honest device.old → T.honest store.old
+        → KeepsStack result (T.text store.old) (D.image device.old) (T.text store.new) (D.image device.new) }
     ensures counted { D.honest device.old → T.honest store.old → (stack : List (List ℕ)) → Recovers (T.text store.old) (D.image device.old) stack
         → IfOk result (λ o. length stack ≡ suc o.changes) }
     ensures refused { D.honest device.old → T.honest store.old → IfErr result (λ e. AfterFault e (Unit {0})
@@ -251,18 +233,23 @@ pub fn recover<D: Device, T: TextStore, A: Allocator + Clone>(
         → RefusesRedoAt (T.text store.old) (D.image device.old) (T.text redo_text.old) line) }
     ensures redo_unfit { D.honest device.old → T.honest store.old → T.honest redo_text.old → (line : ℕ)
         → RefusesRedoAt (T.text store.old) (D.image device.old) (T.text redo_text.old) line → MatchResult result (λ _. ⊥) (RefusesRedo line) }
-    ensures keeps_undone { D.honest device.old → T.honest store.old → T.honest redo_text.old → (s : Images) → Finds (T.text store.old) (D.image device.old) (T.text redo_text.old) s
+    ensures keeps_undone { D.honest device.old → T.honest store.old → T.honest redo_text.old → (s : Images)
+        → Finds (T.text store.old) (D.image device.old) (T.text redo_text.old) s
         → IfOk result (λ o. KeepsUndone (T.text redo_text.new) (D.image device.new) o s.undone) }
-    ensures finds_err { D.honest device.old → T.honest store.old → T.honest redo_text.old → (s : Images) → Finds (T.text store.old) (D.image device.old) (T.text redo_text.old) s
+    ensures finds_err { D.honest device.old → T.honest store.old → T.honest redo_text.old → (s : Images)
+        → Finds (T.text store.old) (D.image device.old) (T.text redo_text.old) s
         → IfErr result (λ e. AfterFault e (Finds (T.text store.new) (D.image device.new) (T.text redo_text.new) (record { stack = s.stack; undone = [] }))
         (Finds (T.text store.new) (D.image device.new) (T.text redo_text.new) s)) }
-    ensures redo_kept { D.honest device.old → T.honest store.old → T.honest redo_text.old → (s : Images) → Finds (T.text store.old) (D.image device.old) (T.text redo_text.old) s
+    ensures redo_kept { D.honest device.old → T.honest store.old → T.honest redo_text.old → (s : Images)
+        → Finds (T.text store.old) (D.image device.old) (T.text redo_text.old) s
         → IfErr result (λ e. (line : ℕ) → e ≡ SessionFault.RedoDamaged line → ⊥) }
     ensures device_honesty { D.honest device.new ↔ D.honest device.old }
     ensures store_honesty { T.honest store.new ↔ T.honest store.old }
     ensures redo_honesty { T.honest redo_text.new ↔ T.honest redo_text.old }
-    ensures no_failure { OnOk result ((D.failures device.new ≡ D.failures device.old) × (T.failures store.new ≡ T.failures store.old) × (T.failures redo_text.new ≡ T.failures redo_text.old)) }
-    ensures counts { IfErr result (λ e. ThreeCounts e (D.failures device.old) (T.failures store.old) (T.failures redo_text.old) (D.failures device.new) (T.failures store.new) (T.failures redo_text.new)) }
+    ensures no_failure { OnOk result ((D.failures device.new ≡ D.failures device.old) × (T.failures store.new ≡ T.failures store.old)
+        × (T.failures redo_text.new ≡ T.failures redo_text.old)) }
+    ensures counts { IfErr result (λ e. ThreeCounts e (D.failures device.old) (T.failures store.old) (T.failures redo_text.old)
+        (D.failures device.new) (T.failures store.new) (T.failures redo_text.new)) }
 {
     let found = match read_text(alloc, store) {
         Ok(found) => found,

@@ -1,5 +1,5 @@
 //! The journal of an open session, read once more.
-ghost use Rattle.std.specs.Prelude.{◌≡◌, ◌↔◌, ◌+◌, ◌<◌, ◌≤◌, List, ℕ, length, IfOk, IfErr, IfSome, IfNone, OnOk};
+ghost use Rattle.std.specs.Prelude.{◌≡◌, ◌↔◌, ◌+◌, ◌<◌, List, ℕ, length, IfOk, IfErr, IfSome, IfNone, OnOk};
 ghost use Rattle.bx_entries.specs.inner.Journal.{HasRead};
 ghost use Rattle.bx_journal.specs.Opening.{FaultCounts};
 ghost use Rattle.bx_journal.specs.Undoing.{AgainFault, HasCount};

@@ -1,11 +1,11 @@
 //! The rows of a log.
-ghost use Rattle.std.specs.Prelude.{◌≡◌, ◌↔◌, ◌+◌, ◌<◌, ◌≤◌, ◌^◌, List, ℕ, length, map, sum, All, true, IfOk, IfErr, OnOk, IsErrOf};
+ghost use Rattle.std.specs.Prelude.{◌≡◌, ◌↔◌, ◌+◌, ◌<◌, ◌≤◌, ◌^◌, List, ℕ, length, All, true, IfOk, IfErr, OnOk, IsErrOf};
 ghost use Rattle.bx_journal.specs.Calls.{rows_of};
 ghost use Rattle.bx_entries.specs.inner.Parsed.{entries_of};
 ghost use Rattle.bx_entries.specs.Kept.{kept_of};
 ghost use Rattle.bx_journal.specs.inner.Rows.{saved_length};
 ghost use Rattle.bx_entries.specs.Text.{Entry};
-ghost use Rattle.bx_journal.specs.Undoing.{AgainFault, HasCount, IsOutOfStep};
+ghost use Rattle.bx_journal.specs.Undoing.{AgainFault, HasCount};
 ghost use Rattle.bx_entries.specs.Finished.{IsFinished};
 
 use crate::session::entries::read_again;
@@ -58,7 +58,8 @@ impl<D: Device, T: TextStore, A: Allocator + Clone> Session<D, T, A> {
     /// One row for each change, the oldest first. It reads the journal's text again, and changes nothing.
     pub fn log(&mut self) -> Result<Vec<LogRow, A>, SessionFault>
         requires { T.failures self.old.store < u64.MAX }
-        ensures rows { T.honest self.old.store → (entries : List Entry) → IsFinished (T.text self.old.store) entries → IfOk result (λ rows. rows.items ≡ rows_of entries) }
+        ensures rows { T.honest self.old.store → (entries : List Entry) → IsFinished (T.text self.old.store) entries
+            → IfOk result (λ rows. rows.items ≡ rows_of entries) }
 
         // Nothing is changed. A broken session isn't even read.
         ensures text { T.honest self.old.store → T.text self.new.store ≡ T.text self.old.store }
@@ -72,7 +73,8 @@ impl<D: Device, T: TextStore, A: Allocator + Clone> Session<D, T, A> {
         ensures fault { IfErr result (λ e. (e ≡ SessionFault.Broken → ⊥) → AgainFault (T.honest self.old.store) (T.text self.old.store) self.old.count e) }
 
         // The text is called damaged exactly where it isn't so many finished entries alone.
-        ensures undamaged { T.honest self.old.store → HasCount (T.text self.old.store) self.old.count → IfErr result (λ e. (line : ℕ) → e ≡ SessionFault.Damaged line → ⊥) }
+        ensures undamaged { T.honest self.old.store → HasCount (T.text self.old.store) self.old.count
+            → IfErr result (λ e. (line : ℕ) → e ≡ SessionFault.Damaged line → ⊥) }
         ensures whole { T.honest self.old.store → OnOk result (HasCount (T.text self.old.store) self.old.count) }
         ensures store_honesty { T.honest self.new.store ↔ T.honest self.old.store }
         ensures no_failure { OnOk result (T.failures self.new.store ≡ T.failures self.old.store) }

@@ -1,5 +1,5 @@
 //! Opening an image with its journal and its redo text.
-ghost use Rattle.std.specs.Prelude.{◌≡◌, ◌↔◌, ◌+◌, ◌<◌, [], List, ℕ, length, suc, false, IfOk, IfErr, OnOk, MatchResult};
+ghost use Rattle.std.specs.Prelude.{◌≡◌, ◌↔◌, ◌+◌, ◌<◌, [], List, ℕ, length, false, IfOk, IfErr, OnOk, MatchResult};
 ghost use Rattle.bx_entries.specs.Text.{IsAccepted, IsDamagedAt, Reading, Reads};
 ghost use Rattle.bx_journal.specs.Stack.{Recovers, image_at, recovered};
 
@@ -45,7 +45,8 @@ impl<D: Device, T: TextStore, A: Allocator + Clone> Session<D, T, A> {
             → IfOk result (λ o. IsStanding D.image T.text o.0 (recovered r (D.image device))) }
         ensures left { T.honest store → (r : Reading) → Reads (T.text store) r → IfOk result (λ o. HasLeft (T.text store) (T.text o.0.store) r.entries) }
         ensures fresh { IfOk result (λ o. (o.0.count ≡ o.1.changes) × (o.0.undone ≡ o.1.undone) × (o.0.is_broken ≡ false)) }
-        ensures clean { D.honest device → T.honest store → IfOk result (λ o. o.1.how ≡ How.Clean → (T.text o.0.store ≡ T.text store) × (D.image o.0.device ≡ D.image device)) }
+        ensures clean { D.honest device → T.honest store → IfOk result (λ o. o.1.how ≡ How.Clean
+            → (T.text o.0.store ≡ T.text store) × (D.image o.0.device ≡ D.image device)) }
 
         // A text that isn't accepted is never opened, and one that is accepted is never called damaged.
         ensures accepted { T.honest store → OnOk result (IsAccepted (T.text store)) }
@@ -54,7 +55,8 @@ impl<D: Device, T: TextStore, A: Allocator + Clone> Session<D, T, A> {
 
         // A length differs exactly where the newest finished entry tells another one than that of the image below which it stands.
         ensures faults { D.honest device → T.honest store → (r : Reading) → Reads (T.text store) r → IfErr result (λ e. OpenFault r (D.image device) e.3) }
-        ensures differs { D.honest device → T.honest store → (r : Reading) (n : ℕ) → Reads (T.text store) r → Differs r.entries (image_at r.stage (D.image device)) n
+        ensures differs { D.honest device → T.honest store → (r : Reading) (n : ℕ) → Reads (T.text store) r
+            → Differs r.entries (image_at r.stage (D.image device)) n
             → MatchResult result (λ _. ⊥) (λ e. RefusesLength n e.3) }
 
         // An interruption comes only where something was unfinished, and no fault of another call comes at all.
@@ -95,7 +97,8 @@ impl<D: Device, T: TextStore, A: Allocator + Clone> Session<D, T, A> {
             → Finds (T.text store) (D.image device) (T.text redo_text) s
             → IfErr result (λ e. (line : ℕ) → e.3 ≡ SessionFault.RedoDamaged line → ⊥) }
         ensures redo_same { T.honest redo_text → IfErr result (λ e. AfterFault e.3 (Unit {0}) (T.text e.2 ≡ T.text redo_text)) }
-        ensures honesty { IfOk result (λ o. (D.honest o.0.device ↔ D.honest device) × (T.honest o.0.store ↔ T.honest store) × (T.honest o.0.redo_text ↔ T.honest redo_text)) }
+        ensures honesty { IfOk result (λ o. (D.honest o.0.device ↔ D.honest device)
+            × (T.honest o.0.store ↔ T.honest store) × (T.honest o.0.redo_text ↔ T.honest redo_text)) }
         ensures honesty_err { IfErr result (λ e. (D.honest e.0 ↔ D.honest device) × (T.honest e.1 ↔ T.honest store) × (T.honest e.2 ↔ T.honest redo_text)) }
         ensures no_failure { IfOk result (λ o. (D.failures o.0.device ≡ D.failures device) × (T.failures o.0.store ≡ T.failures store)
             × (T.failures o.0.redo_text ≡ T.failures redo_text)) }

@@ -1,5 +1,5 @@
 //! What a change takes before its first write.
-ghost use Rattle.std.specs.Prelude.{◌≡◌, ◌↔◌, ◌+◌, ◌<◌, ◌≤◌, [], List, ℕ, length, vec_capacity, IfOk, IfErr, OnOk, IsErrOf};
+ghost use Rattle.std.specs.Prelude.{◌≡◌, ◌↔◌, ◌+◌, ◌<◌, ◌≤◌, [], length, vec_capacity, IfOk, IfErr, OnOk, IsErrOf};
 ghost use Rattle.bx_image.specs.Change.{effect, saved, AllWithin, Fits, IsOf};
 ghost use Rattle.bx_entries.specs.Kept.{kept_of};
 ghost use Rattle.bx_entries.specs.Entry.{head_text, end_text};
@@ -40,7 +40,8 @@ pub fn prepare_change<D: Device, T: TextStore, A: Allocator + Clone>(
     ensures empty { IfOk result (λ p. p.page.items ≡ []) }
     ensures page_room { IfOk result (λ p. 82 ≤ vec_capacity p.page) }
     ensures image_room { OnOk result (length (effect change.now []) ≤ D.room device.new) }
-    ensures text_room { T.honest store.old → IfOk result (λ p. length (T.text store.new) + length (head_text number (kept_of p.kept)) + length p.end ≤ T.room store.new) }
+    ensures text_room { T.honest store.old → IfOk result (λ p.
+        length (T.text store.new) + length (head_text number (kept_of p.kept)) + length p.end ≤ T.room store.new) }
     ensures large { D.honest device.old → IsErrOf result SessionFault.TooLarge → Fits change.now (length (D.image device.old)) MAX_LEN → ⊥ }
     ensures fitting { D.honest device.old → IsErrOf result SessionFault.NoMemory → Fits change.now (length (D.image device.old)) MAX_LEN }
     ensures kind { IfErr result PrepareFault }

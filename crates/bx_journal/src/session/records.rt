@@ -168,8 +168,10 @@ pub fn prepare_takens<D: Device, T: TextStore, A: Allocator + Clone>(
     ensures device_honesty { D.honest device.new ↔ D.honest device.old }
     ensures from_honesty { T.honest from.new ↔ T.honest from.old }
     ensures to_honesty { T.honest to.new ↔ T.honest to.old }
-    ensures no_failure { OnOk result ((D.failures device.new ≡ D.failures device.old) × (T.failures from.new ≡ T.failures from.old) × (T.failures to.new ≡ T.failures to.old)) }
-    ensures counts { IfErr result (λ e. ThreeCounts e (D.failures device.old) (T.failures from.old) (T.failures to.old) (D.failures device.new) (T.failures from.new) (T.failures to.new)) }
+    ensures no_failure { OnOk result ((D.failures device.new ≡ D.failures device.old)
+        × (T.failures from.new ≡ T.failures from.old) × (T.failures to.new ≡ T.failures to.old)) }
+    ensures counts { IfErr result (λ e. ThreeCounts e (D.failures device.old) (T.failures from.old) (T.failures to.old)
+        (D.failures device.new) (T.failures from.new) (T.failures to.new)) }
 {
     let len = device.len()?;
     let to_len = to.len()?;

@@ -73,7 +73,7 @@ fn undone_left(undone: u32, made: u32) -> u32
 }
 
 impl<D: Device, T: TextStore, A: Allocator + Clone> Session<D, T, A> {
-    ghost use Rattle.bx_journal.specs.Session.{HasUndone, IsReady, IsRedoSame, IsSame, IsUnfailed, IsUnmoved, SessionCounts, SessionFinds};
+    ghost use Rattle.bx_journal.specs.Session.{Breaks, HasSameDevices, HasUndone, IsReady, IsRedoSame, IsSame, IsUnfailed, IsUnmoved, SessionCounts, SessionFinds};
     ghost use Rattle.bx_journal.specs.Standing.{IsStanding};
     ghost use Rattle.bx_journal.specs.Calls.{AfterFault};
     ghost use Rattle.bx_journal.specs.Undoing.{IsOutOfStep, RedoFault};
@@ -97,7 +97,8 @@ impl<D: Device, T: TextStore, A: Allocator + Clone> Session<D, T, A> {
         ensures sound { D.honest self.old.device → T.honest self.old.store → T.honest self.old.redo_text → (s : Pictures)
             → IsReady D.image T.text self.old s.stack → HasUndone D.image T.text self.old s.undone
             → OnOk result (IsReady D.image T.text self.new (redo_of j s).stack × HasUndone D.image T.text self.new (redo_of j s).undone) }
-        ensures number { IfOk result (λ n. (n ≡ self.old.count + j) × (self.new.count ≡ n) × (self.new.undone + j ≡ self.old.undone) × (self.new.is_broken ≡ false)) }
+        ensures number { IfOk result (λ n. (n ≡ self.old.count + j) × (self.new.count ≡ n)
+            × (self.new.undone + j ≡ self.old.undone) × (self.new.is_broken ≡ false)) }
 
         // The redo text is then that of the other entries, and the journal goes on with new ones.
         ensures text { T.honest self.old.redo_text → (entries : List Entry) → IsFinished (T.text self.old.redo_text) entries
@@ -108,20 +109,23 @@ impl<D: Device, T: TextStore, A: Allocator + Clone> Session<D, T, A> {
         ensures finds { D.honest self.old.device → T.honest self.old.store → T.honest self.old.redo_text → (s : Pictures)
             → IsReady D.image T.text self.old s.stack → HasUndone D.image T.text self.old s.undone
             → IfErr result (λ e. AfterFault e ((i : ℕ) × (i ≤ j) × SessionFinds D.image T.text self.new (redo_of i s)) (Unit {0})) }
-        ensures refused { D.honest self.old.device → T.honest self.old.store → IfErr result (λ e. AfterFault e (Unit {0}) (IsSame D.image T.text self.old self.new)) }
+        ensures refused { D.honest self.old.device → T.honest self.old.store
+            → IfErr result (λ e. AfterFault e (Unit {0}) (IsSame D.image T.text self.old self.new)) }
         ensures redo_same { T.honest self.old.redo_text → IfErr result (λ e. AfterFault e (Unit {0}) (IsRedoSame T.text self.old self.new)) }
         ensures unmoved { IfErr result (λ e. AfterFault e (Unit {0}) (IsUnmoved self.old self.new)) }
-        ensures breaks { IsErrOf result SessionFault.Interrupted → (self.new.is_broken ≡ true) × (self.new.count ≡ self.old.count) × (self.new.undone ≡ self.old.undone) }
+        ensures breaks { IsErrOf result SessionFault.Interrupted → Breaks self.old self.new }
 
         ensures kind { IfErr result (RedoFault self.old.undone) }
         ensures broken { (self.old.is_broken ≡ true) ↔ IsErrOf result SessionFault.Broken }
-        ensures untouched { IsErrOf result SessionFault.Broken → (self.new.device ≡ self.old.device) × (self.new.store ≡ self.old.store) × (self.new.redo_text ≡ self.old.redo_text) }
+        ensures untouched { IsErrOf result SessionFault.Broken → HasSameDevices self.old self.new }
         ensures same { IsErrOf result SessionFault.Broken → self.new ≡ self.old }
         ensures nothing { ((self.old.is_broken ≡ false) × (self.old.undone < j)) ↔ IsErrOf result (SessionFault.NothingToRedo self.old.undone) }
 
         // The redo text is called damaged exactly where it isn't so many finished entries alone.
-        ensures damaged { T.honest self.old.redo_text → IfErr result (λ e. (line : ℕ) → e ≡ SessionFault.RedoDamaged line → IsOutOfStep (T.text self.old.redo_text) self.old.undone line) }
-        ensures undamaged { T.honest self.old.redo_text → HasCount (T.text self.old.redo_text) self.old.undone → IfErr result (λ e. (line : ℕ) → e ≡ SessionFault.RedoDamaged line → ⊥) }
+        ensures damaged { T.honest self.old.redo_text → IfErr result (λ e. (line : ℕ) → e ≡ SessionFault.RedoDamaged line
+            → IsOutOfStep (T.text self.old.redo_text) self.old.undone line) }
+        ensures undamaged { T.honest self.old.redo_text → HasCount (T.text self.old.redo_text) self.old.undone
+            → IfErr result (λ e. (line : ℕ) → e ≡ SessionFault.RedoDamaged line → ⊥) }
         ensures whole { T.honest self.old.redo_text → OnOk result (HasCount (T.text self.old.redo_text) self.old.undone) }
 
         ensures device_honesty { D.honest self.new.device ↔ D.honest self.old.device }

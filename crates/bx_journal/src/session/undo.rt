@@ -3,7 +3,7 @@ ghost use Rattle.std.specs.Prelude.{◌≡◌, ◌↔◌, ◌+◌, ◌<◌, ◌�
 ghost use Rattle.bx_journal.specs.Images.{Images as Pictures, undo_of, undone_by};
 ghost use Rattle.bx_journal.specs.Machine.{UndoStep};
 ghost use Rattle.bx_entries.specs.Text.{Entry};
-ghost use Rattle.bx_journal.specs.Undoing.{AgainFault, HasCount, HasLeft};
+ghost use Rattle.bx_journal.specs.Undoing.{HasCount, HasLeft};
 ghost use Rattle.bx_entries.specs.Finished.{IsFinished};
 
 use crate::protocol::undo_entry::undo_entries;
@@ -24,7 +24,7 @@ fn count_left(count: u32, undone: u32) -> u32
 }
 
 impl<D: Device, T: TextStore, A: Allocator + Clone> Session<D, T, A> {
-    ghost use Rattle.bx_journal.specs.Session.{HasUndone, IsReady, IsRedoSame, IsSame, IsUnfailed, IsUnmoved, SessionCounts, SessionFinds};
+    ghost use Rattle.bx_journal.specs.Session.{Breaks, HasSameDevices, HasUndone, IsReady, IsRedoSame, IsSame, IsUnfailed, IsUnmoved, SessionCounts, SessionFinds};
     ghost use Rattle.bx_journal.specs.Standing.{IsStanding};
     ghost use Rattle.bx_journal.specs.Calls.{AfterFault, RecoversBelow};
     ghost use Rattle.bx_journal.specs.Undoing.{IsOutOfStep, UndoFault};
@@ -62,23 +62,26 @@ impl<D: Device, T: TextStore, A: Allocator + Clone> Session<D, T, A> {
             → IfErr result (λ e. AfterFault e
             (RecoversBelow (T.text self.new.store) (D.image self.new.device) stack k)
             (IsSame D.image T.text self.old self.new)) }
-        ensures refused { D.honest self.old.device → T.honest self.old.store → IfErr result (λ e. AfterFault e (Unit {0}) (IsSame D.image T.text self.old self.new)) }
+        ensures refused { D.honest self.old.device → T.honest self.old.store
+            → IfErr result (λ e. AfterFault e (Unit {0}) (IsSame D.image T.text self.old self.new)) }
         ensures finds { D.honest self.old.device → T.honest self.old.store → T.honest self.old.redo_text → (s : Pictures)
             → IsReady D.image T.text self.old s.stack → HasUndone D.image T.text self.old s.undone
             → IfErr result (λ e. AfterFault e ((i : ℕ) × (i ≤ k) × SessionFinds D.image T.text self.new (undo_of i s)) (Unit {0})) }
         ensures redo_same { T.honest self.old.redo_text → IfErr result (λ e. AfterFault e (Unit {0}) (IsRedoSame T.text self.old self.new)) }
         ensures unmoved { IfErr result (λ e. AfterFault e (Unit {0}) (IsUnmoved self.old self.new)) }
-        ensures breaks { IsErrOf result SessionFault.Interrupted → (self.new.is_broken ≡ true) × (self.new.count ≡ self.old.count) × (self.new.undone ≡ self.old.undone) }
+        ensures breaks { IsErrOf result SessionFault.Interrupted → Breaks self.old self.new }
 
         ensures kind { IfErr result (UndoFault self.old.count) }
         ensures broken { (self.old.is_broken ≡ true) ↔ IsErrOf result SessionFault.Broken }
-        ensures untouched { IsErrOf result SessionFault.Broken → (self.new.device ≡ self.old.device) × (self.new.store ≡ self.old.store) × (self.new.redo_text ≡ self.old.redo_text) }
+        ensures untouched { IsErrOf result SessionFault.Broken → HasSameDevices self.old self.new }
         ensures same { IsErrOf result SessionFault.Broken → self.new ≡ self.old }
         ensures few { ((self.old.is_broken ≡ false) × (self.old.count < k)) ↔ IsErrOf result (SessionFault.TooFew self.old.count) }
 
         // The text is called damaged exactly where it isn't so many finished entries alone.
-        ensures damaged { T.honest self.old.store → IfErr result (λ e. (line : ℕ) → e ≡ SessionFault.Damaged line → IsOutOfStep (T.text self.old.store) self.old.count line) }
-        ensures undamaged { T.honest self.old.store → HasCount (T.text self.old.store) self.old.count → IfErr result (λ e. (line : ℕ) → e ≡ SessionFault.Damaged line → ⊥) }
+        ensures damaged { T.honest self.old.store → IfErr result (λ e. (line : ℕ) → e ≡ SessionFault.Damaged line
+            → IsOutOfStep (T.text self.old.store) self.old.count line) }
+        ensures undamaged { T.honest self.old.store → HasCount (T.text self.old.store) self.old.count
+            → IfErr result (λ e. (line : ℕ) → e ≡ SessionFault.Damaged line → ⊥) }
         ensures whole { T.honest self.old.store → OnOk result (HasCount (T.text self.old.store) self.old.count) }
 
         ensures device_honesty { D.honest self.new.device ↔ D.honest self.old.device }

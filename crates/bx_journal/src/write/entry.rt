@@ -1,14 +1,12 @@
 //! The text of an entry, put to a store page by page.
-ghost use Rattle.std.specs.Prelude.{◌≡◌, ◌+◌, ◌*◌, ◌<◌, ◌≤◌, ◌^◌, ◌++◌, [], flat_map, length, map, vec_capacity, OnOk, OnErr, is_err};
+ghost use Rattle.std.specs.Prelude.{◌≡◌, ◌+◌, ◌*◌, ◌<◌, ◌≤◌, ◌^◌, ◌++◌, [], length, vec_capacity, OnOk, OnErr, is_err};
 ghost use Rattle.bx_image.specs.Change.{AllWithin};
 ghost use Rattle.bx_image.specs.Device.{GoesOn};
 ghost use Rattle.bx_image.specs.Image.{end_of};
 ghost use Rattle.bx_store.specs.Store.{IsPartlyAppended};
-ghost use Rattle.bx_entries.specs.Kept.{run_of, kept_of};
-ghost use Rattle.bx_entries.specs.DumpLine.{dump_line};
-ghost use Rattle.bx_entries.specs.Entry.{rows, head_text};
-ghost use Rattle.bx_entries.specs.inner.Entry.{rows_text};
-ghost use Rattle.bx_journal.specs.inner.Page.{IsPaged};
+ghost use Rattle.bx_entries.specs.Kept.{kept_of};
+ghost use Rattle.bx_entries.specs.Entry.{head_text};
+ghost use Rattle.bx_journal.specs.inner.Page.{IsPaged, row_text, run_text, runs_text};
 ghost use Rattle.bx_entries.specs.Text.{ended};
 
 use crate::write::page::{append_page, make_room, put_bytes};
@@ -70,10 +68,10 @@ fn put_runs<T: TextStore, A: Allocator>(
 ) -> Result<(), DeviceFailed>
     requires countable { T.failures store.old < u64.MAX }
     requires within { AllWithin kept.now.len kept.now.runs }
-    requires fits { T.honest store.old → length (T.text store.old) + length page.old.items + length (rows_text (flat_map rows (map run_of kept.now.runs))) ≤ T.room store.old }
+    requires fits { T.honest store.old → length (T.text store.old) + length page.old.items + length (runs_text kept.now.runs) ≤ T.room store.old }
     requires room { 82 ≤ vec_capacity page.old }
-    ensures ok { T.honest store.old → OnOk result (IsPaged (page.old.items ++ rows_text (flat_map rows (map run_of kept.now.runs))) (T.text store.old) (T.text store.new) page.new.items) }
-    ensures fault { T.honest store.old → OnErr result (IsPartlyAppended (page.old.items ++ rows_text (flat_map rows (map run_of kept.now.runs))) (T.text store.old) (T.text store.new)) }
+    ensures ok { T.honest store.old → OnOk result (IsPaged (page.old.items ++ runs_text kept.now.runs) (T.text store.old) (T.text store.new) page.new.items) }
+    ensures fault { T.honest store.old → OnErr result (IsPartlyAppended (page.old.items ++ runs_text kept.now.runs) (T.text store.old) (T.text store.new)) }
     ensures room { vec_capacity page.old ≤ vec_capacity page.new }
     ensures goes_on { GoesOn T.honest T.room T.failures (is_err result) store.old store.new }
 {
@@ -93,10 +91,10 @@ fn put_run<T: TextStore, A: Allocator>(
 ) -> Result<(), DeviceFailed>
     requires countable { T.failures store.old < u64.MAX }
     requires within { end_of run.now.at run.now.bytes < 2 ^ 64 }
-    requires fits { T.honest store.old → length (T.text store.old) + length page.old.items + length (rows_text (rows (run_of run.now))) ≤ T.room store.old }
+    requires fits { T.honest store.old → length (T.text store.old) + length page.old.items + length (run_text run.now) ≤ T.room store.old }
     requires room { 82 ≤ vec_capacity page.old }
-    ensures ok { T.honest store.old → OnOk result (IsPaged (page.old.items ++ rows_text (rows (run_of run.now))) (T.text store.old) (T.text store.new) page.new.items) }
-    ensures fault { T.honest store.old → OnErr result (IsPartlyAppended (page.old.items ++ rows_text (rows (run_of run.now))) (T.text store.old) (T.text store.new)) }
+    ensures ok { T.honest store.old → OnOk result (IsPaged (page.old.items ++ run_text run.now) (T.text store.old) (T.text store.new) page.new.items) }
+    ensures fault { T.honest store.old → OnErr result (IsPartlyAppended (page.old.items ++ run_text run.now) (T.text store.old) (T.text store.new)) }
     ensures room { vec_capacity page.old ≤ vec_capacity page.new }
     ensures goes_on { GoesOn T.honest T.room T.failures (is_err result) store.old store.new }
 {
@@ -125,8 +123,8 @@ fn put_row<T: TextStore, A: Allocator>(
     requires few { length bytes.now ≤ 16 }
     requires fits { T.honest store.old → length (T.text store.old) + length page.old.items ≤ T.room store.old }
     requires room { 82 ≤ vec_capacity page.old }
-    ensures ok { T.honest store.old → OnOk result (IsPaged (page.old.items ++ ended (dump_line at bytes.now)) (T.text store.old) (T.text store.new) page.new.items) }
-    ensures fault { T.honest store.old → OnErr result (IsPartlyAppended (page.old.items ++ ended (dump_line at bytes.now)) (T.text store.old) (T.text store.new)) }
+    ensures ok { T.honest store.old → OnOk result (IsPaged (page.old.items ++ row_text at bytes.now) (T.text store.old) (T.text store.new) page.new.items) }
+    ensures fault { T.honest store.old → OnErr result (IsPartlyAppended (page.old.items ++ row_text at bytes.now) (T.text store.old) (T.text store.new)) }
     ensures room { vec_capacity page.old ≤ vec_capacity page.new }
     ensures goes_on { GoesOn T.honest T.room T.failures (is_err result) store.old store.new }
 {
@@ -149,8 +147,8 @@ fn put_full_row<T: TextStore, A: Allocator>(
     requires countable { T.failures store.old < u64.MAX }
     requires fits { T.honest store.old → length (T.text store.old) + length page.old.items ≤ T.room store.old }
     requires room { 82 ≤ vec_capacity page.old }
-    ensures ok { T.honest store.old → OnOk result (IsPaged (page.old.items ++ ended (dump_line at bytes.now)) (T.text store.old) (T.text store.new) page.new.items) }
-    ensures fault { T.honest store.old → OnErr result (IsPartlyAppended (page.old.items ++ ended (dump_line at bytes.now)) (T.text store.old) (T.text store.new)) }
+    ensures ok { T.honest store.old → OnOk result (IsPaged (page.old.items ++ row_text at bytes.now) (T.text store.old) (T.text store.new) page.new.items) }
+    ensures fault { T.honest store.old → OnErr result (IsPartlyAppended (page.old.items ++ row_text at bytes.now) (T.text store.old) (T.text store.new)) }
     ensures room { vec_capacity page.old ≤ vec_capacity page.new }
     ensures goes_on { GoesOn T.honest T.room T.failures (is_err result) store.old store.new }
 {

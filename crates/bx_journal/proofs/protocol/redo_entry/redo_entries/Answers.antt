@@ -136,7 +136,7 @@ fill_last-requires-clause-range g c now =
     let n : ℕ = length c.args.entries.now.items - length c.args.takens.now.items in
     let inside : n ≤ length es = omega (arith, long, most, inv.left, inv.more, inv.few) in
     let kept = kept_next (g.D.Device.room c.loop-i.device) n es e inside (subst (λ fs. AllKept (g.D.Device.room c.loop-i.device) (drop n fs)) c.in-Some-pop.ensures.items inv.kept) in
-    let dh = inv.device_honest.0 (c.write_entry.ensures.device_honesty.0 now) in
+    let dh = inv.device_honest.0 (c.write_entry.ensures.steps_on.device_honesty.0 now) in
     let x : List ℕ = g.D.Device.image c.loop-i.device in
     let r : List ℕ = g.T.TextStore.text c.loop-i.redo_text in
     let text : List ℕ = g.T.TextStore.text c.loop-i.store in
@@ -179,7 +179,7 @@ returns-in_err-fill_last-clause-finds g c dh th rh s rest count =
     let at_rest = subst (λ d. IsAtRest (g.T.TextStore.text c.write_entry.new.store) y (effect d x ∷ stack)) same (c.in_ok-write_entry.ensures.ok (inv.device_honest.1 dh) (inv.store_honest.1 th) stack writes) in
     let next = redone text x r (g.T.TextStore.text c.write_entry.new.store) y (g.T.TextStore.text c.write_entry.new.redo_text) s e c.loop-i.i c.loop-i.count here.0 here.1 one changed
     (c.in_ok-write_entry.ensures.redo (inv.redo_honest.1 rh)) at_rest in
-    let still : g.D.Device.image c.fill_last.new.device ≡ y = c.fill_last.ensures.image (c.write_entry.ensures.device_honesty.1 (inv.device_honest.1 dh)) in
+    let still : g.D.Device.image c.fill_last.new.device ≡ y = c.fill_last.ensures.image (c.write_entry.ensures.steps_on.device_honesty.1 (inv.device_honest.1 dh)) in
     let found = rest_is_found (g.T.TextStore.text c.write_entry.new.store) y (g.T.TextStore.text c.write_entry.new.redo_text) (redo_of (c.loop-i.i + 1) s) next.0 in
     always_err c.from_residual-in_err-fill_last.result (
       c.loop-i.i + 1,
@@ -213,12 +213,12 @@ loop-i-preserved g c =
       dropped = dropped_next es e (entries_of c.args.entries.now.items) c.loop-i.i (ap entries_of (sym c.in-Some-pop.ensures.items) ∙ inv.dropped);
       front = λ th. prefix_more (g.T.TextStore.text c.args.store.now) (g.T.TextStore.text c.loop-i.store) (g.T.TextStore.text c.write_entry.new.store) (head_text (c.loop-i.count + 1) (kept_of t)) c.as_bytes.result.now (inv.front th) (wrote.text (inv.store_honest.1 th));
       kept = kept_more (g.D.Device.room c.loop-i.device) (g.D.Device.room c.fill_last.new.device) (drop n es) kept.0 (omega (arith, c.write_entry.ensures.room, c.fill_last.ensures.goes_on.no_less_room));
-      device_honest = ((λ h. inv.device_honest.0 (c.write_entry.ensures.device_honesty.0 (c.fill_last.ensures.goes_on.honesty.0 h))), λ h. c.fill_last.ensures.goes_on.honesty.1 (c.write_entry.ensures.device_honesty.1 (inv.device_honest.1 h)));
-      store_honest = ((λ h. inv.store_honest.0 (c.write_entry.ensures.store_honesty.0 h)), λ h. c.write_entry.ensures.store_honesty.1 (inv.store_honest.1 h));
-      redo_honest = ((λ h. inv.redo_honest.0 (c.write_entry.ensures.redo_honesty.0 h)), λ h. c.write_entry.ensures.redo_honesty.1 (inv.redo_honest.1 h));
-      device_countable = c.in_ok-fill_last.ensures.goes_on.counted ∙ wrote.no_failure.0 ∙ inv.device_countable;
-      store_countable = wrote.no_failure.1 ∙ inv.store_countable;
-      redo_countable = wrote.no_failure.2 ∙ inv.redo_countable;
+      device_honest = ((λ h. inv.device_honest.0 (c.write_entry.ensures.steps_on.device_honesty.0 (c.fill_last.ensures.goes_on.honesty.0 h))), λ h. c.fill_last.ensures.goes_on.honesty.1 (c.write_entry.ensures.steps_on.device_honesty.1 (inv.device_honest.1 h)));
+      store_honest = ((λ h. inv.store_honest.0 (c.write_entry.ensures.steps_on.store_honesty.0 h)), λ h. c.write_entry.ensures.steps_on.store_honesty.1 (inv.store_honest.1 h));
+      redo_honest = ((λ h. inv.redo_honest.0 (c.write_entry.ensures.steps_on.redo_honesty.0 h)), λ h. c.write_entry.ensures.steps_on.redo_honesty.1 (inv.redo_honest.1 h));
+      device_countable = c.in_ok-fill_last.ensures.goes_on.counted ∙ wrote.steps_on.no_failure.0 ∙ inv.device_countable;
+      store_countable = wrote.steps_on.no_failure.1 ∙ inv.store_countable;
+      redo_countable = wrote.steps_on.no_failure.2 ∙ inv.redo_countable;
       place = record {
         text = inv.place.text;
         to = e.begins;
@@ -235,7 +235,7 @@ loop-i-preserved g c =
           let same : change ≡ change_back e = change_is change e c.into_change-change.ensures.base c.into_change-change.ensures.writes in
           let ready = ready_pop x es e ts t (subst (λ us. AreReady x (reverse (es ++ e ∷ [])) (reverse us)) c.in-Some.ensures.items (subst (λ fs. AreReady x (reverse fs) (reverse c.loop-i.takens.items)) c.in-Some-pop.ensures.items (inv.ready dh))) in
           let y : List ℕ = g.D.Device.image c.write_entry.new.device in
-          let here = c.write_entry.ensures.device_honesty.1 (inv.device_honest.1 dh) in
+          let here = c.write_entry.ensures.steps_on.device_honesty.1 (inv.device_honest.1 dh) in
           let restored : y ≡ restore (kept_of e.kept) x = wrote.image (inv.device_honest.1 dh) ∙ c.into_change-change.ensures.restores (within_out e.kept.len e.kept.runs kept.1) x ∙ sym (same_restore e.kept x) in
           subst (λ z. AreReady z (reverse es) (reverse c.fill_last.new.takens.items)) (sym (c.fill_last.ensures.image here))
           (c.in_ok-fill_last.ensures.filled here (reverse es) (zeros_at x y e (reverse es) (reverse ts) restored ready.1));
@@ -277,7 +277,7 @@ loop-i-preserved g c =
           let at_rest = subst (λ d. IsAtRest (g.T.TextStore.text c.write_entry.new.store) y (effect d x ∷ stack)) same (c.in_ok-write_entry.ensures.ok (inv.device_honest.1 dh) (inv.store_honest.1 th) stack writes) in
           let next = redone text x r (g.T.TextStore.text c.write_entry.new.store) y (g.T.TextStore.text c.write_entry.new.redo_text) s e c.loop-i.i c.loop-i.count here.0 here.1 one changed
           (c.in_ok-write_entry.ensures.redo (inv.redo_honest.1 rh)) at_rest in
-          let still : g.D.Device.image c.fill_last.new.device ≡ y = c.fill_last.ensures.image (c.write_entry.ensures.device_honesty.1 (inv.device_honest.1 dh)) in (
+          let still : g.D.Device.image c.fill_last.new.device ≡ y = c.fill_last.ensures.image (c.write_entry.ensures.steps_on.device_honesty.1 (inv.device_honest.1 dh)) in (
             subst (λ z. AreAtRest (g.T.TextStore.text c.write_entry.new.store) z (g.T.TextStore.text c.write_entry.new.redo_text) (redo_of (c.loop-i.i + 1) s)) (sym still) next.0,
             next.1,
           );
@@ -302,7 +302,7 @@ loop-i-preserved g c =
           let written : new ≡ text ++ head ++ line = wrote.text (inv.store_honest.1 th) ∙ ap (λ l. text ++ head ++ l) end_is in
           let stands = redone_stands (change_back e) text new x y stack head line again here.0.stands changed good written in
           let next = redone_standing text x r new y (g.T.TextStore.text c.write_entry.new.redo_text) s e c.loop-i.i c.loop-i.count here.0 here.1 one changed (wrote.redo (inv.redo_honest.1 rh)) stands in
-          let still : g.D.Device.image c.fill_last.new.device ≡ y = c.fill_last.ensures.image (c.write_entry.ensures.device_honesty.1 (inv.device_honest.1 dh)) in (
+          let still : g.D.Device.image c.fill_last.new.device ≡ y = c.fill_last.ensures.image (c.write_entry.ensures.steps_on.device_honesty.1 (inv.device_honest.1 dh)) in (
             subst (λ z. AreStanding new z (g.T.TextStore.text c.write_entry.new.redo_text) (redo_of (c.loop-i.i + 1) s)) (sym still) next.0,
             next.1,
           );

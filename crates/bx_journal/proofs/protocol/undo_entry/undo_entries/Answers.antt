@@ -157,7 +157,7 @@ fill_last-requires-clause-range g c now =
     let u : IsUndone inv.place.text (es ++ e ∷ []) inv.place.to = subst (λ fs. IsUndone inv.place.text fs inv.place.to) c.in-Some-pop.ensures.items inv.place.undone in
     let long : length es + 1 ≡ length c.loop-i.entries.items = sym (ap length c.in-Some-pop.ensures.items ∙ length-append es (e ∷ [])) in
     let most : length ts + 1 ≡ length c.loop-i.takens.items = sym (ap length c.in-Some.ensures.items ∙ length-append ts (t ∷ [])) in
-    let dh = inv.device_honest.0 (c.undo_entry.ensures.device_honesty.0 now) in
+    let dh = inv.device_honest.0 (c.undo_entry.ensures.steps_on.device_honesty.0 now) in
     let x : List ℕ = g.D.Device.image c.loop-i.device in
     let r : List ℕ = g.T.TextStore.text c.loop-i.redo_text in
     let text : List ℕ = g.T.TextStore.text c.loop-i.store in
@@ -190,7 +190,7 @@ returns-in_err-fill_last-clause-finds g c dh th rh s rest count =
     let restored : y ≡ restore (kept_of e.kept) x = c.in_ok-undo_entry.ensures.image (inv.device_honest.1 dh) in
     let next = turned text x r (g.T.TextStore.text c.undo_entry.new.store) y (g.T.TextStore.text c.undo_entry.new.redo_text) s e t c.loop-i.i c.loop-i.undone here.0 here.1 one restored
     (c.in_ok-undo_entry.ensures.redo (inv.redo_honest.1 rh)) (c.in_ok-undo_entry.ensures.ok (inv.device_honest.1 dh) (inv.store_honest.1 th) below e.version (entry_of e) back refl) in
-    let same : g.D.Device.image c.fill_last.new.device ≡ y = c.fill_last.ensures.image (c.undo_entry.ensures.device_honesty.1 (inv.device_honest.1 dh)) in
+    let same : g.D.Device.image c.fill_last.new.device ≡ y = c.fill_last.ensures.image (c.undo_entry.ensures.steps_on.device_honesty.1 (inv.device_honest.1 dh)) in
     let found = rest_is_found (g.T.TextStore.text c.undo_entry.new.store) y (g.T.TextStore.text c.undo_entry.new.redo_text) (undo_of (c.loop-i.i + 1) s) next.0 in
     always_err c.from_residual-in_err-fill_last.result (
       c.loop-i.i + 1,
@@ -209,7 +209,7 @@ returns-in_err-fill_last-clause-fault g c dh th stack rest =
     let new : List ℕ = g.T.TextStore.text c.undo_entry.new.store in
     let back = takes_back inv.place.text text x (drop c.loop-i.i stack) es e inv.place.to u (inv.place.left th) (inv.rest dh th stack rest) in
     let dev = inv.device_honest.1 dh in
-    let same : g.D.Device.image c.fill_last.new.device ≡ g.D.Device.image c.undo_entry.new.device = c.fill_last.ensures.image (c.undo_entry.ensures.device_honesty.1 dev) in
+    let same : g.D.Device.image c.fill_last.new.device ≡ g.D.Device.image c.undo_entry.new.device = c.fill_last.ensures.image (c.undo_entry.ensures.steps_on.device_honesty.1 dev) in
     let next : IsAtRest new (g.D.Device.image c.undo_entry.new.device) (drop (c.loop-i.i + 1) stack) =
     subst (IsAtRest new (g.D.Device.image c.undo_entry.new.device)) (drop_one c.loop-i.i stack)
     (c.in_ok-undo_entry.ensures.ok dev (inv.store_honest.1 th) (drop 1 (drop c.loop-i.i stack)) e.version (entry_of e) back refl) in
@@ -243,12 +243,12 @@ loop-i-preserved g c =
       bound = by_len (nat_le t.len MAX_LEN) c.loop-i.undone c.undone_with-undone.result (length ts) (length c.fill_last.new.takens.items) (c.args.undone + length c.args.takens.now.items) c.undone_with-undone.ensures c.fill_last.ensures.count (omega (arith, inv.bound, most));
       kept = kept_more (g.D.Device.room c.loop-i.device) (g.D.Device.room c.fill_last.new.device) (drop n es) kept.0 (omega (arith, c.undo_entry.ensures.room, c.fill_last.ensures.goes_on.no_less_room));
       dropped = dropped_next es e (entries_of c.args.entries.now.items) c.loop-i.i (ap entries_of (sym c.in-Some-pop.ensures.items) ∙ inv.dropped);
-      device_honest = ((λ h. inv.device_honest.0 (c.undo_entry.ensures.device_honesty.0 (c.fill_last.ensures.goes_on.honesty.0 h))), λ h. c.fill_last.ensures.goes_on.honesty.1 (c.undo_entry.ensures.device_honesty.1 (inv.device_honest.1 h)));
-      store_honest = ((λ h. inv.store_honest.0 (c.undo_entry.ensures.store_honesty.0 h)), λ h. c.undo_entry.ensures.store_honesty.1 (inv.store_honest.1 h));
-      redo_honest = ((λ h. inv.redo_honest.0 (c.undo_entry.ensures.redo_honesty.0 h)), λ h. c.undo_entry.ensures.redo_honesty.1 (inv.redo_honest.1 h));
-      device_countable = c.in_ok-fill_last.ensures.goes_on.counted ∙ undo.no_failure.0 ∙ inv.device_countable;
-      store_countable = undo.no_failure.1 ∙ inv.store_countable;
-      redo_countable = undo.no_failure.2 ∙ inv.redo_countable;
+      device_honest = ((λ h. inv.device_honest.0 (c.undo_entry.ensures.steps_on.device_honesty.0 (c.fill_last.ensures.goes_on.honesty.0 h))), λ h. c.fill_last.ensures.goes_on.honesty.1 (c.undo_entry.ensures.steps_on.device_honesty.1 (inv.device_honest.1 h)));
+      store_honest = ((λ h. inv.store_honest.0 (c.undo_entry.ensures.steps_on.store_honesty.0 h)), λ h. c.undo_entry.ensures.steps_on.store_honesty.1 (inv.store_honest.1 h));
+      redo_honest = ((λ h. inv.redo_honest.0 (c.undo_entry.ensures.steps_on.redo_honesty.0 h)), λ h. c.undo_entry.ensures.steps_on.redo_honesty.1 (inv.redo_honest.1 h));
+      device_countable = c.in_ok-fill_last.ensures.goes_on.counted ∙ undo.steps_on.no_failure.0 ∙ inv.device_countable;
+      store_countable = undo.steps_on.no_failure.1 ∙ inv.store_countable;
+      redo_countable = undo.steps_on.no_failure.2 ∙ inv.redo_countable;
       place = record {
         text = inv.place.text;
         to = e.begins;
@@ -263,7 +263,7 @@ loop-i-preserved g c =
           let text : List ℕ = g.T.TextStore.text c.loop-i.store in
           let ready = ready_pop x es e ts t (subst (λ us. AreReady x (reverse (es ++ e ∷ [])) (reverse us)) c.in-Some.ensures.items (subst (λ fs. AreReady x (reverse fs) (reverse c.loop-i.takens.items)) c.in-Some-pop.ensures.items (inv.ready dh))) in
           let y : List ℕ = g.D.Device.image c.undo_entry.new.device in
-          let here = c.undo_entry.ensures.device_honesty.1 (inv.device_honest.1 dh) in
+          let here = c.undo_entry.ensures.steps_on.device_honesty.1 (inv.device_honest.1 dh) in
           subst (λ z. AreReady z (reverse es) (reverse c.fill_last.new.takens.items)) (sym (c.fill_last.ensures.image here))
           (c.in_ok-fill_last.ensures.filled here (reverse es) (zeros_at x y e (reverse es) (reverse ts) (undo.image (inv.device_honest.1 dh)) ready.1));
       fits = λ rh.
@@ -279,14 +279,14 @@ loop-i-preserved g c =
           let text : List ℕ = g.T.TextStore.text c.loop-i.store in
           let new : List ℕ = g.T.TextStore.text c.undo_entry.new.store in
           let back = takes_back inv.place.text text x (drop c.loop-i.i stack) es e inv.place.to u (inv.place.left th) (inv.rest dh th stack rest) in
-          let same : g.D.Device.image c.fill_last.new.device ≡ dev = c.fill_last.ensures.image (c.undo_entry.ensures.device_honesty.1 (inv.device_honest.1 dh)) in
+          let same : g.D.Device.image c.fill_last.new.device ≡ dev = c.fill_last.ensures.image (c.undo_entry.ensures.steps_on.device_honesty.1 (inv.device_honest.1 dh)) in
           subst (λ z. IsAtRest new z (drop (c.loop-i.i + 1) stack)) (sym same) (subst (IsAtRest new dev) (drop_one c.loop-i.i stack)
           (undo.ok (inv.device_honest.1 dh) (inv.store_honest.1 th) (drop 1 (drop c.loop-i.i stack)) e.version (entry_of e) back refl));
       stood = λ dh th stack stands.
           let x : List ℕ = g.D.Device.image c.loop-i.device in
           let text : List ℕ = g.T.TextStore.text c.loop-i.store in
           let new : List ℕ = g.T.TextStore.text c.undo_entry.new.store in
-          let same : g.D.Device.image c.fill_last.new.device ≡ dev = c.fill_last.ensures.image (c.undo_entry.ensures.device_honesty.1 (inv.device_honest.1 dh)) in
+          let same : g.D.Device.image c.fill_last.new.device ≡ dev = c.fill_last.ensures.image (c.undo_entry.ensures.steps_on.device_honesty.1 (inv.device_honest.1 dh)) in
           subst (λ z. StandsFor new z (drop (c.loop-i.i + 1) stack)) (sym same) (subst (StandsFor new dev) (drop_one c.loop-i.i stack)
           (stood_next inv.place.text text new x dev (drop c.loop-i.i stack) es e inv.place.to u (inv.place.left th) (undo.text (inv.store_honest.1 th)) (undo.image (inv.device_honest.1 dh)) (inv.stood dh th stack stands)));
       found = λ dh th rh s rest count.
@@ -302,7 +302,7 @@ loop-i-preserved g c =
           let restored : y ≡ restore (kept_of e.kept) x = c.in_ok-undo_entry.ensures.image (inv.device_honest.1 dh) in
           let next = turned text x r (g.T.TextStore.text c.undo_entry.new.store) y (g.T.TextStore.text c.undo_entry.new.redo_text) s e t c.loop-i.i c.loop-i.undone here.0 here.1 one restored
           (c.in_ok-undo_entry.ensures.redo (inv.redo_honest.1 rh)) (c.in_ok-undo_entry.ensures.ok (inv.device_honest.1 dh) (inv.store_honest.1 th) below e.version (entry_of e) back refl) in
-          let same : g.D.Device.image c.fill_last.new.device ≡ y = c.fill_last.ensures.image (c.undo_entry.ensures.device_honesty.1 (inv.device_honest.1 dh)) in (
+          let same : g.D.Device.image c.fill_last.new.device ≡ y = c.fill_last.ensures.image (c.undo_entry.ensures.steps_on.device_honesty.1 (inv.device_honest.1 dh)) in (
             subst (λ z. AreAtRest (g.T.TextStore.text c.undo_entry.new.store) z (g.T.TextStore.text c.undo_entry.new.redo_text) (undo_of (c.loop-i.i + 1) s)) (sym same) next.0,
             c.undone_with-undone.ensures ∙ next.1,
           );
@@ -318,7 +318,7 @@ loop-i-preserved g c =
           let restored : y ≡ restore (kept_of e.kept) x = c.in_ok-undo_entry.ensures.image (inv.device_honest.1 dh) in
           let next = turned_standing text x r (g.T.TextStore.text c.undo_entry.new.store) y (g.T.TextStore.text c.undo_entry.new.redo_text) s e t c.loop-i.i c.loop-i.undone here.0 here.1 one restored
           (c.in_ok-undo_entry.ensures.redo (inv.redo_honest.1 rh)) (stood_next inv.place.text text (g.T.TextStore.text c.undo_entry.new.store) x y (undo_of c.loop-i.i s).stack es e inv.place.to u (inv.place.left th) (undo.text (inv.store_honest.1 th)) restored here.0.stands) in
-          let same : g.D.Device.image c.fill_last.new.device ≡ y = c.fill_last.ensures.image (c.undo_entry.ensures.device_honesty.1 (inv.device_honest.1 dh)) in (
+          let same : g.D.Device.image c.fill_last.new.device ≡ y = c.fill_last.ensures.image (c.undo_entry.ensures.steps_on.device_honesty.1 (inv.device_honest.1 dh)) in (
             subst (λ z. AreStanding (g.T.TextStore.text c.undo_entry.new.store) z (g.T.TextStore.text c.undo_entry.new.redo_text) (undo_of (c.loop-i.i + 1) s)) (sym same) next.0,
             c.undone_with-undone.ensures ∙ next.1,
           );

@@ -64,7 +64,7 @@ returns-clause-ok g c dh th below v e t is =
     let text : List ℕ = g.T.TextStore.text c.open_and_change.new.store in
     let tail = subst (λ s. HasTail text x below t.entries (Ending v s) c.args.begins) (sym is) (first_tail (g.T.TextStore.text c.args.store.now) x below v e c.args.begins c.args.saved t text (c.in_ok-open_and_change.ensures.text th)) in
     let good = c.in_ok-open_and_change.ensures.again dh tail.sound.unfinished in
-    c.drop_tail.ensures.ok (c.open_and_change.ensures.store_honesty.1 th) y below t.entries (Ending v (kept_of c.args.kept))
+    c.drop_tail.ensures.ok (c.open_and_change.ensures.steps_on.store_honesty.1 th) y below t.entries (Ending v (kept_of c.args.kept))
     (tail_moves text x y below t.entries v (kept_of c.args.kept) c.args.begins tail good) (good.same ∙ sym (c.in_ok-open_and_change.ensures.image dh))
 
 pub returns-clause-left : goal.returns-clause-left
@@ -80,7 +80,7 @@ returns-clause-left g c dh th rh below v e t is =
     let restored : y ≡ restore e.saved x = c.in_ok-open_and_change.ensures.image dh ∙ ap (λ (s : Kept). restore s x) is in
     on_err_weaker c.drop_tail.result
     (behind_stops (g.T.TextStore.text c.drop_tail.new.store) y (g.T.TextStore.text c.open_and_change.new.redo_text) old new restored (c.in_ok-open_and_change.ensures.redo rh))
-    (c.drop_tail.ensures.fault (c.open_and_change.ensures.store_honesty.1 th) y below t.entries (Ending v (kept_of c.args.kept))
+    (c.drop_tail.ensures.fault (c.open_and_change.ensures.steps_on.store_honesty.1 th) y below t.entries (Ending v (kept_of c.args.kept))
     (tail_moves text x y below t.entries v (kept_of c.args.kept) c.args.begins tail good) (good.same ∙ sym (c.in_ok-open_and_change.ensures.image dh)))
 
 pub returns-clause-fault : goal.returns-clause-fault
@@ -91,5 +91,5 @@ returns-clause-fault g c dh th below v e t is =
     let tail = subst (λ s. HasTail text x below t.entries (Ending v s) c.args.begins) (sym is) (first_tail (g.T.TextStore.text c.args.store.now) x below v e c.args.begins c.args.saved t text (c.in_ok-open_and_change.ensures.text th)) in
     let good = c.in_ok-open_and_change.ensures.again dh tail.sound.unfinished in
     on_err_weaker c.drop_tail.result inr
-    (c.drop_tail.ensures.fault (c.open_and_change.ensures.store_honesty.1 th) y below t.entries (Ending v (kept_of c.args.kept))
+    (c.drop_tail.ensures.fault (c.open_and_change.ensures.steps_on.store_honesty.1 th) y below t.entries (Ending v (kept_of c.args.kept))
     (tail_moves text x y below t.entries v (kept_of c.args.kept) c.args.begins tail good) (good.same ∙ sym (c.in_ok-open_and_change.ensures.image dh)))

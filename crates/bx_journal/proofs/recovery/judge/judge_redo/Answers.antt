@@ -1,5 +1,5 @@
-use Rattle.std.proofs.Common.{ℕ, List}
-use Rattle.bx_journal.proofs.JudgeLemmas.{counted_redo, judged_keeps, judged_refuses, length_judged, lines_off, text_judged}
+use Rattle.std.proofs.Common.{ℕ, List, refl}
+use Rattle.bx_journal.proofs.JudgeLemmas.{counted_redo, judged_keeps, judged_refuses, length_judged, lines_off, text_counts, text_judged}
 use Rattle.bx_journal.proofs.Refused.{none_refused}
 use Rattle.bx_journal.proofs.recovery.judge.judge_redo.Goals as goal
 
@@ -41,3 +41,11 @@ pub returns-clause-unfit : goal.returns-clause-unfit
 returns-clause-unfit g c dh text found line refused =
     let redo = counted_redo text (g.D.Device.image c.args.device.now) c.args.changes c.in-Ok.counted.counted.count c.in-Ok.counted.counted.told (c.in-Ok.ensures.ok text found) (c.in_default.ensures.same_length dh) in
     none_refused text (g.D.Device.image c.args.device.now) c.args.changes line redo.0 redo.1 refused
+
+pub returns-in-Err-clause-looks : goal.returns-in-Err-clause-looks
+returns-in-Err-clause-looks g c = record {
+  image = λ h. refl;
+  honesty = (λ h. h, λ h. h);
+  no_failure = tt;
+  counts = text_counts c.in-Err.ensures.kind.0 c.args.changes (g.D.Device.failures c.args.device.now) 0 c.in-Err.fault c.in-Err.ensures.kind.1;
+}

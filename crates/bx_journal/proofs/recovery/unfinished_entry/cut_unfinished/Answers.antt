@@ -1,4 +1,4 @@
-use Rattle.std.proofs.Common.{refl, arith, Result, Ok, Err}
+use Rattle.std.proofs.Common.{refl, arith, rules, Result, Ok, Err}
 use Rattle.std.specs.Prelude.{OnErr}
 use Rattle.bx_entries.specs.declared.read.types.StageRead.TheVariants.{Between as BetweenRead}
 use Rattle.bx_entries.specs.Text.{Between}
@@ -20,7 +20,7 @@ returns-in-Between-clause-opened g c dh th lengths =
 pub returns-in-Between-clause-keeps : goal.returns-in-Between-clause-keeps
 returns-in-Between-clause-keeps g c dh th stack rec =
     let t = tail_at (g.T.TextStore.text c.args.store.now) c.requires.read.text (g.D.Device.image c.args.device.now) stack c.args.journal BetweenRead c.requires.read.read c.in-Between.is (c.requires.read.is th) rec in
-    c.in_ok-drop_tail-in-Between.ensures.ok th (g.D.Device.image c.args.device.now) stack _ Between t refl
+    (c.in_ok-drop_tail-in-Between.ensures.ok th (g.D.Device.image c.args.device.now) stack _ Between t refl, tt)
 
 pub returns-in-Saving-clause-opened : goal.returns-in-Saving-clause-opened
 returns-in-Saving-clause-opened g c dh th lengths =
@@ -30,7 +30,7 @@ returns-in-Saving-clause-opened g c dh th lengths =
 pub returns-in-Saving-clause-keeps : goal.returns-in-Saving-clause-keeps
 returns-in-Saving-clause-keeps g c dh th stack rec =
     let t = tail_at (g.T.TextStore.text c.args.store.now) c.requires.read.text (g.D.Device.image c.args.device.now) stack c.args.journal _ c.requires.read.read c.in-Saving.is (c.requires.read.is th) rec in
-    c.in_ok-drop_tail-in-Saving.ensures.ok th (g.D.Device.image c.args.device.now) stack _ _ t refl
+    (c.in_ok-drop_tail-in-Saving.ensures.ok th (g.D.Device.image c.args.device.now) stack _ _ t refl, tt)
 
 pub take_back-requires-clause-within : goal.take_back-requires-clause-within
 take_back-requires-clause-within g c = ending_within c.requires.read.text c.args.journal _ _ _ _ c.requires.read.read c.in-Ending.is
@@ -43,18 +43,18 @@ returns-clause-opened g c dh th lengths =
 pub returns-clause-keeps : goal.returns-clause-keeps
 returns-clause-keeps g c dh th stack rec =
     let t = tail_at (g.T.TextStore.text c.args.store.now) c.requires.read.text (g.D.Device.image c.args.device.now) stack c.args.journal _ c.requires.read.read c.in-Ending.is (c.requires.read.is th) rec in
-    c.in_ok-take_back-in-Ending.ensures.ok dh th stack _ _ t
+    (c.in_ok-take_back-in-Ending.ensures.ok dh th stack _ _ t, tt)
 
-pub returns-in_err-take_back-in-Ending-clause-keeps_err : goal.returns-in_err-take_back-in-Ending-clause-keeps_err
-returns-in_err-take_back-in-Ending-clause-keeps_err g c dh th stack rec =
+pub returns-in_err-take_back-in-Ending-clause-keeps : goal.returns-in_err-take_back-in-Ending-clause-keeps
+returns-in_err-take_back-in-Ending-clause-keeps g c dh th stack rec =
     let t = tail_at (g.T.TextStore.text c.args.store.now) c.requires.read.text (g.D.Device.image c.args.device.now) stack c.args.journal _ c.requires.read.read c.in-Ending.is (c.requires.read.is th) rec in
-    always_err _ (c.in_err-take_back-in-Ending.ensures.fault dh th stack _ _ t)
+    (search rules, always_err _ (c.in_err-take_back-in-Ending.ensures.fault dh th stack _ _ t))
 
-pub returns-in_err-drop_tail-in-Between-clause-keeps_err :
-    goal.returns-in_err-drop_tail-in-Between-clause-keeps_err
-returns-in_err-drop_tail-in-Between-clause-keeps_err g c dh th stack rec =
+pub returns-in_err-drop_tail-in-Between-clause-keeps :
+    goal.returns-in_err-drop_tail-in-Between-clause-keeps
+returns-in_err-drop_tail-in-Between-clause-keeps g c dh th stack rec =
     let t = tail_at (g.T.TextStore.text c.args.store.now) c.requires.read.text (g.D.Device.image c.args.device.now) stack c.args.journal BetweenRead c.requires.read.read c.in-Between.is (c.requires.read.is th) rec in
-    always_err _ (c.in_err-drop_tail-in-Between.ensures.fault th (g.D.Device.image c.args.device.now) stack _ Between t refl)
+    (search rules, always_err _ (c.in_err-drop_tail-in-Between.ensures.fault th (g.D.Device.image c.args.device.now) stack _ Between t refl))
 
 pub take_back-requires-clause-within_text : goal.take_back-requires-clause-within_text
 take_back-requires-clause-within_text g c th =

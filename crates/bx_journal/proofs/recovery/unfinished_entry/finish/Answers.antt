@@ -11,8 +11,20 @@ returns-clause-emptied g c rh = ok_always c.cut_unfinished.result (grind (arith,
 pub returns-clause-emptied_first : goal.returns-clause-emptied_first
 returns-clause-emptied_first g c rh = err_always c.cut_unfinished.result (inr (grind (arith, common_steps)))
 
-pub returns-clause-no_failure : goal.returns-clause-no_failure
-returns-clause-no_failure g c = on_ok_weaker c.cut_unfinished.result (λ h. (h.0, h.1, search rules)) c.cut_unfinished.ensures.no_failure
+pub returns-clause-steps_on : goal.returns-clause-steps_on
+returns-clause-steps_on g c = record {
+  device_honesty = search rules;
+  store_honesty = search rules;
+  redo_honesty = search rules;
+  no_failure = on_ok_weaker c.cut_unfinished.result (λ h. (h.0, h.1, search rules)) c.cut_unfinished.ensures.no_failure;
+  failure = on_err_weaker c.cut_unfinished.result (one_more_beside _ _ _ _ _ _ (search rules)) c.cut_unfinished.ensures.failure;
+}
 
-pub returns-clause-failure : goal.returns-clause-failure
-returns-clause-failure g c = on_err_weaker c.cut_unfinished.result (one_more_beside _ _ _ _ _ _ (search rules)) c.cut_unfinished.ensures.failure
+pub returns-in_err-cut_redo-clause-steps_on : goal.returns-in_err-cut_redo-clause-steps_on
+returns-in_err-cut_redo-clause-steps_on g c = record {
+  device_honesty = search rules;
+  store_honesty = search rules;
+  redo_honesty = search rules;
+  no_failure = search rules;
+  failure = search rules;
+}

@@ -6,7 +6,7 @@ use Rattle.bx_journal.specs.Stack.{Recovers}
 use Rattle.bx_entries.specs.Text.{Between}
 use Rattle.bx_journal.proofs.OpenedLemmas.{emptied_keeps, emptied_undone, err_then, find_opens, find_redo, find_refuses, finished_kept, finished_opened, finished_stack, finished_unfit, found_counted, found_few, found_read, found_unclean, recover_kind, unfinished_finds}
 use Rattle.bx_journal.proofs.LeftLemmas.{left_whole}
-use Rattle.bx_journal.proofs.CountedLemmas.{counted_rest, ok_always}
+use Rattle.bx_journal.proofs.CountedLemmas.{counted_rest, err_always, ok_always}
 use Rattle.bx_journal.proofs.recovery.unfinished_entry.recover.Goals as goal
 
 pub returns-in-Err-clause-faults : goal.returns-in-Err-clause-faults
@@ -38,10 +38,21 @@ pub returns-in-Finished-clause-keeps : goal.returns-in-Finished-clause-keeps
 returns-in-Finished-clause-keeps g c dh th stack rec =
     let text : List ℕ = g.T.TextStore.text c.args.store.now in
     let y : List ℕ = g.D.Device.image c.open_finished.new.device in
-    let is = found_counted (g.T.TextStore.honest c.args.store.now) text c.in-Ok.found c.in-Finished.counted c.in-Ok.ensures.found c.in-Finished.is th in
-    ok_always c.open_finished.result
-    (subst (λ t. IsAtRest t y stack) (sym (c.read_text.ensures.text th))
-    (counted_rest text (g.D.Device.image c.args.device.now) c.in-Finished.counted.count c.in-Finished.counted.told is y stack rec (c.open_finished.ensures.image dh)))
+    let same = sym (c.read_text.ensures.text th) in
+    let is = found_counted (g.T.TextStore.honest c.args.store.now) text c.in-Ok.found c.in-Finished.counted c.in-Ok.ensures.found c.in-Finished.is th in (
+      ok_always c.open_finished.result
+          (subst (λ t. IsAtRest t y stack) same
+          (counted_rest text (g.D.Device.image c.args.device.now) c.in-Finished.counted.count c.in-Finished.counted.told is y stack rec (c.open_finished.ensures.image dh))),
+      err_always c.open_finished.result (subst (λ t. Recovers t y stack) same (subst (λ z. Recovers text z stack) (sym (c.open_finished.ensures.image dh)) rec)),
+    )
+
+pub returns-in-Err-clause-keeps : goal.returns-in-Err-clause-keeps
+returns-in-Err-clause-keeps g c dh th stack rec = (tt, subst (λ t. Recovers t (g.D.Device.image c.args.device.now) stack) (sym (c.read_text.ensures.text th)) rec)
+
+pub returns-in-Unfinished-clause-keeps : goal.returns-in-Unfinished-clause-keeps
+returns-in-Unfinished-clause-keeps g c dh th stack rec =
+    c.recover_read.ensures.keeps dh (c.read_text.ensures.honesty.1 th) stack
+    (subst (λ t. Recovers t (g.D.Device.image c.args.device.now) stack) (sym (c.read_text.ensures.text th)) rec)
 
 pub returns-in-Finished-clause-counted : goal.returns-in-Finished-clause-counted
 returns-in-Finished-clause-counted g c dh th stack rec =
@@ -98,7 +109,7 @@ returns-in-Unfinished-clause-finds_err g c dh th rh s finds =
     (found_unclean (g.T.TextStore.honest c.args.store.now) text c.in-Unfinished.journal i th)
     (found_few (g.T.TextStore.honest c.args.store.now) text x s.stack c.in-Unfinished.journal i th finds.recovers)
     c.recover_read.result
-    (c.recover_read.ensures.keeps_err dh mid s.stack (subst (λ t. Recovers t x s.stack) (sym same) finds.recovers))
+    (c.recover_read.ensures.keeps dh mid s.stack (subst (λ t. Recovers t x s.stack) (sym same) finds.recovers)).1
     (store_text _ g.T.TextStore.text c.recover_read.result _ _ _ same (c.recover_read.ensures.emptied_first rh))
     (subst (λ t. IfErr c.recover_read.result (λ e. AfterFault e (Unit {0}) ((g.T.TextStore.text c.recover_read.new.store ≡ t) × (g.D.Device.image c.recover_read.new.device ≡ x)))) same
     (c.recover_read.ensures.refused dh mid))

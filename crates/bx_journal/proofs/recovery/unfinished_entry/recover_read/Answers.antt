@@ -23,15 +23,15 @@ returns-in-Err-clause-differs g c dh th r n reads differs =
     look_refuses (g.D.Device.honest c.args.device.now) (entries_of c.args.journal.entries.items) (image_at (stage_of c.args.journal.stage) x) n c.in-Err.fault dh
     (subst (λ (q : Reading). Differs q.entries (image_at q.stage x) n) (sym same) differs) c.in-Err.ensures.fault
 
-pub returns-in-Err-clause-keeps_err : goal.returns-in-Err-clause-keeps_err
-returns-in-Err-clause-keeps_err g c dh th stack rec = subst (λ x. Recovers (g.T.TextStore.text c.args.store.now) x stack) (sym (c.prepare.ensures.image dh)) rec
+pub returns-in-Err-clause-keeps : goal.returns-in-Err-clause-keeps
+returns-in-Err-clause-keeps g c dh th stack rec = (tt, subst (λ x. Recovers (g.T.TextStore.text c.args.store.now) x stack) (sym (c.prepare.ensures.looks.image dh)) rec)
 
 pub returns-in-Err-clause-refused : goal.returns-in-Err-clause-refused
-returns-in-Err-clause-refused g c dh th = after_same c.in-Err.fault _ (refl, c.prepare.ensures.image dh)
+returns-in-Err-clause-refused g c dh th = after_same c.in-Err.fault _ (refl, c.prepare.ensures.looks.image dh)
 
 pub returns-in-Err-clause-counts : goal.returns-in-Err-clause-counts
 returns-in-Err-clause-counts g c =
-    counts_among c.in-Err.fault _ _ _ _ _ _ _ _ _ _ c.in-Err.ensures.counts (λ h. omega (arith, h)) (λ h. (h.0, refl, refl))
+    counts_among c.in-Err.fault _ _ _ _ _ _ _ _ _ _ c.in-Err.ensures.looks.counts (λ h. omega (arith, h)) (λ h. (h.0, refl, refl))
 
 pub returns-in-Err-clause-kind : goal.returns-in-Err-clause-kind
 returns-in-Err-clause-kind g c = look_kind _ _ _ c.in-Err.fault c.in-Err.ensures.fault
@@ -42,10 +42,10 @@ returns-in-Err-clause-redo_same g c th = after_same c.in-Err.fault _ refl
 pub returns-in-Ok-clause-opened : goal.returns-in-Ok-clause-opened
 returns-in-Ok-clause-opened g c dh th r reads =
     let x : List ℕ = g.D.Device.image c.args.device.now in
-    let image = c.prepare.ensures.image dh in
+    let image = c.prepare.ensures.looks.image dh in
     let same : reading_of c.args.journal.entries.items c.args.journal.stage ≡ r = read_once (g.T.TextStore.text c.args.store.now) c.requires.read.text c.args.journal r c.requires.read.read (c.requires.read.is th) reads in
     let lengths = c.in_default.ensures.lengths dh c.requires.read.text c.requires.read.read in
-    let found = c.in-Ok.ensures.opened (c.prepare.ensures.honesty.1 dh) th (subst (λ z. HaveLengths (entries_of c.args.journal.entries.items) (image_at (stage_of c.args.journal.stage) z)) (sym image) lengths) in
+    let found = c.in-Ok.ensures.opened (c.prepare.ensures.looks.honesty.1 dh) th (subst (λ z. HaveLengths (entries_of c.args.journal.entries.items) (image_at (stage_of c.args.journal.stage) z)) (sym image) lengths) in
     subst (λ q. IsOpened (g.T.TextStore.text c.args.store.now) x q (g.T.TextStore.text c.finish.new.store) (g.D.Device.image c.finish.new.device) c.in-Ok.found.how c.in-Ok.found.changes) same
     (subst (λ z. IsOpened (g.T.TextStore.text c.args.store.now) z (reading_of c.args.journal.entries.items c.args.journal.stage) (g.T.TextStore.text c.finish.new.store) (g.D.Device.image c.finish.new.device) c.in-Ok.found.how c.in-Ok.found.changes) image found)
 
@@ -63,8 +63,9 @@ returns-in-Ok-clause-differs g c dh th r n reads differs =
 
 pub returns-in-Ok-clause-keeps : goal.returns-in-Ok-clause-keeps
 returns-in-Ok-clause-keeps g c dh th stack rec =
-    c.in-Ok.ensures.keeps (c.prepare.ensures.honesty.1 dh) th stack
-    (subst (λ x. Recovers (g.T.TextStore.text c.args.store.now) x stack) (sym (c.prepare.ensures.image dh)) rec)
+    let kept = c.in-Ok.ensures.keeps (c.prepare.ensures.looks.honesty.1 dh) th stack
+    (subst (λ x. Recovers (g.T.TextStore.text c.args.store.now) x stack) (sym (c.prepare.ensures.looks.image dh)) rec) in
+    (kept.0, tt)
 
 pub returns-in-Ok-clause-counted : goal.returns-in-Ok-clause-counted
 returns-in-Ok-clause-counted g c dh th stack rec =
@@ -78,18 +79,19 @@ returns-in-Err-finish-clause-differs g c dh th r n reads differs =
     same_lengths (entries_of c.args.journal.entries.items) (image_at (stage_of c.args.journal.stage) x) n (c.in_default.ensures.lengths dh c.requires.read.text c.requires.read.read)
     (subst (λ (q : Reading). Differs q.entries (image_at q.stage x) n) (sym same) differs)
 
-pub returns-in-Err-finish-clause-keeps_err : goal.returns-in-Err-finish-clause-keeps_err
-returns-in-Err-finish-clause-keeps_err g c dh th stack rec =
-    c.in-Err-finish.ensures.keeps_err (c.prepare.ensures.honesty.1 dh) th stack
-    (subst (λ x. Recovers (g.T.TextStore.text c.args.store.now) x stack) (sym (c.prepare.ensures.image dh)) rec)
+pub returns-in-Err-finish-clause-keeps : goal.returns-in-Err-finish-clause-keeps
+returns-in-Err-finish-clause-keeps g c dh th stack rec =
+    let kept = c.in-Err-finish.ensures.keeps (c.prepare.ensures.looks.honesty.1 dh) th stack
+    (subst (λ x. Recovers (g.T.TextStore.text c.args.store.now) x stack) (sym (c.prepare.ensures.looks.image dh)) rec) in
+    (tt, kept.1)
 
 pub returns-in-Err-finish-clause-device_honesty : goal.returns-in-Err-finish-clause-device_honesty
 returns-in-Err-finish-clause-device_honesty g c =
-    (λ h. c.prepare.ensures.honesty.0 (c.finish.ensures.device_honesty.0 h), λ h. c.finish.ensures.device_honesty.1 (c.prepare.ensures.honesty.1 h))
+    (λ h. c.prepare.ensures.looks.honesty.0 (c.finish.ensures.steps_on.device_honesty.0 h), λ h. c.finish.ensures.steps_on.device_honesty.1 (c.prepare.ensures.looks.honesty.1 h))
 
 pub returns-in-Ok-clause-device_honesty : goal.returns-in-Ok-clause-device_honesty
 returns-in-Ok-clause-device_honesty g c =
-    (λ h. c.prepare.ensures.honesty.0 (c.finish.ensures.device_honesty.0 h), λ h. c.finish.ensures.device_honesty.1 (c.prepare.ensures.honesty.1 h))
+    (λ h. c.prepare.ensures.looks.honesty.0 (c.finish.ensures.steps_on.device_honesty.0 h), λ h. c.finish.ensures.steps_on.device_honesty.1 (c.prepare.ensures.looks.honesty.1 h))
 
 pub returns-in-Ok-clause-left : goal.returns-in-Ok-clause-left
 returns-in-Ok-clause-left g c th r reads =

@@ -11,7 +11,10 @@ returns-in-Ok-clause-standing g c dh th r reads =
 
 pub returns-in-Ok-clause-keeps : goal.returns-in-Ok-clause-keeps
 returns-in-Ok-clause-keeps g c dh th stack rec =
-    record { rest = c.in-Ok.ensures.keeps dh th stack rec; count = c.in-Ok.ensures.counted dh th stack rec; whole = refl }
+    record { rest = (c.in-Ok.ensures.keeps dh th stack rec).0; count = c.in-Ok.ensures.counted dh th stack rec; whole = refl }
+
+pub returns-in-Err-clause-keeps_err : goal.returns-in-Err-clause-keeps_err
+returns-in-Err-clause-keeps_err g c dh th stack rec = (c.in-Err.ensures.keeps dh th stack rec).1
 
 pub returns-in-Err-clause-lengths_kept : goal.returns-in-Err-clause-lengths_kept
 returns-in-Err-clause-lengths_kept g c dh th stack rec n is =

@@ -1,0 +1,23 @@
+-- The devices of a session together: the image, the journal's text and the redo text.
+use Rattle.std.specs.Prelude.{◌≡◌, ◌↔◌, ◌<◌, ℕ, List, Result, OnOk, OnErr, IfErr}
+use Rattle.bx_journal.specs.Opening.{FaultCounts, OneMoreOfThree}
+use Rattle.bx_journal.specs.declared.session.fault.SessionFault.{SessionFault}
+
+-- three counts are below a limit
+abbrev pub AreBelow : ℕ → ℕ → ℕ → ℕ → Type 0
+AreBelow limit d t u = (d < limit) × (t < limit) × (u < limit)
+
+-- Three devices go on behind a step: each is honest if it was, and one of them counts one failure more where the step failed
+pub record StepsOn {D T R E : Type 0} (honest : D → Type 0) (text_honest : T → Type 0) (failures : D → ℕ) (text_failures : T → ℕ) (result : Result R E) (d : D) (t u : T) (d_new : D) (t_new u_new : T) : Type 0 where
+  pub device_honesty : honest d_new ↔ honest d
+  pub store_honesty : text_honest t_new ↔ text_honest t
+  pub redo_honesty : text_honest u_new ↔ text_honest u
+  pub no_failure : OnOk result ((failures d_new ≡ failures d) × (text_failures t_new ≡ text_failures t) × (text_failures u_new ≡ text_failures u))
+  pub failure : OnErr result (OneMoreOfThree (failures d) (text_failures t) (text_failures u) (failures d_new) (text_failures t_new) (text_failures u_new))
+
+-- a call that only looks at the image: it changes nothing, and its fault tells whether the device failed
+pub record LooksAt {D R : Type 0} (honest : D → Type 0) (view : D → List ℕ) (failures : D → ℕ) (result : Result R SessionFault) (old new : D) : Type 0 where
+  pub image : honest old → view new ≡ view old
+  pub honesty : honest new ↔ honest old
+  pub no_failure : OnOk result (failures new ≡ failures old)
+  pub counts : IfErr result (λ e. FaultCounts e (failures old) 0 (failures new) 0)
