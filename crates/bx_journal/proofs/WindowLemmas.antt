@@ -1,8 +1,16 @@
 -- Counting in windows: a window more.
-use Rattle.std.proofs.Common.{◌≡◌, ℕ, zero, suc, ◌+◌, ◌-◌, ◌≤◌, Bool, List, [], ◌∷◌, ◌++◌, length, take, drop, refl, ap, sym, ◌∙◌, arith, length-take}
+use Rattle.std.proofs.Common.{◌≡◌, ℕ, zero, suc, ◌+◌, ◌-◌, ◌≤◌, Bool, List, [], ◌∷◌, ◌++◌, length, take, drop, refl, ap, sym, ◌∙◌, subst, arith, length-take, Result, Ok, Err}
 use Rattle.std.proofs.lemmas.List.{take-append-drop, drop-take}
+use Rattle.std.specs.Prelude.{IfOk, IfErr}
+use Rattle.bx_entries.specs.Text.{IsDamagedAt}
 use Rattle.bx_entries.specs.declared.read.count.Tally.{Tally}
 use Rattle.bx_entries.specs.declared.read.window.Passed.{Passed}
+use Rattle.bx_journal.specs.Opening.{FaultCounts}
+use Rattle.bx_journal.specs.declared.recovery.journal.Found.{Found}
+use Rattle.bx_journal.specs.declared.recovery.journal.Found.TheVariants.{Finished, Unfinished}
+use Rattle.bx_journal.specs.declared.session.fault.SessionFault.{SessionFault}
+use Rattle.bx_journal.specs.declared.session.fault.SessionFault.TheVariants.{NoMemory, TooLarge, DeviceFailed, Damaged, TooFew, JournalFull, Interrupted, Broken, LengthDiffers, NothingToRedo, RedoDamaged}
+use Rattle.bx_journal.specs.inner.Recovery.{FindFault, IsFoundIn}
 use Rattle.bx_journal.specs.inner.Windows.{IsPassed, IsCountedTo}
 
 take_less : (n m : ℕ) (xs : List ℕ) → take n (take (n + m) xs) ≡ take n xs
@@ -44,3 +52,31 @@ counted_on honest stored only at len lines t p to passed = record {
   is = λ h. ap (λ l. l ++ passed.bytes) (to.is h) ∙ ap (λ l. take at stored ++ l) (passed.is h) ∙ sym (take_sum at p.taken stored);
   tallied = passed.leads to.front lines to.tallied;
 }
+
+-- what is said of a store that is the same as before
+module _ (H now : Type 0) (stored text : List ℕ) (still : H → now) (same : H → text ≡ stored) where
+  pub found_before : {A E : Type 0} → (r : Result (Found A) E) → IfOk r (IsFoundIn now text) → IfOk r (IsFoundIn H stored)
+  found_before (Ok (Finished counted)) f = record { text = f.text; is = λ h. sym (same h) ∙ f.is (still h); counted = f.counted; few = f.few }
+  found_before (Ok (Unfinished journal)) f = record { text = f.text; is = λ h. sym (same h) ∙ f.is (still h); read = f.read; unfinished = f.unfinished }
+  found_before (Err e) f = tt
+
+  fault_is : (e : SessionFault) → FindFault now text e → FindFault H stored e
+  fault_is NoMemory f = tt
+  fault_is DeviceFailed f = tt
+  fault_is (Damaged line) f = λ h. subst (λ t. IsDamagedAt t line) (same h) (f (still h))
+  fault_is TooLarge f = f
+  fault_is (TooFew have) f = f
+  fault_is JournalFull f = f
+  fault_is Interrupted f = f
+  fault_is Broken f = f
+  fault_is (LengthDiffers n) f = f
+  fault_is (NothingToRedo have) f = f
+  fault_is (RedoDamaged line) f = f
+
+  pub fault_before : {T : Type 0} → (r : Result T SessionFault) → IfErr r (FindFault now text) → IfErr r (FindFault H stored)
+  fault_before (Ok v) f = tt
+  fault_before (Err e) f = fault_is e f
+
+-- a count of failures that is the same as before
+pub counts_before : {T : Type 0} → (r : Result T SessionFault) (old now new : ℕ) → now ≡ old → IfErr r (λ e. FaultCounts e 0 now 0 new) → IfErr r (λ e. FaultCounts e 0 old 0 new)
+counts_before r old now new same f = subst (λ n. IfErr r (λ e. FaultCounts e 0 n 0 new)) same f

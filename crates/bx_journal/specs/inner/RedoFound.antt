@@ -1,5 +1,6 @@
 -- What proofs alone need: what was found of a redo text.
-use Rattle.std.specs.Prelude.{◌≡◌, ℕ, Option, List, length}
+use Rattle.std.specs.Prelude.{◌≡◌, ℕ, List, length}
+use Rattle.bx_journal.specs.declared.recovery.windows.CountedText.{CountedText}
 use Rattle.bx_journal.specs.declared.recovery.judge.RedoFound.{RedoFound}
 use Rattle.bx_journal.specs.declared.recovery.judge.RedoFound.TheVariants.{Counted, Text}
 use Rattle.bx_entries.specs.Text.{split}
@@ -17,8 +18,8 @@ pub record IsRedoIn {A : Type 0} (honest : Type 0) (stored : List ℕ) (changes 
   pub found : IsRedoFound text changes found
 
 -- a text was counted as a redo text beside so many changes: the store's, where that is honest
-pub record IsRedoCountedIn (honest : Type 0) (stored : List ℕ) (changes count : ℕ) (told : Option ℕ) (lines : ℕ) : Type 0 where
+pub record IsRedoCountedIn (honest : Type 0) (stored : List ℕ) (changes : ℕ) (c : CountedText) : Type 0 where
   pub text : List ℕ
   pub is : honest → stored ≡ text
-  pub counted : IsRedoCounted text changes count told
-  pub many : lines ≡ length (split text).lines
+  pub counted : IsRedoCounted text changes c.counted.count c.counted.told
+  pub many : c.lines ≡ length (split text).lines

@@ -1,7 +1,8 @@
 -- What proofs alone need: a store's text that is counted in windows.
-use Rattle.std.specs.Prelude.{◌≡◌, ◌<◌, ◌≤◌, ℕ, ◌+◌, Bool, Option, List, ◌++◌, length, take, drop}
+use Rattle.std.specs.Prelude.{◌≡◌, ◌<◌, ◌≤◌, ℕ, ◌+◌, Bool, List, ◌++◌, length, take, drop}
 use Rattle.bx_entries.specs.declared.read.count.Tally.{Tally}
 use Rattle.bx_entries.specs.declared.read.window.Passed.{Passed}
+use Rattle.bx_journal.specs.declared.recovery.windows.CountedText.{CountedText}
 use Rattle.bx_entries.specs.inner.Tally.{IsTallied, IsCountedAll}
 
 -- whole lines at a place, before `len`, lead from a tally to another; they are the store's, where that is honest
@@ -21,8 +22,8 @@ pub record IsCountedTo (honest : Type 0) (stored : List ℕ) (only_second : Bool
   pub tallied : IsTallied only_second front t lines
 
 -- all of a text was counted: the store's, where that is honest
-pub record IsAllCounted (honest : Type 0) (stored : List ℕ) (only_second : Bool) (count : ℕ) (told : Option ℕ) (lines : ℕ) : Type 0 where
+pub record IsAllCounted (honest : Type 0) (stored : List ℕ) (only_second : Bool) (c : CountedText) : Type 0 where
   pub text : List ℕ
   pub is : honest → stored ≡ text
-  pub counted : IsCountedAll only_second text count told lines
-  pub few : count ≤ 65535
+  pub counted : IsCountedAll only_second text c.counted.count c.counted.told c.lines
+  pub few : c.counted.count ≤ 65535

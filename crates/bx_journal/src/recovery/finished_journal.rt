@@ -24,7 +24,7 @@ fn count_redo<T: TextStore, A: Allocator + Clone>(
 ) -> Result<Option<CountedText>, SessionFault>
     requires countable { T.failures redo_text.old < u64.MAX }
     requires few { changes ≤ 65535 }
-    ensures counted { IfOk result (λ found. IfSome found (λ c. IsRedoCountedIn (T.honest redo_text.old) (T.text redo_text.old) changes c.counted.count c.counted.told c.lines)) }
+    ensures counted { IfOk result (λ found. IfSome found (IsRedoCountedIn (T.honest redo_text.old) (T.text redo_text.old) changes)) }
     ensures fault { IfErr result (λ e. (e ≡ SessionFault.NoMemory) ⊎ (e ≡ SessionFault.DeviceFailed)) }
     ensures text { T.honest redo_text.old → T.text redo_text.new ≡ T.text redo_text.old }
     ensures honesty { T.honest redo_text.new ↔ T.honest redo_text.old }

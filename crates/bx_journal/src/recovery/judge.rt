@@ -10,8 +10,8 @@ ghost use Rattle.bx_entries.specs.inner.Parsed.{entries_of};
 ghost use Rattle.bx_entries.specs.Text.{split};
 
 use crate::SessionFault;
-use crate::session::read::read_journal;
 use crate::recovery::windows::CountedText;
+use crate::session::read::read_journal;
 use bx_entries::{Counted, EntryRead, JournalRead, MOST_CHANGES, StageRead, told_length};
 use bx_image::Device;
 use std::alloc::{Allocator, Global};
@@ -210,8 +210,8 @@ pub fn judge_redo<D: Device, A: Allocator + Clone>(
     ensures fault { (text : List ℕ) → IsRedoFound text changes found → IfErr result (JudgeFault (D.honest device.old) text (D.image device.old) changes) }
     ensures unfit { D.honest device.old → (text : List ℕ) → IsRedoFound text changes found → (line : ℕ) → IsRefusedAt text (D.image device.old) changes line
         → MatchResult result (λ _. ⊥) (RefusesRedo line) }
-    ensures kept { D.honest device.old → (text : List ℕ) → IsRedoFound text changes found → (undone : List (List ℕ)) → IsRedoOf text (D.image device.old) changes undone
-        → IfErr result (λ e. (line : ℕ) → e ≡ SessionFault.RedoDamaged line → ⊥) }
+    ensures kept { D.honest device.old → (text : List ℕ) → IsRedoFound text changes found → (undone : List (List ℕ))
+        → IsRedoOf text (D.image device.old) changes undone → IfErr result (λ e. (line : ℕ) → e ≡ SessionFault.RedoDamaged line → ⊥) }
     ensures looks { LooksAt D.honest D.image D.failures result device.old device.new }
 {
     let counted = match count_found(alloc, found, changes) {

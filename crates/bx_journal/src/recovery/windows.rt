@@ -60,7 +60,7 @@ fn count_windows<T: TextStore>(
 ) -> Result<Option<CountedText>, DeviceFailed>
     requires countable { T.failures store.old < u64.MAX }
     requires long { T.honest store.old → len ≡ length (T.text store.old) }
-    ensures counted { IfOk result (λ found. IfSome found (λ c. IsAllCounted (T.honest store.old) (T.text store.old) only_second c.counted.count c.counted.told c.lines)) }
+    ensures counted { IfOk result (λ found. IfSome found (IsAllCounted (T.honest store.old) (T.text store.old) only_second)) }
     ensures text { T.honest store.old → T.text store.new ≡ T.text store.old }
     ensures goes_on { GoesOn T.honest T.room T.failures (is_err result) store.old store.new }
 {
@@ -90,7 +90,7 @@ pub fn count_text<T: TextStore, A: Allocator + Clone>(
     only_second: bool,
 ) -> Result<Option<CountedText>, SessionFault>
     requires { T.failures store.old < u64.MAX }
-    ensures counted { IfOk result (λ found. IfSome found (λ c. IsAllCounted (T.honest store.old) (T.text store.old) only_second c.counted.count c.counted.told c.lines)) }
+    ensures counted { IfOk result (λ found. IfSome found (IsAllCounted (T.honest store.old) (T.text store.old) only_second)) }
     ensures fault { IfErr result (λ e. (e ≡ SessionFault.NoMemory) ⊎ (e ≡ SessionFault.DeviceFailed)) }
     ensures text { T.honest store.old → T.text store.new ≡ T.text store.old }
     ensures honesty { T.honest store.new ↔ T.honest store.old }

@@ -66,7 +66,13 @@ fn counted_in_small_windows(rt: HostRuntime) {
 fn long_journal(alloc: Global, rt: &impl Abort) -> Result<Held, Fail> {
     let bytes = vec![in alloc; b'x'; 131_072]?;
     let start = pair_of(alloc, b"A", b"")?;
-    on_memory(alloc, rt, &start, clean(0), &[writes(0, bytes.as_slice(), 1)])
+    on_memory(
+        alloc,
+        rt,
+        &start,
+        clean(0),
+        &[writes(0, bytes.as_slice(), 1)],
+    )
 }
 
 // Opens where the journal passes so many reads.
