@@ -12,10 +12,10 @@ IsRedoFound text changes (Counted c) = IsRedoCounted text changes c.counted.coun
 IsRedoFound text changes (Text bytes) = bytes.items ≡ text
 
 -- what was found is of the store's text, where that is honest
-pub record IsRedoIn {A : Type 0} (honest : Type 0) (stored : List ℕ) (changes : ℕ) (found : RedoFound A) : Type 0 where
+pub record IsRedoIn {A : Type 0} (honest : Type 0) (stored : List ℕ) (changes : ℕ) (redo : RedoFound A) : Type 0 where
   pub text : List ℕ
   pub is : honest → stored ≡ text
-  pub found : IsRedoFound text changes found
+  pub found : IsRedoFound text changes redo
 
 -- a text was counted as a redo text beside so many changes: the store's, where that is honest
 pub record IsRedoCountedIn (honest : Type 0) (stored : List ℕ) (changes : ℕ) (c : CountedText) : Type 0 where

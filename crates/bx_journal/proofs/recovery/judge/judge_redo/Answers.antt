@@ -1,4 +1,4 @@
-use Rattle.std.proofs.Common.{ℕ, List, refl}
+use Rattle.std.proofs.Common.{ℕ, List, refl, arith}
 use Rattle.bx_journal.proofs.JudgeLemmas.{counted_redo, judged_keeps, judged_refuses, length_judged, lines_off, text_counts, text_judged}
 use Rattle.bx_journal.proofs.Refused.{none_refused}
 use Rattle.bx_journal.proofs.recovery.judge.judge_redo.Goals as goal
@@ -49,3 +49,8 @@ returns-in-Err-clause-looks g c = record {
   no_failure = tt;
   counts = text_counts c.in-Err.ensures.kind.0 c.args.changes (g.D.Device.failures c.args.device.now) 0 c.in-Err.fault c.in-Err.ensures.kind.1;
 }
+
+pub returns-clause-sum : goal.returns-clause-sum
+returns-clause-sum g c text found =
+    let counted = c.in-Ok.ensures.ok text found in
+    omega (arith, counted.fit.few, counted.counted)
