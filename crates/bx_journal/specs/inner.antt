@@ -16,3 +16,4 @@ pub mod Step
 pub mod Takens
 pub mod Turns
 pub mod Undoing
+pub mod Undone
