@@ -18,3 +18,4 @@ pub mod Turns
 pub mod Undoing
 pub mod Windows
 pub mod RedoFound
+pub mod Undone

@@ -1,10 +1,9 @@
 //! Taking entries back: the newest, or some of them one after another.
-ghost use Rattle.std.specs.Prelude.{◌≡◌, ◌↔◌, ◌⊎◌, ◌+◌, ◌-◌, ◌<◌, ◌≤◌, [], ◌∷◌, map, List, ℕ, length, take, drop, reverse, nat_le, vec_capacity, if◌then◌else◌, IfOk, OnOk, OnErr};
-ghost use Rattle.bx_image.specs.Change.{AllWithin, Covers, IsAsGood, restore};
+ghost use Rattle.std.specs.Prelude.{◌≡◌, ◌↔◌, ◌⊎◌, ◌+◌, ◌-◌, ◌<◌, ◌≤◌, [], ◌∷◌, List, ℕ, length, take, drop, reverse, nat_le, vec_capacity, if◌then◌else◌, IfOk, OnOk, OnErr};
+ghost use Rattle.bx_image.specs.Change.{Covers, IsAsGood, restore};
 ghost use Rattle.bx_entries.specs.declared.format.version.Version.{Version as Form};
-ghost use Rattle.bx_entries.specs.Entry.{entry_text};
 ghost use Rattle.bx_journal.specs.Images.{Images as Pictures, undo_of};
-ghost use Rattle.bx_entries.specs.Kept.{run_of, kept_of};
+ghost use Rattle.bx_entries.specs.Kept.{kept_of};
 ghost use Rattle.bx_journal.specs.Opening.{OneMore};
 ghost use Rattle.bx_entries.specs.inner.Parsed.{AllKept, entries_of};
 ghost use Rattle.bx_journal.specs.Phase.{IsAtRest, RecoversEither};
@@ -15,6 +14,7 @@ ghost use Rattle.bx_journal.specs.inner.Redo.{LeavesEither};
 ghost use Rattle.bx_journal.specs.Stack.{Recovers, StandsFor};
 ghost use Rattle.bx_journal.specs.inner.Step.{TakesBack};
 ghost use Rattle.bx_journal.specs.inner.Takens.{AreReady, AllShaped, entries_len};
+ghost use Rattle.bx_journal.specs.inner.Undone.{CanUndo, Undoes};
 ghost use Rattle.bx_entries.specs.Text.{Entry};
 ghost use Rattle.bx_journal.specs.inner.Turns.{AreAtRest, AreStanding, kept_text, side_of};
 ghost use Rattle.bx_journal.specs.Undoing.{HasLeft};
@@ -42,21 +42,13 @@ fn change_undone<D: Device, T: TextStore, A: Allocator>(
 ) -> Result<(), DeviceFailed>
     requires device_countable { D.failures device.old < u64.MAX }
     requires redo_countable { T.failures redo_text.old < u64.MAX }
-    requires within { AllWithin kept.len (map run_of kept.runs) }
-    requires image_room { kept.len ≤ D.room device.old }
-    requires taken_within { AllWithin taken.now.len taken.now.runs }
-    requires fits { T.honest redo_text.old → length (T.text redo_text.old) + length (entry_text number (kept_of taken.now) kept.len) ≤ T.room redo_text.old }
-    requires empty { page.old.items ≡ [] }
-    requires page_room { 82 ≤ vec_capacity page.old }
+    requires ready { CanUndo T.honest T.text T.room redo_text.old (D.room device.old) page.old.items (vec_capacity page.old) number taken.now kept }
     ensures phase { D.honest device.old → (v : Form) (text : List ℕ) (stack : List (List ℕ)) → IsOpen v (kept_of kept) text (D.image device.old) stack
         → IsOpen v (kept_of kept) text (D.image device.new) stack }
     ensures again { D.honest device.old → Covers (kept_of kept) (D.image device.old) → IsAsGood (kept_of kept) (D.image device.old) (D.image device.new) }
-    ensures image { D.honest device.old → OnOk result (D.image device.new ≡ restore (kept_of kept) (D.image device.old)) }
-    ensures redo { T.honest redo_text.old → OnOk result (T.text redo_text.new ≡ kept_text (T.text redo_text.old) (kept_of taken.now) number kept.len) }
     ensures emptied { OnOk result (page.new.items ≡ []) }
     ensures page_kept { vec_capacity page.old ≤ vec_capacity page.new }
-    ensures room { D.room device.old ≤ D.room device.new }
-    ensures redo_room { T.room redo_text.old ≤ T.room redo_text.new }
+    ensures undoes { Undoes D.honest D.image D.room T.honest T.text T.room result device.old redo_text.old device.new redo_text.new number taken.now kept }
     ensures device_honesty { D.honest device.new ↔ D.honest device.old }
     ensures redo_honesty { T.honest redo_text.new ↔ T.honest redo_text.old }
     ensures no_failure { OnOk result ((D.failures device.new ≡ D.failures device.old) × (T.failures redo_text.new ≡ T.failures redo_text.old)) }
@@ -81,12 +73,7 @@ fn open_and_change<D: Device, T: TextStore, A: Allocator>(
 ) -> Result<(), DeviceFailed>
     requires countable { AreBelow u64.MAX (D.failures device.old) (T.failures store.old) (T.failures redo_text.old) }
     requires within_text { T.honest store.old → saved ≤ length (T.text store.old) }
-    requires within { AllWithin kept.len (map run_of kept.runs) }
-    requires image_room { kept.len ≤ D.room device.old }
-    requires taken_within { AllWithin taken.now.len taken.now.runs }
-    requires fits { T.honest redo_text.old → length (T.text redo_text.old) + length (entry_text number (kept_of taken.now) kept.len) ≤ T.room redo_text.old }
-    requires empty { page.old.items ≡ [] }
-    requires page_room { 82 ≤ vec_capacity page.old }
+    requires ready { CanUndo T.honest T.text T.room redo_text.old (D.room device.old) page.old.items (vec_capacity page.old) number taken.now kept }
     ensures order { T.honest store.old → OnErr result (
         ((device.new ≡ device.old) × (redo_text.new ≡ redo_text.old) × IsPartlyCut saved (T.text store.old) (T.text store.new))
         ⊎ (T.text store.new ≡ take saved (T.text store.old))) }
@@ -94,13 +81,10 @@ fn open_and_change<D: Device, T: TextStore, A: Allocator>(
         → IsOpen v (kept_of kept) text (D.image device.new) stack }
     ensures again { D.honest device.old → Covers (kept_of kept) (D.image device.old)
         → OnOk result (IsAsGood (kept_of kept) (D.image device.old) (D.image device.new)) }
-    ensures image { D.honest device.old → OnOk result (D.image device.new ≡ restore (kept_of kept) (D.image device.old)) }
     ensures text { T.honest store.old → OnOk result (T.text store.new ≡ take saved (T.text store.old)) }
-    ensures redo { T.honest redo_text.old → OnOk result (T.text redo_text.new ≡ kept_text (T.text redo_text.old) (kept_of taken.now) number kept.len) }
     ensures emptied { OnOk result (page.new.items ≡ []) }
     ensures page_kept { vec_capacity page.old ≤ vec_capacity page.new }
-    ensures room { D.room device.old ≤ D.room device.new }
-    ensures redo_room { T.room redo_text.old ≤ T.room redo_text.new }
+    ensures undoes { Undoes D.honest D.image D.room T.honest T.text T.room result device.old redo_text.old device.new redo_text.new number taken.now kept }
     ensures steps_on { StepsOn D.honest T.honest D.failures T.failures result device.old store.old redo_text.old device.new store.new redo_text.new }
 {
     store.cut(saved)?;
@@ -124,12 +108,7 @@ pub fn undo_entry<D: Device, T: TextStore, A: Allocator>(
     requires countable { AreBelow u64.MAX (D.failures device.old) (T.failures store.old) (T.failures redo_text.old) }
     requires order { begins ≤ saved }
     requires within_text { T.honest store.old → saved ≤ length (T.text store.old) }
-    requires within { AllWithin kept.len (map run_of kept.runs) }
-    requires image_room { kept.len ≤ D.room device.old }
-    requires taken_within { AllWithin taken.now.len taken.now.runs }
-    requires fits { T.honest redo_text.old → length (T.text redo_text.old) + length (entry_text number (kept_of taken.now) kept.len) ≤ T.room redo_text.old }
-    requires empty { page.old.items ≡ [] }
-    requires page_room { 82 ≤ vec_capacity page.old }
+    requires ready { CanUndo T.honest T.text T.room redo_text.old (D.room device.old) page.old.items (vec_capacity page.old) number taken.now kept }
     ensures ok { D.honest device.old → T.honest store.old → (below : List (List ℕ)) (v : Form) (e : Entry)
         → TakesBack (T.text store.old) (D.image device.old) below v e begins saved → kept_of kept ≡ e.saved
         → OnOk result (IsAtRest (T.text store.new) (D.image device.new) below) }
@@ -141,13 +120,10 @@ pub fn undo_entry<D: Device, T: TextStore, A: Allocator>(
         → OnErr result (LeavesEither (T.text store.new) (D.image device.new) (T.text redo_text.new)
         (side_of (D.image device.old ∷ below) (D.image device.old) (T.text redo_text.old))
         (side_of below (restore e.saved (D.image device.old)) (kept_text (T.text redo_text.old) (kept_of taken.now) number kept.len))) }
-    ensures image { D.honest device.old → OnOk result (D.image device.new ≡ restore (kept_of kept) (D.image device.old)) }
     ensures text { T.honest store.old → OnOk result (T.text store.new ≡ take begins (T.text store.old)) }
-    ensures redo { T.honest redo_text.old → OnOk result (T.text redo_text.new ≡ kept_text (T.text redo_text.old) (kept_of taken.now) number kept.len) }
     ensures emptied { OnOk result (page.new.items ≡ []) }
     ensures page_kept { vec_capacity page.old ≤ vec_capacity page.new }
-    ensures room { D.room device.old ≤ D.room device.new }
-    ensures redo_room { T.room redo_text.old ≤ T.room redo_text.new }
+    ensures undoes { Undoes D.honest D.image D.room T.honest T.text T.room result device.old redo_text.old device.new redo_text.new number taken.now kept }
     ensures steps_on { StepsOn D.honest T.honest D.failures T.failures result device.old store.old redo_text.old device.new store.new redo_text.new }
 {
     open_and_change(device, store, redo_text, page, number, taken, kept, saved)?;

@@ -50,59 +50,26 @@ undo_entry-requires-clause-within_text g c th =
     let most : length ts + 1 ≡ length c.loop-i.takens.items = sym (ap length c.in-Some.ensures.items ∙ length-append ts (t ∷ [])) in
     long_at inv.place.text (g.T.TextStore.text c.loop-i.store) es e inv.place.to u (inv.place.left (inv.store_honest.0 th))
 
-pub undo_entry-requires-clause-within : goal.undo_entry-requires-clause-within
-undo_entry-requires-clause-within g c =
+pub undo_entry-requires-clause-ready : goal.undo_entry-requires-clause-ready
+undo_entry-requires-clause-ready g c =
     let inv = c.loop-i.invariant in
     let es = c.pop-in-loop-i.new.self.items in
     let e = c.in-Some-pop.entry in
     let ts = c.pop.new.self.items in
     let t = c.in-Some.taken in
-    let u : IsUndone inv.place.text (es ++ e ∷ []) inv.place.to = subst (λ fs. IsUndone inv.place.text fs inv.place.to) c.in-Some-pop.ensures.items inv.place.undone in
     let long : length es + 1 ≡ length c.loop-i.entries.items = sym (ap length c.in-Some-pop.ensures.items ∙ length-append es (e ∷ [])) in
     let most : length ts + 1 ≡ length c.loop-i.takens.items = sym (ap length c.in-Some.ensures.items ∙ length-append ts (t ∷ [])) in
     let n : ℕ = length c.args.entries.now.items - length c.args.takens.now.items in
     let inside : n ≤ length es = omega (arith, long, most, inv.left, inv.more, inv.few) in
     let kept = kept_next (g.D.Device.room c.loop-i.device) n es e inside (subst (λ fs. AllKept (g.D.Device.room c.loop-i.device) (drop n fs)) c.in-Some-pop.ensures.items inv.kept) in
-    kept.1
-
-pub undo_entry-requires-clause-image_room : goal.undo_entry-requires-clause-image_room
-undo_entry-requires-clause-image_room g c =
-    let inv = c.loop-i.invariant in
-    let es = c.pop-in-loop-i.new.self.items in
-    let e = c.in-Some-pop.entry in
-    let ts = c.pop.new.self.items in
-    let t = c.in-Some.taken in
-    let u : IsUndone inv.place.text (es ++ e ∷ []) inv.place.to = subst (λ fs. IsUndone inv.place.text fs inv.place.to) c.in-Some-pop.ensures.items inv.place.undone in
-    let long : length es + 1 ≡ length c.loop-i.entries.items = sym (ap length c.in-Some-pop.ensures.items ∙ length-append es (e ∷ [])) in
-    let most : length ts + 1 ≡ length c.loop-i.takens.items = sym (ap length c.in-Some.ensures.items ∙ length-append ts (t ∷ [])) in
-    let n : ℕ = length c.args.entries.now.items - length c.args.takens.now.items in
-    let inside : n ≤ length es = omega (arith, long, most, inv.left, inv.more, inv.few) in
-    let kept = kept_next (g.D.Device.room c.loop-i.device) n es e inside (subst (λ fs. AllKept (g.D.Device.room c.loop-i.device) (drop n fs)) c.in-Some-pop.ensures.items inv.kept) in
-    kept.2
-
-pub undo_entry-requires-clause-taken_within : goal.undo_entry-requires-clause-taken_within
-undo_entry-requires-clause-taken_within g c =
-    let inv = c.loop-i.invariant in
-    let es = c.pop-in-loop-i.new.self.items in
-    let e = c.in-Some-pop.entry in
-    let ts = c.pop.new.self.items in
-    let t = c.in-Some.taken in
-    let u : IsUndone inv.place.text (es ++ e ∷ []) inv.place.to = subst (λ fs. IsUndone inv.place.text fs inv.place.to) c.in-Some-pop.ensures.items inv.place.undone in
-    let long : length es + 1 ≡ length c.loop-i.entries.items = sym (ap length c.in-Some-pop.ensures.items ∙ length-append es (e ∷ [])) in
-    let most : length ts + 1 ≡ length c.loop-i.takens.items = sym (ap length c.in-Some.ensures.items ∙ length-append ts (t ∷ [])) in
-    (shaped_pop ts t (subst AllShaped c.in-Some.ensures.items inv.shaped)).1
-
-pub undo_entry-requires-clause-fits : goal.undo_entry-requires-clause-fits
-undo_entry-requires-clause-fits g c now =
-    let inv = c.loop-i.invariant in
-    let es = c.pop-in-loop-i.new.self.items in
-    let e = c.in-Some-pop.entry in
-    let ts = c.pop.new.self.items in
-    let t = c.in-Some.taken in
-    let u : IsUndone inv.place.text (es ++ e ∷ []) inv.place.to = subst (λ fs. IsUndone inv.place.text fs inv.place.to) c.in-Some-pop.ensures.items inv.place.undone in
-    let long : length es + 1 ≡ length c.loop-i.entries.items = sym (ap length c.in-Some-pop.ensures.items ∙ length-append es (e ∷ [])) in
-    let most : length ts + 1 ≡ length c.loop-i.takens.items = sym (ap length c.in-Some.ensures.items ∙ length-append ts (t ∷ [])) in
-    omega (arith, inv.fits (inv.redo_honest.0 now), ap entries_len c.in-Some.ensures.items, len_pop ts t, entry_long (c.loop-i.undone + 1) 0 (kept_of t) (kept_of t) e.kept.len 0 refl)
+    record {
+      within = kept.1;
+      image_room = kept.2;
+      taken_within = (shaped_pop ts t (subst AllShaped c.in-Some.ensures.items inv.shaped)).1;
+      fits = λ now. omega (arith, inv.fits (inv.redo_honest.0 now), ap entries_len c.in-Some.ensures.items, len_pop ts t, entry_long (c.loop-i.undone + 1) 0 (kept_of t) (kept_of t) e.kept.len 0 refl);
+      empty = inv.empty;
+      page_room = inv.page_room;
+    }
 
 pub returns-in_err-undo_entry-clause-finds : goal.returns-in_err-undo_entry-clause-finds
 returns-in_err-undo_entry-clause-finds g c dh th rh s rest count =
@@ -163,7 +130,7 @@ fill_last-requires-clause-range g c now =
     let text : List ℕ = g.T.TextStore.text c.loop-i.store in
     let ready = ready_pop x es e ts t (subst (λ us. AreReady x (reverse (es ++ e ∷ [])) (reverse us)) c.in-Some.ensures.items (subst (λ fs. AreReady x (reverse fs) (reverse c.loop-i.takens.items)) c.in-Some-pop.ensures.items (inv.ready dh))) in
     let y : List ℕ = g.D.Device.image c.undo_entry.new.device in
-    first_below (length y) (reverse es) (reverse ts) (zeros_at x y e (reverse es) (reverse ts) (c.in_ok-undo_entry.ensures.image (inv.device_honest.1 dh)) ready.1)
+    first_below (length y) (reverse es) (reverse ts) (zeros_at x y e (reverse es) (reverse ts) (c.in_ok-undo_entry.ensures.undoes.image_is (inv.device_honest.1 dh)) ready.1)
 
 pub returns-in_err-fill_last-clause-finds : goal.returns-in_err-fill_last-clause-finds
 returns-in_err-fill_last-clause-finds g c dh th rh s rest count =
@@ -187,9 +154,9 @@ returns-in_err-fill_last-clause-finds g c dh th rh s rest count =
     let back = takes_back inv.place.text text x (undo_of c.loop-i.i s).stack es e inv.place.to u (inv.place.left th) here.0.rest in
     let below : List (List ℕ) = drop 1 (undo_of c.loop-i.i s).stack in
     let y : List ℕ = g.D.Device.image c.undo_entry.new.device in
-    let restored : y ≡ restore (kept_of e.kept) x = c.in_ok-undo_entry.ensures.image (inv.device_honest.1 dh) in
+    let restored : y ≡ restore (kept_of e.kept) x = c.in_ok-undo_entry.ensures.undoes.image_is (inv.device_honest.1 dh) in
     let next = turned text x r (g.T.TextStore.text c.undo_entry.new.store) y (g.T.TextStore.text c.undo_entry.new.redo_text) s e t c.loop-i.i c.loop-i.undone here.0 here.1 one restored
-    (c.in_ok-undo_entry.ensures.redo (inv.redo_honest.1 rh)) (c.in_ok-undo_entry.ensures.ok (inv.device_honest.1 dh) (inv.store_honest.1 th) below e.version (entry_of e) back refl) in
+    (c.in_ok-undo_entry.ensures.undoes.redo_is (inv.redo_honest.1 rh)) (c.in_ok-undo_entry.ensures.ok (inv.device_honest.1 dh) (inv.store_honest.1 th) below e.version (entry_of e) back refl) in
     let same : g.D.Device.image c.fill_last.new.device ≡ y = c.fill_last.ensures.image (c.undo_entry.ensures.steps_on.device_honesty.1 (inv.device_honest.1 dh)) in
     let found = rest_is_found (g.T.TextStore.text c.undo_entry.new.store) y (g.T.TextStore.text c.undo_entry.new.redo_text) (undo_of (c.loop-i.i + 1) s) next.0 in
     always_err c.from_residual-in_err-fill_last.result (
@@ -241,7 +208,7 @@ loop-i-preserved g c =
       more = omega (arith, inv.more, most, c.fill_last.ensures.count);
       few = inv.few;
       bound = by_len (nat_le t.len MAX_LEN) c.loop-i.undone c.undone_with-undone.result (length ts) (length c.fill_last.new.takens.items) (c.args.undone + length c.args.takens.now.items) c.undone_with-undone.ensures c.fill_last.ensures.count (omega (arith, inv.bound, most));
-      kept = kept_more (g.D.Device.room c.loop-i.device) (g.D.Device.room c.fill_last.new.device) (drop n es) kept.0 (omega (arith, c.undo_entry.ensures.room, c.fill_last.ensures.goes_on.no_less_room));
+      kept = kept_more (g.D.Device.room c.loop-i.device) (g.D.Device.room c.fill_last.new.device) (drop n es) kept.0 (omega (arith, c.undo_entry.ensures.undoes.room_kept, c.fill_last.ensures.goes_on.no_less_room));
       dropped = dropped_next es e (entries_of c.args.entries.now.items) c.loop-i.i (ap entries_of (sym c.in-Some-pop.ensures.items) ∙ inv.dropped);
       device_honest = ((λ h. inv.device_honest.0 (c.undo_entry.ensures.steps_on.device_honesty.0 (c.fill_last.ensures.goes_on.honesty.0 h))), λ h. c.fill_last.ensures.goes_on.honesty.1 (c.undo_entry.ensures.steps_on.device_honesty.1 (inv.device_honest.1 h)));
       store_honest = ((λ h. inv.store_honest.0 (c.undo_entry.ensures.steps_on.store_honesty.0 h)), λ h. c.undo_entry.ensures.steps_on.store_honesty.1 (inv.store_honest.1 h));
@@ -265,12 +232,12 @@ loop-i-preserved g c =
           let y : List ℕ = g.D.Device.image c.undo_entry.new.device in
           let here = c.undo_entry.ensures.steps_on.device_honesty.1 (inv.device_honest.1 dh) in
           subst (λ z. AreReady z (reverse es) (reverse c.fill_last.new.takens.items)) (sym (c.fill_last.ensures.image here))
-          (c.in_ok-fill_last.ensures.filled here (reverse es) (zeros_at x y e (reverse es) (reverse ts) (undo.image (inv.device_honest.1 dh)) ready.1));
+          (c.in_ok-fill_last.ensures.filled here (reverse es) (zeros_at x y e (reverse es) (reverse ts) (undo.undoes.image_is (inv.device_honest.1 dh)) ready.1));
       fits = λ rh.
           let was = inv.fits rh in
           let sum : length (g.T.TextStore.text c.loop-i.redo_text) + (entries_len ts + length (entry_text 0 (kept_of t) 0)) ≤ g.T.TextStore.room c.loop-i.redo_text = omega (arith, was, ap entries_len c.in-Some.ensures.items, len_pop ts t) in
           let room = room_left (g.T.TextStore.text c.loop-i.redo_text) (g.T.TextStore.text c.undo_entry.new.redo_text) ts t (c.loop-i.undone + 1) e.kept.len (g.T.TextStore.room c.loop-i.redo_text) (g.T.TextStore.room c.undo_entry.new.redo_text)
-          (undo.redo (inv.redo_honest.1 rh)) sum c.undo_entry.ensures.redo_room in
+          (undo.undoes.redo_is (inv.redo_honest.1 rh)) sum c.undo_entry.ensures.undoes.redo_room in
           omega (arith, room, c.fill_last.ensures.entries_len);
       empty = undo.emptied;
       page_room = omega (arith, inv.page_room, c.undo_entry.ensures.page_kept);
@@ -288,7 +255,7 @@ loop-i-preserved g c =
           let new : List ℕ = g.T.TextStore.text c.undo_entry.new.store in
           let same : g.D.Device.image c.fill_last.new.device ≡ dev = c.fill_last.ensures.image (c.undo_entry.ensures.steps_on.device_honesty.1 (inv.device_honest.1 dh)) in
           subst (λ z. StandsFor new z (drop (c.loop-i.i + 1) stack)) (sym same) (subst (StandsFor new dev) (drop_one c.loop-i.i stack)
-          (stood_next inv.place.text text new x dev (drop c.loop-i.i stack) es e inv.place.to u (inv.place.left th) (undo.text (inv.store_honest.1 th)) (undo.image (inv.device_honest.1 dh)) (inv.stood dh th stack stands)));
+          (stood_next inv.place.text text new x dev (drop c.loop-i.i stack) es e inv.place.to u (inv.place.left th) (undo.text (inv.store_honest.1 th)) (undo.undoes.image_is (inv.device_honest.1 dh)) (inv.stood dh th stack stands)));
       found = λ dh th rh s rest count.
           let x : List ℕ = g.D.Device.image c.loop-i.device in
           let r : List ℕ = g.T.TextStore.text c.loop-i.redo_text in
@@ -299,9 +266,9 @@ loop-i-preserved g c =
           let back = takes_back inv.place.text text x (undo_of c.loop-i.i s).stack es e inv.place.to u (inv.place.left th) here.0.rest in
           let below : List (List ℕ) = drop 1 (undo_of c.loop-i.i s).stack in
           let y : List ℕ = g.D.Device.image c.undo_entry.new.device in
-          let restored : y ≡ restore (kept_of e.kept) x = c.in_ok-undo_entry.ensures.image (inv.device_honest.1 dh) in
+          let restored : y ≡ restore (kept_of e.kept) x = c.in_ok-undo_entry.ensures.undoes.image_is (inv.device_honest.1 dh) in
           let next = turned text x r (g.T.TextStore.text c.undo_entry.new.store) y (g.T.TextStore.text c.undo_entry.new.redo_text) s e t c.loop-i.i c.loop-i.undone here.0 here.1 one restored
-          (c.in_ok-undo_entry.ensures.redo (inv.redo_honest.1 rh)) (c.in_ok-undo_entry.ensures.ok (inv.device_honest.1 dh) (inv.store_honest.1 th) below e.version (entry_of e) back refl) in
+          (c.in_ok-undo_entry.ensures.undoes.redo_is (inv.redo_honest.1 rh)) (c.in_ok-undo_entry.ensures.ok (inv.device_honest.1 dh) (inv.store_honest.1 th) below e.version (entry_of e) back refl) in
           let same : g.D.Device.image c.fill_last.new.device ≡ y = c.fill_last.ensures.image (c.undo_entry.ensures.steps_on.device_honesty.1 (inv.device_honest.1 dh)) in (
             subst (λ z. AreAtRest (g.T.TextStore.text c.undo_entry.new.store) z (g.T.TextStore.text c.undo_entry.new.redo_text) (undo_of (c.loop-i.i + 1) s)) (sym same) next.0,
             c.undone_with-undone.ensures ∙ next.1,
@@ -315,9 +282,9 @@ loop-i-preserved g c =
           let one = undoes_standing inv.place.text text x r (undo_of c.loop-i.i s) es e t inv.place.to u (inv.place.left th) here.0 kept.1 ready.0 in
           let below : List (List ℕ) = drop 1 (undo_of c.loop-i.i s).stack in
           let y : List ℕ = g.D.Device.image c.undo_entry.new.device in
-          let restored : y ≡ restore (kept_of e.kept) x = c.in_ok-undo_entry.ensures.image (inv.device_honest.1 dh) in
+          let restored : y ≡ restore (kept_of e.kept) x = c.in_ok-undo_entry.ensures.undoes.image_is (inv.device_honest.1 dh) in
           let next = turned_standing text x r (g.T.TextStore.text c.undo_entry.new.store) y (g.T.TextStore.text c.undo_entry.new.redo_text) s e t c.loop-i.i c.loop-i.undone here.0 here.1 one restored
-          (c.in_ok-undo_entry.ensures.redo (inv.redo_honest.1 rh)) (stood_next inv.place.text text (g.T.TextStore.text c.undo_entry.new.store) x y (undo_of c.loop-i.i s).stack es e inv.place.to u (inv.place.left th) (undo.text (inv.store_honest.1 th)) restored here.0.stands) in
+          (c.in_ok-undo_entry.ensures.undoes.redo_is (inv.redo_honest.1 rh)) (stood_next inv.place.text text (g.T.TextStore.text c.undo_entry.new.store) x y (undo_of c.loop-i.i s).stack es e inv.place.to u (inv.place.left th) (undo.text (inv.store_honest.1 th)) restored here.0.stands) in
           let same : g.D.Device.image c.fill_last.new.device ≡ y = c.fill_last.ensures.image (c.undo_entry.ensures.steps_on.device_honesty.1 (inv.device_honest.1 dh)) in (
             subst (λ z. AreStanding (g.T.TextStore.text c.undo_entry.new.store) z (g.T.TextStore.text c.undo_entry.new.redo_text) (undo_of (c.loop-i.i + 1) s)) (sym same) next.0,
             c.undone_with-undone.ensures ∙ next.1,

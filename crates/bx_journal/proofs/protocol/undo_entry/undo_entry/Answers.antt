@@ -54,8 +54,13 @@ returns-in_err-open_and_change-clause-fault g c dh th below v e t is =
       | inr cut ↦ inr (open_recovers v (kept_of c.args.kept) text y below (c.open_and_change.ensures.phase dh v text below (subst (λ s. IsOpen v s text x below) (sym is) (first_ok (g.T.TextStore.text c.args.store.now) x below v e c.args.begins c.args.saved t text cut))))
     ])
 
-pub returns-clause-image : goal.returns-clause-image
-returns-clause-image g c dh = always_ok c.drop_tail.result (c.in_ok-open_and_change.ensures.image dh)
+pub returns-clause-undoes : goal.returns-clause-undoes
+returns-clause-undoes g c = record {
+  image_is = λ dh. always_ok c.drop_tail.result (c.in_ok-open_and_change.ensures.undoes.image_is dh);
+  redo_is = λ rh. always_ok c.drop_tail.result (c.in_ok-open_and_change.ensures.undoes.redo_is rh);
+  room_kept = c.open_and_change.ensures.undoes.room_kept;
+  redo_room = c.open_and_change.ensures.undoes.redo_room;
+}
 
 pub returns-clause-ok : goal.returns-clause-ok
 returns-clause-ok g c dh th below v e t is =
@@ -65,7 +70,7 @@ returns-clause-ok g c dh th below v e t is =
     let tail = subst (λ s. HasTail text x below t.entries (Ending v s) c.args.begins) (sym is) (first_tail (g.T.TextStore.text c.args.store.now) x below v e c.args.begins c.args.saved t text (c.in_ok-open_and_change.ensures.text th)) in
     let good = c.in_ok-open_and_change.ensures.again dh tail.sound.unfinished in
     c.drop_tail.ensures.ok (c.open_and_change.ensures.steps_on.store_honesty.1 th) y below t.entries (Ending v (kept_of c.args.kept))
-    (tail_moves text x y below t.entries v (kept_of c.args.kept) c.args.begins tail good) (good.same ∙ sym (c.in_ok-open_and_change.ensures.image dh))
+    (tail_moves text x y below t.entries v (kept_of c.args.kept) c.args.begins tail good) (good.same ∙ sym (c.in_ok-open_and_change.ensures.undoes.image_is dh))
 
 pub returns-clause-left : goal.returns-clause-left
 returns-clause-left g c dh th rh below v e t is =
@@ -77,11 +82,11 @@ returns-clause-left g c dh th rh below v e t is =
     let new : Side = side_of below (restore e.saved x) (kept_text r (kept_of c.args.taken.now) c.args.number c.args.kept.len) in
     let tail = subst (λ s. HasTail text x below t.entries (Ending v s) c.args.begins) (sym is) (first_tail (g.T.TextStore.text c.args.store.now) x below v e c.args.begins c.args.saved t text (c.in_ok-open_and_change.ensures.text th)) in
     let good = c.in_ok-open_and_change.ensures.again dh tail.sound.unfinished in
-    let restored : y ≡ restore e.saved x = c.in_ok-open_and_change.ensures.image dh ∙ ap (λ (s : Kept). restore s x) is in
+    let restored : y ≡ restore e.saved x = c.in_ok-open_and_change.ensures.undoes.image_is dh ∙ ap (λ (s : Kept). restore s x) is in
     on_err_weaker c.drop_tail.result
-    (behind_stops (g.T.TextStore.text c.drop_tail.new.store) y (g.T.TextStore.text c.open_and_change.new.redo_text) old new restored (c.in_ok-open_and_change.ensures.redo rh))
+    (behind_stops (g.T.TextStore.text c.drop_tail.new.store) y (g.T.TextStore.text c.open_and_change.new.redo_text) old new restored (c.in_ok-open_and_change.ensures.undoes.redo_is rh))
     (c.drop_tail.ensures.fault (c.open_and_change.ensures.steps_on.store_honesty.1 th) y below t.entries (Ending v (kept_of c.args.kept))
-    (tail_moves text x y below t.entries v (kept_of c.args.kept) c.args.begins tail good) (good.same ∙ sym (c.in_ok-open_and_change.ensures.image dh)))
+    (tail_moves text x y below t.entries v (kept_of c.args.kept) c.args.begins tail good) (good.same ∙ sym (c.in_ok-open_and_change.ensures.undoes.image_is dh)))
 
 pub returns-clause-fault : goal.returns-clause-fault
 returns-clause-fault g c dh th below v e t is =
@@ -92,4 +97,4 @@ returns-clause-fault g c dh th below v e t is =
     let good = c.in_ok-open_and_change.ensures.again dh tail.sound.unfinished in
     on_err_weaker c.drop_tail.result inr
     (c.drop_tail.ensures.fault (c.open_and_change.ensures.steps_on.store_honesty.1 th) y below t.entries (Ending v (kept_of c.args.kept))
-    (tail_moves text x y below t.entries v (kept_of c.args.kept) c.args.begins tail good) (good.same ∙ sym (c.in_ok-open_and_change.ensures.image dh)))
+    (tail_moves text x y below t.entries v (kept_of c.args.kept) c.args.begins tail good) (good.same ∙ sym (c.in_ok-open_and_change.ensures.undoes.image_is dh)))
