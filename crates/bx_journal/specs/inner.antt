@@ -9,6 +9,7 @@ pub mod Page
 pub mod Phase
 pub mod Recovery
 pub mod Redo
+pub mod RedoFound
 pub mod RedoLaws
 pub mod Rows
 pub mod Standing
@@ -16,6 +17,5 @@ pub mod Step
 pub mod Takens
 pub mod Turns
 pub mod Undoing
-pub mod Windows
-pub mod RedoFound
 pub mod Undone
+pub mod Windows
