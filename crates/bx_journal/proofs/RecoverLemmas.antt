@@ -9,10 +9,11 @@ use Rattle.bx_journal.specs.declared.session.fault.SessionFault.{SessionFault}
 use Rattle.bx_journal.specs.declared.session.fault.SessionFault.TheVariants.{NoMemory, TooLarge, DeviceFailed, Damaged, TooFew, JournalFull, Interrupted, Broken, LengthDiffers, NothingToRedo, RedoDamaged}
 use Rattle.bx_entries.specs.inner.Journal.{HasRead}
 use Rattle.bx_journal.specs.Opening.{FaultCounts, OneMore, OneMoreOfThree, ThreeCounts}
+use Rattle.bx_journal.specs.inner.Judging.{JudgeFault}
 use Rattle.bx_journal.specs.inner.Opening.{LookFault}
 use Rattle.bx_entries.specs.Parsed.{told_by}
 use Rattle.bx_entries.specs.inner.Parsed.{entries_of, stage_of, reading_of}
-use Rattle.bx_journal.specs.inner.Recovery.{RecoverFault}
+use Rattle.bx_journal.specs.inner.Recovery.{FinishedFault, HasToldLength, RecoverFault}
 use Rattle.bx_journal.specs.Redo.{IsClean, IsRefusedAt}
 use Rattle.bx_entries.specs.inner.Tally.{IsCounted}
 use Rattle.bx_entries.specs.Text.{Entry, Between, Reading, Reads}
@@ -89,3 +90,19 @@ refused_at redo text x y changes line same image refused = subst (λ t. IsRefuse
 -- one more failed call of two devices is one more of three
 pub one_more_beside : (d t u d_new t_new u_new : ℕ) → u_new ≡ u → OneMore d t d_new t_new → OneMoreOfThree d t u d_new t_new u_new
 one_more_beside d t u d_new t_new u_new same one = omega (arith, same, one)
+
+-- what judging the redo text may answer, beside a journal of finished entries alone
+pub judged_finished : (H now R : Type 0) (redo text x y : List ℕ) (changes : ℕ) (told : Option ℕ) (e : SessionFault) → (H → now) → (R → redo ≡ text) → (H → y ≡ x) → (H → HasToldLength told x)
+    → JudgeFault now text y changes e → FinishedFault H (H × R) redo x changes told e
+judged_finished H now R redo text x y changes told NoMemory still same image length_is f = tt
+judged_finished H now R redo text x y changes told DeviceFailed still same image length_is f = tt
+judged_finished H now R redo text x y changes told (RedoDamaged line) still same image length_is f =
+    (length_is, λ both. refused_at text redo y x changes line (sym (same both.1)) (image both.0) (f (still both.0)))
+judged_finished H now R redo text x y changes told (LengthDiffers n) still same image length_is f = absurd f
+judged_finished H now R redo text x y changes told TooLarge still same image length_is f = f
+judged_finished H now R redo text x y changes told (Damaged line) still same image length_is f = f
+judged_finished H now R redo text x y changes told (TooFew have) still same image length_is f = f
+judged_finished H now R redo text x y changes told JournalFull still same image length_is f = f
+judged_finished H now R redo text x y changes told Interrupted still same image length_is f = f
+judged_finished H now R redo text x y changes told Broken still same image length_is f = f
+judged_finished H now R redo text x y changes told (NothingToRedo have) still same image length_is f = f

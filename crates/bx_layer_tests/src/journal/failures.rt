@@ -447,12 +447,12 @@ fn opening_refused(
     Ok(())
 }
 
-// Opening of the same, which reads the journal and so many times the image's length, and then nothing more.
+// Opening of the same, which reads the journal and the image's length so many times, and then nothing more.
 fn opening_recovers(
     alloc: Global,
     rt: &impl Abort,
     len: usize,
-    lengths: u64,
+    reads: (u64, u64),
     how: How,
 ) -> Result<(), Fail> {
     let start = held_of(alloc, b"A", front(UNDONE_TWO, len), UNDONE)?;
@@ -461,23 +461,33 @@ fn opening_recovers(
         changes: 1,
         undone: 0,
     });
-    let left = with_reads(alloc, rt, &start, (lengths, 1, 0), found, &[])?;
+    let left = with_reads(alloc, rt, &start, (reads.1, reads.0, 0), found, &[])?;
     assert!(rt; left.journal.as_slice() == front(UNDONE_TWO, 133));
     Ok(())
 }
 
-// Behind an entry that tells its length stands a front of a first line, a first line, or an entry up to its save line. Of the
-// first two the image's length is read. No read comes behind the first write.
+// Each of so many reads of the journal is refused.
+fn reads_refused(alloc: Global, rt: &impl Abort, len: usize, reads: u64) -> Result<(), Fail> {
+    for pass in 0..reads {
+        opening_refused(alloc, rt, len, (NONE, pass, NONE))?;
+    }
+    Ok(())
+}
+
+// Behind an entry that tells its length stands a front of a first line, a first line, or an entry up to its save line. The
+// journal's length is read, a window of it, what is left behind that, and then all of it. Of the first two the image's length
+// is read. No read comes behind the first write.
 #[test]
 fn reads_of_recoveries_fail(rt: HostRuntime) -> Result<(), Fail> {
-    for len in [150, 167, 234] {
-        opening_refused(rt.alloc(), &rt, len, (NONE, 0, NONE))?;
-    }
+    reads_refused(rt.alloc(), &rt, 150, 4)?;
+    reads_refused(rt.alloc(), &rt, 167, 3)?;
+    reads_refused(rt.alloc(), &rt, 234, 3)?;
     for len in [150, 167] {
         opening_refused(rt.alloc(), &rt, len, (0, NONE, NONE))?;
-        opening_recovers(rt.alloc(), &rt, len, 1, How::Dropped)?;
     }
-    opening_recovers(rt.alloc(), &rt, 234, 0, How::Restored { number: 2 })
+    opening_recovers(rt.alloc(), &rt, 150, (4, 1), How::Dropped)?;
+    opening_recovers(rt.alloc(), &rt, 167, (3, 1), How::Dropped)?;
+    opening_recovers(rt.alloc(), &rt, 234, (3, 0), How::Restored { number: 2 })
 }
 
 // A change that stops where it empties the redo text: opening takes it back, and nothing is undone any more.
