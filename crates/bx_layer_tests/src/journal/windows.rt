@@ -62,17 +62,15 @@ fn counted_in_small_windows(rt: HostRuntime) {
     assert!(rt; count_by(PATCHED_FIRST, 60, true).is_none());
 }
 
-// One change whose entry is longer than two windows.
+// Two changes, of which the second one's entry is longer than two windows.
 fn long_journal(alloc: Global, rt: &impl Abort) -> Result<Held, Fail> {
     let bytes = vec![in alloc; b'x'; 131_072]?;
     let start = pair_of(alloc, b"A", b"")?;
-    on_memory(
-        alloc,
-        rt,
-        &start,
-        clean(0),
-        &[writes(0, bytes.as_slice(), 1)],
-    )
+    let steps = [
+        writes(0, bytes.as_slice(), 1),
+        writes(0, bytes.as_slice(), 2),
+    ];
+    on_memory(alloc, rt, &start, clean(0), &steps)
 }
 
 // Opens where the journal passes so many reads.
@@ -99,7 +97,7 @@ fn each_window_fails(rt: HostRuntime) -> Result<(), Fail> {
     for pass in 0..4 {
         opens_behind(alloc, &rt, &start, pass, Err(SessionFault::DeviceFailed))?;
     }
-    opens_behind(alloc, &rt, &start, 4, clean(1))
+    opens_behind(alloc, &rt, &start, 4, clean(2))
 }
 
 fn opens_in<'a>(alloc: Global, bump: &'a Bump, start: &Held) -> Result<u32, Fail> {
@@ -116,6 +114,6 @@ fn long_journal_in_a_window(rt: HostRuntime) -> Result<(), Fail> {
     let alloc = rt.alloc();
     let start = long_journal(alloc, &rt)?;
     let bump = ration(alloc, 270_000)?;
-    assert!(rt; opens_in(alloc, &bump, &start)? == 1);
+    assert!(rt; opens_in(alloc, &bump, &start)? == 2);
     Ok(())
 }
