@@ -82,11 +82,11 @@ fn kind(alloc: Global, kind: Kind) -> Field {
 
 fn od_field(alloc: Global, job: &OdJob, name: &str) -> Field {
     match name {
-        "address" => address(alloc, job.address),
-        "kind" => kind(alloc, job.kind),
-        "skip" => number(alloc, job.skip),
-        "limit" => limit(alloc, job.limit),
-        "all" => flag(alloc, job.all),
+        "address" => address(alloc, job.options.address),
+        "kind" => kind(alloc, job.options.kind),
+        "skip" => number(alloc, job.options.skip),
+        "limit" => limit(alloc, job.options.limit),
+        "all" => flag(alloc, job.options.all),
         "file" => file(alloc, &job.file),
         _ => Ok(None),
     }
@@ -104,12 +104,12 @@ fn look(look: XxdLook) -> &'static str {
 fn xxd_field(alloc: Global, job: &XxdJob, name: &str) -> Field {
     match name {
         "look" => text(alloc, look(job.look)),
-        "cols" => number(alloc, job.cols as u64),
-        "group" => number(alloc, job.group as u64),
-        "limit" => limit(alloc, job.limit),
-        "seek" => number(alloc, job.seek),
-        "shift" => number(alloc, job.shift),
-        "upper" => flag(alloc, job.upper),
+        "cols" => number(alloc, job.options.cols as u64),
+        "group" => number(alloc, job.options.group as u64),
+        "limit" => limit(alloc, job.options.limit),
+        "seek" => number(alloc, job.options.seek),
+        "shift" => number(alloc, job.options.shift),
+        "upper" => flag(alloc, job.options.upper),
         "file" => file(alloc, &job.file),
         _ => Ok(None),
     }
@@ -117,9 +117,9 @@ fn xxd_field(alloc: Global, job: &XxdJob, name: &str) -> Field {
 
 fn hexdump_field(alloc: Global, job: &HexdumpJob, name: &str) -> Field {
     match name {
-        "skip" => number(alloc, job.skip),
-        "limit" => limit(alloc, job.limit),
-        "all" => flag(alloc, job.all),
+        "skip" => number(alloc, job.options.skip),
+        "limit" => limit(alloc, job.options.limit),
+        "all" => flag(alloc, job.options.all),
         "file" => file(alloc, &job.file),
         _ => Ok(None),
     }
@@ -127,8 +127,8 @@ fn hexdump_field(alloc: Global, job: &HexdumpJob, name: &str) -> Field {
 
 fn strings_field(alloc: Global, job: &StringsJob, name: &str) -> Field {
     match name {
-        "least" => number(alloc, job.least as u64),
-        "offsets" => address(alloc, job.offsets),
+        "least" => number(alloc, job.options.least as u64),
+        "offsets" => address(alloc, job.options.offsets),
         "file" => file(alloc, &job.file),
         _ => Ok(None),
     }

@@ -57,4 +57,4 @@ pub text_reverts : (A : Type 0) → NormalTextReverts A
 text_reverts A o input image offset pieces is read =
     let part = part_of o.seek o.limit input in
     let same : pieces ≡ dumped_chunks o input = ok_same pieces (dumped_chunks o input) (sym read ∙ (text_reads o input is).0) in
-    ap (λ ps. effect {A = A} (dump_change offset ps) image) same ∙ all_chunks A offset o.cols (o.seek + o.shift) part image is.some_columns
+    ap (λ ps. effect {A = A} (dump_change offset ps) image) same ∙ all_chunks A offset o.cols (o.seek + o.shift) part image o.some

@@ -15,6 +15,7 @@ use Rattle.bx_dump.specs.Styles.{group_of, xxd_text}
 use Rattle.bx_dump.specs.Xxd.{columns_line}
 use Rattle.bx_dump.specs.declared.xxd.columns.Digits.TheVariants.{Hexadecimal}
 use Rattle.bx_dump.specs.declared.xxd.options.XxdOptions.{XxdOptions}
+use Rattle.bx_dump.specs.declared.xxd.options.XxdStyle.TheVariants.{Normal}
 use Rattle.bx_dump.proofs.LinesLemmas.{line_begin}
 use Rattle.bx_cli.specs.XxdLaws.{chunks, dumped_chunks, IsNormalDump, NormalTextReadsBack}
 
@@ -58,14 +59,14 @@ part_are_bytes : (skip : ℕ) (limit : Option ℕ) (input : List ℕ) → All (�
 part_are_bytes skip None input are = All-drop (λ b. b < 256) skip input are
 part_are_bytes skip (Some most) input are = All-take (λ b. b < 256) most (drop skip input) (All-drop (λ b. b < 256) skip input are)
 
-pub text_gives : (o : XxdOptions) (input : List ℕ) → IsNormalDump o input → GivesPieces (lines_of (xxd_text o input)) (dumped_chunks o input)
+pub text_gives : (o : XxdOptions) (input : List ℕ) → IsNormalDump o input → GivesPieces (lines_of (xxd_text Normal o input)) (dumped_chunks o input)
 text_gives o input is =
-    rw is.style (lines_give o.upper o.cols (group_of o.cols o.group) (o.seek + o.shift) (part_of o.seek o.limit input)
-    (some_group o.cols o.group is.some_columns) is.some_columns is.few_columns (part_are_bytes o.seek o.limit input is.are_bytes) is.near)
+    lines_give o.upper o.cols (group_of o.cols o.group) (o.seek + o.shift) (part_of o.seek o.limit input)
+    (some_group o.cols o.group o.some) o.some o.few (part_are_bytes o.seek o.limit input is.are_bytes) is.near
 
 pub text_reads : NormalTextReadsBack
 text_reads o input is =
-    let lines = lines_of (xxd_text o input) in
+    let lines = lines_of (xxd_text Normal o input) in
     let all = dumped_chunks o input in
     let gives = text_gives o input is in
     (only lines 1 all gives, λ pieces. (λ others. one_list lines pieces all others gives, λ same. subst (GivesPieces lines) (sym same) gives))

@@ -1,9 +1,7 @@
--- The options of a dump that a job asks for.
+-- The style of a dump that a job asks for.
 use Rattle.std.specs.Prelude.{◌≡◌, ◌<◌, ◌^◌, ℕ, Option, None, Some, List, length}
-use Rattle.bx_dump.specs.declared.xxd.options.XxdOptions.{XxdOptions}
 use Rattle.bx_dump.specs.declared.xxd.options.XxdStyle.{XxdStyle}
 use Rattle.bx_dump.specs.declared.xxd.options.XxdStyle.TheVariants as style
-use Rattle.bx_cli.specs.declared.job.XxdJob.{XxdJob}
 use Rattle.bx_cli.specs.declared.job.XxdLook.{XxdLook}
 use Rattle.bx_cli.specs.declared.job.XxdLook.TheVariants as look
 
@@ -15,13 +13,3 @@ IsStyleOf look.Bits file s = s ≡ style.Bits
 IsStyleOf look.Include None s = s ≡ style.Include None
 IsStyleOf look.Include (Some name) (style.Include (Some given)) = given.now ≡ name
 IsStyleOf look.Include (Some name) s = 2 ^ 62 < length name
-
--- the job's options
-pub record AreOptionsOf (job : XxdJob) (o : XxdOptions) : Type 0 where
-  pub style_is : IsStyleOf job.look job.file o.style
-  pub cols_are : o.cols ≡ job.cols
-  pub group_is : o.group ≡ job.group
-  pub limit_is : o.limit ≡ job.limit
-  pub seek_is : o.seek ≡ job.seek
-  pub shift_is : o.shift ≡ job.shift
-  pub upper_is : o.upper ≡ job.upper

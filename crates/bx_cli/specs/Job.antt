@@ -1,7 +1,7 @@
 -- What a job does.
 use Rattle.std.specs.Prelude.{Bool, true, false, not, is_some}
 use Rattle.bx_cli.specs.declared.job.Job.{Job}
-use Rattle.bx_cli.specs.declared.job.Job.TheVariants.{Od, Xxd, Hexdump, Strings, Dd, Revert, Undo, Redo, Log, Help}
+use Rattle.bx_cli.specs.declared.job.Job.TheVariants.{Od, Xxd, Hexdump, Strings, Dd}
 
 -- whether a job only reads one input and writes one output
 abbrev pub is_dump : Job → Bool
@@ -10,8 +10,4 @@ is_dump (Xxd _) = true
 is_dump (Hexdump _) = true
 is_dump (Strings _) = true
 is_dump (Dd job) = not (is_some job.plan.output)
-is_dump (Revert _) = false
-is_dump (Undo _ _ _) = false
-is_dump (Redo _ _ _) = false
-is_dump (Log _ _) = false
-is_dump (Help _) = false
+is_dump _ = false

@@ -18,22 +18,19 @@ chunks cols at bytes = map (λ k. (at + cols * k, take cols (drop (cols * k) byt
 abbrev pub dumped_chunks : XxdOptions → List ℕ → List (ℕ × List ℕ)
 dumped_chunks o input = chunks o.cols (o.seek + o.shift) (part_of o.seek o.limit input)
 
--- The style is Normal with 1 to 256 bytes a line, the input has bytes, and each chunk's address is below 2 ^ 62.
+-- The input has bytes, and each chunk's address is below 2 ^ 62.
 pub record IsNormalDump (o : XxdOptions) (input : List ℕ) : Type 0 where
-  pub style : o.style ≡ Normal
-  pub some_columns : 0 < o.cols
-  pub few_columns : o.cols ≤ 256
   pub are_bytes : All (λ b. b < 256) input
   pub near : All (λ chunk. chunk.0 < 2 ^ 62) (dumped_chunks o input)
 
 -- The text is read, and it gives exactly the chunks at their addresses.
 abbrev pub NormalTextReadsBack : Type 0
 NormalTextReadsBack = (o : XxdOptions) (input : List ℕ) → IsNormalDump o input
-    → (dump_pieces (xxd_text o input) ≡ Ok (dumped_chunks o input))
-    × ((pieces : List (ℕ × List ℕ)) → GivesPieces (lines_of (xxd_text o input)) pieces ↔ (pieces ≡ dumped_chunks o input))
+    → (dump_pieces (xxd_text Normal o input) ≡ Ok (dumped_chunks o input))
+    × ((pieces : List (ℕ × List ℕ)) → GivesPieces (lines_of (xxd_text Normal o input)) pieces ↔ (pieces ≡ dumped_chunks o input))
 
 -- A revert of the text, with some offset, places the bytes that were dumped at their address, and nothing else.
 abbrev pub NormalTextReverts : (A : Type 0) → Type 0
 NormalTextReverts A = (o : XxdOptions) (input image : List ℕ) (offset : ℕ) (pieces : List (ℕ × List ℕ)) → IsNormalDump o input
-    → dump_pieces (xxd_text o input) ≡ Ok pieces
+    → dump_pieces (xxd_text Normal o input) ≡ Ok pieces
     → effect {A = A} (dump_change offset pieces) image ≡ place image (o.seek + o.shift + offset) (part_of o.seek o.limit input)

@@ -47,7 +47,8 @@ pub fn change_of_plain<A: Allocator + Clone>(
     text: &[u8],
     at: u64,
 ) -> Result<Change<A>, ReadFault>
-    ensures { MatchResult result (λ c. (bytes : List ℕ) × (plain_answer text.now ≡ Ok bytes) × (c ≡ plain_change at bytes)) (λ e. (e ≡ ReadFault.NoMemory) ⊎ (plain_answer text.now ≡ Err e)) }
+    ensures { MatchResult result (λ c. (bytes : List ℕ) × (plain_answer text.now ≡ Ok bytes) × (c ≡ plain_change at bytes))
+        (λ e. (e ≡ ReadFault.NoMemory) ⊎ (plain_answer text.now ≡ Err e)) }
 {
     let bytes = read_plain(alloc.clone()?, text)?;
     let mut writes = Vec::new(alloc.clone()?);

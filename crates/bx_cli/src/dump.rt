@@ -1,23 +1,16 @@
 //! Dumps and copies to a writer, as jobs ask for them.
 ghost use Rattle.std.specs.Prelude.{◌≡◌, ◌≤◌, ◌^◌, ℕ, IfOk, IfErr, length};
 ghost use Rattle.bx_cli.specs.CopyOut.{CopiesOut, StopsOut};
-ghost use Rattle.bx_cli.specs.JobDump.{DumpsJob, DumpsHexdump, DumpsOd, DumpsStrings, StopsJob};
-ghost use Rattle.bx_cli.specs.Dump.{AreOptionsOf, IsStyleOf};
-ghost use Rattle.bx_dump.specs.declared.xxd.options.XxdOptions.{XxdOptions};
-ghost use Rattle.bx_dump.specs.Styles.{IsCountable, xxd_text};
-ghost use Rattle.bx_dump.specs.Dumped.{DumpsFront};
-ghost use Rattle.bx_dump.specs.Hexdump.{hexdump_text};
-ghost use Rattle.bx_dump.specs.Od.{od_text};
-ghost use Rattle.bx_dump.specs.OdDump.{StopsOd};
-ghost use Rattle.bx_dump.specs.Pages.{WritesPart, WritesFrontOf, part_of};
-ghost use Rattle.bx_dump.specs.Strings.{strings_text};
+ghost use Rattle.bx_cli.specs.JobDump.{DumpsJob, DumpsLook, StopsJob, StopsLook};
+ghost use Rattle.bx_cli.specs.Dump.{IsStyleOf};
+ghost use Rattle.bx_dump.specs.Styles.{IsCountable};
 
-use crate::{Fault, HexdumpJob, Job, OdJob, StringsJob, XxdJob, XxdLook};
+use crate::{Fault, Job, XxdJob, XxdLook};
 use bx_dd::{Counts, Plan, copy_out};
-use bx_dump::hexdump::{HexdumpOptions, hexdump_c};
-use bx_dump::od::{OdOptions, od};
-use bx_dump::strings::{StringsOptions, strings};
-use bx_dump::xxd::{XxdOptions, XxdStyle, xxd};
+use bx_dump::hexdump::hexdump_c;
+use bx_dump::od::od;
+use bx_dump::strings::strings;
+use bx_dump::xxd::{XxdStyle, xxd};
 use bx_text::{IoFault, Name};
 use std::alloc::Allocator;
 use std::io::{Read, Write};
@@ -49,30 +42,15 @@ pub fn run_dump<R: Read, W: Write, A: Allocator + Clone>(
         Job::Dd(job) if job.plan.output.is_none() => {
             Ok(Done::Copied(run_dd(alloc, &job.plan, r, w)?))
         }
-        Job::Od(job) => Ok(Done::Dumped(run_od(job, r, w)?)),
+        Job::Od(job) => Ok(Done::Dumped(od(r, w, &job.options)?)),
         Job::Xxd(job) => Ok(Done::Dumped(run_xxd(job, r, w)?)),
-        Job::Hexdump(job) => Ok(Done::Dumped(run_hexdump(job, r, w)?)),
-        Job::Strings(job) => Ok(Done::Dumped(run_strings(job, r, w)?)),
+        Job::Hexdump(job) => Ok(Done::Dumped(hexdump_c(r, w, &job.options)?)),
+        Job::Strings(job) => Ok(Done::Dumped(strings(r, w, &job.options)?)),
         _ => Err(Fault::Usage),
     }
 }
 
-/// The options of the job.
-fn xxd_options(job: &XxdJob) -> XxdOptions<'_>
-    ensures options { AreOptionsOf job.now result }
-    ensures countable { IsCountable result.style }
-{
-    XxdOptions {
-        style: xxd_style(job.look, &job.file),
-        cols: job.cols,
-        group: job.group,
-        limit: job.limit,
-        seek: job.seek,
-        shift: job.shift,
-        upper: job.upper,
-    }
-}
-
+/// The style of the look.
 fn xxd_style(look: XxdLook, file: &Option<Name>) -> XxdStyle<'_>
     ensures style { IsStyleOf look file.now result }
     ensures countable { IsCountable result }
@@ -92,53 +70,11 @@ fn xxd_style(look: XxdLook, file: &Option<Name>) -> XxdStyle<'_>
 
 /// Writes the text that the job's options ask for, of what the reader gives.
 fn run_xxd<R: Read, W: Write>(job: &XxdJob, r: &mut R, w: &mut W) -> Result<u64, IoFault>
-    ensures ok { IfOk result (λ n. (o : XxdOptions) × AreOptionsOf job.now o
-        × ((written : ℕ) × WritesPart (xxd_text o) o.seek o.limit (R.remaining r.old) (R.remaining r.new) (W.contents w.old) (W.contents w.new) n written)) }
-    ensures err { IfErr result (λ e. (o : XxdOptions) × AreOptionsOf job.now o
-        × WritesFrontOf (xxd_text o) o.seek o.limit 0 0 (R.remaining r.old) (R.remaining r.new) (W.contents w.old) (W.contents w.new) e) }
+    ensures ok { IfOk result (DumpsLook job.now (R.remaining r.old) (R.remaining r.new) (W.contents w.old) (W.contents w.new)) }
+    ensures err { IfErr result (StopsLook job.now (R.remaining r.old) (R.remaining r.new) (W.contents w.old) (W.contents w.new)) }
 {
-    let options = xxd_options(job);
-    xxd(r, w, &options)
-}
-
-/// Writes the lines and the end of `hexdump -C`.
-fn run_hexdump<R: Read, W: Write>(job: &HexdumpJob, r: &mut R, w: &mut W) -> Result<u64, IoFault>
-    ensures err { IfErr result (WritesFrontOf (λ input. hexdump_text job.now.all job.now.skip (part_of job.now.skip job.now.limit input)) job.now.skip job.now.limit 0 0 (R.remaining r.old) (R.remaining r.new) (W.contents w.old) (W.contents w.new)) }
-    ensures ok { IfOk result (DumpsHexdump job.now (R.remaining r.old) (R.remaining r.new) (W.contents w.old) (W.contents w.new)) }
-{
-    let options = HexdumpOptions {
-        skip: job.skip,
-        limit: job.limit,
-        all: job.all,
-    };
-    hexdump_c(r, w, &options)
-}
-
-/// Writes the lines and the end of `od`.
-fn run_od<R: Read, W: Write>(job: &OdJob, r: &mut R, w: &mut W) -> Result<u64, IoFault>
-    ensures err { IfErr result (StopsOd (λ input. od_text job.now.address job.now.kind job.now.all job.now.skip (part_of job.now.skip job.now.limit input)) job.now.skip job.now.limit (R.remaining r.old) (R.remaining r.new) (W.contents w.old) (W.contents w.new)) }
-    ensures ok { IfOk result (DumpsOd job.now (R.remaining r.old) (R.remaining r.new) (W.contents w.old) (W.contents w.new)) }
-{
-    let options = OdOptions {
-        address: job.address,
-        kind: job.kind,
-        skip: job.skip,
-        limit: job.limit,
-        all: job.all,
-    };
-    od(r, w, &options)
-}
-
-/// Writes the printable runs.
-fn run_strings<R: Read, W: Write>(job: &StringsJob, r: &mut R, w: &mut W) -> Result<u64, IoFault>
-    ensures err { IfErr result (DumpsFront (strings_text job.now.least job.now.offsets) (R.remaining r.old) (R.remaining r.new) (W.contents w.old) (W.contents w.new)) }
-    ensures ok { IfOk result (DumpsStrings job.now (R.remaining r.old) (R.remaining r.new) (W.contents w.old) (W.contents w.new)) }
-{
-    let options = StringsOptions {
-        least: job.least,
-        offsets: job.offsets,
-    };
-    strings(r, w, &options)
+    let style = xxd_style(job.look, &job.file);
+    xxd(r, w, style, &job.options)
 }
 
 /// Writes what the plan makes of the input, as it is read. A plan that seeks is refused before anything is read.

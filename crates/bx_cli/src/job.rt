@@ -3,7 +3,10 @@ ghost use Rattle.std.specs.Prelude.{◌≡◌, ◌≤◌, ◌^◌, ◌++◌, cod
 ghost use Rattle.bx_dd.specs.Parsing.{IsPlanOf};
 
 use bx_dd::Plan;
-use bx_dump::od::{Address, Kind};
+use bx_dump::hexdump::HexdumpOptions;
+use bx_dump::od::OdOptions;
+use bx_dump::strings::StringsOptions;
+use bx_dump::xxd::XxdOptions;
 use bx_text::{Name, Words};
 
 /// The style of an `xxd` dump.
@@ -22,19 +25,10 @@ pub enum XxdLook {
 /// `od`: how and what it dumps.
 #[derive(Drop)]
 pub struct OdJob {
-    /// How addresses are written.
-    pub address: Address,
-    /// What the bytes are shown as.
-    pub kind: Kind,
-    /// The bytes to skip, at most 2^62.
-    pub skip: u64,
-    /// The most bytes that are dumped; none is all.
-    pub limit: Option<u64>,
-    /// Whether lines equal to the one before are written too.
-    pub all: bool,
+    /// How values and addresses are written, and of which bytes.
+    pub options: OdOptions,
     /// The input's name; none is standard input.
     pub file: Option<Name>,
-    ghost skips_little: { skip ≤ 2 ^ 62 },
 }
 
 /// `xxd`: how and what it dumps.
@@ -42,52 +36,28 @@ pub struct OdJob {
 pub struct XxdJob {
     /// The style of the dump.
     pub look: XxdLook,
-    /// The bytes of a line, 1 to 256.
-    pub cols: u16,
-    /// The bytes of a group, at most 256; 0 makes no groups.
-    pub group: u16,
-    /// The most bytes that are dumped; none is all.
-    pub limit: Option<u64>,
-    /// The bytes to skip, at most 2^62.
-    pub seek: u64,
-    /// What is added to each address that is written, at most 2^62.
-    pub shift: u64,
-    /// Whether hexadecimal digits are capital letters.
-    pub upper: bool,
+    /// The columns, and the bytes that are dumped.
+    pub options: XxdOptions,
     /// The input's name; none is standard input.
     pub file: Option<Name>,
-    ghost has_a_column: { 1 ≤ cols },
-    ghost few_columns: { cols ≤ 256 },
-    ghost small_groups: { group ≤ 256 },
-    ghost seeks_little: { seek ≤ 2 ^ 62 },
-    ghost shifts_little: { shift ≤ 2 ^ 62 },
 }
 
 /// `hexdump -C`: what it dumps.
 #[derive(Drop)]
 pub struct HexdumpJob {
-    /// The bytes to skip, at most 2^62.
-    pub skip: u64,
-    /// The most bytes that are dumped; none is all.
-    pub limit: Option<u64>,
-    /// Whether lines equal to the one before are written too.
-    pub all: bool,
+    /// The bytes that are dumped, and whether equal lines are folded.
+    pub options: HexdumpOptions,
     /// The input's name; none is standard input.
     pub file: Option<Name>,
-    ghost skips_little: { skip ≤ 2 ^ 62 },
 }
 
 /// `strings`: which runs it shows, and how.
 #[derive(Drop)]
 pub struct StringsJob {
-    /// The fewest bytes of a run that is shown, 1 to 4096.
-    pub least: u16,
-    /// How the place of a run is written before it.
-    pub offsets: Address,
+    /// The fewest bytes of a run, and how its place is written.
+    pub options: StringsOptions,
     /// The input's name; none is standard input.
     pub file: Option<Name>,
-    ghost some: { 1 ≤ least },
-    ghost short: { least ≤ 4096 },
 }
 
 /// The names of the two texts beside an image.
@@ -100,7 +70,8 @@ pub struct Texts {
     ghost named: { redo ≡ journal ++ codes ".redo" },
 }
 
-/// `dd`: what its operands ask for, and the operands themselves. Where `of=` names an image there are its texts; else `texts` is none, and the output is a stream.
+/// `dd`: what its operands ask for, and the operands themselves. Where `of=` names an image there are its texts; else `texts`
+/// is none, and the output is a stream.
 #[derive(Drop)]
 pub struct DdJob {
     /// What the operands ask for.
@@ -113,7 +84,8 @@ pub struct DdJob {
     ghost paired: { is_some texts ≡ is_some plan.output },
 }
 
-/// `revert`: the dump, and the image that it is written onto, with its texts. `at` is added to the addresses, or with `plain` the place of the first byte.
+/// `revert`: the dump, and the image that it is written onto, with its texts. `at` is added to the addresses, or with `plain`
+/// the place of the first byte.
 #[derive(Drop)]
 pub struct RevertJob {
     /// The dump's name; none is standard input.

@@ -5,7 +5,10 @@ use crate::fault::Fault;
 use crate::job::{DdJob, HexdumpJob, Job, OdJob, RevertJob, StringsJob, Texts, XxdJob, XxdLook};
 use crate::options::program;
 use bx_dd::parse;
-use bx_dump::od::{Address, Kind, NumForm, Size};
+use bx_dump::hexdump::HexdumpOptions;
+use bx_dump::od::{Address, Kind, NumForm, OdOptions, Size};
+use bx_dump::strings::StringsOptions;
+use bx_dump::xxd::XxdOptions;
 use bx_text::{Name, SizeStyle, Words, read_size};
 use clap::error::ErrorKind;
 use clap::{ArgMatches, Error};
@@ -200,11 +203,13 @@ pub(crate) fn kind(m: &ArgMatches<'_>) -> Result<Kind, Fault> {
 
 fn od(alloc: Global, m: &ArgMatches<'_>) -> Result<Job, Fault> {
     Ok(Job::Od(OdJob {
-        address: radix(m.get_str("radix"), Address::Octal, true)?,
-        kind: kind(m)?,
-        skip: number_or(m, "skip", SizeStyle::Count, 0)?,
-        limit: number(m, "limit", SizeStyle::Count)?,
-        all: m.get_flag("all"),
+        options: OdOptions {
+            address: radix(m.get_str("radix"), Address::Octal, true)?,
+            kind: kind(m)?,
+            skip: number_or(m, "skip", SizeStyle::Count, 0)?,
+            limit: number(m, "limit", SizeStyle::Count)?,
+            all: m.get_flag("all"),
+        },
         file: name(alloc, m, "file")?,
     }))
 }
@@ -234,12 +239,14 @@ fn xxd(alloc: Global, m: &ArgMatches<'_>) -> Result<Job, Fault> {
     let group = number_or(m, "group", SizeStyle::Bare, group)?.min(MOST_COLUMNS) as u16;
     Ok(Job::Xxd(XxdJob {
         look,
-        cols,
-        group,
-        limit: number(m, "limit", SizeStyle::Bare)?,
-        seek: number_or(m, "seek", SizeStyle::Bare, 0)?,
-        shift: number_or(m, "shift", SizeStyle::Bare, 0)?,
-        upper: m.get_flag("upper"),
+        options: XxdOptions {
+            cols,
+            group,
+            limit: number(m, "limit", SizeStyle::Bare)?,
+            seek: number_or(m, "seek", SizeStyle::Bare, 0)?,
+            shift: number_or(m, "shift", SizeStyle::Bare, 0)?,
+            upper: m.get_flag("upper"),
+        },
         file: name(alloc, m, "file")?,
     }))
 }
@@ -250,9 +257,11 @@ fn hexdump(alloc: Global, m: &ArgMatches<'_>) -> Result<Job, Fault> {
         return Err(Fault::Usage);
     }
     Ok(Job::Hexdump(HexdumpJob {
-        skip: number_or(m, "skip", SizeStyle::Count, 0)?,
-        limit: number(m, "limit", SizeStyle::Count)?,
-        all: m.get_flag("all"),
+        options: HexdumpOptions {
+            skip: number_or(m, "skip", SizeStyle::Count, 0)?,
+            limit: number(m, "limit", SizeStyle::Count)?,
+            all: m.get_flag("all"),
+        },
         file: name(alloc, m, "file")?,
     }))
 }
@@ -263,8 +272,10 @@ fn strings(alloc: Global, m: &ArgMatches<'_>) -> Result<Job, Fault> {
         return Err(Fault::Usage);
     }
     Ok(Job::Strings(StringsJob {
-        least,
-        offsets: radix(m.get_str("offsets"), Address::Without, false)?,
+        options: StringsOptions {
+            least,
+            offsets: radix(m.get_str("offsets"), Address::Without, false)?,
+        },
         file: name(alloc, m, "file")?,
     }))
 }

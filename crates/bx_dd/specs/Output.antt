@@ -17,8 +17,7 @@ selected ibs skip (Some count) input = take (count * ibs) (drop (skip * ibs) inp
 -- the byte that fills up a short block
 abbrev pub filler : Shape → ℕ
 filler Flat = 0
-filler Block = 32
-filler Unblock = 32
+filler shape = 32
 
 -- a list, filled up to n
 unfoldable pub padded : ℕ → ℕ → List ℕ → List ℕ
@@ -71,9 +70,8 @@ shaped Unblock size bytes = in_pieces line_of size bytes
 
 -- how many records are too long
 unfoldable pub cut_records : Shape → ℕ → List ℕ → ℕ
-cut_records Flat size bytes = 0
 cut_records Block size bytes = count_by (λ line. nat_lt size (length line)) (records bytes)
-cut_records Unblock size bytes = 0
+cut_records shape size bytes = 0
 
 -- what is written for the selected input
 abbrev pub converted : Form → List ℕ → List ℕ

@@ -46,7 +46,13 @@ impl<A: Allocator> Model for Convert<A> {
 
     ghost view = { λ c. record { form = c.form; taken = c.taken; out = c.out.items; held = c.held.items; over = c.over; cut = c.cut } };
 
-    ghost invariant = { λ c. HasSizes c.form × (length c.held.items ≤ c.form.cbs) × (c.form.shape ≢ Flat → c.form.cbs ≤ vec_capacity c.held) × (c.form.shape ≡ Unblock → length c.held.items < c.form.cbs) × (c.taken ≤ 2 ^ 40) × (c.cut ≤ c.taken + 16777216) × (c.taken % c.form.ibs ≡ 0 → c.cut ≤ c.taken) };
+    ghost invariant = { λ c. HasSizes c.form
+        × (length c.held.items ≤ c.form.cbs)
+        × (c.form.shape ≢ Flat → c.form.cbs ≤ vec_capacity c.held)
+        × (c.form.shape ≡ Unblock → length c.held.items < c.form.cbs)
+        × (c.taken ≤ 2 ^ 40)
+        × (c.cut ≤ c.taken + 16777216)
+        × (c.taken % c.form.ibs ≡ 0 → c.cut ≤ c.taken) };
 }
 
 impl<A: Allocator + Clone> Convert<A> {
@@ -145,7 +151,8 @@ impl<A: Allocator> Convert<A> {
     /// What the records that are finished give.
     pub fn out(&self) -> &[u8]
         ensures out { result.now ≡ self.now.out }
-        ensures written { (input : List ℕ) → IsAfter input self.now → let form = self.now.form in result.now ≡ shaped form.shape form.cbs (finished form.shape form.cbs (joined form input)) }
+        ensures written { (input : List ℕ) → IsAfter input self.now →
+            let form = self.now.form in result.now ≡ shaped form.shape form.cbs (finished form.shape form.cbs (joined form input)) }
     {
         self.out.as_slice()
     }
@@ -176,7 +183,8 @@ fn take_block<A: Allocator>(
     requires space { form.shape ≢ Flat → form.cbs ≤ vec_capacity held.old }
     requires part { form.shape ≡ Unblock → length held.old.items < form.cbs }
     requires few { tail.cut + 16777216 < 2 ^ 64 }
-    ensures within { IfOk result (λ t. (length held.new.items ≤ form.cbs) × (t.cut ≤ tail.cut + form.ibs) × (length b.now ≡ form.ibs → t.cut ≤ tail.cut + length b.now)) }
+    ensures within { IfOk result (λ t. (length held.new.items ≤ form.cbs) × (t.cut ≤ tail.cut + form.ibs)
+        × (length b.now ≡ form.ibs → t.cut ≤ tail.cut + length b.now)) }
     ensures part { IfOk result (λ t. form.shape ≡ Unblock → length held.new.items < form.cbs) }
     ensures space { vec_capacity held.old ≤ vec_capacity held.new }
     ensures next { (z : List ℕ) → Stands form.shape form.cbs z out.old.items held.old.items tail.over tail.cut →

@@ -66,7 +66,8 @@ fn has_part(value: &str, part: &str) -> bool
 
 /// The name and the value.
 fn name_and_value(word: &str) -> Option<(&str, &str)>
-    ensures { MatchOption result (is_operand word.now ≡ false) (λ x. (is_operand word.now ≡ true) × (x.0.now ≡ name_of word.now) × (x.1.now ≡ value_of word.now)) }
+    ensures { MatchOption result (is_operand word.now ≡ false) (λ x.
+        (is_operand word.now ≡ true) × (x.0.now ≡ name_of word.now) × (x.1.now ≡ value_of word.now)) }
 {
     word.split_once('=')
 }

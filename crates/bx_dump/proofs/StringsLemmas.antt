@@ -5,11 +5,12 @@ use Rattle.std.specs.List.{prefix_len}
 use Rattle.std.proofs.lemmas.Bool.{cases_lt, cases_eq, eq-eqb, ne_eqb}
 use Rattle.std.proofs.lemmas.Bool.Decides.{nat_tests}
 use Rattle.bx_text.proofs.RangeLemmas.{flat_map_along}
-use Rattle.std.specs.Prelude.{Option}
+use Rattle.std.specs.Prelude.{Option, None}
 use Rattle.std.proofs.lemmas.List.{take-append-le}
 use Rattle.bx_text.specs.declared.fault.IoFault.{IoFault}
-use Rattle.bx_dump.specs.Dumped.{DumpsFront, DumpsFrontBut}
-use Rattle.bx_dump.proofs.DumpLemmas.{cause_longer, keeps_along}
+use Rattle.bx_dump.specs.Pages.{WritesFrontOf}
+use Rattle.bx_dump.specs.inner.Dumped.{DumpsFrontBut}
+use Rattle.bx_dump.proofs.DumpLemmas.{cause_longer, keeps_along, front_whole}
 use Rattle.bx_dump.proofs.ScanLemmas.{both}
 use Rattle.bx_dump.specs.declared.od.options.Address.{Address}
 use Rattle.bx_text.specs.Ascii.{is_printable}
@@ -171,13 +172,14 @@ end_few least run = go (nat_le least (length run)) refl
 
 -- a front of what is known is a front of the whole
 pub front_known : (least : ℕ) (o : Address) (r0 r1 w0 w1 : Option (List ℕ)) (fault : IoFault) → 0 < least →
-    DumpsFrontBut 0 (scan_text least o 0 []) r0 r1 w0 w1 fault → DumpsFront (strings_text least o) r0 r1 w0 w1 fault
+    DumpsFrontBut 0 (scan_text least o 0 []) r0 r1 w0 w1 fault → WritesFrontOf (strings_text least o) 0 None r0 r1 w0 w1 fault
 front_known least o r0 r1 w0 w1 fault some d =
     let text = scan_text least o 0 [] d.0 in
     let tail = end_text least (scan_run [] d.0) in
     let is = strings_is least o d.0 some in
     let e : take d.1 (strings_text least o d.0) ≡ take d.1 text = ap (take d.1) is ∙ take-append-le d.1 text tail d.3 in
-    let more : length text ≤ length (strings_text least o d.0) = omega (arith, ap length is, length-append text tail) in (
+    let more : length text ≤ length (strings_text least o d.0) = omega (arith, ap length is, length-append text tail) in
+    front_whole (2 ^ 7) (strings_text least o) r0 r1 w0 w1 fault (
       d.0,
       d.1,
       d.2,

@@ -76,6 +76,10 @@ field_text (Number form size) bytes = number_text form size (value_of bytes)
 abbrev pub value_text : Kind → ℕ → List ℕ → List ℕ
 value_text kind at bytes = 32 ∷ field_text kind bytes
 
+-- the values of some bytes
+abbrev pub values_text : Kind → List ℕ → List ℕ
+values_text kind bytes = in_lines (value_text kind) (width_of kind) 0 bytes
+
 -- an address in 7 octal, 7 decimal or 6 hexadecimal digits, or more where it needs them
 abbrev pub address_text : Address → ℕ → List ℕ
 address_text Octal at = left_filled 48 7 (digits 8 false at)
@@ -85,16 +89,12 @@ address_text Without at = []
 
 -- a line: the address, and a space and a field for each value
 abbrev pub od_line : Address → Kind → ℕ → List ℕ → List ℕ
-od_line address kind at bytes =
-    address_text address at
-    ++ in_lines (value_text kind) (width_of kind) 0 bytes ++ codes "\n"
+od_line address kind at bytes = address_text address at ++ values_text kind bytes ++ codes "\n"
 
 -- the address behind the last byte, on a line of its own
 abbrev pub od_end : Address → ℕ → List ℕ
 od_end Without at = []
-od_end Octal at = address_text Octal at ++ codes "\n"
-od_end Decimal at = address_text Decimal at ++ codes "\n"
-od_end Hexadecimal at = address_text Hexadecimal at ++ codes "\n"
+od_end address at = address_text address at ++ codes "\n"
 
 -- the lines, and the end
 abbrev pub od_text : Address → Kind → Bool → ℕ → List ℕ → List ℕ

@@ -28,6 +28,10 @@ pub record WritesPart (text : List ℕ → List ℕ) (skip : ℕ) (limit : Optio
   pub appended : Appends w0 w1 (text input)
   pub long : length (text input) ≡ written
 
+-- the whole text was written, of n bytes of the part
+abbrev pub WritesAll : (List ℕ → List ℕ) → ℕ → Option ℕ → Option (List ℕ) → Option (List ℕ) → Option (List ℕ) → Option (List ℕ) → ℕ → Type 0
+WritesAll text skip limit r0 r1 w0 w1 n = (written : ℕ) × WritesPart text skip limit r0 r1 w0 w1 n written
+
 -- Some input was read after `from` bytes, no more of it than skip and limit ask for, and a front of its text was written
 -- after `before` bytes, which the fault counts too; reading is no more than a block ahead.
 pub record WritesFrontBut (slack : ℕ) (text : List ℕ → List ℕ) (skip : ℕ) (limit : Option ℕ) (from before : ℕ) (r0 r1 w0 w1 : Option (List ℕ)) (fault : IoFault) : Type 0 where
@@ -40,9 +44,9 @@ pub record WritesFrontBut (slack : ℕ) (text : List ℕ → List ℕ) (skip : �
   pub cause : IsDumpFault fault (from + length input) (before + written) (before + length (text input))
   pub ahead : KeepsUp slack text input written fault
 
--- The same, where what a text ends with has no more than 2^7 bytes.
-abbrev pub WritesFrontOf : (List ℕ → List ℕ) → ℕ → Option ℕ → ℕ → ℕ → Option (List ℕ) → Option (List ℕ) → Option (List ℕ) → Option (List ℕ) → IoFault → Type 0
-WritesFrontOf text skip limit from before r0 r1 w0 w1 fault = WritesFrontBut (2 ^ 7) text skip limit from before r0 r1 w0 w1 fault
+-- The same before any other byte, where what a text ends with has no more than 2^7 bytes.
+abbrev pub WritesFrontOf : (List ℕ → List ℕ) → ℕ → Option ℕ → Option (List ℕ) → Option (List ℕ) → Option (List ℕ) → Option (List ℕ) → IoFault → Type 0
+WritesFrontOf text skip limit r0 r1 w0 w1 fault = WritesFrontBut (2 ^ 7) text skip limit 0 0 r0 r1 w0 w1 fault
 
 -- Bytes were skipped: all that were asked for, or fewer up to the input's end.
 pub record Skips (all : Bool) (count : ℕ) (r0 r1 : Option (List ℕ)) : Type 0 where

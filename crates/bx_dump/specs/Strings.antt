@@ -1,8 +1,11 @@
 -- The printable runs of an input, and the text of strings (POSIX strings).
-use Rattle.std.specs.Prelude.{ℕ, zero, suc, ◌+◌, Bool, false, ◌&&◌, not, nat_le, if◌then◌else◌, List, [], ◌++◌, length, take, drop, slice_index, codes}
+use Rattle.std.specs.Prelude.{ℕ, zero, suc, ◌+◌, Bool, false, ◌&&◌, not, nat_le, if◌then◌else◌, List, [], ◌++◌, length, take, drop, slice_index, codes, Option, None}
 use Rattle.std.specs.List.{flat_map, range_with_len, prefix_len}
 use Rattle.std.specs.Fmt.{digits}
 use Rattle.bx_text.specs.Ascii.{is_printable}
+use Rattle.bx_text.specs.declared.fault.IoFault.{IoFault}
+use Rattle.bx_dump.specs.Pages.{WritesAll, WritesFrontOf}
+use Rattle.bx_dump.specs.declared.strings.options.StringsOptions.{StringsOptions}
 use Rattle.bx_dump.specs.declared.od.options.Address.{Address}
 use Rattle.bx_dump.specs.declared.od.options.Address.TheVariants.{Octal, Decimal, Hexadecimal, Without}
 
@@ -34,3 +37,11 @@ runs_text least offsets before first x = flat_map (line_at least offsets before 
 -- all maximal runs of at least so many printable bytes, by rising place, each on a line
 abbrev pub strings_text : ℕ → Address → List ℕ → List ℕ
 strings_text least offsets x = runs_text least offsets false 0 x
+
+-- all the input was read, of n bytes, and the text of its runs written
+abbrev pub DumpsStrings : StringsOptions → Option (List ℕ) → Option (List ℕ) → Option (List ℕ) → Option (List ℕ) → ℕ → Type 0
+DumpsStrings o r0 r1 w0 w1 n = WritesAll (strings_text o.least o.offsets) 0 None r0 r1 w0 w1 n
+
+-- some input was read, and a front of its text written
+abbrev pub StopsStrings : StringsOptions → Option (List ℕ) → Option (List ℕ) → Option (List ℕ) → Option (List ℕ) → IoFault → Type 0
+StopsStrings o r0 r1 w0 w1 fault = WritesFrontOf (strings_text o.least o.offsets) 0 None r0 r1 w0 w1 fault

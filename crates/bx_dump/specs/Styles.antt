@@ -1,10 +1,12 @@
 -- The text of xxd in each style.
-use Rattle.std.specs.Prelude.{ℕ, zero, suc, ◌+◌, ◌^◌, ◌≤◌, Bool, false, ◌&&◌, ◌||◌, nat_le, if◌then◌else◌, List, [], ◌∷◌, ◌++◌, map, length, codes, None, Some}
+use Rattle.std.specs.Prelude.{ℕ, zero, suc, ◌+◌, ◌^◌, ◌≤◌, Bool, false, ◌&&◌, ◌||◌, nat_le, if◌then◌else◌, List, [], ◌∷◌, ◌++◌, map, length, codes, Option, None, Some}
 use Rattle.std.specs.Fmt.{digits}
 use Rattle.bx_dump.specs.Lines.{in_lines}
-use Rattle.bx_dump.specs.Pages.{part_of}
+use Rattle.bx_text.specs.declared.fault.IoFault.{IoFault}
+use Rattle.bx_dump.specs.Pages.{WritesAll, WritesFrontOf, part_of}
 use Rattle.bx_dump.specs.Rows.{plain_line, include_line}
 use Rattle.bx_dump.specs.Xxd.{columns_line}
+use Rattle.bx_dump.specs.declared.xxd.columns.Digits.{Digits}
 use Rattle.bx_dump.specs.declared.xxd.columns.Digits.TheVariants.{Hexadecimal, Binary}
 use Rattle.bx_dump.specs.declared.xxd.options.XxdStyle.{XxdStyle}
 use Rattle.bx_dump.specs.declared.xxd.options.XxdStyle.TheVariants.{Normal, Plain, Bits, Include}
@@ -53,22 +55,35 @@ abbrev pub group_of : ℕ → ℕ → ℕ
 group_of cols zero = cols
 group_of cols (suc g) = suc g
 
--- the text for bytes of which the first has the address `start`
-abbrev pub styled : XxdStyle → ℕ → ℕ → Bool → ℕ → List ℕ → List ℕ
-styled Normal cols group upper start bytes = in_lines (columns_line (Hexadecimal upper) cols group) cols start bytes
-styled Bits cols group upper start bytes = in_lines (columns_line Binary cols group) cols start bytes
-styled Plain cols group upper start bytes = in_lines (plain_line upper) cols 0 bytes
-styled (Include None) cols group upper start bytes = include_items cols bytes
-styled (Include (Some name)) cols group upper start bytes = named_text name.now cols bytes
+-- lines with columns of digits, the first at the address where the part begins
+abbrev pub columns_text : Digits → XxdOptions → List ℕ → List ℕ
+columns_text digits o bytes = in_lines (columns_line digits o.cols (group_of o.cols o.group)) o.cols (o.seek + o.shift) bytes
+
+-- lines of plain digits
+abbrev pub plain_text : XxdOptions → List ℕ → List ℕ
+plain_text o bytes = in_lines (plain_line o.upper) o.cols 0 bytes
+
+-- the text of the bytes of a part
+abbrev pub styled : XxdStyle → XxdOptions → List ℕ → List ℕ
+styled Normal o bytes = columns_text (Hexadecimal o.upper) o bytes
+styled Bits o bytes = columns_text Binary o bytes
+styled Plain o bytes = plain_text o bytes
+styled (Include None) o bytes = include_items o.cols bytes
+styled (Include (Some name)) o bytes = named_text name.now o.cols bytes
 
 -- xxd's text of an input
-abbrev pub xxd_text : XxdOptions → List ℕ → List ℕ
-xxd_text o input = styled o.style o.cols (group_of o.cols o.group) o.upper (o.seek + o.shift) (part_of o.seek o.limit input)
+abbrev pub xxd_text : XxdStyle → XxdOptions → List ℕ → List ℕ
+xxd_text style o input = styled style o (part_of o.seek o.limit input)
+
+-- it was written, for n bytes
+abbrev pub DumpsXxd : XxdStyle → XxdOptions → Option (List ℕ) → Option (List ℕ) → Option (List ℕ) → Option (List ℕ) → ℕ → Type 0
+DumpsXxd style o r0 r1 w0 w1 n = WritesAll (xxd_text style o) o.seek o.limit r0 r1 w0 w1 n
+
+-- a front of it was written
+abbrev pub StopsXxd : XxdStyle → XxdOptions → Option (List ℕ) → Option (List ℕ) → Option (List ℕ) → Option (List ℕ) → IoFault → Type 0
+StopsXxd style o r0 r1 w0 w1 fault = WritesFrontOf (xxd_text style o) o.seek o.limit r0 r1 w0 w1 fault
 
 -- a name is not longer than a count of 64 bits can say
 abbrev pub IsCountable : XxdStyle → Type 0
-IsCountable Normal = Unit {0}
-IsCountable Plain = Unit {0}
-IsCountable Bits = Unit {0}
-IsCountable (Include None) = Unit {0}
 IsCountable (Include (Some name)) = length name.now ≤ 2 ^ 62
+IsCountable style = Unit {0}

@@ -1,6 +1,9 @@
 -- What no public contract names.
 pub mod Cells
+pub mod Dumped
 pub mod Emitting
 pub mod OdDump
 pub mod Pages
+pub mod Runs
 pub mod Scan
+pub mod XxdDump

@@ -1,7 +1,8 @@
 //! hexdump -C.
 ghost use Rattle.std.specs.Prelude.{◌≡◌, ℕ, ◌+◌, ◌-◌, ◌*◌, ◌/◌, ◌<◌, ◌≤◌, ◌^◌, length, IfOk, IfErr};
-ghost use Rattle.bx_dump.specs.Hexdump.{canon_columns, canon_place, canon_line, canon_end, hexdump_text};
-ghost use Rattle.bx_dump.specs.Pages.{WritesPart, WritesFrontOf, part_of};
+ghost use Rattle.bx_dump.specs.Hexdump.{canon_columns, canon_place, canon_line, canon_end, DumpsHexdump, StopsHexdump};
+
+mod options;
 
 use crate::driver::folded::{FoldedPages, Form};
 use crate::driver::pages::dump_part;
@@ -9,6 +10,7 @@ use crate::hex_lanes::put_canon_sixteen;
 use bx_text::{
     IoFault, ShortText, blank, emit_after, hex_digit, hex_field, push_text, put_address, put_text,
 };
+pub use options::HexdumpOptions;
 use std::io::{Read, Write};
 
 /// Puts the bytes into `field` in hexadecimal, in two groups of 8.
@@ -95,17 +97,6 @@ fn end_line(at: u64) -> ShortText<24>
     line
 }
 
-/// What hexdump shows.
-#[derive(Clone, Copy, Debug, PartialEq, Eq)]
-pub struct HexdumpOptions {
-    /// How many bytes are skipped: at most 2^62.
-    pub skip: u64,
-    /// The most bytes that are dumped.
-    pub limit: Option<u64>,
-    /// Whether lines that repeat the line before are shown too.
-    pub all: bool,
-}
-
 /// Writes the text of `hexdump -C` of the bytes from place `skip` on, at most `limit` of them, and answers how many they are.
 ///
 /// Addresses count from the input's start. Where no byte is dumped nothing is written: for an empty input, a limit of 0, and
@@ -117,9 +108,8 @@ pub fn hexdump_c<R: Read, W: Write>(
     w: &mut W,
     o: &HexdumpOptions,
 ) -> Result<u64, IoFault>
-    requires skip { o.now.skip ≤ 2 ^ 62 }
-    ensures ok { IfOk result (λ n. (written : ℕ) × WritesPart (λ input. hexdump_text o.now.all o.now.skip (part_of o.now.skip o.now.limit input)) o.now.skip o.now.limit (R.remaining r.old) (R.remaining r.new) (W.contents w.old) (W.contents w.new) n written) }
-    ensures err { IfErr result (WritesFrontOf (λ input. hexdump_text o.now.all o.now.skip (part_of o.now.skip o.now.limit input)) o.now.skip o.now.limit 0 0 (R.remaining r.old) (R.remaining r.new) (W.contents w.old) (W.contents w.new)) }
+    ensures ok { IfOk result (DumpsHexdump o.now (R.remaining r.old) (R.remaining r.new) (W.contents w.old) (W.contents w.new)) }
+    ensures err { IfErr result (StopsHexdump o.now (R.remaining r.old) (R.remaining r.new) (W.contents w.old) (W.contents w.new)) }
 {
     let mut pages = FoldedPages::new(CanonLines, o.all, o.skip);
     let lines = match dump_part(r, w, &mut pages, o.skip, o.limit, 0) {

@@ -1,5 +1,7 @@
 //! strings: the printable runs of an input.
 mod dump;
 mod lanes;
+mod options;
 
-pub use dump::{StringsOptions, strings};
+pub use dump::strings;
+pub use options::StringsOptions;

@@ -139,8 +139,10 @@ pub fn apply<D: Device, A: Allocator>(
     ensures ok { D.honest device.old → OnOk result (D.image device.new ≡ effect change.now (D.image device.old)) }
     ensures failed { D.honest device.old → OnErr result (KeepsUntouched change.now (D.image device.old) (D.image device.new)) }
     ensures taken_back { D.honest device.old → IsAsGood (saved change.now (D.image device.old)) (D.image device.old) (D.image device.new) }
-    ensures restores { D.honest device.old → (s : Saved A) → Restores change.now s → AllWithin s.len s.runs → OnOk result (D.image device.new ≡ restore s (D.image device.old)) }
-    ensures again { D.honest device.old → (s : Saved A) → Restores change.now s → Covers s (D.image device.old) → IsAsGood s (D.image device.old) (D.image device.new) }
+    ensures restores { D.honest device.old → (s : Saved A) → Restores change.now s → AllWithin s.len s.runs →
+        OnOk result (D.image device.new ≡ restore s (D.image device.old)) }
+    ensures again { D.honest device.old → (s : Saved A) → Restores change.now s → Covers s (D.image device.old) →
+        IsAsGood s (D.image device.old) (D.image device.new) }
     ensures goes_on { GoesOn D.honest D.room D.failures (is_err result) device.old device.new }
 {
     begin(device, change)?;

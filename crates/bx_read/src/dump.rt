@@ -17,7 +17,8 @@ use std::alloc::Allocator;
 pub fn read_dump<A: Allocator + Clone>(alloc: A, text: &[u8]) -> Result<Vec<Piece<A>, A>, ReadFault>
     // What is read is what the grammar gives, and what the grammar gives is read.
     ensures found { IfOk result (λ v. GivesPieces (lines_of text.now) (contents v.items)) }
-    ensures only { (pieces : List (ℕ × List ℕ)) → GivesPieces (lines_of text.now) pieces → MatchResult result (λ v. contents v.items ≡ pieces) (λ e. e ≡ ReadFault.NoMemory) }
+    ensures only { (pieces : List (ℕ × List ℕ)) → GivesPieces (lines_of text.now) pieces →
+        MatchResult result (λ v. contents v.items ≡ pieces) (λ e. e ≡ ReadFault.NoMemory) }
     // Which fault it is.
     ensures exact { MatchResult result (λ v. dump_pieces text.now ≡ Ok (contents v.items)) (λ e. (e ≡ ReadFault.NoMemory) ⊎ (dump_pieces text.now ≡ Err e)) }
     // Each piece has 1 to 256 bytes at an address below 2^62.
@@ -52,7 +53,8 @@ fn next_piece<A: Allocator + Clone>(
     alloc: &A,
     lines: &mut DumpLines<'_>,
 ) -> Result<Option<Piece<A>>, ReadFault>
-    ensures { MatchResult result (IsNextPiece (coming lines.old) (coming lines.new)) (λ e. (e ≡ ReadFault.NoMemory) ⊎ ((later : List (Result ReadLine ReadFault)) × (coming lines.old ≡ Err e ∷ later))) }
+    ensures { MatchResult result (IsNextPiece (coming lines.old) (coming lines.new)) (λ e.
+        (e ≡ ReadFault.NoMemory) ⊎ ((later : List (Result ReadLine ReadFault)) × (coming lines.old ≡ Err e ∷ later))) }
 {
     if let Some(full) = lines.take_full() {
         return Ok(Some(piece(alloc.clone()?, full.at, &full.bytes)?));

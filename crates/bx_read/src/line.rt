@@ -34,7 +34,8 @@ impl<'a> Line<'a> {
         ensures exact { MatchResult result (λ l. read_line number line.now ≡ Ok (l.at, l.hex.now)) (λ e. read_line number line.now ≡ Err e) }
         ensures number { IfOk result (λ l. l.number ≡ number) }
         // With the bytes of its pairs, what is read is the line's address and bytes.
-        ensures piece { MatchResult result (λ l. line_piece line.now ≡ option_map (λ bytes. (l.at, bytes)) (pairs_of l.hex.now)) (λ e. line_piece line.now ≡ None) }
+        ensures piece { MatchResult result (λ l. line_piece line.now ≡ option_map (λ bytes. (l.at, bytes)) (pairs_of l.hex.now))
+            (λ e. line_piece line.now ≡ None) }
     {
         Line::parse_parts(line, number)
     }

@@ -53,7 +53,8 @@ impl<'a> DumpLines<'a> {
     /// Takes the next line if it is one of xxd's default form with 16 bytes, which most lines of most dumps are.
     #[inline]
     pub(crate) fn take_full(&mut self) -> Option<FullLine>
-        ensures some { IfSome result (λ l. (hex : List ℕ) × (pairs_of hex ≡ Some l.bytes) × (coming self.old ≡ Ok (l.at, hex, self.old.passed + 1) ∷ coming self.new)) }
+        ensures some { IfSome result (λ l. (hex : List ℕ) × (pairs_of hex ≡ Some l.bytes)
+            × (coming self.old ≡ Ok (l.at, hex, self.old.passed + 1) ∷ coming self.new)) }
         ensures none { IfNone result (self.new ≡ self.old) }
     {
         if self.text.len() < ENDED {

@@ -57,7 +57,8 @@ fn decode_plain(text: &[u8], out: &mut [u8]) -> Option<usize>
 fn put_run(text: &[u8], out: &mut [u8], count: usize) -> usize
     requires { count + length text.now / 2 ≤ length out.old }
     ensures within { 2 * result ≤ length text.now }
-    ensures bytes { option_map (λ more. take count out.old ++ more) (plain_bytes text.now) ≡ option_map (λ more. take (count + result) out.new ++ more) (plain_bytes (drop (2 * result) text.now)) }
+    ensures bytes { option_map (λ more. take count out.old ++ more) (plain_bytes text.now) ≡
+        option_map (λ more. take (count + result) out.new ++ more) (plain_bytes (drop (2 * result) text.now)) }
 {
     let most = text.len() / 2;
     for i in 0..most {

@@ -1,6 +1,4 @@
 // Texts of xxd, put back by a revert.
-ghost use Rattle.std.specs.Prelude.{◌^◌, ◌<◌, ◌≤◌};
-ghost use Rattle.bx_dump.specs.Styles.{IsCountable};
 
 use crate::play::play;
 use bx_cli::{Fault, Reply};
@@ -39,17 +37,10 @@ fn expect_reverted<R: Abort + AllocGlobal>(
     play(rt, rt.alloc(), &Memory, &script)
 }
 
-fn text_of(alloc: Global, bytes: &[u8], o: &XxdOptions) -> Result<Vec<u8>, Fault>
-    requires some { 0 < o.now.cols }
-    requires few { o.now.cols ≤ 256 }
-    requires groups { o.now.group ≤ 256 }
-    requires seek { o.now.seek ≤ 2 ^ 62 }
-    requires shift { o.now.shift ≤ 2 ^ 62 }
-    requires name { IsCountable o.now.style }
-{
+fn text_of(alloc: Global, bytes: &[u8], o: &XxdOptions) -> Result<Vec<u8>, Fault> {
     let mut from = bytes;
     let mut text = Vec::new(alloc);
-    xxd(&mut from, &mut text, o)?;
+    xxd(&mut from, &mut text, XxdStyle::Normal, o)?;
     Ok(text)
 }
 
@@ -66,7 +57,6 @@ fn expect_whole<R: Abort + AllocGlobal>(
     requires groups { group ≤ 256 }
 {
     let options = XxdOptions {
-        style: XxdStyle::Normal,
         cols,
         group,
         limit: None,
@@ -97,7 +87,6 @@ fn xxd_text_reverts(rt: HostRuntime) -> Result<(), Fail> {
 fn xxd_part_reverts(rt: HostRuntime) -> Result<(), Fail> {
     let bytes = rising(rt.alloc(), 40)?;
     let options = XxdOptions {
-        style: XxdStyle::Normal,
         cols: 9,
         group: 4,
         limit: Some(20),

@@ -1,10 +1,9 @@
 //! Records of a stream.
 ghost use Rattle.std.specs.Prelude.{◌≡◌, ◌≢◌, ℕ, ◌+◌, ◌-◌, ◌*◌, ◌^◌, ◌<◌, ◌≤◌, List, [], ◌∷◌, ◌++◌, length, take, vec_capacity, Option, IfOk, IfErr, OnOk, Bool, false, slice_index};
-ghost use Rattle.bx_text.specs.Writing.{WritesFront};
 ghost use Rattle.bx_dd.specs.Output.{fitted, line_of};
 ghost use Rattle.bx_dd.specs.Standing.{Stands};
 ghost use Rattle.bx_dd.specs.inner.Standing.{last_of};
-ghost use Rattle.bx_dd.specs.inner.Streaming.{Flows, Goes, StopsFlow};
+ghost use Rattle.bx_dd.specs.inner.Paged.{FlowsBy, Pushes, PushesPieces, Puts, StopsPieces, StopsPush, StopsPut};
 ghost use Rattle.bx_dd.specs.declared.convert.form.Shape.TheVariants.{Flat, Block, Unblock};
 
 use crate::convert::form::{Form, Shape};
@@ -39,10 +38,8 @@ pub fn push_shaped<W: Write, A: Allocator, B: Allocator>(
     ensures within { IfOk result (λ t. (length held.new.items ≤ size) × (t.cut ≤ tail.cut + length bytes.now)) }
     ensures part { IfOk result (λ t. shape ≡ Unblock → length held.new.items < size) }
     ensures space { vec_capacity held.old ≤ vec_capacity held.new }
-    ensures ok { (z : List ℕ) (start : Option (List ℕ)) → Flows shape size start (W.contents w.old) z page.old.bytes.items page.old.written held.old.items tail.over tail.cut →
-        IfOk result (λ t. Flows shape size start (W.contents w.new) (z ++ bytes.now) page.new.bytes.items page.new.written held.new.items t.over t.cut) }
-    ensures err { (z : List ℕ) (start : Option (List ℕ)) → Flows shape size start (W.contents w.old) z page.old.bytes.items page.old.written held.old.items tail.over tail.cut →
-        IfErr result (StopsFlow shape size start (W.contents w.new) (z ++ bytes.now)) }
+    ensures ok { Pushes shape size (W.contents w.old) (W.contents w.new) page.old page.new held.old.items held.new.items tail bytes.now result }
+    ensures err { StopsPush shape size (W.contents w.old) (W.contents w.new) page.old held.old.items tail.over tail.cut bytes.now result }
 {
     match shape {
         Shape::Flat => match page.put(w, bytes) {
@@ -72,10 +69,8 @@ fn push_text<W: Write, A: Allocator, B: Allocator>(
     requires few { tail.cut + length bytes.now < 2 ^ 64 }
     ensures within { IfOk result (λ t. (length held.new.items ≤ size) × (t.cut ≤ tail.cut + length bytes.now)) }
     ensures space { vec_capacity held.old ≤ vec_capacity held.new }
-    ensures ok { (z : List ℕ) (start : Option (List ℕ)) → Flows Block size start (W.contents w.old) z page.old.bytes.items page.old.written held.old.items tail.over tail.cut →
-        IfOk result (λ t. Flows Block size start (W.contents w.new) (z ++ bytes.now) page.new.bytes.items page.new.written held.new.items t.over t.cut) }
-    ensures err { (z : List ℕ) (start : Option (List ℕ)) → Flows Block size start (W.contents w.old) z page.old.bytes.items page.old.written held.old.items tail.over tail.cut →
-        IfErr result (StopsFlow Block size start (W.contents w.new) (z ++ bytes.now)) }
+    ensures ok { Pushes Block size (W.contents w.old) (W.contents w.new) page.old page.new held.old.items held.new.items tail bytes.now result }
+    ensures err { StopsPush Block size (W.contents w.old) (W.contents w.new) page.old held.old.items tail.over tail.cut bytes.now result }
 {
     let mut over = tail.over;
     let mut cut = tail.cut;
@@ -112,8 +107,8 @@ fn hold<A: Allocator>(held: &mut Vec<u8, A>, over: bool, text: &[u8], size: usiz
     requires space { size ≤ vec_capacity held.old }
     ensures within { length held.new.items ≤ size }
     ensures space { vec_capacity held.old ≤ vec_capacity held.new }
-    ensures next { (z out : List ℕ) (cut : ℕ) → ((k : ℕ) → k < length text.now → slice_index text.now k ≢ 10) → Stands Block size z out held.old.items over cut →
-        Stands Block size (z ++ text.now) out held.new.items result cut }
+    ensures next { (z out : List ℕ) (cut : ℕ) → ((k : ℕ) → k < length text.now → slice_index text.now k ≢ 10) →
+        Stands Block size z out held.old.items over cut → Stands Block size (z ++ text.now) out held.new.items result cut }
 {
     let room = size - held.len();
     if text.len() <= room {
@@ -139,10 +134,9 @@ fn end_record<W: Write, A: Allocator, B: Allocator>(
     requires few { cut < 2 ^ 64 - 1 }
     ensures within { IfOk result (λ n. (held.new.items ≡ []) × (n ≤ cut + 1)) }
     ensures space { vec_capacity held.old ≤ vec_capacity held.new }
-    ensures ok { (z : List ℕ) (start : Option (List ℕ)) → Flows Block size start (W.contents w.old) z page.old.bytes.items page.old.written held.old.items over cut →
-        IfOk result (λ n. Flows Block size start (W.contents w.new) (z ++ 10 ∷ []) page.new.bytes.items page.new.written held.new.items false n) }
-    ensures err { (z : List ℕ) (start : Option (List ℕ)) → Flows Block size start (W.contents w.old) z page.old.bytes.items page.old.written held.old.items over cut →
-        IfErr result (StopsFlow Block size start (W.contents w.new) (z ++ 10 ∷ [])) }
+    ensures ok { (z : List ℕ) (start : Option (List ℕ)) → FlowsBy Block size start (W.contents w.old) z page.old held.old.items over cut →
+        IfOk result (FlowsBy Block size start (W.contents w.new) (z ++ 10 ∷ []) page.new held.new.items false) }
+    ensures err { StopsPush Block size (W.contents w.old) (W.contents w.new) page.old held.old.items over cut (10 ∷ []) result }
 {
     match push_fitted(page, w, held.as_slice(), size) {
         Ok(()) => {}
@@ -160,10 +154,8 @@ fn push_fitted<W: Write, B: Allocator>(
     size: usize,
 ) -> Result<(), IoFault>
     requires { length held.now ≤ size }
-    ensures ok { (start : Option (List ℕ)) (text : List ℕ) → Goes start (W.contents w.old) page.old.bytes.items page.old.written text →
-        OnOk result (Goes start (W.contents w.new) page.new.bytes.items page.new.written (text ++ fitted size held.now)) }
-    ensures err { (start : Option (List ℕ)) (text : List ℕ) → Goes start (W.contents w.old) page.old.bytes.items page.old.written text →
-        IfErr result (WritesFront 0 start (W.contents w.new) (text ++ fitted size held.now)) }
+    ensures ok { Puts (W.contents w.old) (W.contents w.new) page.old page.new (fitted size held.now) result }
+    ensures err { StopsPut (W.contents w.old) (W.contents w.new) page.old (fitted size held.now) result }
 {
     match page.put(w, held) {
         Ok(()) => page.put_spaces(w, size - held.len()),
@@ -183,10 +175,8 @@ fn push_pieces<W: Write, A: Allocator, B: Allocator>(
     requires space { size ≤ vec_capacity held.old }
     ensures within { OnOk result (length held.new.items < size) }
     ensures space { vec_capacity held.old ≤ vec_capacity held.new }
-    ensures ok { (z : List ℕ) (over : Bool) (cut : ℕ) (start : Option (List ℕ)) → Flows Unblock size start (W.contents w.old) z page.old.bytes.items page.old.written held.old.items over cut →
-        OnOk result (Flows Unblock size start (W.contents w.new) (z ++ bytes.now) page.new.bytes.items page.new.written held.new.items over cut) }
-    ensures err { (z : List ℕ) (over : Bool) (cut : ℕ) (start : Option (List ℕ)) → Flows Unblock size start (W.contents w.old) z page.old.bytes.items page.old.written held.old.items over cut →
-        IfErr result (StopsFlow Unblock size start (W.contents w.new) (z ++ bytes.now)) }
+    ensures ok { PushesPieces Unblock size (W.contents w.old) (W.contents w.new) page.old page.new held.old.items held.new.items bytes.now result }
+    ensures err { StopsPieces Unblock size (W.contents w.old) (W.contents w.new) page.old held.old.items bytes.now result }
 {
     let mut done = 0;
     while done < bytes.len() {
@@ -212,10 +202,8 @@ fn push_piece<W: Write, A: Allocator, B: Allocator>(
     requires fits { length held.old.items + length bytes.now ≤ size }
     ensures within { OnOk result (length held.new.items < size) }
     ensures space { vec_capacity held.old ≤ vec_capacity held.new }
-    ensures ok { (z : List ℕ) (over : Bool) (cut : ℕ) (start : Option (List ℕ)) → Flows Unblock size start (W.contents w.old) z page.old.bytes.items page.old.written held.old.items over cut →
-        OnOk result (Flows Unblock size start (W.contents w.new) (z ++ bytes.now) page.new.bytes.items page.new.written held.new.items over cut) }
-    ensures err { (z : List ℕ) (over : Bool) (cut : ℕ) (start : Option (List ℕ)) → Flows Unblock size start (W.contents w.old) z page.old.bytes.items page.old.written held.old.items over cut →
-        IfErr result (StopsFlow Unblock size start (W.contents w.new) (z ++ bytes.now)) }
+    ensures ok { PushesPieces Unblock size (W.contents w.old) (W.contents w.new) page.old page.new held.old.items held.new.items bytes.now result }
+    ensures err { StopsPieces Unblock size (W.contents w.old) (W.contents w.new) page.old held.old.items bytes.now result }
 {
     keep(held, bytes);
     if held.len() < size {
@@ -236,10 +224,8 @@ fn push_line<W: Write, B: Allocator>(
     w: &mut W,
     held: &[u8],
 ) -> Result<(), IoFault>
-    ensures ok { (start : Option (List ℕ)) (text : List ℕ) → Goes start (W.contents w.old) page.old.bytes.items page.old.written text →
-        OnOk result (Goes start (W.contents w.new) page.new.bytes.items page.new.written (text ++ line_of held.now)) }
-    ensures err { (start : Option (List ℕ)) (text : List ℕ) → Goes start (W.contents w.old) page.old.bytes.items page.old.written text →
-        IfErr result (WritesFront 0 start (W.contents w.new) (text ++ line_of held.now)) }
+    ensures ok { Puts (W.contents w.old) (W.contents w.new) page.old page.new (line_of held.now) result }
+    ensures err { StopsPut (W.contents w.old) (W.contents w.new) page.old (line_of held.now) result }
 {
     let end = trimmed(held);
     match page.put(w, &held[..end]) {
@@ -268,10 +254,8 @@ pub fn push_rest<W: Write, B: Allocator>(
     form: Form,
 ) -> Result<(), IoFault>
     requires { length held.now ≤ form.cbs }
-    ensures ok { (start : Option (List ℕ)) (text : List ℕ) → Goes start (W.contents w.old) page.old.bytes.items page.old.written text →
-        OnOk result (Goes start (W.contents w.new) page.new.bytes.items page.new.written (text ++ last_of form.shape form.cbs held.now)) }
-    ensures err { (start : Option (List ℕ)) (text : List ℕ) → Goes start (W.contents w.old) page.old.bytes.items page.old.written text →
-        IfErr result (WritesFront 0 start (W.contents w.new) (text ++ last_of form.shape form.cbs held.now)) }
+    ensures ok { Puts (W.contents w.old) (W.contents w.new) page.old page.new (last_of form.shape form.cbs held.now) result }
+    ensures err { StopsPut (W.contents w.old) (W.contents w.new) page.old (last_of form.shape form.cbs held.now) result }
 {
     if held.is_empty() {
         return Ok(());

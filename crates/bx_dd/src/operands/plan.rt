@@ -55,7 +55,7 @@ impl<A: Allocator> Plan<A> {
     ghost use Rattle.bx_dd.specs.Plan.{form_of, change_of};
 
     /// The sizes and conversions.
-    pub fn form(&self) -> Form
+    pub(crate) fn form(&self) -> Form
         ensures { result ≡ form_of self.now }
     {
         Form {
@@ -80,7 +80,8 @@ impl<A: Allocator> Plan<A> {
         Ok(())
     }
 
-    /// The change that puts the output in its place. The image ends there first, unless `conv=notrunc` was given. The one fault is want of memory, and the bytes are then given up.
+    /// The change that puts the output in its place. The image ends there first, unless `conv=notrunc` was given. The one fault
+    /// is want of memory, and the bytes are then given up.
     pub fn change<B: Allocator>(&self, alloc: B, bytes: Bytes<B>) -> Result<Change<B>, DdFault>
         ensures change { IfOk result (λ c. c ≡ change_of self.now bytes) }
         ensures fault { IsOkUnless result DdFault.NoMemory }

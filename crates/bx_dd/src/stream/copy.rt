@@ -8,7 +8,8 @@ ghost use Rattle.bx_dd.specs.Plan.{form_of};
 ghost use Rattle.bx_dd.specs.Output.{converted, cut_records, joined};
 ghost use Rattle.bx_dd.specs.Standing.{HasSizes};
 ghost use Rattle.bx_dd.specs.Streaming.{IsCopy, StopsCopy};
-ghost use Rattle.bx_dd.specs.inner.Streaming.{CopiesRest, Goes, Passes, StopsPass, Stage, StopsStage, Skips, StopsSkip, most_of, unit_of};
+ghost use Rattle.bx_dd.specs.inner.Paged.{PassesBy, StageBy, StopsStageOf};
+ghost use Rattle.bx_dd.specs.inner.Streaming.{CopiesRest, Goes, StopsPass, Skips, StopsSkip, most_of, unit_of};
 ghost use Rattle.bx_dd.specs.declared.convert.form.Shape.TheVariants.{Flat, Unblock};
 
 use crate::convert::form::Form;
@@ -43,7 +44,10 @@ struct Turn {
     have: usize,
 }
 
-/// The input after the skipped blocks, converted and written as it is read. Blocks are filled, whatever pieces the reader gives; where it gives fewer bytes than were asked for, what was converted goes out before it is asked again. The plan's `seek` means nothing here. Memory is taken before the first read.
+/// The input after the skipped blocks, converted and written as it is read.
+///
+/// Blocks are filled, whatever pieces the reader gives; where it gives fewer bytes than were asked for, what was converted
+/// goes out before it is asked again. The plan's `seek` means nothing here. Memory is taken before the first read.
 pub fn copy_out<R: Read, W: Write, A: Allocator + Clone, P: Allocator>(
     alloc: A,
     r: &mut R,
@@ -166,7 +170,8 @@ fn copy_rest<R: Read, W: Write, A: Allocator, B: Allocator>(
 fn counts(form: Form, read: u64, written: u64, tail: Tail) -> Counts
     requires sizes { HasSizes form }
     requires few { tail.cut ≤ 2 ^ 42 }
-    ensures counts { (input : List ℕ) → read ≡ length input → written ≡ length (converted form input) → (if tail.over then tail.cut + 1 else tail.cut) ≡ cut_records form.shape form.cbs (joined form input) →
+    ensures counts { (input : List ℕ) → read ≡ length input → written ≡ length (converted form input) →
+        (if tail.over then tail.cut + 1 else tail.cut) ≡ cut_records form.shape form.cbs (joined form input) →
         result ≡ counts_of form input }
 {
     Counts {
@@ -226,10 +231,10 @@ fn pass<W: Write, A: Allocator, B: Allocator>(
     ensures within { IfOk result (λ t. (length held.new.items ≤ form.cbs) × (t.tail.cut + t.have ≤ tail.cut + got) × (t.have < unit_of form)) }
     ensures part { IfOk result (λ t. form.shape ≡ Unblock → length held.new.items < form.cbs) }
     ensures space { vec_capacity held.old ≤ vec_capacity held.new }
-    ensures ok { (input : List ℕ) (start : Option (List ℕ)) → Stage form start (W.contents w.old) input (take got buf.old) page.old.bytes.items page.old.written held.old.items tail.over tail.cut →
-        IfOk result (λ t. Stage form start (W.contents w.new) input (take t.have buf.new) page.new.bytes.items page.new.written held.new.items t.tail.over t.tail.cut) }
-    ensures err { (input : List ℕ) (start : Option (List ℕ)) → Stage form start (W.contents w.old) input (take got buf.old) page.old.bytes.items page.old.written held.old.items tail.over tail.cut →
-        IfErr result (StopsStage form start (W.contents w.new) input) }
+    ensures ok { (input : List ℕ) (start : Option (List ℕ)) →
+        StageBy form start (W.contents w.old) input (take got buf.old) page.old held.old.items tail →
+        IfOk result (λ t. StageBy form start (W.contents w.new) input (take t.have buf.new) page.new held.new.items t.tail) }
+    ensures err { StopsStageOf form (W.contents w.old) (W.contents w.new) (take got buf.old) page.old held.old.items tail result }
 {
     let whole = got - got % unit_len(form);
     turn_units(&mut buf[..whole], form);
@@ -283,9 +288,12 @@ fn finish<W: Write, A: Allocator, B: Allocator>(
     requires part { form.shape ≡ Unblock → length held.old.items < form.cbs }
     requires cut { turn.tail.cut ≤ 2 ^ 41 }
     ensures cut { IfOk result (λ t. t.cut ≤ 2 ^ 42) }
-    ensures ok { (input : List ℕ) (start : Option (List ℕ)) → Stage form start (W.contents w.old) input (take turn.have buf.old) page.old.bytes.items page.old.written held.old.items turn.tail.over turn.tail.cut →
-        IfOk result (λ t. Appends start (W.contents w.new) (converted form input) × (page.new.written ≡ length (converted form input)) × ((if t.over then t.cut + 1 else t.cut) ≡ cut_records form.shape form.cbs (joined form input))) }
-    ensures err { (input : List ℕ) (start : Option (List ℕ)) → Stage form start (W.contents w.old) input (take turn.have buf.old) page.old.bytes.items page.old.written held.old.items turn.tail.over turn.tail.cut →
+    ensures ok { (input : List ℕ) (start : Option (List ℕ)) →
+        StageBy form start (W.contents w.old) input (take turn.have buf.old) page.old held.old.items turn.tail →
+        IfOk result (λ t. Appends start (W.contents w.new) (converted form input) × (page.new.written ≡ length (converted form input))
+        × ((if t.over then t.cut + 1 else t.cut) ≡ cut_records form.shape form.cbs (joined form input))) }
+    ensures err { (input : List ℕ) (start : Option (List ℕ)) →
+        StageBy form start (W.contents w.old) input (take turn.have buf.old) page.old held.old.items turn.tail →
         IfErr result (WritesFront 0 start (W.contents w.new) (converted form input)) }
 {
     let n = turn_last(buf, turn.have, form);
@@ -332,7 +340,9 @@ fn copy_units<R: Read, W: Write, A: Allocator, B: Allocator>(
     ensures part { IfOk result (λ t. form.shape ≡ Unblock → length held.new.items < form.cbs) }
     ensures space { vec_capacity held.old ≤ vec_capacity held.new }
     ensures limit { meter.new.limit ≡ 2 ^ 40 }
-    ensures ok { IfOk result (λ t. Passes form most meter.old.taken meter.new.taken (R.remaining r.old) (R.remaining r.new) (W.contents w.old) (W.contents w.new) (take t.have buf.new) page.new.bytes.items page.new.written held.new.items t.tail.over t.tail.cut) }
+    ensures ok { IfOk result (λ t.
+        PassesBy form most meter.old.taken meter.new.taken (R.remaining r.old) (R.remaining r.new) (W.contents w.old) (W.contents w.new)
+        (take t.have buf.new) page.new held.new.items t.tail) }
     ensures err { IfErr result (StopsPass form most meter.old.taken (R.remaining r.old) (R.remaining r.new) (W.contents w.old) (W.contents w.new)) }
 {
     let mut turn = Turn {

@@ -29,7 +29,8 @@ pub struct Transfer<A: Allocator = Global> {
     pub counts: Counts,
 }
 
-/// dd's report on standard error: a line of blocks in, a line of blocks out, and one of records that were cut, if there are any. The one fault is want of memory.
+/// dd's report on standard error: a line of blocks in, a line of blocks out, and one of records that were cut, if there are
+/// any. The one fault is want of memory.
 pub fn report<A: Allocator>(alloc: A, counts: &Counts) -> Result<Vec<u8, A>, DdFault>
     ensures text { IfOk result (λ v. v.items ≡ report_text counts.now) }
     ensures fault { IsOkUnless result DdFault.NoMemory }

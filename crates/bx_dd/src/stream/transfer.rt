@@ -17,7 +17,10 @@ use std::io::Read;
 /// How many bytes are read at most, skipped ones included.
 const LIMIT: u64 = 1 << 40;
 
-/// The input after the skipped blocks, converted: blocks are filled, whatever pieces the reader gives. It is read up to its end, or to the end of skip and count, and no further. Want of memory, a failed read and an input of more than 2^40 bytes stop it.
+/// The input after the skipped blocks, converted: blocks are filled, whatever pieces the reader gives.
+///
+/// It is read up to its end, or to the end of skip and count, and no further. Want of memory, a failed read and an input of
+/// more than 2^40 bytes stop it.
 pub fn transfer<R: Read, A: Allocator + Clone, P: Allocator>(
     alloc: A,
     r: &mut R,
@@ -76,7 +79,8 @@ fn skip_blocks<R: Read>(
 ) -> Result<(), DdFault>
     requires { meter.old.state ≡ State.Open }
     ensures limit { meter.new.limit ≡ meter.old.limit }
-    ensures read { OnOk result ((input : List ℕ) × HasRead (R.remaining r.old) (R.remaining r.new) skip (length block.old) meter.new.state input × (meter.new.taken ≡ meter.old.taken + length input)) }
+    ensures read { OnOk result ((input : List ℕ) × HasRead (R.remaining r.old) (R.remaining r.new) skip (length block.old) meter.new.state input
+        × (meter.new.taken ≡ meter.old.taken + length input)) }
     ensures stopped { IfErr result (λ e. StopsWithin (skip * length block.old) (R.remaining r.old) (R.remaining r.new) (meter.old.limit - meter.old.taken) e) }
 {
     for _i in 0..skip {
@@ -102,7 +106,9 @@ fn take_blocks<R: Read, A: Allocator>(
     requires ready { (meter.old.state ≡ State.Open) ⊎ ((meter.old.state ≡ State.Ended) × IsAtEnd (R.remaining r.old)) }
     ensures form { IfOk result (λ c. c.form ≡ convert.form) }
     ensures limit { meter.new.limit ≡ meter.old.limit }
-    ensures read { IfOk result (λ c. (input : List ℕ) × IsAfter input c × HasRead (R.remaining r.old) (R.remaining r.new) count (length block.old) meter.new.state input × (meter.new.taken ≡ meter.old.taken + length input)) }
+    ensures read { IfOk result (λ c. (input : List ℕ) × IsAfter input c
+        × HasRead (R.remaining r.old) (R.remaining r.new) count (length block.old) meter.new.state input
+        × (meter.new.taken ≡ meter.old.taken + length input)) }
     ensures none_left { meter.old.state ≡ State.Ended → IfOk result (λ c. (c.taken ≡ 0) × (meter.new.state ≡ State.Ended)) }
     ensures stopped { IfErr result (λ e. StopsWithin (count * length block.old) (R.remaining r.old) (R.remaining r.new) (meter.old.limit - meter.old.taken) e) }
 {

@@ -1,5 +1,5 @@
 -- What proofs alone need: the digits of bytes, and how they stand in groups.
-use Rattle.std.specs.Prelude.{ℕ, ◌+◌, ◌-◌, ◌*◌, ◌/◌, ◌%◌, false, List, [], ◌∷◌, ◌++◌, length, take, drop, replicate, reverse}
+use Rattle.std.specs.Prelude.{◌≡◌, ℕ, ◌+◌, ◌-◌, ◌*◌, ◌/◌, ◌%◌, false, List, [], ◌∷◌, ◌++◌, length, take, drop, replicate, reverse}
 use Rattle.std.specs.List.{flat_map, range_with_len}
 use Rattle.bx_text.specs.Dump.{pair_of}
 
@@ -15,6 +15,11 @@ grouped piece cells width =
 -- value k of so many bytes each: a space, and the digits of its bytes, the last byte first
 abbrev pub hex_value : ℕ → List ℕ → ℕ → List ℕ
 hex_value size bytes k = 32 ∷ flat_map (pair_of false) (reverse (take size (drop (size * k) bytes)))
+
+-- a text is so many values, where the cells are the digits of 16 bytes
+abbrev pub ShowsValues : ℕ → ℕ → List ℕ → List ℕ → Type 0
+ShowsValues size count cells text =
+    (bytes : List ℕ) → length bytes ≡ 16 → cells ≡ flat_map (pair_of false) bytes → text ≡ flat_map (hex_value size bytes) (range_with_len 0 count)
 
 -- what stands for each two items of a list, the second of which is there
 abbrev pub by_twos : (ℕ → ℕ → List ℕ) → List ℕ → List ℕ

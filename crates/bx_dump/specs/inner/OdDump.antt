@@ -2,8 +2,24 @@
 use Rattle.std.specs.Prelude.{◌≡◌, ℕ, ◌^◌, ◌⊎◌, false, List, Option}
 use Rattle.bx_text.specs.declared.fault.IoFault.{IoFault}
 use Rattle.bx_text.specs.declared.fault.IoFault.TheVariants.{SkipPastEnd}
+use Rattle.bx_text.specs.Fold.{folded}
+use Rattle.bx_dump.specs.Od.{od_line}
 use Rattle.bx_dump.specs.Pages.{Skips}
-use Rattle.bx_dump.specs.inner.Pages.{StopsAt}
+use Rattle.bx_dump.specs.inner.Pages.{StopsAt, StopsNext, WritesNext}
+use Rattle.bx_dump.specs.declared.driver.pages.Part.{Part}
+use Rattle.bx_dump.specs.declared.od.options.OdOptions.{OdOptions}
+
+-- od's lines of some bytes
+abbrev pub od_lines : OdOptions → List ℕ → List ℕ
+od_lines o bytes = folded (od_line o.address o.kind) o.all o.skip bytes
+
+-- the lines of what comes behind the bytes that were taken were written
+abbrev pub WritesOdLines : OdOptions → ℕ → Option (List ℕ) → Option (List ℕ) → Option (List ℕ) → Option (List ℕ) → Part → Type 0
+WritesOdLines o taken r0 r1 w0 w1 part = WritesNext (od_lines o) taken o.limit r0 r1 w0 w1 part
+
+-- a front of them was written
+abbrev pub StopsOdLines : OdOptions → ℕ → Option (List ℕ) → Option (List ℕ) → Option (List ℕ) → Option (List ℕ) → IoFault → Type 0
+StopsOdLines o taken r0 r1 w0 w1 fault = StopsNext (od_lines o) taken o.limit 0 r0 r1 w0 w1 fault
 
 -- the input ended among the bytes to skip, or a read stopped
 abbrev pub StopsShort : ℕ → Option (List ℕ) → Option (List ℕ) → IoFault → Type 0

@@ -3,6 +3,8 @@ use Rattle.std.specs.Prelude.{◌≡◌, ℕ, ◌+◌, ◌^◌, ◌≤◌, ◌�
 use Rattle.std.specs.Io.KnownBytes.{Appends, Consumes, IsAtEnd}
 use Rattle.bx_text.specs.declared.fault.IoFault.{IoFault}
 use Rattle.bx_text.specs.Stream.{IsReadCause}
+use Rattle.bx_dump.specs.Pages.{WritesPart, WritesFrontBut, capped, part_of}
+use Rattle.bx_dump.specs.declared.driver.pages.Part.{Part}
 
 -- n bytes were dumped: all up to the input's end, or as many as may be
 abbrev pub IsLast : Option ℕ → ℕ → Option (List ℕ) → Type 0
@@ -18,6 +20,22 @@ pub record WritesRest (text : List ℕ → List ℕ) (from : ℕ) (limit : Optio
   pub dumped : length input ≡ read
   pub appended : Appends w0 w1 (text input)
   pub long : length (text input) ≡ written
+
+-- the text of what comes next was written, behind `from` bytes that were taken
+abbrev pub WritesNext : (List ℕ → List ℕ) → ℕ → Option ℕ → Option (List ℕ) → Option (List ℕ) → Option (List ℕ) → Option (List ℕ) → Part → Type 0
+WritesNext text from limit r0 r1 w0 w1 part = WritesRest text from limit r0 r1 w0 w1 part.read part.written
+
+-- a front of it was written, after `before` bytes of other texts
+abbrev pub StopsNext : (List ℕ → List ℕ) → ℕ → Option ℕ → ℕ → Option (List ℕ) → Option (List ℕ) → Option (List ℕ) → Option (List ℕ) → IoFault → Type 0
+StopsNext text from limit before r0 r1 w0 w1 fault = WritesFrontBut 0 (λ input. text (capped limit input)) 0 limit from before r0 r1 w0 w1 fault
+
+-- the text of the part was written
+abbrev pub WritesTextOf : (List ℕ → List ℕ) → ℕ → Option ℕ → Option (List ℕ) → Option (List ℕ) → Option (List ℕ) → Option (List ℕ) → Part → Type 0
+WritesTextOf text skip limit r0 r1 w0 w1 part = WritesPart (λ input. text (part_of skip limit input)) skip limit r0 r1 w0 w1 part.read part.written
+
+-- a front of it was written, after `before` bytes of other texts
+abbrev pub StopsTextOf : ℕ → (List ℕ → List ℕ) → ℕ → Option ℕ → ℕ → Option (List ℕ) → Option (List ℕ) → Option (List ℕ) → Option (List ℕ) → IoFault → Type 0
+StopsTextOf slack text skip limit before r0 r1 w0 w1 fault = WritesFrontBut slack (λ input. text (part_of skip limit input)) skip limit 0 before r0 r1 w0 w1 fault
 
 -- Some bytes were read of `wanted` that were asked for, and then no more could be.
 pub record StopsAt (wanted room : ℕ) (r0 r1 : Option (List ℕ)) (fault : IoFault) : Type 0 where

@@ -23,8 +23,10 @@ pub trait Form {
 /// Says what stands for the next line, where `all` folds none.
 #[inline]
 fn show_next(all: bool, fold: &mut Fold, bytes: &[u8]) -> Show
-    ensures show { (whole : List ℕ) (k : ℕ) → bytes.now ≡ line_bytes whole k → IsTaken all fold.old whole k → result ≡ (if all then Show.Line else show_at whole k) }
-    ensures taken { (whole : List ℕ) (k : ℕ) → bytes.now ≡ line_bytes whole k → IsTaken all fold.old whole k → length bytes.now ≡ 16 → IsTaken all fold.new whole (suc k) }
+    ensures show { (whole : List ℕ) (k : ℕ) → bytes.now ≡ line_bytes whole k → IsTaken all fold.old whole k →
+        result ≡ (if all then Show.Line else show_at whole k) }
+    ensures taken { (whole : List ℕ) (k : ℕ) → bytes.now ≡ line_bytes whole k → IsTaken all fold.old whole k →
+        length bytes.now ≡ 16 → IsTaken all fold.new whole (suc k) }
 {
     if all {
         return Show::Line;
@@ -51,7 +53,8 @@ fn put_next<F: Form>(
     ensures most { result ≤ 128 }
     ensures text { (whole : List ℕ) (k start : ℕ) → at ≡ start + 16 * k → bytes.now ≡ line_bytes whole k → IsTaken all fold.old whole k →
         take result page.new ≡ line_text (F.line form.now) all start whole k }
-    ensures taken { (whole : List ℕ) (k : ℕ) → bytes.now ≡ line_bytes whole k → IsTaken all fold.old whole k → length bytes.now ≡ 16 → IsTaken all fold.new whole (suc k) }
+    ensures taken { (whole : List ℕ) (k : ℕ) → bytes.now ≡ line_bytes whole k → IsTaken all fold.old whole k →
+        length bytes.now ≡ 16 → IsTaken all fold.new whole (suc k) }
 {
     match show_next(all, fold, bytes) {
         Show::Line => form.put(page, at, bytes),

@@ -1,11 +1,8 @@
 //! od's dump.
-ghost use Rattle.std.specs.Prelude.{◌≡◌, ℕ, ◌+◌, ◌^◌, ◌<◌, ◌≤◌, true, length, IfOk, IfErr, OnOk};
-ghost use Rattle.bx_text.specs.Fold.{folded};
-ghost use Rattle.bx_dump.specs.Od.{od_line, od_text};
-ghost use Rattle.bx_dump.specs.OdDump.{FailsBehind, Reaches, StopsOd};
-ghost use Rattle.bx_dump.specs.inner.OdDump.{StopsShort};
-ghost use Rattle.bx_dump.specs.Pages.{WritesPart, WritesFrontBut, Skips, capped, part_of};
-ghost use Rattle.bx_dump.specs.inner.Pages.{WritesRest};
+ghost use Rattle.std.specs.Prelude.{◌≡◌, ◌+◌, ◌^◌, ◌<◌, ◌≤◌, true, length, IfOk, IfErr, OnOk};
+ghost use Rattle.bx_dump.specs.OdDump.{DumpsOd, FailsBehind, Reaches, StopsOd};
+ghost use Rattle.bx_dump.specs.inner.OdDump.{StopsOdLines, StopsShort, WritesOdLines};
+ghost use Rattle.bx_dump.specs.Pages.{Skips};
 
 use crate::driver::folded::FoldedPages;
 use crate::driver::pages::{BLOCK, LIMIT, PAGE, Part, dump_pages, skip};
@@ -40,12 +37,11 @@ fn dump_lines<R: Read, W: Write>(
     o: &OdOptions,
     block: &mut [u8],
 ) -> Result<Part, IoFault>
-    requires skip { o.now.skip ≤ 2 ^ 62 }
     requires open { meter.old.state ≡ State.Open }
     requires limit { meter.old.limit ≡ 2 ^ 40 }
     requires block { length block.old ≡ BLOCK }
-    ensures ok { IfOk result (λ part. WritesRest (folded (od_line o.now.address o.now.kind) o.now.all o.now.skip) meter.old.taken o.now.limit (R.remaining r.old) (R.remaining r.new) (W.contents w.old) (W.contents w.new) part.read part.written) }
-    ensures err { IfErr result (WritesFrontBut 0 (λ input. folded (od_line o.now.address o.now.kind) o.now.all o.now.skip (capped o.now.limit input)) 0 o.now.limit meter.old.taken 0 (R.remaining r.old) (R.remaining r.new) (W.contents w.old) (W.contents w.new)) }
+    ensures ok { IfOk result (WritesOdLines o.now meter.old.taken (R.remaining r.old) (R.remaining r.new) (W.contents w.old) (W.contents w.new)) }
+    ensures err { IfErr result (StopsOdLines o.now meter.old.taken (R.remaining r.old) (R.remaining r.new) (W.contents w.old) (W.contents w.new)) }
     ensures few { IfOk result (λ part. part.written ≤ 2 ^ 60) }
     ensures count { IfOk result (λ part. part.read ≤ 2 ^ 40) }
 {
@@ -65,11 +61,10 @@ fn dump_lines<R: Read, W: Write>(
 /// a front of the text of the bytes that were read was written; `WriteFailed` counts it, and comes only behind the bytes
 /// that are skipped, with at most 2^14 bytes read ahead of it.
 pub fn od<R: Read, W: Write>(r: &mut R, w: &mut W, o: &OdOptions) -> Result<u64, IoFault>
-    requires skip { o.now.skip ≤ 2 ^ 62 }
-    ensures ok { IfOk result (λ n. (written : ℕ) × WritesPart (λ input. od_text o.now.address o.now.kind o.now.all o.now.skip (part_of o.now.skip o.now.limit input)) o.now.skip o.now.limit (R.remaining r.old) (R.remaining r.new) (W.contents w.old) (W.contents w.new) n written) }
+    ensures ok { IfOk result (DumpsOd o.now (R.remaining r.old) (R.remaining r.new) (W.contents w.old) (W.contents w.new)) }
     ensures reached { OnOk result (Reaches o.now.skip (R.remaining r.old) (R.remaining r.new)) }
     ensures behind { IfErr result (FailsBehind o.now.skip (R.remaining r.old) (R.remaining r.new) (W.contents w.old) (W.contents w.new)) }
-    ensures err { IfErr result (StopsOd (λ input. od_text o.now.address o.now.kind o.now.all o.now.skip (part_of o.now.skip o.now.limit input)) o.now.skip o.now.limit (R.remaining r.old) (R.remaining r.new) (W.contents w.old) (W.contents w.new)) }
+    ensures err { IfErr result (StopsOd o.now (R.remaining r.old) (R.remaining r.new) (W.contents w.old) (W.contents w.new)) }
 {
     let mut meter = Meter::new(LIMIT);
     let mut block = [0; BLOCK];

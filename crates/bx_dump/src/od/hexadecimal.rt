@@ -1,10 +1,7 @@
 //! od's hexadecimal values, lane by lane.
-ghost use Rattle.std.specs.Prelude.{◌≡◌, ◌≤◌, false, ℕ, List, length, take};
-ghost use Rattle.std.specs.List.{flat_map, range_with_len};
-ghost use Rattle.bx_text.specs.Dump.{pair_of};
-ghost use Rattle.bx_dump.specs.inner.Cells.{hex_value};
-ghost use Rattle.bx_dump.specs.Lines.{in_lines};
-ghost use Rattle.bx_dump.specs.Od.{value_text, width_of};
+ghost use Rattle.std.specs.Prelude.{◌≡◌, ◌≤◌, length, take};
+ghost use Rattle.bx_dump.specs.inner.Cells.{ShowsValues};
+ghost use Rattle.bx_dump.specs.Od.{values_text};
 
 use crate::hex_lanes::put_sixteen;
 use crate::od::options::{Kind, NumForm, Size};
@@ -15,7 +12,7 @@ use std::simd::prelude::*;
 fn put_values_of_one(text: &mut [u8], cells: &[u8; 32]) -> usize
     requires { 80 ≤ length text.old }
     ensures most { result ≤ 80 }
-    ensures text { (bytes : List ℕ) → length bytes ≡ 16 → cells.now ≡ flat_map (pair_of false) bytes → take result text.new ≡ flat_map (hex_value 1 bytes) (range_with_len 0 16) }
+    ensures text { ShowsValues 1 16 cells.now (take result text.new) }
 {
     let all: u8x64 = u8x32::from_array(*cells).shuffle(
         u8x32::splat(b' '),
@@ -35,7 +32,7 @@ fn put_values_of_one(text: &mut [u8], cells: &[u8; 32]) -> usize
 fn put_values_of_two(text: &mut [u8], cells: &[u8; 32]) -> usize
     requires { 80 ≤ length text.old }
     ensures most { result ≤ 80 }
-    ensures text { (bytes : List ℕ) → length bytes ≡ 16 → cells.now ≡ flat_map (pair_of false) bytes → take result text.new ≡ flat_map (hex_value 2 bytes) (range_with_len 0 8) }
+    ensures text { ShowsValues 2 8 cells.now (take result text.new) }
 {
     let all: u8x64 = u8x32::from_array(*cells).shuffle(
         u8x32::splat(b' '),
@@ -55,7 +52,7 @@ fn put_values_of_two(text: &mut [u8], cells: &[u8; 32]) -> usize
 fn put_values_of_four(text: &mut [u8], cells: &[u8; 32]) -> usize
     requires { 80 ≤ length text.old }
     ensures most { result ≤ 80 }
-    ensures text { (bytes : List ℕ) → length bytes ≡ 16 → cells.now ≡ flat_map (pair_of false) bytes → take result text.new ≡ flat_map (hex_value 4 bytes) (range_with_len 0 4) }
+    ensures text { ShowsValues 4 4 cells.now (take result text.new) }
 {
     let all: u8x64 = u8x32::from_array(*cells).shuffle(
         u8x32::splat(b' '),
@@ -75,7 +72,7 @@ fn put_values_of_four(text: &mut [u8], cells: &[u8; 32]) -> usize
 fn put_values_of_eight(text: &mut [u8], cells: &[u8; 32]) -> usize
     requires { 80 ≤ length text.old }
     ensures most { result ≤ 80 }
-    ensures text { (bytes : List ℕ) → length bytes ≡ 16 → cells.now ≡ flat_map (pair_of false) bytes → take result text.new ≡ flat_map (hex_value 8 bytes) (range_with_len 0 2) }
+    ensures text { ShowsValues 8 2 cells.now (take result text.new) }
 {
     let all: u8x64 = u8x32::from_array(*cells).shuffle(
         u8x32::splat(b' '),
@@ -94,7 +91,7 @@ fn put_values_of_eight(text: &mut [u8], cells: &[u8; 32]) -> usize
 pub fn put_hexadecimal_line(text: &mut [u8], size: Size, bytes: &[u8; 16]) -> usize
     requires room { 80 ≤ length text.old }
     ensures most { result ≤ 80 }
-    ensures text { take result text.new ≡ in_lines (value_text (Kind.Number NumForm.Hexadecimal size)) (width_of (Kind.Number NumForm.Hexadecimal size)) 0 bytes.now }
+    ensures text { take result text.new ≡ values_text (Kind.Number NumForm.Hexadecimal size) bytes.now }
 {
     let mut cells = [0; 32];
     put_sixteen(&mut cells, bytes, false);

@@ -1,8 +1,7 @@
 //! od's octal values of two bytes, lane by lane.
 ghost use Rattle.std.specs.Prelude.{◌≡◌, ◌+◌, ◌*◌, ◌/◌, ◌%◌, ◌^◌, ◌<◌, ◌≤◌, [], ◌∷◌, length, map, take};
 ghost use Rattle.bx_dump.specs.inner.Cells.{by_twos, octal_cells};
-ghost use Rattle.bx_dump.specs.Lines.{in_lines};
-ghost use Rattle.bx_dump.specs.Od.{value_text, width_of};
+ghost use Rattle.bx_dump.specs.Od.{values_text};
 
 use crate::od::options::{Kind, NumForm, Size};
 use std::simd::prelude::*;
@@ -83,7 +82,7 @@ fn cells_of(bytes: u8x16) -> u8x64
 pub fn put_octal_twos(text: &mut [u8], bytes: &[u8; 16]) -> usize
     requires room { 80 ≤ length text.old }
     ensures most { result ≤ 80 }
-    ensures text { take result text.new ≡ in_lines (value_text (Kind.Number NumForm.Octal Size.Two)) (width_of (Kind.Number NumForm.Octal Size.Two)) 0 bytes.now }
+    ensures text { take result text.new ≡ values_text (Kind.Number NumForm.Octal Size.Two) bytes.now }
 {
     let (front, _) = text.split_at_mut(64);
     cells_of(u8x16::from_array(*bytes)).copy_to_slice(front);

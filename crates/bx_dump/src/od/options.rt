@@ -1,5 +1,5 @@
 //! How od shows bytes.
-ghost use Rattle.std.specs.Prelude.{◌≡◌, ◌<◌, ◌≤◌};
+ghost use Rattle.std.specs.Prelude.{◌≡◌, ◌<◌, ◌≤◌, ◌^◌};
 
 /// The digits of an address.
 #[derive(Clone, Copy, Debug, PartialEq, Eq)]
@@ -54,6 +54,7 @@ pub struct OdOptions {
     pub limit: Option<u64>,
     /// Whether lines that repeat the line before are shown too.
     pub all: bool,
+    ghost near: { skip ≤ 2 ^ 62 },
 }
 
 impl Size {

@@ -1,22 +1,23 @@
 //! The printable runs of an input.
 ghost use Rattle.std.specs.Prelude.{◌≡◌, ℕ, ◌+◌, ◌-◌, ◌*◌, ◌^◌, ◌<◌, ◌≤◌, [], List, ◌++◌, length, take, drop, not, IfOk, IfErr};
 ghost use Rattle.std.specs.List.{prefix_len};
-ghost use Rattle.bx_dump.specs.Dumped.{DumpsAll, DumpsFront, DumpsFrontBut};
-ghost use Rattle.bx_dump.specs.inner.Scan.{scan_text, scan_run, IsKept, ScansAll, pending, cost_of, end_text, AllPrint, EndsQuiet, IsQuiet};
+ghost use Rattle.bx_dump.specs.inner.Runs.{Keeps, Scans, StopsScan, known_text, waiting};
+ghost use Rattle.bx_dump.specs.inner.Scan.{scan_run, cost_of, end_text, AllPrint, EndsQuiet, IsQuiet};
 ghost use Rattle.bx_text.specs.Ascii.{is_printable};
-ghost use Rattle.bx_dump.specs.Strings.{place_text, strings_text};
+ghost use Rattle.bx_dump.specs.Strings.{place_text, DumpsStrings, StopsStrings};
 
+use crate::driver::pages::BLOCK;
 use crate::od::options::Address;
 use crate::strings::lanes::{four_in, printing_in};
+use crate::strings::options::StringsOptions;
 use bx_text::{IoFault, Meter, ShortText, State, dec_field, emit_after, hex_field, oct_field};
 use std::io::{Read, Write};
 
-/// Which runs are shown: those of at least `least` bytes (1 to 4,096), each behind its place where `offsets` says how.
-#[derive(Clone, Copy, Debug, PartialEq, Eq)]
-pub struct StringsOptions {
-    pub least: u16,
-    pub offsets: Address,
-}
+/// How many bytes of a run are kept at most.
+const KEPT: usize = 4096;
+
+/// How many bytes of text there is room for.
+const PAGE: usize = 98304;
 
 /// The run that the bytes so far end in: its bytes while it is short, and that it is long enough from then on.
 #[derive(Drop)]
@@ -24,7 +25,7 @@ struct Runs {
     least: usize,
     offsets: Address,
     count: usize,
-    kept: [u8; 4096],
+    kept: [u8; KEPT],
 }
 
 /// How many bytes were taken, and how many of text were put.
@@ -93,7 +94,7 @@ fn last_other(bytes: &[u8]) -> usize
 
 /// How many bytes in front have no run that is long enough, and leave none. Whole windows of `least` bytes are skipped
 /// from their last byte that doesn't print.
-fn quiet_windows(bytes: &[u8], least: usize) -> usize
+fn skippable_windows(bytes: &[u8], least: usize) -> usize
     requires { 0 < least }
     ensures quiet { IsQuiet least (take result bytes.now) }
     ensures within { result ≤ length bytes.now }
@@ -110,7 +111,7 @@ fn quiet_windows(bytes: &[u8], least: usize) -> usize
 }
 
 /// The same up to the first four bytes that print.
-fn quiet_fours(bytes: &[u8], least: usize) -> usize
+fn skippable_fours(bytes: &[u8], least: usize) -> usize
     requires { 4 ≤ least }
     ensures quiet { IsQuiet least (take result bytes.now) }
     ensures within { result ≤ length bytes.now }
@@ -127,15 +128,15 @@ fn quiet_fours(bytes: &[u8], least: usize) -> usize
 }
 
 /// How many bytes in front are known to have no run that is long enough, and to leave none.
-fn quiet_len(bytes: &[u8], least: usize) -> usize
+fn skippable_len(bytes: &[u8], least: usize) -> usize
     requires { 0 < least }
     ensures quiet { IsQuiet least (take result bytes.now) }
     ensures within { result ≤ length bytes.now }
 {
     if bytes.len() >= 35 && least >= 4 && least <= 16 {
-        return quiet_fours(bytes, least);
+        return skippable_fours(bytes, least);
     }
-    quiet_windows(bytes, least)
+    skippable_windows(bytes, least)
 }
 
 /// The place of a run, and a space.
@@ -173,7 +174,7 @@ impl Runs {
             least: o.least as usize,
             offsets: o.offsets,
             count: 0,
-            kept: [0; 4096],
+            kept: [0; KEPT],
         }
     }
 }
@@ -199,14 +200,14 @@ impl Runs {
         requires few { self.old.least ≤ 4096 }
         requires size { length self.old.kept ≡ 4096 }
         requires within { self.old.count ≤ self.old.least }
-        requires room { 24 + pending self.old.least self.old.count + length more.now ≤ length page.old }
-        ensures text { (run : List ℕ) → IsKept self.old.least self.old.count self.old.kept run → take result page.new ≡ scan_text self.old.least self.old.offsets at run more.now }
-        ensures kept { (run : List ℕ) → IsKept self.old.least self.old.count self.old.kept run → IsKept self.new.least self.new.count self.new.kept (run ++ more.now) }
+        requires room { 24 + waiting self.old + length more.now ≤ length page.old }
+        ensures text { (run : List ℕ) → Keeps self.old run → take result page.new ≡ known_text self.old at run more.now }
+        ensures kept { (run : List ℕ) → Keeps self.old run → Keeps self.new (run ++ more.now) }
         ensures least { self.new.least ≡ self.old.least }
         ensures offsets { self.new.offsets ≡ self.old.offsets }
         ensures size { length self.new.kept ≡ 4096 }
         ensures within { self.new.count ≤ self.new.least }
-        ensures cost { result + pending self.new.least self.new.count + 2 ≤ pending self.old.least self.old.count + length more.now + cost_of self.old.offsets }
+        ensures cost { result + waiting self.new + 2 ≤ waiting self.old + length more.now + cost_of self.old.offsets }
     {
         if self.count == self.least {
             put_at(page, 0, more);
@@ -228,8 +229,8 @@ impl Runs {
         requires some { 0 < self.old.least }
         requires within { self.old.count ≤ self.old.least }
         requires room { 0 < length page.old }
-        ensures text { (run : List ℕ) → IsKept self.old.least self.old.count self.old.kept run → take result page.new ≡ end_text self.old.least run }
-        ensures kept { IsKept self.new.least self.new.count self.new.kept [] }
+        ensures text { (run : List ℕ) → Keeps self.old run → take result page.new ≡ end_text self.old.least run }
+        ensures kept { Keeps self.new [] }
         ensures least { self.new.least ≡ self.old.least }
         ensures offsets { self.new.offsets ≡ self.old.offsets }
         ensures size { self.new.kept ≡ self.old.kept }
@@ -255,21 +256,21 @@ impl Runs {
         requires size { length self.old.kept ≡ 4096 }
         requires within { self.old.count ≤ self.old.least }
         requires some { 0 < length bytes.now }
-        requires room { 24 + pending self.old.least self.old.count + length bytes.now ≤ length page.old }
+        requires room { 24 + waiting self.old + length bytes.now ≤ length page.old }
         ensures some { 0 < result.taken }
         ensures taken { result.taken ≤ length bytes.now }
-        ensures text { (run : List ℕ) → IsKept self.old.least self.old.count self.old.kept run →
-            take result.used page.new ≡ scan_text self.old.least self.old.offsets at run (take result.taken bytes.now) }
-        ensures kept { (run : List ℕ) → IsKept self.old.least self.old.count self.old.kept run →
-            IsKept self.new.least self.new.count self.new.kept (scan_run run (take result.taken bytes.now)) }
+        ensures text { (run : List ℕ) → Keeps self.old run →
+            take result.used page.new ≡ known_text self.old at run (take result.taken bytes.now) }
+        ensures kept { (run : List ℕ) → Keeps self.old run →
+            Keeps self.new (scan_run run (take result.taken bytes.now)) }
         ensures least { self.new.least ≡ self.old.least }
         ensures offsets { self.new.offsets ≡ self.old.offsets }
         ensures size { length self.new.kept ≡ 4096 }
         ensures within { self.new.count ≤ self.new.least }
-        ensures cost { result.used + pending self.new.least self.new.count + 2 ≤ pending self.old.least self.old.count + result.taken + cost_of self.old.offsets }
+        ensures cost { result.used + waiting self.new + 2 ≤ waiting self.old + result.taken + cost_of self.old.offsets }
     {
         if self.count == 0 {
-            let taken = quiet_len(bytes, self.least);
+            let taken = skippable_len(bytes, self.least);
             if taken > 0 {
                 return Step { taken, used: 0 };
             }
@@ -288,11 +289,11 @@ impl Runs {
 /// How many bytes are put at once: what they stand for fits a page.
 fn block_len(offsets: Address) -> usize
     ensures least { 3584 ≤ result }
-    ensures fits { 4096 + 32 + cost_of offsets * result ≤ 98304 }
-    ensures most { result ≤ 16384 }
+    ensures fits { 4096 + 32 + cost_of offsets * result ≤ PAGE }
+    ensures most { result ≤ BLOCK }
 {
     match offsets {
-        Address::Without => 16384,
+        Address::Without => BLOCK,
         _ => 3584,
     }
 }
@@ -306,8 +307,8 @@ impl Runs {
         requires within { self.old.count ≤ self.old.least }
         requires address { at + length bytes.now < 2 ^ 64 }
         requires room { 4096 + 32 + cost_of self.old.offsets * length bytes.now ≤ length page.old }
-        ensures text { (run : List ℕ) → IsKept self.old.least self.old.count self.old.kept run → take result page.new ≡ scan_text self.old.least self.old.offsets at run bytes.now }
-        ensures kept { (run : List ℕ) → IsKept self.old.least self.old.count self.old.kept run → IsKept self.new.least self.new.count self.new.kept (scan_run run bytes.now) }
+        ensures text { (run : List ℕ) → Keeps self.old run → take result page.new ≡ known_text self.old at run bytes.now }
+        ensures kept { (run : List ℕ) → Keeps self.old run → Keeps self.new (scan_run run bytes.now) }
         ensures least { self.new.least ≡ self.old.least }
         ensures offsets { self.new.offsets ≡ self.old.offsets }
         ensures size { length self.new.kept ≡ 4096 }
@@ -339,10 +340,10 @@ fn scan_pages<R: Read, W: Write>(
     requires fresh { runs.old.count ≡ 0 }
     requires block { 3584 ≤ length block.old }
     requires most { length block.old ≤ 2 ^ 14 }
-    requires page { length page.old ≡ 98304 }
-    requires room { 4096 + 32 + cost_of runs.old.offsets * length block.old ≤ 98304 }
-    ensures ok { IfOk result (λ d. ScansAll runs.old.least runs.old.offsets runs.new.count runs.new.kept (R.remaining r.old) (R.remaining r.new) (W.contents w.old) (W.contents w.new) d.read d.written) }
-    ensures err { IfErr result (DumpsFrontBut 0 (scan_text runs.old.least runs.old.offsets 0 []) (R.remaining r.old) (R.remaining r.new) (W.contents w.old) (W.contents w.new)) }
+    requires page { length page.old ≡ PAGE }
+    requires room { 4096 + 32 + cost_of runs.old.offsets * length block.old ≤ PAGE }
+    ensures ok { IfOk result (Scans runs.old runs.new (R.remaining r.old) (R.remaining r.new) (W.contents w.old) (W.contents w.new)) }
+    ensures err { IfErr result (StopsScan runs.old (R.remaining r.old) (R.remaining r.new) (W.contents w.old) (W.contents w.new)) }
     ensures least { runs.new.least ≡ runs.old.least }
     ensures few { IfOk result (λ d. d.written ≤ 2 ^ 46) }
 {
@@ -374,15 +375,13 @@ fn scan_pages<R: Read, W: Write>(
 /// The input may have 2^40 bytes. Nothing is allocated or flushed. After a fault a front of the text of the bytes that
 /// were read was written; `WriteFailed` counts it, and at most 2^14 bytes were read ahead of it.
 pub fn strings<R: Read, W: Write>(r: &mut R, w: &mut W, o: &StringsOptions) -> Result<u64, IoFault>
-    requires some { 0 < o.now.least }
-    requires few { o.now.least ≤ 4096 }
-    ensures ok { IfOk result (λ n. (written : ℕ) × DumpsAll (strings_text o.now.least o.now.offsets) (R.remaining r.old) (R.remaining r.new) (W.contents w.old) (W.contents w.new) n written) }
-    ensures err { IfErr result (DumpsFront (strings_text o.now.least o.now.offsets) (R.remaining r.old) (R.remaining r.new) (W.contents w.old) (W.contents w.new)) }
+    ensures ok { IfOk result (DumpsStrings o.now (R.remaining r.old) (R.remaining r.new) (W.contents w.old) (W.contents w.new)) }
+    ensures err { IfErr result (StopsStrings o.now (R.remaining r.old) (R.remaining r.new) (W.contents w.old) (W.contents w.new)) }
 {
     let mut runs = Runs::new(o);
     let len = block_len(o.offsets);
-    let mut block = [0; 16384];
-    let done = match scan_pages(r, w, &mut runs, &mut block[..len], &mut [0; 98304]) {
+    let mut block = [0; BLOCK];
+    let done = match scan_pages(r, w, &mut runs, &mut block[..len], &mut [0; PAGE]) {
         Ok(done) => done,
         Err(fault) => return Err(fault),
     };

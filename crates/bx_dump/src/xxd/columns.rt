@@ -130,7 +130,8 @@ fn put_full(
     requires long { length cells.now ≡ cell_width form.now.digits * length bytes.now }
     ensures inside { form.now.cols * result.lines ≤ length bytes.now }
     ensures most { result.used ≤ (form.now.field + form.now.cols + 26) * result.lines }
-    ensures text { take result.used text.new ≡ in_lines (columns_line form.now.digits form.now.cols form.now.group) form.now.cols at (take (form.now.cols * result.lines) bytes.now) }
+    ensures text { take result.used text.new ≡
+        in_lines (columns_line form.now.digits form.now.cols form.now.group) form.now.cols at (take (form.now.cols * result.lines) bytes.now) }
 {
     let lines = bytes.len() / cols;
     let size = field + cols + 12;
@@ -194,7 +195,7 @@ impl LineForm for Columns {
         front + size
     }
 
-    fn put_usual(&self, text: &mut [u8], at: u64, bytes: &[u8], cells: &[u8]) -> Put {
+    fn put_common(&self, text: &mut [u8], at: u64, bytes: &[u8], cells: &[u8]) -> Put {
         if at + bytes.len() as u64 >= 1 << 32 {
             return Put { lines: 0, used: 0 };
         }

@@ -1,10 +1,7 @@
 //! xxd's dump.
-ghost use Rattle.std.specs.Prelude.{◌≡◌, ℕ, ◌+◌, ◌*◌, ◌^◌, ◌<◌, ◌≤◌, length, IfOk, IfErr};
-ghost use Rattle.bx_dump.specs.Lines.{in_lines};
-ghost use Rattle.bx_dump.specs.Pages.{WritesPart, WritesFrontBut, WritesFrontOf, part_of};
-ghost use Rattle.bx_dump.specs.Rows.{plain_line};
-ghost use Rattle.bx_dump.specs.Styles.{group_of, include_items, named_text, styled, xxd_text, IsCountable};
-ghost use Rattle.bx_dump.specs.Xxd.{columns_line};
+ghost use Rattle.std.specs.Prelude.{◌≡◌, ◌+◌, ◌*◌, ◌^◌, ◌<◌, ◌≤◌, length, IfOk, IfErr};
+ghost use Rattle.bx_dump.specs.Styles.{columns_text, group_of, include_items, named_text, plain_text, styled, DumpsXxd, IsCountable, StopsXxd};
+ghost use Rattle.bx_dump.specs.inner.XxdDump.{StopsFront, StopsLines, StopsText, WritesLines, WritesText};
 
 use crate::driver::pages::{Part, dump_part};
 use crate::xxd::columns::{Columns, Digits};
@@ -26,8 +23,10 @@ pub fn dump_lines<R: Read, W: Write, F: LineForm + Drop>(
 ) -> Result<Part, IoFault>
     requires start { start ≤ 2 ^ 63 }
     requires before { before ≤ 2 ^ 63 }
-    ensures ok { IfOk result (λ part. WritesPart (λ input. in_lines (F.line form) (F.cols form) start (part_of o.now.seek o.now.limit input)) o.now.seek o.now.limit (R.remaining r.old) (R.remaining r.new) (W.contents w.old) (W.contents w.new) part.read part.written) }
-    ensures err { IfErr result (WritesFrontBut 0 (λ input. in_lines (F.line form) (F.cols form) start (part_of o.now.seek o.now.limit input)) o.now.seek o.now.limit 0 before (R.remaining r.old) (R.remaining r.new) (W.contents w.old) (W.contents w.new)) }
+    ensures ok { IfOk result (
+        WritesLines (F.line form) (F.cols form) start o.now (R.remaining r.old) (R.remaining r.new) (W.contents w.old) (W.contents w.new)) }
+    ensures err { IfErr result (
+        StopsLines (F.line form) (F.cols form) start o.now before (R.remaining r.old) (R.remaining r.new) (W.contents w.old) (W.contents w.new)) }
     ensures few { IfOk result (λ part. part.written ≤ 2 ^ 60) }
 {
     let mut lines = Lines::new(form, start);
@@ -36,9 +35,6 @@ pub fn dump_lines<R: Read, W: Write, F: LineForm + Drop>(
 
 /// The bytes of a group.
 fn group_len(o: &XxdOptions) -> usize
-    requires some { 0 < o.now.cols }
-    requires few { o.now.cols ≤ 256 }
-    requires groups { o.now.group ≤ 256 }
     ensures value { result ≡ group_of o.now.cols o.now.group }
     ensures some { 0 < result }
     ensures most { result ≤ 256 }
@@ -57,13 +53,8 @@ fn dump_columns<R: Read, W: Write>(
     digits: Digits,
     o: &XxdOptions,
 ) -> Result<Part, IoFault>
-    requires some { 0 < o.now.cols }
-    requires few { o.now.cols ≤ 256 }
-    requires groups { o.now.group ≤ 256 }
-    requires seek { o.now.seek ≤ 2 ^ 62 }
-    requires shift { o.now.shift ≤ 2 ^ 62 }
-    ensures ok { IfOk result (λ part. WritesPart (λ input. in_lines (columns_line digits o.now.cols (group_of o.now.cols o.now.group)) o.now.cols (o.now.seek + o.now.shift) (part_of o.now.seek o.now.limit input)) o.now.seek o.now.limit (R.remaining r.old) (R.remaining r.new) (W.contents w.old) (W.contents w.new) part.read part.written) }
-    ensures err { IfErr result (WritesFrontOf (λ input. in_lines (columns_line digits o.now.cols (group_of o.now.cols o.now.group)) o.now.cols (o.now.seek + o.now.shift) (part_of o.now.seek o.now.limit input)) o.now.seek o.now.limit 0 0 (R.remaining r.old) (R.remaining r.new) (W.contents w.old) (W.contents w.new)) }
+    ensures ok { IfOk result (WritesText (columns_text digits o.now) o.now (R.remaining r.old) (R.remaining r.new) (W.contents w.old) (W.contents w.new)) }
+    ensures err { IfErr result (StopsFront (columns_text digits o.now) o.now (R.remaining r.old) (R.remaining r.new) (W.contents w.old) (W.contents w.new)) }
 {
     let group = group_len(o);
     let form = Columns::new(digits, o.cols as usize, group);
@@ -72,10 +63,8 @@ fn dump_columns<R: Read, W: Write>(
 
 /// Writes lines of plain digits.
 fn dump_plain<R: Read, W: Write>(r: &mut R, w: &mut W, o: &XxdOptions) -> Result<Part, IoFault>
-    requires some { 0 < o.now.cols }
-    requires few { o.now.cols ≤ 256 }
-    ensures ok { IfOk result (λ part. WritesPart (λ input. in_lines (plain_line o.now.upper) o.now.cols 0 (part_of o.now.seek o.now.limit input)) o.now.seek o.now.limit (R.remaining r.old) (R.remaining r.new) (W.contents w.old) (W.contents w.new) part.read part.written) }
-    ensures err { IfErr result (WritesFrontOf (λ input. in_lines (plain_line o.now.upper) o.now.cols 0 (part_of o.now.seek o.now.limit input)) o.now.seek o.now.limit 0 0 (R.remaining r.old) (R.remaining r.new) (W.contents w.old) (W.contents w.new)) }
+    ensures ok { IfOk result (WritesText (plain_text o.now) o.now (R.remaining r.old) (R.remaining r.new) (W.contents w.old) (W.contents w.new)) }
+    ensures err { IfErr result (StopsFront (plain_text o.now) o.now (R.remaining r.old) (R.remaining r.new) (W.contents w.old) (W.contents w.new)) }
 {
     dump_lines(r, w, Plain::new(o.cols as usize, o.upper), 0, o, 0)
 }
@@ -87,11 +76,10 @@ fn dump_items<R: Read, W: Write>(
     o: &XxdOptions,
     before: u64,
 ) -> Result<Part, IoFault>
-    requires some { 0 < o.now.cols }
-    requires few { o.now.cols ≤ 256 }
     requires before { before ≤ 2 ^ 62 + 64 }
-    ensures ok { IfOk result (λ part. WritesPart (λ input. include_items o.now.cols (part_of o.now.seek o.now.limit input)) o.now.seek o.now.limit (R.remaining r.old) (R.remaining r.new) (W.contents w.old) (W.contents w.new) part.read part.written) }
-    ensures err { IfErr result (WritesFrontBut (2 ^ 6) (λ input. include_items o.now.cols (part_of o.now.seek o.now.limit input)) o.now.seek o.now.limit 0 before (R.remaining r.old) (R.remaining r.new) (W.contents w.old) (W.contents w.new)) }
+    ensures ok { IfOk result (WritesText (include_items o.now.cols) o.now (R.remaining r.old) (R.remaining r.new) (W.contents w.old) (W.contents w.new)) }
+    ensures err { IfErr result (
+        StopsText (2 ^ 6) (include_items o.now.cols) o.now before (R.remaining r.old) (R.remaining r.new) (W.contents w.old) (W.contents w.new)) }
     ensures few { IfOk result (λ part. part.written ≤ 2 ^ 60 + 1) }
 {
     let lines = match dump_lines(r, w, Items::new(o.cols as usize), 0, o, before) {
@@ -117,11 +105,11 @@ fn dump_named<R: Read, W: Write>(
     o: &XxdOptions,
     name: &[u8],
 ) -> Result<Part, IoFault>
-    requires some { 0 < o.now.cols }
-    requires few { o.now.cols ≤ 256 }
     requires name { length name.now ≤ 2 ^ 62 }
-    ensures ok { IfOk result (λ part. WritesPart (λ input. named_text name.now o.now.cols (part_of o.now.seek o.now.limit input)) o.now.seek o.now.limit (R.remaining r.old) (R.remaining r.new) (W.contents w.old) (W.contents w.new) part.read part.written) }
-    ensures err { IfErr result (WritesFrontOf (λ input. named_text name.now o.now.cols (part_of o.now.seek o.now.limit input)) o.now.seek o.now.limit 0 0 (R.remaining r.old) (R.remaining r.new) (W.contents w.old) (W.contents w.new)) }
+    ensures ok { IfOk result (
+        WritesText (named_text name.now o.now.cols) o.now (R.remaining r.old) (R.remaining r.new) (W.contents w.old) (W.contents w.new)) }
+    ensures err { IfErr result (
+        StopsFront (named_text name.now o.now.cols) o.now (R.remaining r.old) (R.remaining r.new) (W.contents w.old) (W.contents w.new)) }
 {
     let before = match emit_head(w, name) {
         Ok(before) => before,
@@ -147,11 +135,11 @@ fn dump_include<R: Read, W: Write>(
     o: &XxdOptions,
     name: Option<&str>,
 ) -> Result<Part, IoFault>
-    requires some { 0 < o.now.cols }
-    requires few { o.now.cols ≤ 256 }
     requires name { IsCountable (XxdStyle.Include name) }
-    ensures ok { IfOk result (λ part. WritesPart (λ input. styled (XxdStyle.Include name.entry) o.now.cols (group_of o.now.cols o.now.group) o.now.upper (o.now.seek + o.now.shift) (part_of o.now.seek o.now.limit input)) o.now.seek o.now.limit (R.remaining r.old) (R.remaining r.new) (W.contents w.old) (W.contents w.new) part.read part.written) }
-    ensures err { IfErr result (WritesFrontOf (λ input. styled (XxdStyle.Include name.entry) o.now.cols (group_of o.now.cols o.now.group) o.now.upper (o.now.seek + o.now.shift) (part_of o.now.seek o.now.limit input)) o.now.seek o.now.limit 0 0 (R.remaining r.old) (R.remaining r.new) (W.contents w.old) (W.contents w.new)) }
+    ensures ok { IfOk result (
+        WritesText (styled (XxdStyle.Include name.entry) o.now) o.now (R.remaining r.old) (R.remaining r.new) (W.contents w.old) (W.contents w.new)) }
+    ensures err { IfErr result (
+        StopsFront (styled (XxdStyle.Include name.entry) o.now) o.now (R.remaining r.old) (R.remaining r.new) (W.contents w.old) (W.contents w.new)) }
 {
     match name {
         None => dump_items(r, w, o, 0),
@@ -160,17 +148,17 @@ fn dump_include<R: Read, W: Write>(
 }
 
 /// Writes the text of the style.
-fn dump_styled<R: Read, W: Write>(r: &mut R, w: &mut W, o: &XxdOptions) -> Result<Part, IoFault>
-    requires some { 0 < o.now.cols }
-    requires few { o.now.cols ≤ 256 }
-    requires groups { o.now.group ≤ 256 }
-    requires seek { o.now.seek ≤ 2 ^ 62 }
-    requires shift { o.now.shift ≤ 2 ^ 62 }
-    requires name { IsCountable o.now.style }
-    ensures ok { IfOk result (λ part. WritesPart (xxd_text o.now) o.now.seek o.now.limit (R.remaining r.old) (R.remaining r.new) (W.contents w.old) (W.contents w.new) part.read part.written) }
-    ensures err { IfErr result (WritesFrontOf (xxd_text o.now) o.now.seek o.now.limit 0 0 (R.remaining r.old) (R.remaining r.new) (W.contents w.old) (W.contents w.new)) }
+fn dump_styled<R: Read, W: Write>(
+    r: &mut R,
+    w: &mut W,
+    style: XxdStyle<'_>,
+    o: &XxdOptions,
+) -> Result<Part, IoFault>
+    requires name { IsCountable style }
+    ensures ok { IfOk result (WritesText (styled style.entry o.now) o.now (R.remaining r.old) (R.remaining r.new) (W.contents w.old) (W.contents w.new)) }
+    ensures err { IfErr result (StopsFront (styled style.entry o.now) o.now (R.remaining r.old) (R.remaining r.new) (W.contents w.old) (W.contents w.new)) }
 {
-    match o.style {
+    match style {
         XxdStyle::Normal => dump_columns(r, w, Digits::Hexadecimal { upper: o.upper }, o),
         XxdStyle::Bits => dump_columns(r, w, Digits::Binary, o),
         XxdStyle::Plain => dump_plain(r, w, o),
@@ -184,17 +172,17 @@ fn dump_styled<R: Read, W: Write>(r: &mut R, w: &mut W, o: &XxdOptions) -> Resul
 /// more of it is read than is needed. Nothing is flushed. After a fault a front of the text of the bytes that were read
 /// was written; `WriteFailed` counts it, and at most 2^14 bytes were read ahead of it. `upper` has no effect on `Bits`
 /// and `Include`, nor have `group` and `shift` on `Plain` and `Include`.
-pub fn xxd<R: Read, W: Write>(r: &mut R, w: &mut W, o: &XxdOptions) -> Result<u64, IoFault>
-    requires some { 0 < o.now.cols }
-    requires few { o.now.cols ≤ 256 }
-    requires groups { o.now.group ≤ 256 }
-    requires seek { o.now.seek ≤ 2 ^ 62 }
-    requires shift { o.now.shift ≤ 2 ^ 62 }
-    requires name { IsCountable o.now.style }
-    ensures ok { IfOk result (λ n. (written : ℕ) × WritesPart (xxd_text o.now) o.now.seek o.now.limit (R.remaining r.old) (R.remaining r.new) (W.contents w.old) (W.contents w.new) n written) }
-    ensures err { IfErr result (WritesFrontOf (xxd_text o.now) o.now.seek o.now.limit 0 0 (R.remaining r.old) (R.remaining r.new) (W.contents w.old) (W.contents w.new)) }
+pub fn xxd<R: Read, W: Write>(
+    r: &mut R,
+    w: &mut W,
+    style: XxdStyle<'_>,
+    o: &XxdOptions,
+) -> Result<u64, IoFault>
+    requires name { IsCountable style }
+    ensures ok { IfOk result (DumpsXxd style.entry o.now (R.remaining r.old) (R.remaining r.new) (W.contents w.old) (W.contents w.new)) }
+    ensures err { IfErr result (StopsXxd style.entry o.now (R.remaining r.old) (R.remaining r.new) (W.contents w.old) (W.contents w.new)) }
 {
-    match dump_styled(r, w, o) {
+    match dump_styled(r, w, style, o) {
         Ok(part) => Ok(part.read),
         Err(fault) => Err(fault),
     }

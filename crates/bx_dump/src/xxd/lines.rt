@@ -63,7 +63,7 @@ pub trait LineForm {
         ensures text { take result text.new ≡ line self.now at bytes.now };
 
     /// Puts the first lines at the front, those of them for which there is code of their own.
-    fn put_usual(&self, text: &mut [u8], at: u64, bytes: &[u8], cells: &[u8]) -> Put
+    fn put_common(&self, text: &mut [u8], at: u64, bytes: &[u8], cells: &[u8]) -> Put
         requires room { room self.now * ((length bytes.now + cols self.now - 1) / cols self.now) ≤ length text.old }
         requires few { length bytes.now ≤ 16384 }
         requires address { at ≤ 2 ^ 63 + 2 ^ 40 }
@@ -94,7 +94,8 @@ fn put_next<F: LineForm>(
     requires address { at ≤ 2 ^ 63 + 2 ^ 40 }
     requires cells { cells.now ≡ flat_map (F.cell form.now) bytes.now }
     ensures most { result ≤ F.room form.now }
-    ensures text { take result text.new ≡ F.line form.now (at + begin) (take (min (begin + F.cols form.now) (length bytes.now) - begin) (drop begin bytes.now)) }
+    ensures text { take result text.new ≡
+        F.line form.now (at + begin) (take (min (begin + F.cols form.now) (length bytes.now) - begin) (drop begin bytes.now)) }
 {
     form.even();
     let width = form.cell_len();
@@ -115,7 +116,7 @@ fn put_lines<F: LineForm>(form: &F, text: &mut [u8], at: u64, bytes: &[u8], cell
     ensures text { take result text.new ≡ in_lines (F.line form.now) (F.cols form.now) at bytes.now }
 {
     let cols = form.line_len();
-    let first = form.put_usual(text, at, bytes, cells);
+    let first = form.put_common(text, at, bytes, cells);
     let mut used = first.used;
     let count = (bytes.len() + cols - 1) / cols;
     for k in first.lines..count {

@@ -1,4 +1,5 @@
 //! How xxd dumps.
+ghost use Rattle.std.specs.Prelude.{◌<◌, ◌≤◌, ◌^◌};
 
 /// The style of the lines.
 #[derive(Clone, Copy)]
@@ -14,9 +15,8 @@ pub enum XxdStyle<'a> {
 }
 
 /// What xxd dumps, and how.
-#[derive(Clone, Copy)]
-pub struct XxdOptions<'a> {
-    pub style: XxdStyle<'a>,
+#[derive(Clone, Copy, Debug, PartialEq, Eq)]
+pub struct XxdOptions {
     /// The bytes of a line: 1 to 256.
     pub cols: u16,
     /// The bytes of a group, at most 256; 0 for one group of all columns.
@@ -29,4 +29,9 @@ pub struct XxdOptions<'a> {
     pub shift: u64,
     /// Hexadecimal digits above 9 in upper case.
     pub upper: bool,
+    ghost some: { 0 < cols },
+    ghost few: { cols ≤ 256 },
+    ghost small_groups: { group ≤ 256 },
+    ghost near: { seek ≤ 2 ^ 62 },
+    ghost low: { shift ≤ 2 ^ 62 },
 }

@@ -45,7 +45,7 @@ fn put_thirty(line: &mut [u8], cells: &[u8])
 }
 
 /// Puts all full lines of 30 bytes.
-fn put_thirties(form: &Plain, text: &mut [u8], at: u64, bytes: &[u8], cells: &[u8]) -> Put
+fn put_lines_of_30(form: &Plain, text: &mut [u8], at: u64, bytes: &[u8], cells: &[u8]) -> Put
     requires cols { form.now.cols ≡ 30 }
     requires room { 61 * ((length bytes.now + 29) / 30) ≤ length text.old }
     requires cells { cells.now ≡ flat_map (pair_of form.now.upper) bytes.now }
@@ -98,9 +98,9 @@ impl LineForm for Plain {
         cells.len() + 1
     }
 
-    fn put_usual(&self, text: &mut [u8], at: u64, bytes: &[u8], cells: &[u8]) -> Put {
+    fn put_common(&self, text: &mut [u8], at: u64, bytes: &[u8], cells: &[u8]) -> Put {
         if self.cols == 30 {
-            put_thirties(self, text, at, bytes, cells)
+            put_lines_of_30(self, text, at, bytes, cells)
         } else {
             Put { lines: 0, used: 0 }
         }
@@ -181,7 +181,7 @@ impl LineForm for Items {
         front + items.len()
     }
 
-    fn put_usual(&self, _text: &mut [u8], _at: u64, _bytes: &[u8], _cells: &[u8]) -> Put {
+    fn put_common(&self, _text: &mut [u8], _at: u64, _bytes: &[u8], _cells: &[u8]) -> Put {
         Put { lines: 0, used: 0 }
     }
 

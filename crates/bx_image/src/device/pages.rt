@@ -39,7 +39,9 @@ fn write_part<A: Allocator>(pages: &mut Vec<Page<A>, A>, index: usize, offset: u
     ensures len { vec_len pages.new ≡ vec_len pages.old }
     ensures others { (k : ℕ) (d : _) → k ≢ index → slice_index_or pages.new.items k d ≡ slice_index_or pages.old.items k d }
     ensures size { (d : _) → length (slice_index_or pages.old.items index d).value ≡ PAGE }
-    ensures page { (d : _) → (slice_index_or pages.new.items index d).value ≡ take offset (slice_index_or pages.old.items index d).value ++ bytes.now ++ drop (offset + length bytes.now) (slice_index_or pages.old.items index d).value }
+    ensures page { (d : _) → (slice_index_or pages.new.items index d).value ≡
+        take offset (slice_index_or pages.old.items index d).value ++ bytes.now
+        ++ drop (offset + length bytes.now) (slice_index_or pages.old.items index d).value }
 {
     let page = &mut pages[index];
     write_in_page(page, offset, bytes);

@@ -32,8 +32,7 @@ impl Write for Counting {
 
 const INPUT: &[u8] = b"printable, and then not\n";
 
-const NORMAL: XxdOptions<'static> = XxdOptions {
-    style: XxdStyle::Normal,
+const NORMAL: XxdOptions = XxdOptions {
     cols: 16,
     group: 2,
     limit: None,
@@ -86,7 +85,7 @@ fn assert_unflushed(rt: &impl Abort, room: u64, answer: Result<u64, IoFault>, ou
 fn flushes_of_xxd(rt: &impl Abort, room: u64) {
     let mut out = writer(room);
     let mut from = INPUT;
-    let answer = xxd(&mut from, &mut out, &NORMAL);
+    let answer = xxd(&mut from, &mut out, XxdStyle::Normal, &NORMAL);
     assert_unflushed(rt, room, answer, &out);
 }
 

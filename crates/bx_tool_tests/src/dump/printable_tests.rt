@@ -20,10 +20,7 @@ fn expect_of<R: Abort + AllocGlobal>(
     o: &StringsOptions,
     answer: Result<u64, IoFault>,
     text: &[u8],
-)
-    requires some { 0 < o.now.least }
-    requires few { o.now.least ≤ 4096 }
-{
+) {
     let mut out = Vec::new(rt.alloc());
     let found = strings(from, &mut out, o);
     assert_answer(rt, found, answer);

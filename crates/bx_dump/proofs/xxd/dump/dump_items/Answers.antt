@@ -34,8 +34,8 @@ returns-in-Err-clause-err g c =
     let text = λ (xs : List ℕ). in_lines include_line c.new.result.cols 0 (part_of o.seek o.limit xs) in
     let other = λ (xs : List ℕ). include_items o.cols (part_of o.seek o.limit xs) in
     let nothing : part_of o.seek o.limit [] ≡ [] = part_empty o.seek o.limit in
-    front_then 0 (2 ^ 6) text other o.seek o.limit 0 c.args.before _ _ _ _ c.in-Err.fault (λ xs. items_more o.cols c.new.result.cols (part_of o.seek o.limit xs) c.new.ensures c.requires.some)
-    (λ xs. rw nothing (items_few o.cols c.new.result.cols (part_of o.seek o.limit xs) c.new.ensures c.requires.some)) c.in-Err.ensures.err
+    front_then 0 (2 ^ 6) text other o.seek o.limit 0 c.args.before _ _ _ _ c.in-Err.fault (λ xs. items_more o.cols c.new.result.cols (part_of o.seek o.limit xs) c.new.ensures c.args.o.now.some)
+    (λ xs. rw nothing (items_few o.cols c.new.result.cols (part_of o.seek o.limit xs) c.new.ensures c.args.o.now.some)) c.in-Err.ensures.err
 
 pub returns-then-lines-eq0-clause-ok : goal.returns-then-lines-eq0-clause-ok
 returns-then-lines-eq0-clause-ok g c =
@@ -44,7 +44,7 @@ returns-then-lines-eq0-clause-ok g c =
     let text = λ (xs : List ℕ). in_lines include_line c.new.result.cols 0 (part_of o.seek o.limit xs) in
     let other = λ (xs : List ℕ). include_items o.cols (part_of o.seek o.limit xs) in
     let whole = part_then text other o.seek o.limit _ _ _ _ _ lines.read lines.written []
-    (λ xs e. items_none o.cols c.new.result.cols (part_of o.seek o.limit xs) c.new.ensures c.requires.some (e ∙ c.if-lines-eq0.true)) c.in-Ok.ensures.ok (Appends-nil _) in
+    (λ xs e. items_none o.cols c.new.result.cols (part_of o.seek o.limit xs) c.new.ensures c.args.o.now.some (e ∙ c.if-lines-eq0.true)) c.in-Ok.ensures.ok (Appends-nil _) in
     let same : lines.written + 0 ≡ lines.written = omega arith in
     rw same at whole
 

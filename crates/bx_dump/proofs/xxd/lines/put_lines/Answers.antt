@@ -6,7 +6,7 @@ use Rattle.bx_dump.proofs.LinesLemmas.{line_begin, line_end, lines_next_at, line
 use Rattle.bx_dump.proofs.xxd.lines.put_lines.Goals as goal
 
 pub loop-k-init : goal.loop-k-init
-loop-k-init g c = record { within = c.put_usual-first.ensures.most; text = c.put_usual-first.ensures.text }
+loop-k-init g c = record { within = c.put_common-first.ensures.most; text = c.put_common-first.ensures.text }
 
 pub loop-k-preserved : goal.loop-k-preserved
 loop-k-preserved g c =
@@ -58,7 +58,7 @@ returns-clause-within g c =
     let n = length c.args.bytes.now in
     let value = c.line_len-cols.ensures.value in
     let pos = rw value at c.line_len-cols.ensures.some in
-    let first : c.put_usual-first.result.lines ≤ (n + C - 1) / C = lines_within n C c.put_usual-first.result.lines pos c.put_usual-first.ensures.inside in
+    let first : c.put_common-first.result.lines ≤ (n + C - 1) / C = lines_within n C c.put_common-first.result.lines pos c.put_common-first.ensures.inside in
     let end = rw value at c.loop-k.auto.k-end in
     let last : c.loop-k.k ≤ (n + C - 1) / C = end first in
     let count : R * c.loop-k.k ≤ R * ((n + C - 1) / C) = mul-le-mul_left {m = c.loop-k.k} {n = (n + C - 1) / C} R last in

@@ -2,7 +2,7 @@ use Rattle.std.proofs.Common.{◌≡◌, ◌+◌, ◌-◌, ◌≤◌, length, ta
 use Rattle.std.proofs.lemmas.List.{take-take, length-take-le, length-drop}
 use Rattle.bx_dump.specs.inner.Scan.{EndsQuiet}
 use Rattle.bx_dump.proofs.ScanLemmas.{none_quiet, quiet_step}
-use Rattle.bx_dump.proofs.strings.dump.quiet_windows.Goals as goal
+use Rattle.bx_dump.proofs.strings.dump.skippable_windows.Goals as goal
 
 pub loop-done-init : goal.loop-done-init
 loop-done-init c = record { inside = omega arith; quiet = none_quiet c.args.least }

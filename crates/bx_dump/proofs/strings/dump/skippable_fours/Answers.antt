@@ -3,7 +3,7 @@ use Rattle.std.proofs.lemmas.Bool.{cases_lt}
 use Rattle.std.proofs.lemmas.List.{take-take, length-take-le}
 use Rattle.bx_dump.specs.inner.Scan.{four_print, EndsQuiet}
 use Rattle.bx_dump.proofs.QuietLemmas.{fours_quiet, before_four}
-use Rattle.bx_dump.proofs.strings.dump.quiet_fours.Goals as goal
+use Rattle.bx_dump.proofs.strings.dump.skippable_fours.Goals as goal
 
 pub returns-then-more-lt32-clause-quiet : goal.returns-then-more-lt32-clause-quiet
 returns-then-more-lt32-clause-quiet c =

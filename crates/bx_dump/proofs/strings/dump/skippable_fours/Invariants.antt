@@ -1,6 +1,6 @@
 use Rattle.std.proofs.Common.{◌≡◌, ◌-◌, ◌<◌, ◌≤◌, ℕ, length, false}
 use Rattle.bx_dump.specs.inner.Scan.{four_print}
-use Rattle.bx_dump.proofs.strings.dump.quiet_fours.Given as goal
+use Rattle.bx_dump.proofs.strings.dump.skippable_fours.Given as goal
 
 abbrev pub invariant-loop-done : goal.invariant-loop-done
 invariant-loop-done l = record {

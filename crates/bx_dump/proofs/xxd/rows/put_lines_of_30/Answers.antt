@@ -5,7 +5,7 @@ use Rattle.std.proofs.lemmas.List.{length-take-le, length-drop}
 use Rattle.bx_text.specs.Dump.{pair_of}
 use Rattle.bx_dump.specs.Rows.{plain_line}
 use Rattle.bx_dump.proofs.LinesLemmas.{cells_part, lines_next_at}
-use Rattle.bx_dump.proofs.xxd.rows.put_thirties.Goals as goal
+use Rattle.bx_dump.proofs.xxd.rows.put_lines_of_30.Goals as goal
 
 pub loop-k-preserved : goal.loop-k-preserved
 loop-k-preserved c =

@@ -1,0 +1,27 @@
+-- What proofs alone need: what a dump of xxd leaves, where `text` stands for the bytes of the part that the options ask for.
+use Rattle.std.specs.Prelude.{ℕ, ◌^◌, List, Option}
+use Rattle.bx_text.specs.declared.fault.IoFault.{IoFault}
+use Rattle.bx_dump.specs.Lines.{in_lines}
+use Rattle.bx_dump.specs.inner.Pages.{WritesTextOf, StopsTextOf}
+use Rattle.bx_dump.specs.declared.driver.pages.Part.{Part}
+use Rattle.bx_dump.specs.declared.xxd.options.XxdOptions.{XxdOptions}
+
+-- the text was written
+abbrev pub WritesText : (List ℕ → List ℕ) → XxdOptions → Option (List ℕ) → Option (List ℕ) → Option (List ℕ) → Option (List ℕ) → Part → Type 0
+WritesText text o r0 r1 w0 w1 part = WritesTextOf text o.seek o.limit r0 r1 w0 w1 part
+
+-- a front of it was written after `before` bytes
+abbrev pub StopsText : ℕ → (List ℕ → List ℕ) → XxdOptions → ℕ → Option (List ℕ) → Option (List ℕ) → Option (List ℕ) → Option (List ℕ) → IoFault → Type 0
+StopsText slack text o before r0 r1 w0 w1 fault = StopsTextOf slack text o.seek o.limit before r0 r1 w0 w1 fault
+
+-- the same with nothing before, where what a text ends with has no more than 2^7 bytes
+abbrev pub StopsFront : (List ℕ → List ℕ) → XxdOptions → Option (List ℕ) → Option (List ℕ) → Option (List ℕ) → Option (List ℕ) → IoFault → Type 0
+StopsFront text o r0 r1 w0 w1 fault = StopsText (2 ^ 7) text o 0 r0 r1 w0 w1 fault
+
+-- The same of lines, the first of them for an address.
+abbrev pub WritesLines : (ℕ → List ℕ → List ℕ) → ℕ → ℕ → XxdOptions → Option (List ℕ) → Option (List ℕ) → Option (List ℕ) → Option (List ℕ) → Part → Type 0
+WritesLines line cols at o r0 r1 w0 w1 part = WritesText (in_lines line cols at) o r0 r1 w0 w1 part
+
+-- and where they stop
+abbrev pub StopsLines : (ℕ → List ℕ → List ℕ) → ℕ → ℕ → XxdOptions → ℕ → Option (List ℕ) → Option (List ℕ) → Option (List ℕ) → Option (List ℕ) → IoFault → Type 0
+StopsLines line cols at o before r0 r1 w0 w1 fault = StopsText 0 (in_lines line cols at) o before r0 r1 w0 w1 fault
