@@ -1,8 +1,3 @@
-//! Tests of the journal: worked cases, and devices that fail.
-mod damage;
-mod failures;
-mod growths;
-mod redo;
-mod rows;
-mod script;
-mod tools;
+//! The journal: full texts, and the fault that a read gives which fails.
+mod full;
+pub mod reads;
