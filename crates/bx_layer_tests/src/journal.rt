@@ -1,3 +1,4 @@
-//! The journal: full texts, and the fault that a read gives which fails.
+//! The journal: full texts, an entry of several pages, and the fault that a read gives which fails.
 mod full;
+mod pages;
 pub mod reads;
