@@ -8,7 +8,7 @@ use bx_journal::SessionFault;
 use bx_ration::{arena, squeeze, used};
 use bx_read::{ReadFault, read_dump, read_plain};
 use bx_store::MemText;
-use bx_text::{IoFault, Source, Words};
+use bx_text::Words;
 use std::alloc::{AllocError, Global};
 use std::process::Abort;
 use std::test::Fail;
@@ -21,7 +21,6 @@ const MOST_WORDS: usize = 600;
 enum Call {
     ReadDump,
     ReadPlain,
-    Rest,
     Push,
     Save,
     Room,
@@ -78,20 +77,6 @@ fn reads_plain(rt: &impl Abort, bump: &Bump, bytes: usize) -> Result<Refused, Al
         }
         Err(fault) => {
             assert!(rt; fault == ReadFault::NoMemory);
-            Ok(Some(used(bump, bytes)))
-        }
-    }
-}
-
-fn reads_rest(rt: &impl Abort, bump: &Bump, bytes: usize) -> Result<Refused, AllocError> {
-    squeeze(bump, bytes)?;
-    match Source::new(DUMP, 1 << 40).rest(bump) {
-        Ok(found) => {
-            assert_bytes(rt, found.as_slice(), DUMP);
-            Ok(None)
-        }
-        Err(fault) => {
-            assert!(rt; fault == IoFault::NoMemory);
             Ok(Some(used(bump, bytes)))
         }
     }
@@ -235,7 +220,6 @@ fn make(
     match call {
         Call::ReadDump => Ok(reads_dump(rt, bump, bytes)?),
         Call::ReadPlain => Ok(reads_plain(rt, bump, bytes)?),
-        Call::Rest => Ok(reads_rest(rt, bump, bytes)?),
         Call::Push => Ok(pushes(rt, bump, bytes)?),
         Call::Save => Ok(saves(rt, alloc, bump, &change(bump, Some(9), &WRITES)?, bytes)?),
         Call::Room => Ok(makes_room(rt, bump, &change(bump, Some(9), &WRITES)?, bytes)?),
@@ -271,7 +255,6 @@ fn growths_of_calls(rt: HostRuntime) -> Result<(), Fail> {
     for (call, growths) in [
         (Call::ReadDump, 10),
         (Call::ReadPlain, 1),
-        (Call::Rest, 1),
         (Call::Push, 7),
         (Call::Save, 5),
         (Call::Room, 5),
