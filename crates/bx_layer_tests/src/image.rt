@@ -1,9 +1,6 @@
-//! Images and changes: worked cases, files, refused growths, and a slow program to compare with.
-mod change_tests;
+//! Images: which calls a change makes, files, fuses, and pages that are refused.
 mod device_tests;
 mod file_tests;
-mod growth_tests;
-mod guarded;
+pub mod guarded;
+mod limit_tests;
 mod pages_tests;
-mod slow;
-mod slow_tests;

@@ -1,9 +1,6 @@
-//! Tests of the journal: worked cases, and devices that fail.
-mod damage;
-mod failures;
-mod growths;
-mod redo;
-mod rows;
-mod script;
-mod tools;
+//! The journal: full texts, texts that are counted in windows, an entry of several pages, and the fault that a read gives which
+//! fails.
+mod full;
+mod pages;
+pub mod reads;
 mod windows;

@@ -1,5 +1,4 @@
 //! What opening is to answer, by a slow reading of the format of journals and redo texts.
-use crate::model::put;
 use bx_journal::How;
 use std::alloc::{AllocError, Global};
 
@@ -379,6 +378,20 @@ impl Reading {
             Stage::Ending => self.is_front_of_end(alloc, rest),
         }
     }
+}
+
+/// Puts bytes at a place; what lies between is zeros. No bytes do nothing.
+fn put(image: &mut Vec<u8>, at: usize, bytes: &[u8]) -> Result<(), AllocError> {
+    let end = at.saturating_add(bytes.len());
+    if bytes.len() > 0 && image.len() < end {
+        image.resize(end, 0)?;
+    }
+    for (i, byte) in bytes.iter().enumerate() {
+        if let Some(place) = image.get_mut(at.saturating_add(i)) {
+            *place = *byte;
+        }
+    }
+    Ok(())
 }
 
 /// The image before a change.

@@ -1,150 +1,23 @@
-// dd as a command on an image.
-use crate::play::{play, play_all, reopened};
-use bx_cli::{Command, Fault, Reply, run_all};
-use bx_image::MemImage;
-use bx_journal::Session;
-use bx_scripts::places::{Memory, Pages, Place};
-use bx_scripts::replies::copied;
-use bx_scripts::script::Script;
-use bx_scripts::session::{Ask, opened, words};
-use bx_store::MemText;
-use bx_text::Words;
-use std::alloc::{AllocError, Global};
+//! dd block by block, and readers that give little or fail.
+ghost use Rattle.std.specs.Prelude.{◌≡◌, ◌<◌, IfOk};
+
+use crate::expected::{assert_bytes, assert_number, words};
+use crate::sessions::{MemSession, bytes_of, open, run, trio};
+use bx_cli::{Command, Fault, Reply, plan_words, run_dump};
+use bx_dd::{Convert, Counts, DdFault, Plan, Transfer, parse, transfer};
+use std::alloc::Global;
 use std::io;
 use std::io::{ErrorKind, Read};
 use std::process::Abort;
 use std::test::Fail;
 
-/// What dd with these operands makes of an empty image: the input, the image then, blocks, and records that were cut.
-struct Made {
-    line: &'static str,
-    input: &'static str,
-    image: &'static str,
-    blocks: [u64; 4],
-    cut: u64,
-}
-
-/// Each row on the image that the one before it left.
-fn script_of(alloc: Global, rows: &[Made]) -> Result<Script<'static>, AllocError> {
-    let mut script = Script::new(alloc, b"");
-    let mut number = 0u32;
-    for row in rows {
-        number = number.saturating_add(1);
-        let ask = Ask::Dd(row.line, row.input.as_bytes());
-        let reply = copied(number, row.blocks, row.cut);
-        script.then(ask, reply, row.image.as_bytes())?;
-    }
-    Ok(script)
-}
-
-const CONVERSIONS: [Made; 5] = [
-    Made {
-        line: "ibs=3 conv=swab",
-        input: "ABCDEF",
-        image: "BACEDF",
-        blocks: [2, 0, 0, 1],
-        cut: 0,
-    },
-    Made {
-        line: "cbs=4 conv=block",
-        input: "ab\nlongline\n",
-        image: "ab  long",
-        blocks: [0, 1, 0, 1],
-        cut: 1,
-    },
-    Made {
-        line: "cbs=4 conv=unblock",
-        input: "ab  cd",
-        image: "ab\ncd\n",
-        blocks: [0, 1, 0, 1],
-        cut: 0,
-    },
-    Made {
-        line: "ibs=3 cbs=4 conv=block,ucase",
-        input: "ab\nlongline\n",
-        image: "AB  LONG",
-        blocks: [4, 0, 0, 1],
-        cut: 1,
-    },
-    Made {
-        line: "ibs=4 conv=sync",
-        input: "abcde",
-        image: "abcde\0\0\0",
-        blocks: [1, 1, 0, 1],
-        cut: 0,
-    },
-];
-
-#[test]
-fn conversions(rt: HostRuntime) -> Result<(), Fail> {
-    play(
-        &rt,
-        rt.alloc(),
-        &Memory,
-        &script_of(rt.alloc(), &CONVERSIONS)?,
-    )
-}
-
-const PARTS: [Made; 3] = [
-    Made {
-        line: "ibs=2 obs=2 skip=1 count=1 conv=ucase",
-        input: "abcdef",
-        image: "CD",
-        blocks: [1, 0, 1, 0],
-        cut: 0,
-    },
-    Made {
-        line: "skip=9",
-        input: "abc",
-        image: "",
-        blocks: [0, 0, 0, 0],
-        cut: 0,
-    },
-    Made {
-        line: "count=0",
-        input: "abc",
-        image: "",
-        blocks: [0, 0, 0, 0],
-        cut: 0,
-    },
-];
-
-#[test]
-fn parts_of_an_input(rt: HostRuntime) -> Result<(), Fail> {
-    play(&rt, rt.alloc(), &Memory, &script_of(rt.alloc(), &PARTS)?)
-}
-
-/// Operands that are refused. The greatest image is one byte short of what the last asks for.
-const REFUSED: [(&str, Fault); 9] = [
-    ("foo=1", Fault::UnknownOperand { place: 1 }),
-    ("ibs=1q", Fault::BadNumber { place: 1 }),
-    ("ibs=16777217", Fault::NumberTooLarge { place: 1 }),
-    ("obs=0", Fault::ZeroSize { place: 1 }),
-    ("conv=lcase,ucase", Fault::Conflict),
-    ("conv=block", Fault::MissingCbs),
-    ("bs=1 bs=2", Fault::Repeated { place: 2 }),
-    (
-        "seek=281474976710655 bs=1",
-        Fault::NumberTooLarge { place: 1 },
-    ),
-    ("seek=16777216 bs=16777216", Fault::TooLarge),
-];
-
-#[test]
-fn operand_faults(rt: HostRuntime) -> Result<(), Fail> {
-    let mut script = Script::new(rt.alloc(), b"xyz");
-    for row in REFUSED.as_slice() {
-        script.then(Ask::Dd(row.0, b"ab"), Reply::Refused(row.1), b"xyz")?;
-    }
-    play(&rt, rt.alloc(), &Memory, &script)
-}
-
-// Interrupted so often, then a byte at a time, and after so many bytes a failure.
+/// A reader that is interrupted so often, then gives at most so many bytes a call, and fails once so many bytes were given.
 #[derive(Drop)]
-struct Trickle<'a> {
-    rest: &'a [u8],
+pub struct Trickle<'a> {
+    pub rest: &'a [u8],
     interruptions: u32,
-    fails_after: u32,
+    each: usize,
+    fails_after: usize,
 }
 
 impl<'a> Read for Trickle<'a> {
@@ -156,109 +29,194 @@ impl<'a> Read for Trickle<'a> {
         if self.fails_after == 0 {
             return Err(io::Error::from(ErrorKind::BrokenPipe));
         }
-        let Some((first, rest)) = self.rest.split_first() else {
-            return Ok(0);
-        };
-        if buf.is_empty() {
-            return Ok(0);
-        }
-        buf[0] = *first;
-        self.rest = rest;
-        self.fails_after -= 1;
-        Ok(1)
+        let most = self.each.min(self.fails_after).min(buf.len());
+        let count = self.rest.read(&mut buf[..most])?;
+        self.fails_after = self.fails_after.saturating_sub(count);
+        Ok(count)
     }
 }
 
-fn trickling(rest: &[u8], interruptions: u32, fails_after: u32) -> Trickle<'_> {
+/// One byte at a time.
+fn trickling(rest: &[u8], interruptions: u32, fails_after: usize) -> Trickle<'_> {
     Trickle {
         rest,
         interruptions,
+        each: 1,
         fails_after,
     }
 }
 
-/// The reply to dd with these operands.
-fn run_trickled(
+fn plan(alloc: Global, line: &str) -> Result<Plan, DdFault> {
+    match words(alloc, line) {
+        Ok(words) => parse(alloc, &words),
+        Err(_) => Err(DdFault::NoMemory),
+    }
+}
+
+/// What is made of all that a reader gives. A test carries no facts about it.
+fn converted(alloc: Global, from: &mut impl Read, plan: &Plan) -> Result<Transfer, DdFault> {
+    transfer(alloc, from, plan)
+}
+
+fn counts(whole_in: u64, part_in: u64, whole_out: u64, part_out: u64, cut: u64) -> Counts {
+    Counts {
+        whole_in,
+        part_in,
+        whole_out,
+        part_out,
+        cut,
+    }
+}
+
+fn assert_counts(rt: &impl Abort, found: Counts, wanted: Counts) {
+    assert_eq!(rt; found, wanted);
+}
+
+// One block of three bytes more: so many were then taken, and so many are held.
+fn next_block(
+    rt: &impl Abort,
+    convert: Convert,
+    block: &[u8],
+    taken: u64,
+    held: u64,
+) -> Result<Convert, DdFault>
+    requires { convert.form.ibs ≡ 3 }
+    ensures { IfOk result (λ c. c.form.ibs ≡ 3) }
+{
+    let before = convert.taken();
+    assert!(rt; before < 1000);
+    assert!(rt; before % 3 == 0);
+    assert!(rt; block.len() == 3);
+    let convert = convert.block(block)?;
+    assert_number(rt, convert.taken(), taken);
+    assert_number(rt, convert.held(), held);
+    Ok(convert)
+}
+
+#[test]
+fn held_after_each_block(rt: HostRuntime) -> Result<(), Fail> {
+    let plan = plan(rt.alloc(), "ibs=3 cbs=4 conv=block,ucase")?;
+    assert_eq!(rt; plan.ibs, 3);
+    let convert = Convert::new(rt.alloc(), &plan)?;
+    let convert = next_block(&rt, convert, b"ab\n", 3, 0)?;
+    assert_bytes(&rt, convert.out(), b"AB  ");
+    let convert = next_block(&rt, convert, b"lon", 6, 3)?;
+    let convert = next_block(&rt, convert, b"gli", 9, 4)?;
+    let convert = next_block(&rt, convert, b"ne\n", 12, 0)?;
+    assert_bytes(&rt, convert.out(), b"AB  LONG");
+    let transfer = convert.finish()?;
+    assert_bytes(&rt, transfer.bytes.as_slice(), b"AB  LONG");
+    assert_counts(&rt, transfer.counts, counts(4, 0, 0, 1, 1));
+    Ok(())
+}
+
+fn expect_synced(
+    rt: &impl Abort,
     alloc: Global,
-    session: &mut Session<MemImage, MemText>,
-    operands: Words,
+    plan: &Plan,
+    interruptions: u32,
+) -> Result<(), DdFault> {
+    let mut from = trickling(b"abcdefghij", interruptions, 100);
+    let transfer = converted(alloc, &mut from, plan)?;
+    assert_bytes(rt, transfer.bytes.as_slice(), b"abcdefghij\0\0");
+    assert_counts(rt, transfer.counts, counts(2, 1, 0, 1, 0));
+    Ok(())
+}
+
+#[test]
+fn readers_that_give_little(rt: HostRuntime) -> Result<(), Fail> {
+    let sync = plan(rt.alloc(), "ibs=4 conv=sync")?;
+    for interruptions in [0, 1, 999] {
+        expect_synced(&rt, rt.alloc(), &sync, interruptions)?;
+    }
+    Ok(())
+}
+
+fn fails(alloc: Global, plan: &Plan, interruptions: u32, fails_after: usize) -> bool {
+    let mut from = trickling(b"abcdefghij", interruptions, fails_after);
+    match converted(alloc, &mut from, plan) {
+        Ok(_) => false,
+        Err(fault) => fault == DdFault::ReadFailed,
+    }
+}
+
+// Nothing past skip and count is asked for.
+fn expect_few(rt: &impl Abort, alloc: Global) -> Result<(), DdFault> {
+    let few = plan(alloc, "ibs=2 skip=1 count=1")?;
+    let mut from = trickling(b"abcdefghij", 0, 4);
+    let transfer = converted(alloc, &mut from, &few)?;
+    assert_bytes(rt, transfer.bytes.as_slice(), b"cd");
+    assert_bytes(rt, from.rest, b"efghij");
+    Ok(())
+}
+
+#[test]
+fn readers_that_fail(rt: HostRuntime) -> Result<(), Fail> {
+    let alloc = rt.alloc();
+    let plain = plan(alloc, "ibs=2")?;
+    for (interruptions, fails_after) in [(1000, 100), (0, 0), (0, 5), (0, 10)] {
+        assert!(rt; fails(alloc, &plain, interruptions, fails_after));
+    }
+    expect_few(&rt, alloc)?;
+    Ok(())
+}
+
+/// How many bytes dd takes of a hundred that a reader gives five at a time, until it fails.
+fn taken_by_fives(alloc: Global, line: &str, fails_after: usize) -> Result<usize, Fault> {
+    let job = plan_words(alloc, &words(alloc, line)?)?;
+    let bytes = [b'x'; 100];
+    let mut from = Trickle {
+        rest: &bytes,
+        interruptions: 0,
+        each: 5,
+        fails_after,
+    };
+    let mut to = Vec::new(alloc);
+    let _ = run_dump(alloc, &job, &mut from, &mut to);
+    Ok(bytes.len().saturating_sub(from.rest.len()))
+}
+
+// The same of a copy to a stream.
+#[test]
+fn dd_reads_no_more(rt: HostRuntime) -> Result<(), Fail> {
+    for fails_after in [1, 22, 48, 200] {
+        let taken = taken_by_fives(rt.alloc(), "dd bs=7 skip=3 count=4", fails_after)?;
+        assert!(rt; taken == fails_after.min(49));
+    }
+    Ok(())
+}
+
+/// Runs dd on an image.
+fn replied(
+    alloc: Global,
+    session: &mut MemSession,
+    line: &str,
     input: Trickle<'_>,
 ) -> Result<Option<Reply>, Fault> {
-    let replies = run_all(alloc, session, &mut [Command::Dd { operands, input }])?;
+    let operands = words(alloc, line)?;
+    let replies = run(alloc, session, &mut [Command::Dd { operands, input }])?;
     Ok(replies.first().copied())
 }
 
-/// Runs dd with these operands, and asserts its reply.
-fn assert_trickled(
-    rt: &impl Abort,
-    alloc: Global,
-    session: &mut Session<MemImage, MemText>,
-    line: &str,
-    input: Trickle<'_>,
-    expected: Reply,
-) -> Result<(), Fail> {
-    let operands = words(alloc, line)?;
-    let reply = run_trickled(alloc, session, operands, input)?;
-    assert!(rt; reply == Some(expected), "at {line}");
-    Ok(())
-}
-
-// A failed read refuses the command, and nothing was changed; the next command goes on.
+// A failed read refuses the command, and nothing was changed; the next command goes on. Four bytes are enough for the first two
+// blocks.
 #[test]
 fn slow_and_broken_inputs(rt: HostRuntime) -> Result<(), Fail> {
     let alloc = rt.alloc();
-    let trio = Memory.trio(alloc, b"01234567", b"", b"")?;
-    let (mut session, _) = opened(alloc, trio)?;
+    let Ok((mut session, _)) = open(alloc, trio(alloc, (b"01234567", b"", b""))?) else {
+        return Err(Fault::Broken.into());
+    };
     let failed = Reply::Refused(Fault::ReadFailed);
     for (interruptions, fails_after) in [(1000, 100), (0, 0), (0, 3), (0, 5)] {
         let input = trickling(b"abcde", interruptions, fails_after);
-        assert_trickled(&rt, alloc, &mut session, "ibs=2", input, failed)?;
+        let reply = replied(alloc, &mut session, "ibs=2", input)?;
+        assert!(rt; reply == Some(failed) && session.changes() == 0);
     }
-    let mut session = reopened(
-        &rt,
-        alloc,
-        &Memory,
-        session,
-        b"01234567",
-        (Some(b""), Some(b"")),
-    )?;
-    // Four bytes are enough for the first two blocks.
-    let input = trickling(b"abcde", 999, 4);
     let line = "bs=2 skip=1 count=1 seek=1 conv=notrunc";
-    let block = copied(1, [1, 0, 1, 0], 0);
-    assert_trickled(&rt, alloc, &mut session, line, input, block)?;
-    let _session = reopened(&rt, alloc, &Memory, session, b"01cd4567", (None, Some(b"")))?;
+    let reply = replied(alloc, &mut session, line, trickling(b"abcde", 999, 4))?;
+    let counts = counts(1, 0, 1, 0, 0);
+    assert!(rt; reply == Some(Reply::Copied { number: 1, counts }));
+    let left = session.close();
+    assert_bytes(&rt, bytes_of(&left).0, b"01cd4567");
     Ok(())
-}
-
-/// The journal of two bytes at 4095 of the empty image.
-const OVER: &str =
-    "change2 00000001 0000000000000000\nsave 00000001\ndone2 00000001 0000000000001001\n";
-
-/// The same, and then the image cut to 4096 bytes.
-const CUT: &str =
-    "change2 00000001 0000000000000000\nsave 00000001\ndone2 00000001 0000000000001001\nchange2 00000002 0000000000001001\n00001000: 42                                       B\nsave 00000002\ndone2 00000002 0000000000001000\n";
-
-/// Bytes over a page's bound of the empty image, a cut at the bound, and both taken back.
-fn over_a_page<'a>(alloc: Global, over: &'a [u8]) -> Result<Script<'a>, AllocError> {
-    let (front, _) = over.split_at(over.len().min(4096));
-    let nothing = copied(2, [0, 0, 0, 0], 0);
-    let mut script = Script::new(alloc, b"");
-    let changed = Reply::Changed { number: 1 };
-    script.then_text(Ask::Revert("00000fff: 4142"), changed, over, OVER)?;
-    script.then_text(Ask::Dd("obs=4096 seek=1", b""), nothing, front, CUT)?;
-    script.then_text(Ask::Undo(1), Reply::Undone { left: 1 }, over, OVER)?;
-    script.then_text(Ask::Undo(1), Reply::Undone { left: 0 }, b"", "")?;
-    Ok(script)
-}
-
-// Over a page's bound, cut at it, and back by undo: image, length and text each time.
-#[test]
-fn page_boundary(rt: HostRuntime) -> Result<(), Fail> {
-    let alloc = rt.alloc();
-    let mut over = vec![in alloc; 0u8; 4095]?;
-    over.extend_from_slice(b"AB")?;
-    assert!(rt; over.len() == 4097);
-    let script = over_a_page(alloc, over.as_slice())?;
-    play_all(&rt, alloc, &Pages, &script)
 }

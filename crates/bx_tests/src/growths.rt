@@ -1,155 +1,235 @@
-//! Calls below the session, with each growth refused in turn; and a heap that takes memory back.
-use crate::asserts::assert_bytes;
-use crate::memory::{BumpSession, open_trio, trio};
+//! Calls of dd and of listings with each growth refused in turn; and heaps that get all memory back.
+ghost use Rattle.std.specs.Prelude.{IfOk};
+ghost use Rattle.bx_cli.specs.Command.{IsNear};
+
+use crate::expected::words;
+use crate::sessions::{MemSession, open, run, trio};
 use bumpalo::Bump;
-use bx_cli::{Fault, Reply, run_all};
-use bx_image::MemImage;
-use bx_journal::{Session, SessionFault};
+use bx_cli::{Command, Done, Fault, Job, Reply, log_text, plan_words, run_dump};
+use bx_dd::{Counts, DdFault, Plan, parse, report, transfer};
+use bx_journal::LogRow;
 use bx_ration::{ALIGN, arena, squeeze, used};
-use bx_read::{read_dump, read_plain};
-use bx_scripts::model::Images;
-use bx_scripts::scripts::{PATCHED, UNDONE_PATCH};
-use bx_scripts::session::{Ask, command, open, words};
-use bx_store::MemText;
-use bx_text::Source;
+use bx_text::{Bytes, Words};
 use linked_list_allocator::LocalHeap;
-use std::alloc::{AllocError, Global};
+use std::alloc::{AllocError, Allocator, Global};
 use std::process::Abort;
 use std::test::Fail;
 
 /// No call takes so many bytes.
-const MOST_BYTES: usize = 20_000;
+const MOST_BYTES: usize = 300_000;
+
+/// No call grows so often.
+const MOST_GROWTHS: u32 = 100;
+
+/// A copy to a stream, what it reads and writes, and what it counts, as GNU dd does.
+const COPY: &str = "dd cbs=4 conv=block,ucase";
+
+const READ: &[u8] = b"ab\ncdefg\n";
+
+const WRITTEN: &[u8] = b"AB  CDEF";
+
+const COUNTED: Counts = Counts {
+    whole_in: 0,
+    part_in: 1,
+    whole_out: 0,
+    part_out: 1,
+    cut: 1,
+};
+
+const ROWS: [LogRow; 2] = [
+    LogRow {
+        number: 1,
+        old_len: 8,
+        saved: 2,
+    },
+    LogRow {
+        number: 2,
+        old_len: 10,
+        saved: 0,
+    },
+];
+
+const LINES: &str = "1 8 2\n2 10 0\n";
 
 /// A call that takes memory.
 #[derive(Clone, Copy, Debug)]
 enum Call {
-    ReadDump,
-    ReadPlain,
-    Rest,
-    PushWords,
+    Copy,
+    List,
+    Transfer,
 }
 
-const DUMP: &[u8] = b"0: 4142\n5: 43 44\n*\n\n9: 45\n";
-
-fn push_words(bump: &Bump) -> Result<bool, Fault> {
-    let words = words(bump, "ibs=3 conv=block,ucase cbs=4")?;
-    Ok(words.len() == 3 && words.get(1) == Some("conv=block,ucase"))
+/// What the calls are made of.
+#[derive(Drop)]
+struct Given {
+    job: Job,
+    operands: Words,
 }
 
-fn reads_plain(bump: &Bump) -> Result<bool, Fault> {
-    let bytes = read_plain(bump, b"41 42\n4 3")?;
-    Ok(bytes.as_slice() == b"ABC".as_slice())
-}
-
-fn reads_rest(bump: &Bump) -> Result<bool, Fault> {
-    let bytes = Source::new(DUMP, 1 << 40).rest(bump)?;
-    Ok(bytes.as_slice() == DUMP)
-}
-
-/// Squeezes the arena, makes the call, and tells whether its answer is right.
-fn attempt(bump: &Bump, call: Call, bytes: usize) -> Result<bool, Fault> {
-    squeeze(bump, bytes)?;
-    match call {
-        Call::ReadDump => Ok(read_dump(bump, DUMP)?.len() == 3),
-        Call::ReadPlain => reads_plain(bump),
-        Call::Rest => reads_rest(bump),
-        Call::PushWords => push_words(bump),
+/// Copies in memory of the arena. Where memory is refused, nothing was written.
+fn copy(rt: &impl Abort, alloc: Global, bump: &Bump, job: &Job) -> Result<(), Fault> {
+    let mut from = READ;
+    let mut to = Vec::new(alloc);
+    match run_dump(bump, job, &mut from, &mut to) {
+        Ok(done) => {
+            assert!(rt; done == Done::Copied(COUNTED));
+            assert!(rt; to.as_slice() == WRITTEN);
+            Ok(())
+        }
+        Err(fault) => {
+            assert!(rt; to.is_empty());
+            Err(fault)
+        }
     }
 }
 
+/// Lists changes in memory of the arena.
+fn list(rt: &impl Abort, bump: &Bump) -> Result<(), Fault> {
+    let text = log_text(bump, &ROWS)?;
+    assert!(rt; text.as_str() == LINES);
+    Ok(())
+}
+
+fn is_reported<A: Allocator>(alloc: A, counts: &Counts) -> Result<bool, DdFault> {
+    let text = report(alloc, counts)?;
+    let wanted = b"4+0 records in\n0+1 records out\n1 truncated record\n";
+    Ok(text.as_slice() == wanted.as_slice())
+}
+
+fn is_put<A: Allocator>(alloc: A, plan: &Plan<A>, bytes: Bytes<A>) -> Result<bool, DdFault> {
+    let change = plan.change(alloc, bytes)?;
+    Ok(change.writes.as_slice().len() == 1)
+}
+
+// Converts, and makes the report and the change.
+fn later_steps<A: Allocator + Clone>(alloc: A, plan: &Plan<A>) -> Result<bool, DdFault> {
+    let mut from = b"ab\nlongline\n".as_slice();
+    let transfer = transfer(alloc.clone()?, &mut from, plan)?;
+    let right = transfer.bytes.as_slice() == b"AB  LONG".as_slice();
+    let reported = is_reported(alloc.clone()?, &transfer.counts)?;
+    let put = is_put(alloc, plan, transfer.bytes)?;
+    Ok(right && reported && put)
+}
+
+// Parses, converts, and makes the report and the change.
+fn all_steps<A: Allocator + Clone>(alloc: A, words: &Words) -> Result<bool, DdFault> {
+    let plan = parse(alloc.clone()?, words)?;
+    later_steps(alloc, &plan)
+}
+
+fn convert(rt: &impl Abort, bump: &Bump, operands: &Words) -> Result<(), Fault> {
+    let right = all_steps(bump, operands)?;
+    assert!(rt; right);
+    Ok(())
+}
+
+fn make(
+    rt: &impl Abort,
+    alloc: Global,
+    bump: &Bump,
+    given: &Given,
+    call: Call,
+) -> Result<(), Fault> {
+    match call {
+        Call::Copy => copy(rt, alloc, bump, &given.job),
+        Call::List => list(rt, bump),
+        Call::Transfer => convert(rt, bump, &given.operands),
+    }
+}
+
+/// The call with so many bytes, and once more with enough: how many it had taken when it was refused, if it was.
+fn refused_at(
+    rt: &impl Abort,
+    alloc: Global,
+    given: &Given,
+    call: Call,
+    bytes: usize,
+) -> Result<Option<usize>, Fail> {
+    let bump = arena(alloc)?;
+    squeeze(&bump, bytes)?;
+    let made = make(rt, alloc, &bump, given, call);
+    let taken = used(&bump, bytes);
+    bump.set_allocation_limit(None);
+    make(rt, alloc, &bump, given, call)?;
+    match made {
+        Ok(()) => Ok(None),
+        Err(fault) => {
+            assert!(rt; fault == Fault::NoMemory);
+            Ok(Some(taken))
+        }
+    }
+}
+
+/// The least bytes above these, in steps of `ALIGN`, with which the call takes more than `taken` before it is refused, or isn't.
+fn next_growth(
+    rt: &impl Abort,
+    alloc: Global,
+    given: &Given,
+    call: Call,
+    bytes: usize,
+    taken: usize,
+) -> Result<usize, Fail> {
+    let mut low = bytes / ALIGN;
+    let mut high = MOST_BYTES / ALIGN;
+    for _ in 0..usize::BITS {
+        let half = high.saturating_sub(low) / 2;
+        if half == 0 {
+            break;
+        }
+        let middle = low.saturating_add(half);
+        let refused = refused_at(rt, alloc, given, call, middle.saturating_mul(ALIGN))?;
+        if refused == Some(taken) {
+            low = middle;
+        } else {
+            high = middle;
+        }
+    }
+    Ok(high.saturating_mul(ALIGN))
+}
+
 /// Refuses each growth of the call in turn, and tells how many they were.
-fn sweep(rt: &impl Abort, alloc: Global, call: Call) -> Result<u32, Fail> {
-    let mut count = 0u32;
-    let mut last = usize::MAX;
-    for bytes in 0..MOST_BYTES {
-        let bump = arena(alloc)?;
-        match attempt(&bump, call, bytes) {
-            Ok(right) => {
-                assert!(rt; right);
-                return Ok(count);
-            }
-            Err(fault) => assert!(rt; fault == Fault::NoMemory),
-        }
-        if bytes % ALIGN == 0 && used(&bump, bytes) != last {
-            last = used(&bump, bytes);
-            count = count.saturating_add(1);
-        }
+fn sweep(rt: &impl Abort, alloc: Global, given: &Given, call: Call) -> Result<u32, Fail> {
+    let mut bytes = 0;
+    for count in 0..MOST_GROWTHS {
+        let Some(taken) = refused_at(rt, alloc, given, call, bytes)? else {
+            return Ok(count);
+        };
+        bytes = next_growth(rt, alloc, given, call, bytes, taken)?;
     }
     Err(Fault::NoMemory.into())
 }
 
+/// Operands of a transfer that converts and counts.
+const OPERANDS: &str = "ibs=3 cbs=4 if=a of=b conv=block,ucase";
+
 #[test]
-fn growths_of_readers(rt: HostRuntime) -> Result<(), Fail> {
-    for (call, least) in [
-        (Call::ReadDump, 2),
-        (Call::ReadPlain, 1),
-        (Call::Rest, 1),
-        (Call::PushWords, 2),
-    ] {
-        let count = sweep(&rt, rt.alloc(), call)?;
+fn growths_of_outputs(rt: HostRuntime) -> Result<(), Fail> {
+    let alloc = rt.alloc();
+    let job = plan_words(alloc, &words(alloc, COPY)?)?;
+    let operands = words(alloc, OPERANDS)?;
+    let given = Given { job, operands };
+    for (call, least) in [(Call::Copy, 3), (Call::List, 1), (Call::Transfer, 5)] {
+        let count = sweep(&rt, alloc, &given, call)?;
         println!(rt; "growths refused: {count} of {call:?}")?;
         assert!(rt; count >= least);
     }
     Ok(())
 }
 
-fn open_in(bump: &Bump) -> Result<BumpSession<'_>, Fault> {
-    let texts = (PATCHED.as_bytes(), UNDONE_PATCH.as_bytes());
-    open_trio(bump, trio(bump, b"ABxyEFGH", texts)?)
-}
-
-/// Lists the changes: whether there is one row. It may be refused where memory is short.
-fn has_one_row(rt: &impl Abort, session: &mut BumpSession<'_>, is_short: bool) -> bool {
-    match session.log() {
-        Ok(rows) => rows.len() == 1,
-        Err(fault) => {
-            assert!(rt; is_short && fault == SessionFault::NoMemory);
-            false
-        }
-    }
-}
-
-/// Squeezes the arena, and lists the changes: whether there is one row, or a refusal; and how many bytes were taken.
-fn list_in<'a>(
-    rt: &impl Abort,
-    bump: &'a Bump,
-    session: &mut BumpSession<'a>,
-    bytes: usize,
-) -> Result<(bool, usize), Fail> {
-    squeeze(bump, bytes)?;
-    let right = has_one_row(rt, session, true);
-    let taken = used(bump, bytes);
-    bump.set_allocation_limit(None);
-    Ok((right, taken))
-}
-
-/// Lists the changes with so many bytes: the rows, or nothing. Then all memory is there.
-fn list<'a>(rt: &impl Abort, bump: &'a Bump, bytes: usize) -> Result<(bool, usize), Fail> {
-    let mut session = open_in(bump)?;
-    let listed = list_in(rt, bump, &mut session, bytes)?;
-    assert!(rt; has_one_row(rt, &mut session, false));
-    let (image, text, redo_text) = session.close();
-    assert_bytes(rt, image.as_slice(), b"ABxyEFGH");
-    assert_bytes(rt, text.as_slice(), PATCHED.as_bytes());
-    assert_bytes(rt, redo_text.as_slice(), UNDONE_PATCH.as_bytes());
-    Ok(listed)
+// Whether so many bytes of a heap are enough for a transfer. All goes back to it.
+fn goes_back(rt: &impl Abort, alloc: Global, words: &Words, bytes: usize) -> Result<bool, Fail> {
+    let heap = LocalHeap::new(alloc, bytes)?;
+    let found = all_steps(&heap, words).is_ok();
+    assert!(rt; heap.used() == 0);
+    Ok(found)
 }
 
 #[test]
-fn growths_of_a_log(rt: HostRuntime) -> Result<(), Fail> {
-    let mut count = 0u32;
-    let mut last = usize::MAX;
-    for bytes in 0..MOST_BYTES {
-        let bump = arena(rt.alloc())?;
-        let (right, taken) = list(&rt, &bump, bytes)?;
-        if right {
-            println!(rt; "growths refused: {count} of the log")?;
-            assert!(rt; count >= 3);
+fn nothing_of_a_transfer_is_lost(rt: HostRuntime) -> Result<(), Fail> {
+    let words = words(rt.alloc(), OPERANDS)?;
+    for units in 1..200usize {
+        if goes_back(&rt, rt.alloc(), &words, units * 16)? {
             return Ok(());
-        }
-        if bytes % ALIGN == 0 && taken != last {
-            last = taken;
-            count = count.saturating_add(1);
         }
     }
     Err(Fault::NoMemory.into())
@@ -164,73 +244,33 @@ fn large(alloc: Global) -> Result<String, AllocError> {
     Ok(text)
 }
 
-type HeapSession<'a> = Session<MemImage, MemText, &'a LocalHeap>;
+type HeapCommand<'a> = Command<&'static [u8], &'a LocalHeap>;
+
+fn revert<'a>(heap: &'a LocalHeap, dump: &str) -> Result<HeapCommand<'a>, AllocError>
+    ensures { IfOk result IsNear }
+{
+    let text = Bytes::from_vec(dump.as_bytes().to_vec(heap)?);
+    Ok(Command::Revert { text, offset: 0 })
+}
 
 /// A small change, a large one, an undo and a redo.
 fn run_four<'a>(
     heap: &'a LocalHeap,
-    session: &mut HeapSession<'a>,
+    session: &mut MemSession<&'a LocalHeap>,
     large: &str,
 ) -> Result<Vec<Reply, &'a LocalHeap>, Fault> {
     let mut list = [
-        command(heap, Ask::Revert("0: 61\n"))?,
-        command(heap, Ask::Revert(large))?,
-        command(heap, Ask::Undo(1))?,
-        command(heap, Ask::Redo(1))?,
+        revert(heap, "0: 61\n")?,
+        revert(heap, large)?,
+        Command::Undo { k: 1 },
+        Command::Redo { j: 1 },
     ];
-    Ok(run_all(heap, session, &mut list)?)
-}
-
-/// Whether a refused command leaves these images.
-fn is_refused(fault: Fault, images: &Images) -> bool {
-    let few = Fault::TooFew {
-        have: images.changes(),
-    };
-    let nothing = Fault::NothingToRedo {
-        have: images.undone(),
-    };
-    fault == few || fault == nothing || fault == Fault::NoMemory
-}
-
-/// Follows a reply: a refused command leaves the images.
-fn follow_one(
-    rt: &impl Abort,
-    alloc: Global,
-    images: &mut Images,
-    reply: Reply,
-    image: &[u8],
-) -> Result<(), Fail> {
-    match reply {
-        Reply::Changed { number } => {
-            images.push(image.to_vec(alloc)?)?;
-            assert!(rt; number == images.changes());
-        }
-        Reply::Undone { left } => assert!(rt; images.undo(1)? && left == images.changes()),
-        Reply::Redone { changes } => assert!(rt; images.redo(1)? && changes == images.changes()),
-        Reply::Copied { .. } => assert!(rt; false),
-        Reply::Refused(fault) => assert!(rt; is_refused(fault, images)),
-    }
-    Ok(())
-}
-
-/// Follows the replies.
-fn follow(
-    rt: &impl Abort,
-    alloc: Global,
-    images: &mut Images,
-    replies: &[Reply],
-) -> Result<(), Fail> {
-    let changed = [b"aBCDEFGH", b"bbbbbbbb", b"........", b"........"];
-    for (reply, image) in replies.iter().zip(changed) {
-        follow_one(rt, alloc, images, *reply, image)?;
-    }
-    Ok(())
+    run(heap, session, &mut list)
 }
 
 /// What became of the four.
 #[derive(Clone, Copy)]
 enum Outcome {
-    Nothing,
     Some,
     /// The large change was refused, and the undo and the redo behind it were made.
     GoesOn,
@@ -255,50 +295,41 @@ fn outcome_of(replies: &[Reply]) -> Outcome {
     }
 }
 
-/// The four commands on a session: what became of them, and of the images.
-fn follow_four<'a>(
-    rt: &impl Abort,
-    alloc: Global,
-    heap: &'a LocalHeap,
-    session: &mut HeapSession<'a>,
-    images: &mut Images,
-    large: &str,
-) -> Result<Outcome, Fail> {
-    match run_four(heap, session, large) {
-        Ok(replies) => {
-            follow(rt, alloc, images, replies.as_slice())?;
-            Ok(outcome_of(replies.as_slice()))
-        }
-        Err(_) => Ok(Outcome::Nothing),
+/// The image behind so many of the two changes.
+fn image_of(changes: u32) -> &'static [u8] {
+    match changes {
+        0 => b"ABCDEFGH",
+        1 => b"aBCDEFGH",
+        _ => b"bbbbbbbb",
     }
 }
 
-/// The four commands in a heap: the image that they leave is the newest of the images.
+/// The four commands in a heap: the image that they leave is that of the changes that stand.
 fn four_in<'a>(
     rt: &impl Abort,
     alloc: Global,
     heap: &'a LocalHeap,
     large: &str,
 ) -> Result<Outcome, Fail> {
-    let mut images = Images::new(alloc, b"ABCDEFGH")?;
-    let image = MemImage::from_vec(b"ABCDEFGH".to_vec(alloc)?);
-    let trio = (image, MemText::new(alloc), MemText::new(alloc));
-    let Ok((mut session, _)) = open(heap, trio) else {
-        return Ok(Outcome::Nothing);
+    let Ok((mut session, _)) = open(heap, trio(alloc, (image_of(0), b"", b""))?) else {
+        return Ok(Outcome::Some);
     };
-    let found = follow_four(rt, alloc, heap, &mut session, &mut images, large)?;
-    assert!(rt; session.changes() == images.changes());
+    let outcome = match run_four(heap, &mut session, large) {
+        Ok(replies) => outcome_of(replies.as_slice()),
+        Err(_) => Outcome::Some,
+    };
+    let image = image_of(session.changes());
     let (device, _, _) = session.close();
-    assert!(rt; device.as_slice() == images.top());
-    Ok(found)
+    assert!(rt; device.as_slice() == image);
+    Ok(outcome)
 }
 
 /// The four commands in a heap of so many bytes, which all come back.
 fn in_heap(rt: &impl Abort, alloc: Global, bytes: usize, large: &str) -> Result<Outcome, Fail> {
     let heap = LocalHeap::new(alloc, bytes)?;
-    let found = four_in(rt, alloc, &heap, large)?;
+    let outcome = four_in(rt, alloc, &heap, large)?;
     assert!(rt; heap.used() == 0);
-    Ok(found)
+    Ok(outcome)
 }
 
 #[test]
@@ -313,7 +344,7 @@ fn nothing_is_lost(rt: HostRuntime) -> Result<(), Fail> {
                 return Ok(());
             }
             Outcome::GoesOn => goes_on = goes_on.saturating_add(1),
-            Outcome::Nothing | Outcome::Some => {}
+            Outcome::Some => {}
         }
     }
     Err(Fault::NoMemory.into())

@@ -1,10 +1,9 @@
 //! Fuses: what a failed call leaves, and which calls a change and its saving make.
 ghost use Rattle.std.specs.Prelude.{◌≡◌, IfOk};
 
-use crate::image::change_tests::change;
 use crate::image::guarded::{
-    applied, assert_countable, assert_failed, assert_faults, assert_length, cut, length, reserve,
-    saved, write,
+    applied, assert_countable, assert_failed, assert_faults, assert_length, change, cut, length,
+    reserve, saved, write,
 };
 use crate::shared::assert_bytes;
 use bx_image::{Change, Device, FuseImage, MemImage, Part};

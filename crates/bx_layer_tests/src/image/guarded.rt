@@ -1,11 +1,26 @@
 //! Calls of any device that look first whether they may be made. So a test carries no facts about its device.
 ghost use Rattle.std.specs.Prelude.{◌<◌};
 
-use crate::shared::assert_bytes;
 use bx_image::{Change, Device, DeviceFailed, ImageFault, NoMemory, Saved, apply, check, save};
-use std::alloc::{Allocator, Global};
+use bx_text::{Bytes, Piece, Pieces};
+use std::alloc::{AllocError, Allocator, Global};
 use std::process::Abort;
 use std::test::Fail;
+
+/// A change of these writes.
+pub fn change<A: Allocator + Clone>(
+    alloc: A,
+    base: Option<u64>,
+    writes: &[(u64, &[u8])],
+) -> Result<Change<A>, AllocError> {
+    let mut pieces = Vec::new(alloc.clone()?);
+    for (at, bytes) in writes {
+        let bytes = Bytes::from_vec(bytes.to_vec(alloc.clone()?)?);
+        pieces.push(Piece { at: *at, bytes })?;
+    }
+    let writes = Pieces::from_vec(pieces);
+    Ok(Change { base, writes })
+}
 
 /// A failure more can be counted.
 pub fn assert_countable<D: Device>(rt: &impl Abort, device: &D)
@@ -39,13 +54,6 @@ pub fn cut<D: Device>(rt: &impl Abort, device: &mut D, n: u64) -> Result<(), Dev
     assert_countable(rt, device);
     assert!(rt; n <= device.reserved());
     device.set_len(n)
-}
-
-/// Makes room, and puts these bytes in front.
-pub fn fill<D: Device>(rt: &impl Abort, device: &mut D, bytes: &[u8]) -> Result<(), Fail> {
-    reserve(device, bytes.len() as u64)?;
-    write(rt, device, 0, bytes)?;
-    Ok(())
 }
 
 /// The bytes that the device has.
@@ -90,17 +98,6 @@ pub fn applied<D: Device>(
     Ok(apply(device, change).is_ok())
 }
 
-/// The change of an image of `old_len` bytes goes through.
-pub fn assert_applied<D: Device>(
-    rt: &impl Abort,
-    device: &mut D,
-    change: &Change,
-    old_len: u64,
-) -> Result<(), Fail> {
-    assert!(rt; applied(rt, device, change, old_len)?);
-    Ok(())
-}
-
 pub fn assert_number(rt: &impl Abort, found: u64, wanted: u64) {
     assert_eq!(rt; found, wanted);
 }
@@ -117,15 +114,4 @@ pub fn assert_faults<D: Device>(rt: &impl Abort, device: &D, count: u64) {
 /// A call of a device failed.
 pub fn assert_failed(rt: &impl Abort, outcome: Result<(), DeviceFailed>) {
     assert!(rt; outcome.is_err());
-}
-
-pub fn assert_content<D: Device>(
-    rt: &impl Abort,
-    alloc: Global,
-    device: &mut D,
-    wanted: &[u8],
-) -> Result<(), Fail> {
-    let bytes = content(rt, alloc, device)?;
-    assert_bytes(rt, bytes.as_slice(), wanted);
-    Ok(())
 }

@@ -1,14 +1,18 @@
 //! Texts that are counted in windows: of any size, and of a journal that is longer than two.
-use crate::journal::script::{Held, clean, on_memory, pair_of, sit, writes};
-use crate::journal::tools::{PATCHED, PATCHED_FIRST, UNDONE_TWO, image, open, text, trio};
+use crate::journal::reads::{PATCHED, UNDONE_TWO, open};
 use bumpalo::Bump;
 use bx_entries::{count_lines, counted_by, no_entries};
-use bx_journal::{Recovered, SessionFault};
+use bx_image::MemImage;
+use bx_journal::SessionFault;
 use bx_ration::ration;
-use bx_store::FuseText;
-use std::alloc::Global;
+use bx_store::{FuseText, MemText};
+use std::alloc::{AllocError, Global};
 use std::process::Abort;
 use std::test::Fail;
+
+/// The journal of a patch of two bytes at 2 of `ABCDEFGH`, in the first form.
+const PATCHED_FIRST: &[u8] =
+    b"change 00000001 00000008\n00000002: 4344                                     CD\nsave 00000001\ndone 00000001\n";
 
 // How many entries a text has, counted in windows of so many bytes.
 fn count_by(text: &[u8], size: usize, only_second: bool) -> Option<u32> {
@@ -62,47 +66,50 @@ fn counted_in_small_windows(rt: HostRuntime) {
     assert!(rt; count_by(PATCHED_FIRST, 60, true).is_none());
 }
 
-// Two changes, of which the second one's entry is longer than two windows.
-fn long_journal(alloc: Global, rt: &impl Abort) -> Result<Held, Fail> {
-    let bytes = vec![in alloc; b'x'; 131_072]?;
-    let start = pair_of(alloc, b"A", b"")?;
-    let steps = [
-        writes(0, bytes.as_slice(), 1),
-        writes(0, bytes.as_slice(), 2),
-    ];
-    on_memory(alloc, rt, &start, clean(0), &steps)
+/// So many bytes were overwritten.
+const LEN: usize = 131_072;
+
+// The journal of a change of an image of as many bytes: an entry that is longer than two windows.
+fn long_journal(alloc: Global) -> Result<Vec<u8>, AllocError> {
+    let mut text = Vec::new(alloc);
+    text.extend_from_slice(b"change2 00000001 0000000000020000\n")?;
+    for row in 0..LEN as u32 / 16 {
+        let at = format!(in alloc; "{row:07x}0: ")?;
+        text.extend_from_slice(at.as_bytes())?;
+        text.extend_from_slice(b"7878 7878 7878 7878 7878 7878 7878 7878  xxxxxxxxxxxxxxxx\n")?;
+    }
+    text.extend_from_slice(b"save 00000001\ndone2 00000001 0000000000020000\n")?;
+    Ok(text)
 }
 
-// Opens where the journal passes so many reads.
-fn opens_behind(
-    alloc: Global,
-    rt: &impl Abort,
-    start: &Held,
-    pass: u64,
-    found: Result<Recovered, SessionFault>,
-) -> Result<(), Fail> {
-    let journal = FuseText::on_reads(text(alloc, start.journal.as_slice())?, pass);
-    let redo_text = FuseText::on_reads(text(alloc, b"")?, u64::MAX);
-    let trio = (image(alloc, start.image.as_slice())?, journal, redo_text);
-    let (_, journal, _) = sit(alloc, rt, trio, found, &[])?;
-    assert!(rt; journal.into_inner().as_slice() == start.journal.as_slice());
-    Ok(())
+// How many changes opening finds, where the journal passes so many reads.
+fn opens_behind(alloc: Global, journal: &[u8], pass: u64) -> Result<Result<u32, SessionFault>, Fail> {
+    let image = MemImage::from_vec(vec![in alloc; b'y'; LEN]?);
+    let journal = FuseText::on_reads(MemText::from_vec(journal.to_vec(alloc)?), pass);
+    let redo_text = FuseText::on_reads(MemText::new(alloc), u64::MAX);
+    match open(alloc, (image, journal, redo_text)) {
+        Ok((_, found)) => Ok(Ok(found.changes)),
+        Err((_, _, _, fault)) => Ok(Err(fault)),
+    }
 }
 
 // The length is read, and three windows; each is refused.
 #[test]
 fn each_window_fails(rt: HostRuntime) -> Result<(), Fail> {
     let alloc = rt.alloc();
-    let start = long_journal(alloc, &rt)?;
+    let journal = long_journal(alloc)?;
     for pass in 0..4 {
-        opens_behind(alloc, &rt, &start, pass, Err(SessionFault::DeviceFailed))?;
+        let found = opens_behind(alloc, journal.as_slice(), pass)?;
+        assert!(rt; found == Err(SessionFault::DeviceFailed));
     }
-    opens_behind(alloc, &rt, &start, 4, clean(2))
+    assert!(rt; opens_behind(alloc, journal.as_slice(), 4)? == Ok(1));
+    Ok(())
 }
 
-fn opens_in<'a>(alloc: Global, bump: &'a Bump, start: &Held) -> Result<u32, Fail> {
-    let trio = trio(alloc, start.image.as_slice(), start.journal.as_slice(), b"")?;
-    match open(bump, trio) {
+fn opens_in<'a>(alloc: Global, bump: &'a Bump, journal: &[u8]) -> Result<u32, Fail> {
+    let image = MemImage::from_vec(vec![in alloc; b'y'; LEN]?);
+    let journal = MemText::from_vec(journal.to_vec(alloc)?);
+    match open(bump, (image, journal, MemText::new(alloc))) {
         Ok((_, found)) => Ok(found.changes),
         Err(_) => Ok(0),
     }
@@ -112,8 +119,8 @@ fn opens_in<'a>(alloc: Global, bump: &'a Bump, start: &Held) -> Result<u32, Fail
 #[test]
 fn long_journal_in_a_window(rt: HostRuntime) -> Result<(), Fail> {
     let alloc = rt.alloc();
-    let start = long_journal(alloc, &rt)?;
+    let journal = long_journal(alloc)?;
     let bump = ration(alloc, 270_000)?;
-    assert!(rt; opens_in(alloc, &bump, &start)? == 2);
+    assert!(rt; opens_in(alloc, &bump, journal.as_slice())? == 1);
     Ok(())
 }

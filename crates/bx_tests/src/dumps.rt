@@ -1,0 +1,123 @@
+//! Dumps: flushes, runs of text however their bytes are split, and counts of every length.
+use crate::expected::{assert_bytes, words};
+use bx_cli::{Done, Fault, plan_words, run_dump};
+use std::alloc::Global;
+use std::io::{self, ErrorKind, Read, Write};
+use std::process::Abort;
+use std::test::Fail;
+
+/// A writer that takes so many bytes, and then fails. It counts how often it is flushed.
+#[derive(Drop)]
+struct Counting {
+    room: usize,
+    flushes: u32,
+}
+
+impl Write for Counting {
+    fn write(&mut self, buf: &[u8]) -> io::Result<usize> {
+        if self.room == 0 {
+            return Err(io::Error::from(ErrorKind::Other));
+        }
+        let count = buf.len().min(self.room);
+        self.room = self.room.saturating_sub(count);
+        Ok(count)
+    }
+
+    fn flush(&mut self) -> io::Result<()> {
+        self.flushes = self.flushes.saturating_add(1);
+        Ok(())
+    }
+}
+
+/// What a dump of these bytes to a writer of so much room answers, and how often it flushes.
+fn flushes_of(alloc: Global, line: &str, room: usize) -> Result<(Result<Done, Fault>, u32), Fault> {
+    let job = plan_words(alloc, &words(alloc, line)?)?;
+    let mut from = b"printable, and then not\n".as_slice();
+    let mut to = Counting { room, flushes: 0 };
+    let done = run_dump(alloc, &job, &mut from, &mut to);
+    Ok((done, to.flushes))
+}
+
+#[test]
+fn no_dump_flushes(rt: HostRuntime) -> Result<(), Fail> {
+    for line in ["xxd", "od -c", "hexdump -C", "strings"] {
+        let (done, flushes) = flushes_of(rt.alloc(), line, 4096)?;
+        assert!(rt; done == Ok(Done::Dumped(24)) && flushes == 0);
+        let (done, flushes) = flushes_of(rt.alloc(), line, 9)?;
+        let full = Fault::WriteFailed { written: 9 };
+        assert!(rt; done == Err(full) && flushes == 0);
+    }
+    Ok(())
+}
+
+/// A reader that gives so many bytes, then so many, and then the rest.
+#[derive(Drop)]
+struct Pieces<'a> {
+    bytes: &'a [u8],
+    first: usize,
+    second: usize,
+}
+
+impl Read for Pieces<'_> {
+    fn read(&mut self, buf: &mut [u8]) -> io::Result<usize> {
+        let most = if self.first > 0 {
+            self.first
+        } else {
+            buf.len()
+        }
+        .min(buf.len());
+        self.first = self.second;
+        self.second = 0;
+        self.bytes.read(&mut buf[..most])
+    }
+}
+
+/// What a dump of all that a reader gives answers and writes.
+fn dumped(alloc: Global, line: &str, from: &mut impl Read) -> Result<(Done, Vec<u8>), Fault> {
+    let job = plan_words(alloc, &words(alloc, line)?)?;
+    let mut to = Vec::new(alloc);
+    let done = run_dump(alloc, &job, from, &mut to)?;
+    Ok((done, to))
+}
+
+#[test]
+fn strings_of_every_split(rt: HostRuntime) -> Result<(), Fail> {
+    for both in 0..15 * 15usize {
+        let mut from = Pieces {
+            bytes: b"ab\0hello\n\x01world!",
+            first: both / 15 + 1,
+            second: both % 15 + 1,
+        };
+        let (done, text) = dumped(rt.alloc(), "strings", &mut from)?;
+        assert!(rt; done == Done::Dumped(16));
+        assert_bytes(&rt, text.as_slice(), b"hello\nworld!\n");
+    }
+    Ok(())
+}
+
+/// Bytes with equal rows, text and other bytes in them.
+fn sample() -> [u8; 600] {
+    let mut bytes = [0; 600];
+    let mut next = 11u8;
+    for (i, byte) in bytes.iter_mut().enumerate() {
+        next = next.wrapping_mul(5).wrapping_add(37);
+        if i >= 100 {
+            *byte = if i < 250 { b'a' + next % 16 } else { next };
+        }
+    }
+    bytes
+}
+
+// Each front of the bytes is dumped to its end.
+#[test]
+fn every_length(rt: HostRuntime) -> Result<(), Fail> {
+    let bytes = sample();
+    for line in ["xxd", "od", "hexdump -C", "strings"] {
+        for n in 0..601usize {
+            let mut from = &bytes[..n];
+            let (done, _) = dumped(rt.alloc(), line, &mut from)?;
+            assert!(rt; done == Done::Dumped(n as u64));
+        }
+    }
+    Ok(())
+}

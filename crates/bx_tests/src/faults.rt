@@ -1,0 +1,149 @@
+//! The numbers and texts of all faults.
+use crate::expected::assert_bytes;
+use bx_cli::Fault;
+use bx_dd::DdFault;
+use std::alloc::Global;
+use std::process::Abort;
+
+fn shows(alloc: Global, fault: Fault, text: &str) -> bool {
+    match format!(in alloc; "{fault}") {
+        Ok(shown) => shown.as_str() == text,
+        Err(_) => false,
+    }
+}
+
+fn assert_shown(rt: &impl Abort, alloc: Global, rows: &[(Fault, u8, &str)]) {
+    for (fault, number, text) in rows {
+        assert!(rt;
+            fault.number() == *number && shows(alloc, *fault, text),
+            "no {text}"
+        );
+    }
+}
+
+static STREAM: [(Fault, u8, &str); 5] = [
+    (Fault::NoMemory, 1, "out of memory"),
+    (Fault::ReadFailed, 2, "read failed"),
+    (
+        Fault::WriteFailed { written: 20 },
+        3,
+        "write failed after 20 bytes",
+    ),
+    (Fault::InputTooLong, 4, "input too long"),
+    (Fault::SkipPastEnd, 5, "skip is past the end of the input"),
+];
+
+#[test]
+fn fault_texts(rt: HostRuntime) {
+    assert_shown(&rt, rt.alloc(), &STREAM);
+}
+
+static DUMP: [(Fault, u8, &str); 7] = [
+    (Fault::BadAddress { line: 1 }, 10, "line 1: bad address"),
+    (Fault::MissingColon { line: 3 }, 11, "line 3: missing colon"),
+    (Fault::BadPair { line: 2 }, 12, "line 2: bad pair"),
+    (Fault::NoData { line: 4 }, 13, "line 4: no bytes"),
+    (
+        Fault::TooWide {
+            line: 18446744073709551615,
+        },
+        14,
+        "line 18446744073709551615: more than 256 bytes",
+    ),
+    (
+        Fault::AddressTooLarge { line: 10 },
+        15,
+        "line 10: address too large",
+    ),
+    (
+        Fault::OddDigits { line: 7 },
+        16,
+        "line 7: odd number of digits",
+    ),
+];
+
+#[test]
+fn fault_texts_of_dumps(rt: HostRuntime) {
+    assert_shown(&rt, rt.alloc(), &DUMP);
+}
+
+static OPERAND: [(Fault, u8, &str); 8] = [
+    (Fault::UnknownOperand { place: 1 }, 20, "operand 1: unknown"),
+    (Fault::BadNumber { place: 2 }, 21, "operand 2: bad number"),
+    (
+        Fault::NumberTooLarge { place: 1 },
+        22,
+        "operand 1: number too large",
+    ),
+    (Fault::ZeroSize { place: 3 }, 23, "operand 3: zero size"),
+    (Fault::Conflict, 24, "conflicting conversions"),
+    (Fault::MissingCbs, 25, "cbs is missing"),
+    (Fault::Repeated { place: 2 }, 26, "operand 2: given twice"),
+    (Fault::SeekWithoutOutput, 27, "seek needs an output file"),
+];
+
+#[test]
+fn fault_texts_of_operands(rt: HostRuntime) {
+    assert_shown(&rt, rt.alloc(), &OPERAND);
+}
+
+static SESSION: [(Fault, u8, &str); 12] = [
+    (Fault::TooLarge, 30, "image too large"),
+    (Fault::DeviceFailed, 31, "device failed"),
+    (Fault::Damaged { line: 5 }, 40, "journal line 5 is damaged"),
+    (Fault::TooFew { have: 3 }, 41, "only 3 changes to undo"),
+    (Fault::JournalFull, 42, "journal is full"),
+    (Fault::Interrupted, 43, "interrupted: open again to recover"),
+    (Fault::Broken, 44, "session is broken"),
+    (
+        Fault::LengthDiffers { expected: 8 },
+        45,
+        "image should have 8 bytes",
+    ),
+    (
+        Fault::NothingToRedo { have: 3 },
+        46,
+        "only 3 changes to redo",
+    ),
+    (Fault::RedoDamaged { line: 5 }, 47, "redo line 5 is damaged"),
+    (Fault::Usage, 50, "bad arguments"),
+    (Fault::OpenFailed, 51, "cannot open file"),
+];
+
+#[test]
+fn fault_texts_of_sessions(rt: HostRuntime) {
+    assert_shown(&rt, rt.alloc(), &SESSION);
+}
+
+fn expect_text(rt: &impl Abort, alloc: Global, fault: DdFault, text: &str) {
+    match fault.to_string(alloc) {
+        Ok(shown) => assert_bytes(rt, shown.as_bytes(), text.as_bytes()),
+        Err(_) => assert!(rt; false),
+    }
+}
+
+#[test]
+fn fault_texts_of_dd(rt: HostRuntime) {
+    let alloc = rt.alloc();
+    expect_text(&rt, alloc, DdFault::NoMemory, "out of memory");
+    expect_text(&rt, alloc, DdFault::ReadFailed, "read failed");
+    expect_text(&rt, alloc, DdFault::InputTooLong, "input too long");
+    expect_text(&rt, alloc, DdFault::UnknownOperand(1), "operand 1: unknown");
+    expect_text(&rt, alloc, DdFault::BadNumber(2), "operand 2: bad number");
+    expect_text(
+        &rt,
+        alloc,
+        DdFault::NumberTooLarge(3),
+        "operand 3: number too large",
+    );
+    expect_text(&rt, alloc, DdFault::ZeroSize(4), "operand 4: zero size");
+    expect_text(&rt, alloc, DdFault::Conflict, "conflicting conversions");
+    expect_text(&rt, alloc, DdFault::MissingCbs, "cbs is missing");
+    expect_text(&rt, alloc, DdFault::Repeated(15), "operand 15: given twice");
+    expect_text(
+        &rt,
+        alloc,
+        DdFault::SeekWithoutOutput,
+        "seek needs an output file",
+    );
+}

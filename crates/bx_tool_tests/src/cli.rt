@@ -1,2 +1,0 @@
-//! The command line: numbers and texts of faults.
-mod fault_tests;

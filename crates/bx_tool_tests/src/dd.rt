@@ -1,3 +1,0 @@
-//! dd: worked cases, readers that fail, refused growths.
-mod hostile_tests;
-mod tests;
