@@ -20,11 +20,6 @@ pub static SWEEPS: [&str; 6] = [
     "openings stopped",
 ];
 
-/// Cases of at most so many commands, on images and texts of at most so many bytes, are stopped when what is left is opened again.
-const FEW: usize = 3;
-
-const SHORT: usize = 200;
-
 /// Plays a case in one way. Tells how often.
 pub fn play_commands(rt: &HostRuntime, case: &CommandsCase, sweep: usize) -> Result<u32, Failure> {
     let alloc = rt.alloc();
@@ -34,13 +29,8 @@ pub fn play_commands(rt: &HostRuntime, case: &CommandsCase, sweep: usize) -> Res
         2 => play_at(alloc, &Files::new(rt), case),
         3 => play_growths(alloc, case),
         4 => play_stops(alloc, case, false),
-        _ if is_small(case) => play_stops(alloc, case, true),
-        _ => Ok(0),
+        _ => play_stops(alloc, case, true),
     }
-}
-
-fn is_small(case: &CommandsCase) -> bool {
-    case.rows.len() <= FEW && case.image.len() <= SHORT && case.journal.len() <= SHORT
 }
 
 /// Plays a case at a place, with the devices opened again behind each command, behind any one of them, and at the end alone.
