@@ -67,9 +67,10 @@ check-completions:
 compare: all
 	scripts/compare.py --bx ./bx
 
-# The case files that hold what the real tools do, written again.
+# The case files that hold what the real tools do, and random lists of commands, written again.
 record:
 	scripts/record-cases.py
+	scripts/random-cases.py
 
 # Bad texts, full devices, closed pipes and streams, what is no file, two programs at once, loop devices (as root), and each
 # memory request, read and write failing in turn.

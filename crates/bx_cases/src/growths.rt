@@ -6,6 +6,7 @@ use crate::outcome::{Wrong, differs, same_bytes};
 use crate::places::Memory;
 use crate::sessions::{MemDevices, MemSession, Texts, ask_for, close, in_memory, open};
 use crate::tally::{Failure, at};
+use crate::weight::is_swept;
 use bumpalo::Bump;
 use bx_case_files::{Ask, CommandsCase, Found, Opening, Row, TextCase};
 use bx_cli::{Fault, Reply};
@@ -19,10 +20,12 @@ pub fn play_growths(alloc: Global, case: &CommandsCase) -> Result<u32, Failure> 
         Err(wrong) => return Err(at(0, wrong)),
     };
     let mut growths = 0u32;
-    for row in &case.rows {
-        match each_growth(alloc, standing.held.texts(), row) {
-            Ok(more) => growths = growths.saturating_add(more),
-            Err(wrong) => return Err(at(growths, wrong)),
+    for (i, row) in case.rows.iter().enumerate() {
+        if is_swept(i, case.rows.len()) {
+            match each_growth(alloc, standing.held.texts(), row) {
+                Ok(more) => growths = growths.saturating_add(more),
+                Err(wrong) => return Err(at(growths, wrong)),
+            }
         }
         standing = match play_row(alloc, &Memory, standing, row) {
             Ok(standing) => standing,

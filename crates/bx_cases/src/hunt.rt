@@ -35,7 +35,7 @@ impl Hunt {
         match self.high {
             Some((high, _)) => {
                 let steps = high.saturating_sub(self.low) / STEP;
-                self.low.saturating_add(steps / 2 * STEP)
+                self.low.saturating_add((steps / 2).saturating_mul(STEP))
             }
             None => self.low.saturating_add(self.gap),
         }

@@ -154,8 +154,8 @@ fn with_text<'a>(texts: Texts<'a>, text: &'a [u8]) -> Texts<'a> {
 pub fn fronts(alloc: Global, texts: Texts<'_>) -> Result<u32, Wrong> {
     let text = text_of(texts);
     let mut count = 0u32;
-    for n in 0..text.len() + 1 {
-        let (front, _) = text.split_at(n);
+    for n in 0..=text.len() {
+        let (front, _) = text.split_at(n.min(text.len()));
         judged(alloc, with_text(texts, front))?;
         count = count.saturating_add(1);
     }

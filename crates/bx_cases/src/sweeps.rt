@@ -5,6 +5,7 @@ use crate::outcome::Wrong;
 use crate::places::{Files, Memory, Pages, Place};
 use crate::stops::play_stops;
 use crate::tally::{Failure, at};
+use crate::weight::is_swept;
 use bx_case_files::CommandsCase;
 use bx_image::Device;
 use bx_store::TextStore;
@@ -44,10 +45,12 @@ fn play_at<D: Device + Drop, T: TextStore + Drop, P: Place<D, T>>(
     }
     let mut plays = 1u32;
     for behind in 0..case.rows.len() {
-        if let Err(wrong) = play_once(alloc, place, case, behind) {
-            return Err(at(plays, wrong));
+        if is_swept(behind, case.rows.len()) {
+            if let Err(wrong) = play_once(alloc, place, case, behind) {
+                return Err(at(plays, wrong));
+            }
+            plays = plays.saturating_add(1);
         }
-        plays = plays.saturating_add(1);
     }
     Ok(plays)
 }

@@ -10,6 +10,9 @@ const LIGHT: usize = 64;
 /// Of each so many bytes of others, one more stop is passed over.
 const BYTES_AN_OPENING: usize = 16;
 
+/// Of each so many rows of a case, one more is passed over between two that are swept alone.
+const ROWS: usize = 16;
+
 /// Of the changes of a text's bytes about so many are made.
 const CHANGES: usize = 400;
 
@@ -49,6 +52,12 @@ pub fn opening_step(case: &CommandsCase) -> u64 {
     }
     let step = bytes / BYTES_AN_OPENING;
     (step as u64).saturating_add(1)
+}
+
+/// Whether this row of a case is one of those that are swept alone: of so many rows one in so many, and the first.
+pub fn is_swept(row: usize, rows: usize) -> bool {
+    let step = (rows / ROWS).saturating_add(1);
+    row.checked_rem(step) == Some(0)
 }
 
 /// Of the 255 changes of each byte of a text of this length, one in so many is made.
