@@ -1,6 +1,9 @@
 //! How many places of a dear sweep are taken, by the size of what is played.
 use bx_case_files::{Ask, CommandsCase, Row};
 
+/// A command weighs as much as so many bytes.
+const COMMAND: usize = 8;
+
 /// Of each so many bytes of a case, one more call is passed over between two that fail.
 const BYTES_A_STOP: usize = 128;
 
@@ -8,7 +11,7 @@ const BYTES_A_STOP: usize = 128;
 const LIGHT: usize = 64;
 
 /// Of each so many bytes of others, one more stop is passed over.
-const BYTES_AN_OPENING: usize = 16;
+const BYTES_AN_OPENING: usize = 4;
 
 /// Of each so many rows of a case, one more is passed over between two that are swept alone.
 const ROWS: usize = 16;
@@ -16,7 +19,7 @@ const ROWS: usize = 16;
 /// Of the changes of a text's bytes about so many are made.
 const CHANGES: usize = 400;
 
-/// The bytes that a command is given and leaves.
+/// A command, and the bytes that it is given and leaves.
 fn row_weight(row: &Row) -> usize {
     let given = match &row.ask {
         Ask::Revert { dump, .. } => dump.len(),
@@ -24,10 +27,12 @@ fn row_weight(row: &Row) -> usize {
         Ask::Dd { input, .. } => input.len(),
         _ => 0,
     };
-    given.saturating_add(row.image.len())
+    given
+        .saturating_add(row.image.len())
+        .saturating_add(COMMAND)
 }
 
-/// The bytes that a case begins with, and that its commands are given and leave.
+/// The bytes that a case begins with, and what its commands weigh.
 pub fn weight(case: &CommandsCase) -> usize {
     let mut sum = case.image.len();
     sum = sum.saturating_add(case.journal.len());
