@@ -135,12 +135,9 @@ fn step_of(case: &CommandsCase, with_openings: bool) -> u64 {
     }
 }
 
-/// The call that fails at this turn. Each way begins at another.
+/// The call that fails at this turn. The ways begin at calls that are spread over a step.
 fn place_of(kind: u32, step: u64, turn: u64) -> u64 {
-    let first = match (kind as u64).checked_rem(step) {
-        Some(first) => first,
-        None => 0,
-    };
+    let first = (kind as u64).saturating_mul(step) / (KINDS as u64);
     turn.saturating_mul(step).saturating_add(first)
 }
 

@@ -5,13 +5,13 @@ use bx_case_files::{Ask, CommandsCase, Row};
 const COMMAND: usize = 8;
 
 /// Of each so many bytes of a case, one more call is passed over between two that fail.
-const BYTES_A_STOP: usize = 128;
+const BYTES_A_STOP: usize = 64;
 
 /// Cases of at most so many bytes have all that their stops leave opened and stopped again.
 const LIGHT: usize = 64;
 
 /// Of each so many bytes of others, one more stop is passed over.
-const BYTES_AN_OPENING: usize = 4;
+const BYTES_AN_OPENING: usize = 2;
 
 /// Of each so many rows of a case, one more is passed over between two that are swept alone.
 const ROWS: usize = 16;
