@@ -4,7 +4,7 @@ man = $(DESTDIR)$(PREFIX)/share/man/man1
 bash = $(DESTDIR)$(PREFIX)/share/bash-completion/completions
 fish = $(DESTDIR)$(PREFIX)/share/fish/vendor_completions.d
 zsh = $(DESTDIR)$(PREFIX)/share/zsh/$(if $(filter /usr,$(PREFIX)),vendor-completions,site-functions)
-.PHONY: all look test install uninstall package tour pictures check-docs compare cases record hostile hints bench clean
+.PHONY: all look test install uninstall package tour pictures check-docs compare record hostile hints bench clean
 
 all: bx
 
@@ -67,13 +67,10 @@ check-completions:
 compare: all
 	scripts/compare.py --bx ./bx
 
-# The cases of commands and texts, played in each way that their kind allows, by a player that isn't proved.
-cases:
-	scripts/play-cases.sh
-
-# The case files that hold what the real tools do, written again.
+# The case files that hold what the real tools do, and random lists of commands, written again.
 record:
 	scripts/record-cases.py
+	scripts/random-cases.py
 
 # Bad texts, full devices, closed pipes and streams, what is no file, two programs at once, loop devices (as root), and each
 # memory request, read and write failing in turn.

@@ -1,7 +1,9 @@
 //! The case files of a folder.
-use crate::outcome::Wrong;
+use crate::places::clear;
 use crate::reading::{self, play_reading};
-use crate::tally::{Failure, Tally, at};
+use crate::sweeps::{SWEEPS, play_commands};
+use crate::tally::{Failure, Tally};
+use crate::texts::{self, play_text};
 use crate::words::{self, play_words};
 use bx_case_files::{Case, CaseFile, Test, read_cases};
 use std::alloc::AllocError;
@@ -9,9 +11,6 @@ use std::{fs, io};
 
 /// What a name ends with that is a case file's.
 const ENDING: &str = ".cases";
-
-/// The one way of a kind that can't be played.
-static NOT_PLAYED: [&str; 1] = ["played"];
 
 /// The names of the case files in a folder, in order.
 fn names(rt: &HostRuntime, folder: &str) -> io::Result<Vec<String>> {
@@ -86,7 +85,8 @@ fn sweeps(file: &CaseFile) -> &'static [&'static str] {
         Some(case) => match &case.test {
             Test::Words(_) => &words::SWEEPS,
             Test::Reading(_) => &reading::SWEEPS,
-            Test::Commands(_) | Test::Text(_) => &NOT_PLAYED,
+            Test::Commands(_) => &SWEEPS,
+            Test::Text(_) => &texts::SWEEPS,
         },
         None => &[],
     }
@@ -102,6 +102,7 @@ fn play_cases(rt: &HostRuntime, name: &str, file: &CaseFile) -> Result<bool, All
             tally.failed = tally.failed.saturating_add(1);
         }
     }
+    clear(rt);
     tally.tell_counts(rt);
     Ok(tally.failed == 0)
 }
@@ -126,6 +127,7 @@ fn play(rt: &HostRuntime, test: &Test, sweep: usize) -> Result<u32, Failure> {
     match test {
         Test::Words(case) => play_words(rt.alloc(), case, sweep),
         Test::Reading(case) => play_reading(rt.alloc(), case),
-        Test::Commands(_) | Test::Text(_) => Err(at(0, Wrong::Unknown)),
+        Test::Commands(case) => play_commands(rt, case, sweep),
+        Test::Text(case) => play_text(rt, case, sweep),
     }
 }

@@ -5,6 +5,7 @@ use crate::growths::unchanged;
 use crate::outcome::{Wrong, differs, fault_text, same_bytes, same_text};
 use crate::places::Memory;
 use crate::sessions::{MemSession, Texts, ask_for, close, in_memory, open};
+use crate::weight::change_step;
 use bx_case_files::{Ask, Opening};
 use bx_cli::Fault;
 use bx_journal::How;
@@ -93,9 +94,22 @@ fn fault_of(alloc: Global, texts: Texts<'_>, verdict: &Verdict) -> Result<Option
     }
 }
 
+/// The judge makes no image of so many bytes. What calls for one isn't opened.
+const LONG: usize = 1 << 16;
+
+fn is_long(verdict: &Verdict) -> bool {
+    match verdict {
+        Verdict::Opened { image, .. } => image.len() >= LONG,
+        _ => false,
+    }
+}
+
 /// Opening answers what the judges answer; where it refuses, nothing changes.
 fn judged(alloc: Global, texts: Texts<'_>) -> Result<(), Wrong> {
     let verdict = judge(alloc, texts.image, texts.journal)?;
+    if is_long(&verdict) {
+        return Ok(());
+    }
     match open(alloc, in_memory(alloc, texts)?) {
         Ok((session, found)) => agrees(alloc, session, found, texts, &verdict),
         Err((devices, fault)) => {
@@ -140,36 +154,44 @@ fn with_text<'a>(texts: Texts<'a>, text: &'a [u8]) -> Texts<'a> {
 pub fn fronts(alloc: Global, texts: Texts<'_>) -> Result<u32, Wrong> {
     let text = text_of(texts);
     let mut count = 0u32;
-    for n in 0..text.len() + 1 {
-        let (front, _) = text.split_at(n);
+    for n in 0..=text.len() {
+        let (front, _) = text.split_at(n.min(text.len()));
         judged(alloc, with_text(texts, front))?;
         count = count.saturating_add(1);
     }
     Ok(count)
 }
 
-/// Opens the text with each byte changed, by each of these turns of its bits. Tells how often.
-pub fn changed_bytes(alloc: Global, texts: Texts<'_>, turns: &[u8]) -> Result<u32, Wrong> {
+/// Opens the text with each byte changed, in all 255 ways or one in so many. Tells how often.
+pub fn changed_bytes(alloc: Global, texts: Texts<'_>) -> Result<u32, Wrong> {
     let mut count = 0u32;
     for place in 0..text_of(texts).len() {
-        count = count.saturating_add(changed_byte(alloc, texts, place, turns)?);
+        count = count.saturating_add(changed_byte(alloc, texts, place)?);
     }
     Ok(count)
 }
 
-/// Opens the text with one byte changed, by each of these turns. Tells how often.
-fn changed_byte(alloc: Global, texts: Texts<'_>, place: usize, turns: &[u8]) -> Result<u32, Wrong> {
+/// Opens the text with one byte changed. Tells how often.
+fn changed_byte(alloc: Global, texts: Texts<'_>, place: usize) -> Result<u32, Wrong> {
     let mut count = 0u32;
-    let mut changed = text_of(texts).to_vec(alloc)?;
-    for turn in turns {
-        if let Some(byte) = changed.get_mut(place) {
-            *byte ^= *turn;
+    let text = text_of(texts);
+    let step = change_step(text.len());
+    let first = place.checked_rem(step).unwrap_or(0);
+    let mut changed = text.to_vec(alloc)?;
+    for turn in 1..=255u8 {
+        if (turn as usize).checked_rem(step).unwrap_or(0) == first {
+            turn_byte(&mut changed, place, turn);
+            judged(alloc, with_text(texts, changed.as_slice()))?;
+            turn_byte(&mut changed, place, turn);
+            count = count.saturating_add(1);
         }
-        judged(alloc, with_text(texts, changed.as_slice()))?;
-        if let Some(byte) = changed.get_mut(place) {
-            *byte ^= *turn;
-        }
-        count = count.saturating_add(1);
     }
     Ok(count)
+}
+
+/// Turns these bits of a byte.
+fn turn_byte(text: &mut Vec<u8>, place: usize, turn: u8) {
+    if let Some(byte) = text.get_mut(place) {
+        *byte ^= turn;
+    }
 }

@@ -97,6 +97,8 @@ pub struct Fused {
 /// Devices in memory, of which one may fail.
 pub type FusedDevices = Devices<FuseImage<MemImage>, FuseText<MemText>>;
 
+pub type FusedSession = Session<FuseImage<MemImage>, FuseText<MemText>>;
+
 /// An image that fails so, if it is this device.
 fn fused_image(image: MemImage, fused: Fused) -> FuseImage<MemImage> {
     if fused.device != 0 {
@@ -310,7 +312,8 @@ fn command_of<A: Allocator + Clone>(alloc: A, ask: &Ask) -> Result<Option<Comman
             Ok(Some(Command::Dd { operands, input }))
         }
         Ask::Undo(k) => Ok(Some(Command::Undo { k: *k })),
-        Ask::Redo(_) | Ask::Change { .. } | Ask::Open => Ok(None),
+        Ask::Redo(j) => Ok(Some(Command::Redo { j: *j })),
+        Ask::Change { .. } | Ask::Open => Ok(None),
     }
 }
 
@@ -366,11 +369,13 @@ fn run_one<D: Device, T: TextStore, A: Allocator + Clone>(
 ) -> Result<Option<Reply>, Wrong>
     requires { IsNear command }
 {
+    let mut list = Vec::new(alloc.clone()?);
+    list.push(command)?;
     limit_to(limit)?;
     if session.faults() > MANY {
         return Err(Wrong::Unknown);
     }
-    match run_all(alloc, session, &mut [command]) {
+    match run_all(alloc, session, list.as_mut_slice()) {
         Ok(replies) => Ok(replies.first().copied()),
         Err(_) => Ok(None),
     }

@@ -1,13 +1,14 @@
 //! Cases of texts that are opened.
 use crate::commands::{Standing, again};
 use crate::growths::{found_so, opening_growths};
+use crate::history::{History, Images, history_of};
 use crate::judged::{changed_bytes, fronts};
-use crate::outcome::{Wrong, same_bytes};
+use crate::openings::openings;
+use crate::outcome::{Wrong, differs, same_bytes};
 use crate::places::{Files, Memory, Pages, Place};
 use crate::sessions::{Held, Texts, contents, held_of, in_memory, open};
-use crate::stops::{Expected, Undone, openings, stack_of, unwound};
 use crate::tally::{Failure, at};
-use bx_case_files::{Found, Opening, TextCase};
+use bx_case_files::TextCase;
 use bx_image::Device;
 use bx_store::TextStore;
 use std::alloc::Global;
@@ -35,28 +36,12 @@ pub fn play_text(rt: &HostRuntime, case: &TextCase, sweep: usize) -> Result<u32,
         4 => opening_growths(alloc, case, texts_of(case)),
         5 => stopped(alloc, case),
         6 => fronts(alloc, texts_of(case)),
-        _ => each_byte(alloc, case),
+        _ => changed_bytes(alloc, texts_of(case)),
     };
     match played {
         Ok(plays) => Ok(plays),
         Err(wrong) => Err(at(0, wrong)),
     }
-}
-
-/// Clean texts of at most so many bytes have each byte made each other one; others have it changed in three ways.
-const SHORT: usize = 140;
-
-/// Opens the text with each byte changed.
-fn each_byte(alloc: Global, case: &TextCase) -> Result<u32, Wrong> {
-    let is_clean = matches!(&case.found, Found::Opened(Opening::Clean { .. }));
-    if !is_clean || case.journal.len() > SHORT || case.redo.len() > SHORT {
-        return changed_bytes(alloc, texts_of(case), &[1, 32, 128]);
-    }
-    let mut turns = Vec::new(alloc);
-    for turn in 1..=255u8 {
-        turns.push(turn)?;
-    }
-    changed_bytes(alloc, texts_of(case), turns.as_slice())
 }
 
 /// What is opened.
@@ -108,14 +93,22 @@ fn opens<D: Device + Drop, T: TextStore + Drop, P: Place<D, T>>(
     Ok(1)
 }
 
-/// The images of what is opened, from the one below all changes to the newest; none where it isn't opened.
-fn images(alloc: Global, case: &TextCase) -> Result<Option<Vec<Vec<u8>>>, Wrong> {
+/// The images of what is opened; none where it isn't opened.
+fn history(alloc: Global, case: &TextCase) -> Result<Option<History>, Wrong> {
     match open(alloc, in_memory(alloc, texts_of(case))?) {
         Ok((session, _)) => {
             let standing = again(alloc, &Memory, session)?;
-            Ok(Some(unwound(alloc, standing)?))
+            Ok(Some(history_of(alloc, standing)?))
         }
         Err(_) => Ok(None),
+    }
+}
+
+/// The image below all changes is this one.
+fn same_first(alloc: Global, wanted: &[u8], history: &History) -> Result<(), Wrong> {
+    match history.images.first() {
+        Some(image) => same_bytes(alloc, "first image", wanted, image.as_slice()),
+        None => Err(Wrong::Unknown),
     }
 }
 
@@ -124,41 +117,20 @@ fn all_undone(alloc: Global, case: &TextCase) -> Result<u32, Wrong> {
     let Some(first) = &case.first else {
         return Ok(0);
     };
-    let images = images(alloc, case)?;
-    let found = match &images {
-        Some(images) => match images.first() {
-            Some(image) => image.as_slice(),
-            None => b"",
-        },
-        None => b"",
-    };
-    same_bytes(alloc, "first image", first.as_slice(), found)?;
+    match history(alloc, case)? {
+        Some(history) => same_first(alloc, first.as_slice(), &history)?,
+        None => return Err(differs(alloc, "first image", "an opening", "a fault")),
+    }
     Ok(1)
 }
 
 /// Stops the opening at each call of each device, and what is left again.
 fn stopped(alloc: Global, case: &TextCase) -> Result<u32, Wrong> {
-    let (session, found) = match open(alloc, in_memory(alloc, texts_of(case))?) {
-        Ok(found) => found,
-        Err(_) => return Ok(0),
+    let Some(history) = history(alloc, case)? else {
+        return Ok(0);
     };
-    let undone = match found {
-        Opening::Clean { undone, .. } => Undone {
-            text: case.redo.as_slice(),
-            count: undone,
-        },
-        _ => Undone {
-            text: b"",
-            count: 0,
-        },
-    };
-    let images = unwound(alloc, again(alloc, &Memory, session)?)?;
-    let stack = stack_of(alloc, images.as_slice())?;
-    let expected = Expected {
-        stack: stack.as_slice(),
-        undone,
-    };
+    let expected = Images::of(alloc, &history)?;
     let left = held_of(alloc, &in_memory(alloc, texts_of(case))?)?;
     let mut seen = Vec::new(alloc);
-    openings(alloc, left, expected, &mut seen)
+    openings(alloc, left, &expected, &mut seen)
 }

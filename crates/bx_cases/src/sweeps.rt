@@ -5,6 +5,7 @@ use crate::outcome::Wrong;
 use crate::places::{Files, Memory, Pages, Place};
 use crate::stops::play_stops;
 use crate::tally::{Failure, at};
+use crate::weight::is_swept;
 use bx_case_files::CommandsCase;
 use bx_image::Device;
 use bx_store::TextStore;
@@ -20,11 +21,6 @@ pub static SWEEPS: [&str; 6] = [
     "openings stopped",
 ];
 
-/// Cases of at most so many commands, on images and texts of at most so many bytes, are stopped when what is left is opened again.
-const FEW: usize = 3;
-
-const SHORT: usize = 200;
-
 /// Plays a case in one way. Tells how often.
 pub fn play_commands(rt: &HostRuntime, case: &CommandsCase, sweep: usize) -> Result<u32, Failure> {
     let alloc = rt.alloc();
@@ -34,13 +30,8 @@ pub fn play_commands(rt: &HostRuntime, case: &CommandsCase, sweep: usize) -> Res
         2 => play_at(alloc, &Files::new(rt), case),
         3 => play_growths(alloc, case),
         4 => play_stops(alloc, case, false),
-        _ if is_small(case) => play_stops(alloc, case, true),
-        _ => Ok(0),
+        _ => play_stops(alloc, case, true),
     }
-}
-
-fn is_small(case: &CommandsCase) -> bool {
-    case.rows.len() <= FEW && case.image.len() <= SHORT && case.journal.len() <= SHORT
 }
 
 /// Plays a case at a place, with the devices opened again behind each command, behind any one of them, and at the end alone.
@@ -54,10 +45,12 @@ fn play_at<D: Device + Drop, T: TextStore + Drop, P: Place<D, T>>(
     }
     let mut plays = 1u32;
     for behind in 0..case.rows.len() {
-        if let Err(wrong) = play_once(alloc, place, case, behind) {
-            return Err(at(plays, wrong));
+        if is_swept(behind, case.rows.len()) {
+            if let Err(wrong) = play_once(alloc, place, case, behind) {
+                return Err(at(plays, wrong));
+            }
+            plays = plays.saturating_add(1);
         }
-        plays = plays.saturating_add(1);
     }
     Ok(plays)
 }

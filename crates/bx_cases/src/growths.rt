@@ -1,20 +1,17 @@
 //! Cases with each growth refused in turn.
 use crate::answers::{refused, same_opening, same_refusal, same_reply};
 use crate::commands::{begun, play_row};
-use crate::outcome::{Wrong, same_bytes};
+use crate::hunt::{Hunt, MOST_TRIES};
+use crate::outcome::{Wrong, differs, same_bytes};
 use crate::places::Memory;
 use crate::sessions::{MemDevices, MemSession, Texts, ask_for, close, in_memory, open};
 use crate::tally::{Failure, at};
+use crate::weight::is_swept;
 use bumpalo::Bump;
-use bx_case_files::{Ask, CommandsCase, Found, Row, TextCase};
+use bx_case_files::{Ask, CommandsCase, Found, Opening, Row, TextCase};
 use bx_cli::{Fault, Reply};
 use bx_ration::{arena, squeeze, used};
 use std::alloc::{Allocator, Global};
-
-/// No call takes memory so many times so many bytes.
-const MOST_STEPS: usize = 20_000;
-
-const STEP: usize = 8;
 
 /// Refuses each growth of each command of a case in turn. Tells how many they were.
 pub fn play_growths(alloc: Global, case: &CommandsCase) -> Result<u32, Failure> {
@@ -23,10 +20,12 @@ pub fn play_growths(alloc: Global, case: &CommandsCase) -> Result<u32, Failure> 
         Err(wrong) => return Err(at(0, wrong)),
     };
     let mut growths = 0u32;
-    for row in &case.rows {
-        match each_growth(alloc, standing.held.texts(), row) {
-            Ok(more) => growths = growths.saturating_add(more),
-            Err(wrong) => return Err(at(growths, wrong)),
+    for (i, row) in case.rows.iter().enumerate() {
+        if is_swept(i, case.rows.len()) {
+            match each_growth(alloc, standing.held.texts(), row) {
+                Ok(more) => growths = growths.saturating_add(more),
+                Err(wrong) => return Err(at(growths, wrong)),
+            }
         }
         standing = match play_row(alloc, &Memory, standing, row) {
             Ok(standing) => standing,
@@ -41,20 +40,29 @@ fn each_growth(alloc: Global, texts: Texts<'_>, row: &Row) -> Result<u32, Wrong>
     if matches!(&row.ask, Ask::Open) {
         return Ok(0);
     }
-    let mut growths = 0u32;
-    let mut last = usize::MAX;
-    for step in 0..MOST_STEPS {
-        let bump = arena(alloc)?;
-        match squeezed(alloc, &bump, texts, row, step * STEP)? {
-            None => return Ok(growths),
-            Some(taken) if taken == last => {}
-            Some(taken) => {
-                last = taken;
-                growths = growths.saturating_add(1);
-            }
+    let Some(taken) = squeezed_once(alloc, texts, row, 0)? else {
+        return Ok(0);
+    };
+    let mut hunt = Hunt::new(taken);
+    for _ in 0..MOST_TRIES {
+        let bytes = hunt.bytes();
+        let taken = squeezed_once(alloc, texts, row, bytes)?;
+        if !hunt.goes_on(bytes, taken) {
+            return Ok(hunt.growths);
         }
     }
     Err(Wrong::NoMemory)
+}
+
+/// One command with so many bytes, in an arena of its own.
+fn squeezed_once(
+    alloc: Global,
+    texts: Texts<'_>,
+    row: &Row,
+    bytes: usize,
+) -> Result<Option<usize>, Wrong> {
+    let bump = arena(alloc)?;
+    squeezed(alloc, &bump, texts, row, bytes)
 }
 
 /// A session in an arena that has room.
@@ -132,20 +140,29 @@ fn with_room<'a>(alloc: Global, bump: &'a Bump, texts: Texts<'_>, row: &Row) -> 
 
 /// Refuses each growth of an opening in turn. Tells how many they were.
 pub fn opening_growths(alloc: Global, case: &TextCase, texts: Texts<'_>) -> Result<u32, Wrong> {
-    let mut growths = 0u32;
-    let mut last = usize::MAX;
-    for step in 0..MOST_STEPS {
-        let bump = arena(alloc)?;
-        match squeezed_opening(alloc, &bump, case, texts, step * STEP)? {
-            None => return Ok(growths),
-            Some(taken) if taken == last => {}
-            Some(taken) => {
-                last = taken;
-                growths = growths.saturating_add(1);
-            }
+    let Some(taken) = opening_once(alloc, case, texts, 0)? else {
+        return Ok(0);
+    };
+    let mut hunt = Hunt::new(taken);
+    for _ in 0..MOST_TRIES {
+        let bytes = hunt.bytes();
+        let taken = opening_once(alloc, case, texts, bytes)?;
+        if !hunt.goes_on(bytes, taken) {
+            return Ok(hunt.growths);
         }
     }
     Err(Wrong::NoMemory)
+}
+
+/// Opening with so many bytes, in an arena of its own.
+fn opening_once(
+    alloc: Global,
+    case: &TextCase,
+    texts: Texts<'_>,
+    bytes: usize,
+) -> Result<Option<usize>, Wrong> {
+    let bump = arena(alloc)?;
+    squeezed_opening(alloc, &bump, case, texts, bytes)
 }
 
 /// Opening with so many bytes, and where that is too little again with enough. Tells how many it had taken when it was
@@ -181,20 +198,18 @@ fn squeezed_opening<'a>(
     Ok(Some(taken))
 }
 
+/// Opening found this, where the case tells an opening or a fault.
+fn same_found(alloc: Global, wanted: &Found, found: Opening) -> Result<(), Wrong> {
+    match wanted {
+        Found::Opened(wanted) => same_opening(alloc, *wanted, found),
+        Found::Refused(text) => Err(differs(alloc, "opening", text.as_str(), "no fault")),
+    }
+}
+
 /// Opening answered what the case tells.
-pub fn found_so(
-    alloc: Global,
-    wanted: &Found,
-    found: Result<bx_case_files::Opening, Fault>,
-) -> Result<(), Wrong> {
-    match (wanted, found) {
-        (Found::Opened(wanted), Ok(found)) => same_opening(alloc, *wanted, found),
-        (Found::Refused(text), Ok(_)) => Err(crate::outcome::differs(
-            alloc,
-            "opening",
-            text.as_str(),
-            "no fault",
-        )),
-        (wanted, Err(fault)) => same_refusal(alloc, wanted, fault),
+pub fn found_so(alloc: Global, wanted: &Found, found: Result<Opening, Fault>) -> Result<(), Wrong> {
+    match found {
+        Ok(found) => same_found(alloc, wanted, found),
+        Err(fault) => same_refusal(alloc, wanted, fault),
     }
 }

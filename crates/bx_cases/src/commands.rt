@@ -1,5 +1,5 @@
 //! Cases of commands, played with nothing in their way.
-use crate::answers::{changes_of, refused, same_opening, same_reply};
+use crate::answers::{refused, same_opening, same_reply};
 use crate::outcome::{Wrong, same_bytes};
 use crate::places::Place;
 use crate::sessions::{Devices, Held, Texts, ask_for, close, contents, found_again, log_of, open};

@@ -48,15 +48,6 @@ pub fn refused(alloc: Global, fault: Fault) -> Wrong {
     }
 }
 
-/// How many changes an opening finds.
-pub fn changes_of(opening: Opening) -> u32 {
-    match opening {
-        Opening::Clean { changes, .. }
-        | Opening::Dropped { changes }
-        | Opening::Restored { changes, .. } => changes,
-    }
-}
-
 /// dd's counts, as a case file has them.
 fn records_of(counts: Counts) -> Records {
     Records {
@@ -85,6 +76,7 @@ pub fn reply_text(alloc: Global, reply: Reply) -> Result<String, AllocError> {
         Reply::Changed { number } => format!(in alloc; "changed {number}"),
         Reply::Copied { number, counts } => counts_text(alloc, number, records_of(counts)),
         Reply::Undone { left } => format!(in alloc; "undone {left}"),
+        Reply::Redone { changes } => format!(in alloc; "redone {changes}"),
         Reply::Refused(fault) => fault_text(alloc, fault),
     }
 }

@@ -1,0 +1,290 @@
+//! A plain list of images beside a run of commands on devices that fail.
+use crate::answers::{reply_text, same_reply};
+use crate::commands::{Standing, again};
+use crate::outcome::{Wrong, differs, same_text};
+use crate::places::Memory;
+use crate::sessions::ask_for;
+use bx_case_files::{Answer, Ask, Opening, Row};
+use bx_cli::{Fault, Reply};
+use bx_image::MemImage;
+use bx_store::MemText;
+use std::alloc::{AllocError, Global};
+
+/// The images of a session, from the one below all changes to the newest, and behind it those that were undone, the one undone
+/// last first; and how many changes stand.
+#[derive(Drop)]
+pub struct History {
+    pub images: Vec<Vec<u8>>,
+    pub changes: usize,
+}
+
+/// The same of images that stand elsewhere.
+#[derive(Drop)]
+pub struct Images<'a> {
+    pub list: Vec<&'a [u8]>,
+    pub changes: usize,
+}
+
+impl<'a> Images<'a> {
+    /// The images of a history.
+    pub fn of(alloc: Global, history: &'a History) -> Result<Self, AllocError> {
+        let mut list = Vec::new(alloc);
+        for image in &history.images {
+            list.push(image.as_slice())?;
+        }
+        Ok(Images {
+            list,
+            changes: history.changes,
+        })
+    }
+
+    /// The same list once more.
+    pub fn copy(&self, alloc: Global) -> Result<Self, AllocError> {
+        Ok(Images {
+            list: self.list.as_slice().to_vec(alloc)?,
+            changes: self.changes,
+        })
+    }
+
+    /// How many changes were made in all, those that were undone with them.
+    pub fn all(&self) -> usize {
+        self.list.len().saturating_sub(1)
+    }
+
+    /// How many changes were undone.
+    pub fn undone(&self) -> usize {
+        self.all().saturating_sub(self.changes)
+    }
+
+    /// What was undone is given up.
+    fn forget(&mut self) {
+        self.list.truncate(self.changes.saturating_add(1));
+    }
+
+    /// A change that leaves this image.
+    fn change_to(&mut self, image: &'a [u8]) -> Result<(), AllocError> {
+        self.forget();
+        self.list.push(image)?;
+        self.changes = self.changes.saturating_add(1);
+        Ok(())
+    }
+
+    /// How opening finds them.
+    pub fn opening(&self) -> Opening {
+        Opening::Clean {
+            changes: self.changes.min(65_535) as u32,
+            undone: self.undone().min(65_535) as u32,
+        }
+    }
+}
+
+/// Makes all changes again that were undone.
+fn all_redone(
+    alloc: Global,
+    standing: Standing<MemImage, MemText>,
+) -> Result<Standing<MemImage, MemText>, Wrong> {
+    let Standing { session, .. } = standing;
+    let mut session = session;
+    let undone = session.undone();
+    let _ = ask_for(alloc, &mut session, &Ask::Redo(undone), None)?;
+    again(alloc, &Memory, session)
+}
+
+/// The images of a session, from the one below all changes to the newest.
+fn unwound(alloc: Global, standing: Standing<MemImage, MemText>) -> Result<Vec<Vec<u8>>, Wrong> {
+    let Standing { session, held } = standing;
+    let mut session = session;
+    let mut images = Vec::new(alloc);
+    images.push(held.image)?;
+    for _ in 0..session.changes() {
+        let _ = ask_for(alloc, &mut session, &Ask::Undo(1), None)?;
+        let Standing {
+            session: next,
+            held,
+        } = again(alloc, &Memory, session)?;
+        session = next;
+        images.push(held.image)?;
+    }
+    images.reverse();
+    Ok(images)
+}
+
+/// The images of a session and how many changes stand.
+pub fn history_of(alloc: Global, standing: Standing<MemImage, MemText>) -> Result<History, Wrong> {
+    let changes = standing.session.changes() as usize;
+    let redone = all_redone(alloc, standing)?;
+    let images = unwound(alloc, redone)?;
+    Ok(History { images, changes })
+}
+
+/// What was stopped in the middle.
+#[derive(Clone, Copy)]
+enum Stop<'a> {
+    /// Undoing so many.
+    Undo(usize),
+    /// Making so many again.
+    Redo(usize),
+    /// A change that was to leave this image.
+    Change(&'a [u8]),
+}
+
+/// What a run came to.
+#[derive(Clone, Copy)]
+enum Course<'a> {
+    /// No call failed.
+    Whole,
+    /// A call failed before the first that writes.
+    Refused,
+    /// A call failed then.
+    Stopped(Stop<'a>),
+}
+
+/// The images beside a run.
+#[derive(Drop)]
+pub struct Follower<'a> {
+    images: Images<'a>,
+    course: Course<'a>,
+}
+
+/// What is stopped in a row.
+fn stop_of(row: &Row) -> Stop<'_> {
+    match &row.ask {
+        Ask::Undo(k) => Stop::Undo(*k as usize),
+        Ask::Redo(k) => Stop::Redo(*k as usize),
+        _ => Stop::Change(row.image.as_slice()),
+    }
+}
+
+/// The reply is this refusal, or the one that the case tells.
+fn refused_so(alloc: Global, row: &Row, wanted: Fault, reply: Reply) -> Result<(), Wrong> {
+    if reply == Reply::Refused(wanted) {
+        return Ok(());
+    }
+    let found = reply_text(alloc, reply)?;
+    if let Answer::Refused(text) = &row.answer {
+        return same_text(alloc, "reply", text.as_str(), found.as_str());
+    }
+    let wanted = reply_text(alloc, Reply::Refused(wanted))?;
+    Err(differs(alloc, "reply", wanted.as_str(), found.as_str()))
+}
+
+impl<'a> Follower<'a> {
+    /// Before the first command.
+    pub fn new(images: Images<'a>) -> Self {
+        Follower {
+            images,
+            course: Course::Whole,
+        }
+    }
+
+    /// Whether no call failed.
+    pub fn is_whole(&self) -> bool {
+        matches!(self.course, Course::Whole)
+    }
+
+    /// Opening failed before it wrote anything, or has to be made again.
+    pub fn refuse(&mut self) {
+        self.course = Course::Refused;
+    }
+
+    /// Whether the case tells what a row leaves: behind a refusal it doesn't tell what a change makes of the image.
+    pub fn can_follow(&self, row: &Row) -> bool {
+        match (self.course, &row.ask, &row.answer) {
+            (Course::Refused, Ask::Undo(_) | Ask::Redo(_), _) => true,
+            (Course::Refused, _, Answer::Refused(_)) => true,
+            (Course::Refused, _, _) => false,
+            _ => true,
+        }
+    }
+
+    /// What a reply makes of the images, where nothing failed.
+    fn go_on(&mut self, row: &'a Row, reply: Reply) -> Result<(), AllocError> {
+        match reply {
+            Reply::Changed { .. } | Reply::Copied { .. } => {
+                self.images.change_to(row.image.as_slice())?;
+            }
+            Reply::Undone { left } => self.images.changes = left as usize,
+            Reply::Redone { changes } => self.images.changes = changes as usize,
+            Reply::Refused(_) => {}
+        }
+        Ok(())
+    }
+
+    /// What a row behind one that was refused is refused for: there are too few changes, since one of them wasn't made.
+    fn lacks(&self, row: &Row) -> Fault {
+        match &row.ask {
+            Ask::Redo(_) => Fault::NothingToRedo {
+                have: self.images.undone().min(65_535) as u32,
+            },
+            _ => Fault::TooFew {
+                have: self.images.changes.min(65_535) as u32,
+            },
+        }
+    }
+
+    /// A row behind one that was refused.
+    fn go_on_refused(&mut self, alloc: Global, row: &Row, reply: Reply) -> Result<(), Wrong> {
+        let changes = match reply {
+            Reply::Undone { left } => left as usize,
+            Reply::Redone { changes } => changes as usize,
+            _ => return refused_so(alloc, row, self.lacks(row), reply),
+        };
+        if changes > self.images.all() {
+            return refused_so(alloc, row, self.lacks(row), reply);
+        }
+        self.images.changes = changes;
+        Ok(())
+    }
+
+    /// What the reply to a row makes of the images.
+    pub fn follow(&mut self, alloc: Global, row: &'a Row, reply: Reply) -> Result<(), Wrong> {
+        match (self.course, reply) {
+            (Course::Stopped(_), _) => refused_so(alloc, row, Fault::Broken, reply),
+            (_, Reply::Refused(Fault::DeviceFailed)) => {
+                self.course = Course::Refused;
+                Ok(())
+            }
+            (Course::Refused, _) => self.go_on_refused(alloc, row, reply),
+            (Course::Whole, Reply::Refused(Fault::Interrupted)) => {
+                self.course = Course::Stopped(stop_of(row));
+                Ok(())
+            }
+            (Course::Whole, _) => {
+                same_reply(alloc, &row.answer, reply)?;
+                Ok(self.go_on(row, reply)?)
+            }
+        }
+    }
+
+    /// The fewest and the most changes that may stand when what is left is opened.
+    pub fn bounds(&self) -> (usize, usize) {
+        let changes = self.images.changes;
+        match self.course {
+            Course::Stopped(Stop::Undo(k)) => (changes.saturating_sub(k), changes),
+            Course::Stopped(Stop::Redo(k)) => (changes, changes.saturating_add(k)),
+            Course::Stopped(Stop::Change(_)) => (changes, changes.saturating_add(1)),
+            _ => (changes, changes),
+        }
+    }
+
+    /// The images that are expected where opening finds this, and so many changes stand. Where something unfinished was
+    /// found, what was undone is given up.
+    pub fn expected(
+        &self,
+        alloc: Global,
+        found: Opening,
+        changes: usize,
+    ) -> Result<Images<'a>, AllocError> {
+        let mut images = self.images.copy(alloc)?;
+        match self.course {
+            Course::Stopped(Stop::Change(image)) if changes > images.changes => {
+                images.change_to(image)?;
+            }
+            _ => images.changes = changes,
+        }
+        if !matches!(found, Opening::Clean { .. }) {
+            images.forget();
+        }
+        Ok(images)
+    }
+}

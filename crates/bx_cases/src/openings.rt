@@ -1,0 +1,176 @@
+//! What was left is opened, stands for the images that are expected, and is stopped while it is opened.
+use crate::answers::{refused, same_opening, same_reply};
+use crate::commands::{Standing, again};
+use crate::fused::{OPENING_KINDS, fused};
+use crate::history::Images;
+use crate::outcome::{Wrong, same_bytes};
+use crate::places::Memory;
+use crate::sessions::{
+    Fused, Held, MemSession, Texts, ask_for, found_again, held_fused, in_fused, in_memory, open,
+};
+use bx_case_files::{Answer, Ask, Opening};
+use bx_cli::Fault;
+use std::alloc::Global;
+
+/// No play makes so many calls, and none leaves so much that is opened.
+pub const MOST_CALLS: u64 = 10_000;
+
+/// Asks for an undo or redo, which is answered so.
+fn moved(alloc: Global, session: &mut MemSession, ask: &Ask, wanted: &Answer) -> Result<(), Wrong> {
+    match ask_for(alloc, session, ask, None)? {
+        Some(reply) => same_reply(alloc, wanted, reply),
+        None => Err(Wrong::NoMemory),
+    }
+}
+
+/// Makes the change again that was undone last. It leaves this image.
+fn step_on(alloc: Global, session: MemSession, image: &[u8]) -> Result<MemSession, Wrong> {
+    let mut session = session;
+    let changes = session.changes().saturating_add(1);
+    moved(alloc, &mut session, &Ask::Redo(1), &Answer::Redone(changes))?;
+    let Standing { session, held } = again(alloc, &Memory, session)?;
+    same_bytes(alloc, "image made again", image, held.image.as_slice())?;
+    Ok(session)
+}
+
+/// Takes the newest change back, where there is one. The image before is this one.
+fn step_back(alloc: Global, session: MemSession, image: &[u8]) -> Result<MemSession, Wrong> {
+    let Standing { session, held } = again(alloc, &Memory, session)?;
+    let mut session = session;
+    same_bytes(alloc, "image of the stack", image, held.image.as_slice())?;
+    let changes = session.changes();
+    if changes == 0 {
+        same_bytes(alloc, "journal of no change", b"", held.journal.as_slice())?;
+        return Ok(session);
+    }
+    let left = changes.saturating_sub(1);
+    moved(alloc, &mut session, &Ask::Undo(1), &Answer::Undone(left))?;
+    Ok(session)
+}
+
+/// Makes all changes again that were undone, one by one. No redo text is left.
+fn all_made(
+    alloc: Global,
+    session: MemSession,
+    expected: &Images<'_>,
+) -> Result<MemSession, Wrong> {
+    let mut session = session;
+    for image in expected
+        .list
+        .iter()
+        .skip(expected.changes.saturating_add(1))
+    {
+        session = step_on(alloc, session, image)?;
+    }
+    let Standing { session, held } = again(alloc, &Memory, session)?;
+    same_bytes(
+        alloc,
+        "redo text of nothing undone",
+        b"",
+        held.redo.as_slice(),
+    )?;
+    Ok(session)
+}
+
+/// A session that was opened is the one that is expected: what was undone is made again, and all changes are taken back, one
+/// by one.
+pub fn stands_for(alloc: Global, session: MemSession, expected: &Images<'_>) -> Result<(), Wrong> {
+    same_opening(alloc, expected.opening(), found_again(&session))?;
+    let mut session = all_made(alloc, session, expected)?;
+    for image in expected.list.iter().rev() {
+        session = step_back(alloc, session, image)?;
+    }
+    Ok(())
+}
+
+/// Opens what was left in memory.
+pub fn recovered(alloc: Global, texts: Texts<'_>) -> Result<(MemSession, Opening), Wrong> {
+    match open(alloc, in_memory(alloc, texts)?) {
+        Ok(found) => Ok(found),
+        Err((_, fault)) => Err(refused(alloc, fault)),
+    }
+}
+
+/// Stops an opening at one call: it stays what is expected. Answers what is left, if it was stopped.
+fn stopped_opening(
+    alloc: Global,
+    texts: Texts<'_>,
+    expected: &Images<'_>,
+    fused: Fused,
+) -> Result<Option<Held>, Wrong> {
+    let devices = match open(alloc, in_fused(alloc, texts, fused)?) {
+        Ok(_) => return Ok(None),
+        Err((devices, Fault::DeviceFailed | Fault::Interrupted)) => devices,
+        Err((_, fault)) => return Err(refused(alloc, fault)),
+    };
+    let left = held_fused(alloc, devices)?;
+    let (session, _) = recovered(alloc, left.texts())?;
+    stands_for(alloc, session, expected)?;
+    Ok(Some(left))
+}
+
+/// Stops an opening in one way at each call, and adds what each leaves to the list. Tells how often it was stopped.
+fn stop_kind(
+    alloc: Global,
+    texts: Texts<'_>,
+    expected: &Images<'_>,
+    kind: u32,
+    list: &mut Vec<Held>,
+) -> Result<u32, Wrong> {
+    let mut stops = 0u32;
+    for pass in 0..MOST_CALLS {
+        match stopped_opening(alloc, texts, expected, fused(kind, pass))? {
+            Some(left) => list.push(left)?,
+            None => break,
+        }
+        stops = stops.saturating_add(1);
+    }
+    Ok(stops)
+}
+
+/// Stops an opening in each way at each call of each device.
+fn stop_each(
+    alloc: Global,
+    texts: Texts<'_>,
+    expected: &Images<'_>,
+    list: &mut Vec<Held>,
+) -> Result<u32, Wrong> {
+    let mut stops = 0u32;
+    for kind in 0..OPENING_KINDS {
+        let more = stop_kind(alloc, texts, expected, kind, list)?;
+        stops = stops.saturating_add(more);
+    }
+    Ok(stops)
+}
+
+/// Whether these bytes were opened before.
+fn is_seen(seen: &[Held], texts: Texts<'_>) -> bool {
+    seen.iter().any(|held| {
+        held.image.as_slice() == texts.image
+            && held.journal.as_slice() == texts.journal
+            && held.redo.as_slice() == texts.redo
+    })
+}
+
+/// Stops the opening of what was left at each call, then that of what is left each time, and so on: each once. Tells how often.
+pub fn openings(
+    alloc: Global,
+    left: Held,
+    expected: &Images<'_>,
+    seen: &mut Vec<Held>,
+) -> Result<u32, Wrong> {
+    let mut stops = 0u32;
+    let mut list = Vec::new(alloc);
+    list.push(left)?;
+    for _ in 0..MOST_CALLS {
+        let Some(left) = list.pop() else {
+            return Ok(stops);
+        };
+        if !is_seen(seen.as_slice(), left.texts()) {
+            let more = stop_each(alloc, left.texts(), expected, &mut list)?;
+            stops = stops.saturating_add(more);
+            seen.push(left)?;
+        }
+    }
+    Err(Wrong::Unknown)
+}

@@ -1,0 +1,72 @@
+//! How many places of a dear sweep are taken, by the size of what is played.
+use bx_case_files::{Ask, CommandsCase, Row};
+
+/// A command weighs as much as so many bytes.
+const COMMAND: usize = 8;
+
+/// Of each so many bytes of a case, one more call is passed over between two that fail.
+const BYTES_A_STOP: usize = 64;
+
+/// Cases of at most so many bytes have all that their stops leave opened and stopped again.
+const LIGHT: usize = 64;
+
+/// Of each so many bytes of others, one more stop is passed over.
+const BYTES_AN_OPENING: usize = 2;
+
+/// Of each so many rows of a case, one more is passed over between two that are swept alone.
+const ROWS: usize = 16;
+
+/// Of the changes of a text's bytes about so many are made.
+const CHANGES: usize = 400;
+
+/// A command, and the bytes that it is given and leaves.
+fn row_weight(row: &Row) -> usize {
+    let given = match &row.ask {
+        Ask::Revert { dump, .. } => dump.len(),
+        Ask::Plain { digits, .. } => digits.len(),
+        Ask::Dd { input, .. } => input.len(),
+        _ => 0,
+    };
+    given
+        .saturating_add(row.image.len())
+        .saturating_add(COMMAND)
+}
+
+/// The bytes that a case begins with, and what its commands weigh.
+pub fn weight(case: &CommandsCase) -> usize {
+    let mut sum = case.image.len();
+    sum = sum.saturating_add(case.journal.len());
+    sum = sum.saturating_add(case.redo.len());
+    for row in &case.rows {
+        sum = sum.saturating_add(row_weight(row));
+    }
+    sum
+}
+
+/// Of the calls of a case, one in so many fails.
+pub fn stop_step(case: &CommandsCase) -> u64 {
+    let step = weight(case) / BYTES_A_STOP;
+    (step as u64).saturating_add(1)
+}
+
+/// Of the calls of a case, one in so many fails where what is left is stopped again.
+pub fn opening_step(case: &CommandsCase) -> u64 {
+    let bytes = weight(case);
+    if bytes <= LIGHT {
+        return 1;
+    }
+    let step = bytes / BYTES_AN_OPENING;
+    (step as u64).saturating_add(1)
+}
+
+/// Whether this row of a case is one of those that are swept alone: of so many rows one in so many, and the first.
+pub fn is_swept(row: usize, rows: usize) -> bool {
+    let step = (rows / ROWS).saturating_add(1);
+    row.checked_rem(step) == Some(0)
+}
+
+/// Of the 255 changes of each byte of a text of this length, one in so many is made.
+pub fn change_step(len: usize) -> usize {
+    let step = len.saturating_mul(255) / CHANGES;
+    step.saturating_add(1).min(255)
+}
