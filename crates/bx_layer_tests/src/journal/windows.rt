@@ -83,7 +83,11 @@ fn long_journal(alloc: Global) -> Result<Vec<u8>, AllocError> {
 }
 
 // How many changes opening finds, where the journal passes so many reads.
-fn opens_behind(alloc: Global, journal: &[u8], pass: u64) -> Result<Result<u32, SessionFault>, Fail> {
+fn opens_behind(
+    alloc: Global,
+    journal: &[u8],
+    pass: u64,
+) -> Result<Result<u32, SessionFault>, Fail> {
     let image = MemImage::from_vec(vec![in alloc; b'y'; LEN]?);
     let journal = FuseText::on_reads(MemText::from_vec(journal.to_vec(alloc)?), pass);
     let redo_text = FuseText::on_reads(MemText::new(alloc), u64::MAX);
