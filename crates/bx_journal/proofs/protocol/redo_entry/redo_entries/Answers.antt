@@ -1,6 +1,7 @@
 use Rattle.std.proofs.Common.{◌≡◌, ◌∙◌, ◌+◌, ◌-◌, ◌++◌, ◌∷◌, [], ◌<◌, ◌≤◌, ℕ, List, length, drop, take, refl, ap, sym, subst, arith, append-nil, length-append, Result, Ok, Err}
-use Rattle.std.specs.Prelude.{OnErr, reverse}
+use Rattle.std.specs.Prelude.{OnErr, OnOk, reverse}
 use Rattle.std.proofs.lemmas.List.{take_all}
+use Rattle.std.proofs.lemmas.Result.{err_from_is_err_and}
 use Rattle.bx_image.specs.Change.{effect, saved, restore, IsAsGood}
 use Rattle.bx_entries.specs.Kept.{kept_of}
 use Rattle.bx_entries.specs.Entry.{head_text, end_text}
@@ -22,6 +23,9 @@ use Rattle.bx_journal.proofs.TurnLemmas.{rest_is_found}
 use Rattle.bx_journal.proofs.UndoLoop.{IsUndone, popped, kept_more, long_at, cut_at}
 use Rattle.bx_journal.proofs.UndoStands.{kept_next, left_at, dropped_next}
 use Rattle.bx_journal.proofs.protocol.redo_entry.redo_entries.Goals as goal
+
+none_ok : {T E : Type 0} (P : Type 0) (r : Result T E) (e : E) → r ≡ Err e → OnOk r P
+none_ok P r e is = subst (λ q. OnOk q P) (sym is) tt
 
 always_err : {T E P : Type 0} (r : Result T E) → P → OnErr r P
 always_err (Ok x) p = tt
@@ -364,3 +368,41 @@ returns-clause-left g c rh =
     let all : c.loop-i.i ≡ length c.args.takens.now.items = omega (arith, c.len-k.ensures, c.loop-i.invariant.more, c.loop-i-test.false) in
     left_at inv.place.text (g.T.TextStore.text c.args.redo_text.now) (g.T.TextStore.text c.loop-i.redo_text) c.loop-i.entries.items (drop (length c.args.takens.now.items) (entries_of c.args.entries.now.items)) inv.place.to
     inv.place.undone (inv.place.is rh) (inv.place.left rh) (inv.dropped ∙ ap (λ n. drop n (entries_of c.args.entries.now.items)) all)
+
+pub returns-in_err-write_entry-clause-steps_on : goal.returns-in_err-write_entry-clause-steps_on
+returns-in_err-write_entry-clause-steps_on g c =
+    let inv = c.loop-i.invariant in
+    let s = c.write_entry.ensures.steps_on in
+    let f = c.in_err-write_entry.ensures.steps_on.failure in
+    record {
+      device_honesty = ((λ h. inv.device_honest.0 (s.device_honesty.0 h)), λ h. s.device_honesty.1 (inv.device_honest.1 h));
+      store_honesty = ((λ h. inv.store_honest.0 (s.store_honesty.0 h)), λ h. s.store_honesty.1 (inv.store_honest.1 h));
+      redo_honesty = ((λ h. inv.redo_honest.0 (s.redo_honesty.0 h)), λ h. s.redo_honesty.1 (inv.redo_honest.1 h));
+      no_failure = none_ok _ c.from_residual.result _ (err_from_is_err_and c.from_residual.result c.from_residual.ensures.1).1;
+      failure = always_err c.from_residual.result (
+        omega (arith, f.0, inv.device_countable),
+        omega (arith, f.1, inv.store_countable),
+        omega (arith, f.2, inv.redo_countable),
+        omega (arith, f.3, inv.device_countable, inv.store_countable, inv.redo_countable),
+      );
+    }
+
+pub returns-in_err-fill_last-clause-steps_on : goal.returns-in_err-fill_last-clause-steps_on
+returns-in_err-fill_last-clause-steps_on g c =
+    let inv = c.loop-i.invariant in
+    let s = c.write_entry.ensures.steps_on in
+    let same = c.in_ok-write_entry.ensures.steps_on.no_failure in
+    let filled = c.fill_last.ensures.goes_on.honesty in
+    let more : g.D.Device.failures c.fill_last.new.device ≡ g.D.Device.failures c.write_entry.new.device + 1 = c.in_err-fill_last.ensures.goes_on.counted in
+    record {
+      device_honesty = ((λ h. inv.device_honest.0 (s.device_honesty.0 (filled.0 h))), λ h. filled.1 (s.device_honesty.1 (inv.device_honest.1 h)));
+      store_honesty = ((λ h. inv.store_honest.0 (s.store_honesty.0 h)), λ h. s.store_honesty.1 (inv.store_honest.1 h));
+      redo_honesty = ((λ h. inv.redo_honest.0 (s.redo_honesty.0 h)), λ h. s.redo_honesty.1 (inv.redo_honest.1 h));
+      no_failure = none_ok _ c.from_residual-in_err-fill_last.result _ (err_from_is_err_and c.from_residual-in_err-fill_last.result c.from_residual-in_err-fill_last.ensures.1).1;
+      failure = always_err c.from_residual-in_err-fill_last.result (
+        omega (arith, more, same.0, inv.device_countable),
+        omega (arith, same.1, inv.store_countable),
+        omega (arith, same.2, inv.redo_countable),
+        omega (arith, more, same.0, same.1, same.2, inv.device_countable, inv.store_countable, inv.redo_countable),
+      );
+    }

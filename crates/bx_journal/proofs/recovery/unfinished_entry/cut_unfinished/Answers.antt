@@ -1,5 +1,6 @@
-use Rattle.std.proofs.Common.{refl, arith, rules, Result, Ok, Err}
-use Rattle.std.specs.Prelude.{OnErr}
+use Rattle.std.proofs.Common.{◌≡◌, refl, sym, subst, arith, rules, Result, Ok, Err}
+use Rattle.std.specs.Prelude.{OnErr, OnOk}
+use Rattle.std.proofs.lemmas.Result.{err_from_is_err_and}
 use Rattle.bx_entries.specs.declared.read.types.StageRead.TheVariants.{Between as BetweenRead}
 use Rattle.bx_entries.specs.Text.{Between}
 use Rattle.bx_journal.proofs.TailLemmas.{tail_at, ending_within}
@@ -7,6 +8,9 @@ use Rattle.bx_journal.proofs.RecoverLemmas.{ending_begins}
 use Rattle.bx_journal.proofs.OpenLemmas.{opened_dropped, opened_saving, opened_ending}
 use Rattle.bx_journal.proofs.LeftLemmas.{left_at_stage}
 use Rattle.bx_journal.proofs.recovery.unfinished_entry.cut_unfinished.Goals as goal
+
+none_ok : {T E : Type 0} (P : Type 0) (r : Result T E) (e : E) → r ≡ Err e → OnOk r P
+none_ok P r e is = subst (λ q. OnOk q P) (sym is) tt
 
 always_err : {T E P : Type 0} (r : Result T E) → P → OnErr r P
 always_err (Ok x) p = tt
@@ -54,7 +58,7 @@ pub returns-in_err-drop_tail-in-Between-clause-keeps :
     goal.returns-in_err-drop_tail-in-Between-clause-keeps
 returns-in_err-drop_tail-in-Between-clause-keeps g c dh th stack rec =
     let t = tail_at (g.T.TextStore.text c.args.store.now) c.requires.read.text (g.D.Device.image c.args.device.now) stack c.args.journal BetweenRead c.requires.read.read c.in-Between.is (c.requires.read.is th) rec in
-    (search rules, always_err _ (c.in_err-drop_tail-in-Between.ensures.fault th (g.D.Device.image c.args.device.now) stack _ Between t refl))
+    (none_ok _ c.from_residual.result _ (err_from_is_err_and c.from_residual.result c.from_residual.ensures.1).1, always_err _ (c.in_err-drop_tail-in-Between.ensures.fault th (g.D.Device.image c.args.device.now) stack _ Between t refl))
 
 pub take_back-requires-clause-within_text : goal.take_back-requires-clause-within_text
 take_back-requires-clause-within_text g c th =

@@ -1,9 +1,16 @@
-use Rattle.std.proofs.Common.{rules, arith, inr}
+use Rattle.std.proofs.Common.{◌≡◌, ◌+◌, ◌≤◌, ℕ, rules, arith, inr, subst, sym, Result, Err}
+use Rattle.std.specs.Prelude.{OnOk}
 use Rattle.std.proofs.lemmas.Grind.{common_steps}
-use Rattle.std.proofs.lemmas.Result.{on_err_weaker, on_ok_weaker}
+use Rattle.std.proofs.lemmas.Result.{err_from_is_err_and, on_err_weaker, on_ok_weaker}
 use Rattle.bx_journal.proofs.RecoverLemmas.{one_more_beside}
 use Rattle.bx_journal.proofs.CountedLemmas.{err_always, ok_always}
 use Rattle.bx_journal.proofs.recovery.unfinished_entry.finish.Goals as goal
+
+none_ok : {T E : Type 0} (P : Type 0) (r : Result T E) (e : E) → r ≡ Err e → OnOk r P
+none_ok P r e is = subst (λ q. OnOk q P) (sym is) tt
+
+one_more : {d t u v : ℕ} → v ≡ u + 1 → (d ≤ d) × (t ≤ t) × (u ≤ v) × (d + t + v ≡ d + t + u + 1)
+one_more is = (omega arith, omega arith, omega (arith, is), omega (arith, is))
 
 pub returns-clause-emptied : goal.returns-clause-emptied
 returns-clause-emptied g c rh = ok_always c.cut_unfinished.result (grind (arith, common_steps))
@@ -25,6 +32,6 @@ returns-in_err-cut_redo-clause-steps_on g c = record {
   device_honesty = search rules;
   store_honesty = search rules;
   redo_honesty = search rules;
-  no_failure = search rules;
-  failure = search rules;
+  no_failure = none_ok _ c.from_residual.result _ (err_from_is_err_and c.from_residual.result c.from_residual.ensures.1).1;
+  failure = err_always c.from_residual.result (one_more c.in_err-cut_redo.ensures.goes_on.counted);
 }
