@@ -1,5 +1,4 @@
-use Rattle.std.proofs.Common.{◌≡◌, ℕ, ◌+◌, List, [], ◌++◌, length, take, drop, refl, ap, sym, ◌∙◌, subst, arith, length-drop}
-use Rattle.bx_entries.specs.inner.Tally.{IsTallied}
+use Rattle.std.proofs.Common.{◌+◌, length, take, drop, refl, ap, ◌∙◌, arith, length-drop}
 use Rattle.bx_entries.proofs.TallyLemmas.{IsFirstLine, tallied_more, tallied_same, drop_sum}
 use Rattle.bx_entries.proofs.read.window.count_lines.Goals as goal
 
