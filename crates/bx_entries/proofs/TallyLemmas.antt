@@ -14,7 +14,6 @@ use Rattle.bx_entries.specs.Finished.{AllTell}
 use Rattle.std.proofs.lemmas.List.{take-append-drop, drop-take}
 use Rattle.std.proofs.Math.Seq.{drop-append_seam}
 use Rattle.bx_entries.specs.inner.Tally.{place_of, tally_of, LeadsTo, IsTallied, IsCountedAll}
-use Rattle.bx_entries.proofs.ReadLoop.{drop_twice}
 use Rattle.bx_entries.proofs.Runs.{after_lines-append}
 use Rattle.bx_entries.proofs.Splits.{split-append, split-ended}
 
@@ -88,17 +87,17 @@ module _ (only_second : Bool) (r : Reading) (t : Tally) (line : List ℕ) (is : 
         tell = λ only tell. (second only, tell);
       }
 
+pub take_less : (n m : ℕ) (xs : List ℕ) → take n (take (n + m) xs) ≡ take n xs
+take_less zero m xs = refl
+take_less (suc n) m [] = let e : suc n + m ≡ suc (n + m) = omega arith in ap (λ k. take (suc n) (take k [])) e
+take_less (suc n) m (x ∷ xs) =
+    let e : suc n + m ≡ suc (n + m) = omega arith in
+    ap (λ k. take (suc n) (take k (x ∷ xs))) e ∙ ap (λ l. x ∷ l) (take_less n m xs)
+
 -- so many bytes, and so many more
-take_sum : (n m : ℕ) (xs : List ℕ) → take (n + m) xs ≡ take n xs ++ take m (drop n xs)
+pub take_sum : (n m : ℕ) (xs : List ℕ) → take (n + m) xs ≡ take n xs ++ take m (drop n xs)
 take_sum n m xs =
     sym (take-append-drop n (take (n + m) xs)) ∙ ap (λ l. l ++ drop n (take (n + m) xs)) (take_less n m xs) ∙ ap (λ l. take n xs ++ l) (drop-take n m xs)
-  where
-    take_less : (n m : ℕ) (xs : List ℕ) → take n (take (n + m) xs) ≡ take n xs
-    take_less zero m xs = refl
-    take_less (suc n) m [] = let e : suc n + m ≡ suc (n + m) = omega arith in ap (λ k. take (suc n) (take k [])) e
-    take_less (suc n) m (x ∷ xs) =
-        let e : suc n + m ≡ suc (n + m) = omega arith in
-        ap (λ k. take (suc n) (take k (x ∷ xs))) e ∙ ap (λ l. x ∷ l) (take_less n m xs)
 
 -- the first newline of what is left
 pub record IsFirstLine (rest : List ℕ) (i : ℕ) : Type 0 where
@@ -160,9 +159,6 @@ pub tallied_same : (only_second : Bool) (front window : List ℕ) (t : Tally) (n
 tallied_same only_second front window t n h =
     let count : n ≡ n + 0 = omega arith in
     subst (λ l. IsTallied only_second l t (n + 0)) (sym (append-nil front)) (subst (λ k. IsTallied only_second front t k) count h)
-
-pub drop_sum : (n m : ℕ) (xs : List ℕ) → drop m (drop n xs) ≡ drop (n + m) xs
-drop_sum = drop_twice
 
 -- between two entries
 pub tallied_end : (only_second : Bool) (text : List ℕ) (t : Tally) (n : ℕ) → IsTallied only_second text t n → t.place ≡ BetweenPlace → IsCountedAll only_second text t.count t.told n

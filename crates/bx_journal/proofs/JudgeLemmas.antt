@@ -25,7 +25,7 @@ use Rattle.bx_entries.specs.Text.{Entry, Between, Reading, Reads, Split, split, 
 use Rattle.bx_entries.proofs.Damage.{split_at_mark}
 use Rattle.bx_journal.proofs.Phases.{length-stack_of}
 use Rattle.bx_entries.proofs.ReadLemmas.{length-entries_of}
-use Rattle.bx_journal.proofs.RedoText.{one_reading, one_list}
+use Rattle.bx_journal.proofs.RedoText.{one_reading}
 use Rattle.bx_journal.proofs.Refused.{not_no_redo, too_many, refused_once, none_refused}
 use Rattle.bx_journal.proofs.TailLemmas.{begins_at, begin_mark}
 use Rattle.bx_journal.proofs.Tails.{rest_none}

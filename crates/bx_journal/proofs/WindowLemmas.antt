@@ -1,6 +1,6 @@
 -- Counting in windows: a window more.
-use Rattle.std.proofs.Common.{◌≡◌, ℕ, zero, suc, ◌+◌, ◌-◌, ◌≤◌, Bool, List, [], ◌∷◌, ◌++◌, length, take, drop, refl, ap, sym, ◌∙◌, subst, arith, length-take, Result, Ok, Err}
-use Rattle.std.proofs.lemmas.List.{take-append-drop, drop-take}
+use Rattle.std.proofs.Common.{◌≡◌, ℕ, ◌+◌, ◌-◌, ◌≤◌, Bool, List, ◌++◌, length, take, drop, ap, sym, ◌∙◌, subst, arith, length-take, Result, Ok, Err}
+use Rattle.bx_entries.proofs.TallyLemmas.{take_less, take_sum}
 use Rattle.std.specs.Prelude.{IfOk, IfErr}
 use Rattle.bx_entries.specs.Text.{IsDamagedAt}
 use Rattle.bx_entries.specs.declared.read.count.Tally.{Tally}
@@ -12,18 +12,6 @@ use Rattle.bx_journal.specs.declared.session.fault.SessionFault.{SessionFault}
 use Rattle.bx_journal.specs.declared.session.fault.SessionFault.TheVariants.{NoMemory, TooLarge, DeviceFailed, Damaged, TooFew, JournalFull, Interrupted, Broken, LengthDiffers, NothingToRedo, RedoDamaged}
 use Rattle.bx_journal.specs.inner.Recovery.{FindFault, IsFoundIn}
 use Rattle.bx_journal.specs.inner.Windows.{IsPassed, IsCountedTo}
-
-take_less : (n m : ℕ) (xs : List ℕ) → take n (take (n + m) xs) ≡ take n xs
-take_less zero m xs = refl
-take_less (suc n) m [] = let e : suc n + m ≡ suc (n + m) = omega arith in ap (λ k. take (suc n) (take k [])) e
-take_less (suc n) m (x ∷ xs) =
-    let e : suc n + m ≡ suc (n + m) = omega arith in
-    ap (λ k. take (suc n) (take k (x ∷ xs))) e ∙ ap (λ l. x ∷ l) (take_less n m xs)
-
--- so many bytes, and so many more
-take_sum : (n m : ℕ) (xs : List ℕ) → take (n + m) xs ≡ take n xs ++ take m (drop n xs)
-take_sum n m xs =
-    sym (take-append-drop n (take (n + m) xs)) ∙ ap (λ l. l ++ drop n (take (n + m) xs)) (take_less n m xs) ∙ ap (λ l. take n xs ++ l) (drop-take n m xs)
 
 -- a front of a window that was filled
 pub front_of : (n m : ℕ) (window from : List ℕ) → n ≤ length window → window ≡ take m from → take n window ≡ take n from

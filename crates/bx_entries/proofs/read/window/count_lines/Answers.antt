@@ -1,6 +1,6 @@
-use Rattle.std.proofs.Common.{◌≡◌, ℕ, ◌+◌, List, [], ◌++◌, length, take, drop, refl, ap, sym, ◌∙◌, subst, arith, length-drop}
-use Rattle.bx_entries.specs.inner.Tally.{IsTallied}
-use Rattle.bx_entries.proofs.TallyLemmas.{IsFirstLine, tallied_more, tallied_same, drop_sum}
+use Rattle.std.proofs.Common.{◌+◌, length, take, drop, refl, ap, ◌∙◌, arith, length-drop}
+use Rattle.bx_entries.proofs.ReadLoop.{drop_twice}
+use Rattle.bx_entries.proofs.TallyLemmas.{IsFirstLine, tallied_more, tallied_same}
 use Rattle.bx_entries.proofs.read.window.count_lines.Goals as goal
 
 pub loop-i-init : goal.loop-i-init
@@ -21,7 +21,7 @@ loop-i-preserved c =
     record {
       tallied = λ front n h. tallied_more c.args.only_second front c.args.window.now c.loop-i.rest.now c.loop-i.taken c.in-Some.i n c.loop-i.lines c.loop-i.now c.in_ok-now.now
           (inv.tallied front n h) inv.left line c.in_ok-now.ensures.leads;
-      left = c.split_at.ensures.back ∙ ap (drop (c.in-Some.i + 1)) inv.left ∙ drop_sum c.loop-i.taken (c.in-Some.i + 1) c.args.window.now;
+      left = c.split_at.ensures.back ∙ ap (drop (c.in-Some.i + 1)) inv.left ∙ drop_twice c.loop-i.taken (c.in-Some.i + 1) c.args.window.now;
       within = omega (arith, f.0, inv.within, ap length inv.left, long);
       lines = omega (arith, inv.lines);
       few = λ h. c.in_ok-now.ensures.few (inv.few h);

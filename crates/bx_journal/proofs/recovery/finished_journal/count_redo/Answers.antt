@@ -1,4 +1,4 @@
-use Rattle.std.proofs.Common.{List, ℕ, true, subst, arith}
+use Rattle.std.proofs.Common.{true, subst, arith}
 use Rattle.std.specs.Prelude.{IfSome}
 use Rattle.bx_journal.specs.inner.Windows.{IsAllCounted}
 use Rattle.bx_journal.proofs.JudgeLemmas.{counted_fit}

@@ -1,4 +1,4 @@
-use Rattle.std.proofs.Common.{List, ℕ, refl, sym, ◌∙◌, subst}
+use Rattle.std.proofs.Common.{refl, sym, ◌∙◌, subst}
 use Rattle.std.specs.Prelude.{IfSome}
 use Rattle.bx_journal.specs.inner.RedoFound.{IsRedoCountedIn}
 use Rattle.bx_journal.proofs.recovery.finished_journal.find_redo.Goals as goal

@@ -1,4 +1,4 @@
-use Rattle.std.proofs.Common.{List, ℕ, false, subst}
+use Rattle.std.proofs.Common.{false, subst}
 use Rattle.std.specs.Prelude.{IfSome}
 use Rattle.bx_journal.specs.inner.Windows.{IsAllCounted}
 use Rattle.bx_journal.proofs.WindowLemmas.{found_before, fault_before, counts_before}

@@ -1,4 +1,4 @@
-use Rattle.std.proofs.Common.{ℕ, List, refl, arith}
+use Rattle.std.proofs.Common.{refl, arith}
 use Rattle.bx_journal.proofs.JudgeLemmas.{counted_redo, judged_keeps, judged_refuses, length_judged, lines_off, text_counts, text_judged}
 use Rattle.bx_journal.proofs.Refused.{none_refused}
 use Rattle.bx_journal.proofs.recovery.judge.judge_redo.Goals as goal

@@ -1,4 +1,4 @@
-use Rattle.std.proofs.Common.{◌≡◌, ◌∙◌, List, ℕ, subst, arith}
+use Rattle.std.proofs.Common.{◌∙◌, List, ℕ, subst, arith}
 use Rattle.std.specs.Prelude.{IfSome}
 use Rattle.bx_journal.specs.inner.Windows.{IsPassed}
 use Rattle.bx_journal.proofs.WindowLemmas.{counted_on, passed_from}
