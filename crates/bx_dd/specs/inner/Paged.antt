@@ -1,5 +1,5 @@
 -- What proofs alone need: the same by the page, the bytes kept, and where the records end.
-use Rattle.std.specs.Prelude.{ℕ, ◌≤◌, ◌<◌, Bool, List, ◌++◌, length, Option, IfOk, IfErr, OnOk, OnErr}
+use Rattle.std.specs.Prelude.{ℕ, Bool, List, ◌++◌, Option, IfOk, IfErr, OnOk}
 use Rattle.std.specs.declared.result.Result.{Result}
 use Rattle.bx_text.specs.declared.fault.IoFault.{IoFault}
 use Rattle.bx_text.specs.Writing.{WritesFront}
