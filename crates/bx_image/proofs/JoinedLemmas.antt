@@ -1,8 +1,7 @@
 -- Writes that go on with one another do what one write does.
-use Rattle.std.proofs.Common.{◌≡◌, ◌⊎◌, ◌↔◌, ℕ, zero, suc, ◌+◌, ◌<◌, ◌≤◌, ◌||◌, ◌&&◌, Bool, Option, inl, inr, List, [], ◌∷◌, ◌++◌, length, slice_index, get_or, refl, ap, sym, ◌∙◌, subst, arith}
+use Rattle.std.proofs.Common.{◌≡◌, ◌⊎◌, ◌↔◌, ℕ, zero, suc, ◌+◌, ◌<◌, ◌≤◌, ◌||◌, ◌&&◌, Bool, true, false, Option, inl, inr, List, [], ◌∷◌, ◌++◌, length, slice_index, get_or, refl, ap, sym, ◌∙◌, subst, arith}
 use Rattle.std.specs.List.{list_any, All}
 use Rattle.std.specs.Prelude.{IfSome, nat_lt, None, Some, if◌then◌else◌}
-use Rattle.std.proofs.lemmas.Bool.{or_assoc}
 use Rattle.std.proofs.lemmas.Bool.Decides.{nat_tests}
 use Rattle.std.proofs.lemmas.List.{length-append}
 use Rattle.std.proofs.lemmas.List.Elements.{All-cons}
@@ -29,6 +28,10 @@ placed_joined {A = A} runs (piece ∷ pieces) x (later, are, inr (bytes, rest, f
 within_both : (at : ℕ) (front back : List ℕ) (i : ℕ) → is_within at (front ++ back) i ≡ (is_within at front i || is_within (at + length front) back i)
 within_both at front back i = grind (arith, nat_tests, length-append front back)
 
+or_or : (a b c : Bool) → ((a || b) || c) ≡ (a || (b || c))
+or_or true b c = refl
+or_or false b c = refl
+
 covered_joined : {A : Type 0} (runs pieces : List (Piece A)) (i : ℕ) → AreJoined runs pieces → is_covered runs i ≡ is_covered pieces i
 covered_joined runs [] i is = rw is refl
 covered_joined {A = A} runs (piece ∷ pieces) i (later, are, inl alone) =
@@ -37,7 +40,7 @@ covered_joined {A = A} runs (piece ∷ pieces) i (later, are, inr (bytes, rest, 
     let here = is_within piece.at piece.bytes i in
     let next = is_within (piece.at + length piece.bytes) bytes i in
     let behind : is_covered later i ≡ (next || is_covered rest i) = rw first refl in
-    rw whole (ap (λ b. b || is_covered rest i) (within_both piece.at piece.bytes bytes i) ∙ or_assoc here next (is_covered rest i)
+    rw whole (ap (λ b. b || is_covered rest i) (within_both piece.at piece.bytes bytes i) ∙ or_or here next (is_covered rest i)
     ∙ ap (λ b. here || b) (sym behind ∙ covered_joined later pieces i are))
 
 -- the ends

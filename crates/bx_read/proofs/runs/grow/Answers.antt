@@ -1,4 +1,4 @@
-use Rattle.std.proofs.Common.{◌≡◌, true, false, length, ◌∙◌, subst, arith}
+use Rattle.std.proofs.Common.{◌≡◌, true, false, Some, length, ◌∙◌, subst, arith}
 use Rattle.bx_read.specs.Lines.{coming}
 use Rattle.bx_read.specs.inner.NextLine.{piece_of, IsNextLine}
 use Rattle.bx_read.proofs.RunLemmas.{grow_step, grow_stops, next_left, test_is}
@@ -26,5 +26,5 @@ loop-line-preserved g c =
     let goes = test_is c.goes_on.result true c.at.result c.args.at c.len.result (piece_of line).0 (length run) c.goes_on.ensures c.if-not-goes_on.false c.at.ensures size in
     record {
       run = c.loop-line.invariant.run ∙ grow_step c.args.at run c.push_to.new.bytes.items old new line next goes c.in_ok-push_to.ensures;
-      fewer = let few = next_left old new _ next in omega (arith, few, c.loop-line.invariant.fewer);
+      fewer = let few = next_left old new (Some line) next in omega (arith, few, c.loop-line.invariant.fewer);
     }
