@@ -5,7 +5,6 @@ use Rattle.std.proofs.lemmas.Bool.{eqb-true}
 use Rattle.bx_text.specs.declared.owned.pieces.Piece.{Piece}
 use Rattle.bx_image.specs.declared.change.Change.{Change}
 use Rattle.bx_image.specs.declared.change.TheConstants.{MAX_LEN}
-use Rattle.bx_image.specs.Change.{effect, Fits}
 use Rattle.bx_image.specs.Joined.{IsInFront, AreJoined, IsSameChange}
 use Rattle.bx_image.proofs.JoinedLemmas.{joined_is_same}
 use Rattle.bx_read.specs.declared.fault.ReadFault.{ReadFault}
@@ -21,8 +20,7 @@ use Rattle.bx_journal.specs.declared.session.fault.SessionFault.TheVariants.{NoM
 use Rattle.bx_cli.specs.declared.command.Reply.{Reply}
 use Rattle.bx_cli.specs.Command.{dump_change}
 use Rattle.bx_cli.specs.Run.{ChangeStep, ReadStep, DumpStep}
-use Rattle.bx_cli.specs.Standing.{Standing, PerformUp, PerformFrom}
-use Rattle.bx_cli.specs.Standing.Standing.{Up, Down}
+use Rattle.bx_cli.specs.Standing.{Standing, PerformUp}
 use Rattle.bx_cli.proofs.Stands.{read_step}
 
 module _ {A : Type 0} (offset : ℕ) where
@@ -56,7 +54,7 @@ perform_same c d old (Err DeviceFailed) after same step = step
 perform_same c d old (Err JournalFull) after same step = step
 perform_same c d old (Err Interrupted) after same (inl before) = inl before
 perform_same c d old (Err Interrupted) after same (inr changed) =
-    inr (changed ∙ ap (λ x. Down (change_to x old)) (same.same_effect (top old.stack)))
+    inr (changed ∙ ap (λ x. Standing.Down (change_to x old)) (same.same_effect (top old.stack)))
 perform_same c d old (Err NoMemory) after same step = step
 perform_same c d old (Err TooLarge) after same (is, room, large, stack) =
     (is, room, λ fit. large ((same.same_fit (length (top old.stack)) MAX_LEN).1 fit), stack)
@@ -68,8 +66,8 @@ perform_same c d old (Err (NothingToRedo have)) after same step = step
 perform_same c d old (Err (RedoDamaged line)) after same step = step
 
 change_same : {A : Type 0} (before : Standing) (c d : Change A) (counts : Option Counts) (reply : Reply) (after : Standing) → IsSameChange c d → ChangeStep before c counts reply after → ChangeStep before d counts reply after
-change_same (Up old) c d counts reply after same (r, told, step) = (r, told, perform_same c d old r after same step)
-change_same (Down old) c d counts reply after same step = step
+change_same (Standing.Up old) c d counts reply after same (r, told, step) = (r, told, perform_same c d old r after same step)
+change_same (Standing.Down old) c d counts reply after same step = step
 
 read_same : {A B : Type 0} (make other : B → Change A) (answer : Result B ReadFault) (before after : Standing) (reply : Reply) →
     ((v : B) → IsSameChange (make v) (other v)) → ReadStep before make answer reply after → ReadStep before other answer reply after
