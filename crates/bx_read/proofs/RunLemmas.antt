@@ -1,16 +1,15 @@
 -- The runs of a dump.
-use Rattle.std.proofs.Common.{◌≡◌, ◌⊎◌, ℕ, zero, suc, ◌+◌, ◌<◌, ◌≤◌, Bool, true, false, cond, eqb, Some, None, Option, Result, Ok, Err, List, [], ◌∷◌, ◌++◌, length, map, refl, arith, sym, ap, subst, ◌∙◌, append_assoc, append-nil, get_or, inl, inr}
+use Rattle.std.proofs.Common.{◌≡◌, ℕ, suc, ◌+◌, ◌<◌, ◌≤◌, Bool, true, false, cond, eqb, Some, None, Option, Result, Ok, Err, List, [], ◌∷◌, ◌++◌, length, refl, arith, sym, ap, subst, ◌∙◌, append_assoc, append-nil}
 use Rattle.std.specs.Prelude.{◌^◌}
 use Rattle.std.specs.List.{All}
 use Rattle.std.proofs.lemmas.Bool.{eqb-true, eq-eqb}
 use Rattle.std.proofs.lemmas.List.{length-append, length-map, map-append, get_or-map}
 use Rattle.std.proofs.lemmas.List.Elements.{All-cons}
 use Rattle.bx_text.specs.declared.owned.pieces.Piece.{Piece}
-use Rattle.bx_read.specs.Text.{ReadLine, gathered, piece_then, contents, answers, lines_of, IsPiece, dump_pieces}
+use Rattle.bx_read.specs.Text.{ReadLine, gathered, piece_then, contents, answers, lines_of, dump_pieces}
 use Rattle.bx_read.specs.Runs.{with_piece, joined}
 use Rattle.bx_read.specs.inner.NextLine.{piece_of, IsNextLine, taken_then, lines_left, joined_of}
 use Rattle.bx_read.specs.declared.fault.ReadFault.{ReadFault}
-use Rattle.bx_read.specs.declared.fault.ReadFault.TheVariants.{NoMemory}
 use Rattle.bx_read.specs.declared.runs.DumpLine.{DumpLine}
 use Rattle.bx_read.proofs.DumpLemmas.{Pieces, after, found, small}
 

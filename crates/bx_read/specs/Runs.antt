@@ -1,6 +1,5 @@
 -- The runs of a dump: the bytes of lines that go on with one another.
-use Rattle.std.specs.Prelude.{◌≡◌, ◌⊎◌, ℕ, ◌+◌, ◌==◌, if◌then◌else◌, List, [], ◌∷◌, ◌++◌, length, Result, Ok, Err}
-use Rattle.bx_read.specs.declared.fault.ReadFault.{ReadFault}
+use Rattle.std.specs.Prelude.{ℕ, ◌+◌, ◌==◌, if◌then◌else◌, List, [], ◌∷◌, ◌++◌, length}
 
 -- a piece in front of runs: the first one has its bytes too, where that begins at its end
 abbrev pub with_piece : ℕ × List ℕ → List (ℕ × List ℕ) → List (ℕ × List ℕ)
