@@ -24,10 +24,7 @@ pub fn read_runs<A: Allocator + Clone>(alloc: A, text: &[u8]) -> Result<Vec<Piec
 }
 
 /// The runs, one after another. Memory for the first one is guessed from the text's length, as if all lines went on.
-fn gather_runs<A: Allocator + Clone>(
-    alloc: A,
-    text: &[u8],
-) -> Result<Vec<Piece<A>, A>, ReadFault>
+fn gather_runs<A: Allocator + Clone>(alloc: A, text: &[u8]) -> Result<Vec<Piece<A>, A>, ReadFault>
     ensures { MatchResult result (λ v. joined_of (dump_pieces text.now) ≡ Ok (contents v.items)) (λ e. (e ≡ ReadFault.NoMemory) ⊎ (dump_pieces text.now ≡ Err e)) }
 {
     let mut runs = Vec::new(alloc.clone()?);
