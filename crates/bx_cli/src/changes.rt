@@ -23,7 +23,9 @@ pub fn change_of_dump<A: Allocator + Clone>(
     offset: u64,
 ) -> Result<Change<A>, ReadFault>
     requires { offset ≤ 2 ^ 62 }
-    ensures { MatchResult result (λ c. (pieces : List (ℕ × List ℕ)) × (dump_pieces text.now ≡ Ok pieces) × (c ≡ dump_change offset (joined pieces))) (λ e. (e ≡ ReadFault.NoMemory) ⊎ (dump_pieces text.now ≡ Err e)) }
+    ensures { MatchResult result
+        (λ c. (pieces : List (ℕ × List ℕ)) × (dump_pieces text.now ≡ Ok pieces) × (c ≡ dump_change offset (joined pieces)))
+        (λ e. (e ≡ ReadFault.NoMemory) ⊎ (dump_pieces text.now ≡ Err e)) }
 {
     let mut runs = read_runs(alloc.clone()?, text)?;
     move_pieces(runs.as_mut_slice(), offset);

@@ -1,15 +1,15 @@
 -- Writes that go on with one another do what one write does.
-use Rattle.std.proofs.Common.{◌≡◌, ◌⊎◌, ◌↔◌, ℕ, zero, suc, ◌+◌, ◌<◌, ◌≤◌, ◌||◌, ◌&&◌, Bool, true, false, Option, inl, inr, List, [], ◌∷◌, ◌++◌, length, slice_index, get_or, refl, ap, sym, ◌∙◌, subst, arith}
-use Rattle.std.specs.List.{list_any, All}
+use Rattle.std.proofs.Common.{◌≡◌, ◌↔◌, ℕ, suc, ◌+◌, ◌≤◌, ◌||◌, ◌&&◌, Bool, true, false, Option, inl, inr, List, [], ◌∷◌, ◌++◌, length, slice_index, refl, ap, sym, ◌∙◌, subst, arith}
+use Rattle.std.specs.List.{All}
 use Rattle.std.specs.Prelude.{IfSome, nat_lt, None, Some, if◌then◌else◌}
 use Rattle.std.proofs.lemmas.Bool.Decides.{nat_tests}
 use Rattle.std.proofs.lemmas.List.{length-append}
 use Rattle.std.proofs.lemmas.List.Elements.{All-cons}
 use Rattle.bx_text.specs.declared.owned.pieces.Piece.{Piece}
 use Rattle.bx_image.specs.declared.change.Change.{Change}
-use Rattle.bx_image.specs.Change.{placed, cut_to, effect, touches, is_cut_off, is_covered, Fits, kept_byte, saved, AreMaximalRuns}
+use Rattle.bx_image.specs.Change.{placed, cut_to, effect, touches, is_covered, Fits, kept_byte, saved}
 use Rattle.bx_image.specs.Image.{place, end_of, is_within}
-use Rattle.bx_image.specs.Joined.{IsInFront, AreJoined, IsSameChange, JoinedIsSame}
+use Rattle.bx_image.specs.Joined.{AreJoined, JoinedIsSame}
 use Rattle.bx_image.proofs.Files.{place_next}
 use Rattle.bx_image.proofs.Records.{saved-maximal, saved-same}
 
@@ -82,12 +82,12 @@ module _ {A : Type 0} (limit : ℕ) where
       let both = ends_both piece.at piece.bytes bytes limit in
       rw whole (
         (λ h.
-          let parts = both.0 (first_of run rest h) in
-          let behind : All Ends later = subst (All Ends) (sym first) (All-cons Ends next rest parts.1 (rest_of run rest h)) in
-          All-cons Ends piece pieces parts.0 (same.0 behind)),
+            let parts = both.0 (first_of run rest h) in
+            let behind : All Ends later = subst (All Ends) (sym first) (All-cons Ends next rest parts.1 (rest_of run rest h)) in
+            All-cons Ends piece pieces parts.0 (same.0 behind)),
         (λ h.
-          let behind : All Ends (next ∷ rest) = subst (All Ends) first (same.1 (rest_of piece pieces h)) in
-          All-cons Ends run rest (both.1 (first_of piece pieces h, first_of next rest behind)) (rest_of next rest behind)),
+            let behind : All Ends (next ∷ rest) = subst (All Ends) first (same.1 (rest_of piece pieces h)) in
+            All-cons Ends run rest (both.1 (first_of piece pieces h, first_of next rest behind)) (rest_of next rest behind)),
       )
 
 touches_joined : {A : Type 0} (c d : Change A) (i : ℕ) → c.base ≡ d.base → AreJoined c.writes d.writes → touches c i ≡ touches d i
@@ -101,8 +101,7 @@ effect_joined c d x base are = rw base (placed_joined c.writes d.writes (cut_to 
 fits_joined : {A : Type 0} (c d : Change A) (len limit : ℕ) → c.base ≡ d.base → AreJoined c.writes d.writes → (Fits c len limit ↔ Fits d len limit)
 fits_joined {A = A} c d len limit base are =
     let same = ends_joined limit c.writes d.writes are in
-    let Within : Option ℕ → Type 0 = λ o. IfSome o (λ n. n ≤ limit) in
-    (
+    let Within : Option ℕ → Type 0 = λ o. IfSome o (λ n. n ≤ limit) in (
       λ fit. record { len_fits = fit.len_fits; base_fits = subst Within base fit.base_fits; writes_fit = same.0 fit.writes_fit },
       λ fit. record { len_fits = fit.len_fits; base_fits = subst Within (sym base) fit.base_fits; writes_fit = same.1 fit.writes_fit },
     )

@@ -16,7 +16,9 @@ use std::alloc::{Allocator, Global};
 /// piece. A line out of order, one that overlaps the line before it and one behind a gap each begin a piece of their own.
 pub fn read_runs<A: Allocator + Clone>(alloc: A, text: &[u8]) -> Result<Vec<Piece<A>, A>, ReadFault>
     // The runs of the pieces, or the fault that reading them gives.
-    ensures exact { MatchResult result (λ v. (pieces : List (ℕ × List ℕ)) × (dump_pieces text.now ≡ Ok pieces) × (contents v.items ≡ joined pieces)) (λ e. (e ≡ ReadFault.NoMemory) ⊎ (dump_pieces text.now ≡ Err e)) }
+    ensures exact { MatchResult result
+        (λ v. (pieces : List (ℕ × List ℕ)) × (dump_pieces text.now ≡ Ok pieces) × (contents v.items ≡ joined pieces))
+        (λ e. (e ≡ ReadFault.NoMemory) ⊎ (dump_pieces text.now ≡ Err e)) }
     // Each run begins below 2^62.
     ensures near { IfOk result (λ v. All (λ run. run.at < 2 ^ 62) v.items) }
 {
@@ -25,7 +27,8 @@ pub fn read_runs<A: Allocator + Clone>(alloc: A, text: &[u8]) -> Result<Vec<Piec
 
 /// The runs, one after another. Memory for the first one is guessed from the text's length, as if all lines went on.
 fn gather_runs<A: Allocator + Clone>(alloc: A, text: &[u8]) -> Result<Vec<Piece<A>, A>, ReadFault>
-    ensures { MatchResult result (λ v. joined_of (dump_pieces text.now) ≡ Ok (contents v.items)) (λ e. (e ≡ ReadFault.NoMemory) ⊎ (dump_pieces text.now ≡ Err e)) }
+    ensures { MatchResult result (λ v. joined_of (dump_pieces text.now) ≡ Ok (contents v.items))
+        (λ e. (e ≡ ReadFault.NoMemory) ⊎ (dump_pieces text.now ≡ Err e)) }
 {
     let mut runs = Vec::new(alloc.clone()?);
     let mut room = text.len() / ENDED * 16 + 16;
@@ -109,7 +112,10 @@ fn take_run<'a, A: Allocator>(
     first: DumpLine<'a>,
     room: usize,
 ) -> Result<TakenRun<'a, A>, ReadFault>
-    ensures run { MatchResult result (λ t. joined_of (piece_then (piece_of first.entry) (gathered (coming lines.old))) ≡ piece_then (t.run.at, t.run.bytes) (joined_of (taken_then t.next (coming lines.new)))) (λ e. (e ≡ ReadFault.NoMemory) ⊎ (gathered (coming lines.old) ≡ Err e)) }
+    ensures run { MatchResult result
+        (λ t. joined_of (piece_then (piece_of first.entry) (gathered (coming lines.old)))
+        ≡ piece_then (t.run.at, t.run.bytes) (joined_of (taken_then t.next (coming lines.new))))
+        (λ e. (e ≡ ReadFault.NoMemory) ⊎ (gathered (coming lines.old) ≡ Err e)) }
     ensures fewer { IfOk result (λ t. lines_left t.next (coming lines.new) ≤ length (coming lines.old)) }
 {
     let at = first.at();
@@ -129,7 +135,10 @@ fn grow<'a, A: Allocator>(
     at: u64,
     bytes: &mut Vec<u8, A>,
 ) -> Result<Option<DumpLine<'a>>, ReadFault>
-    ensures run { MatchResult result (λ next. joined_of (piece_then (at, bytes.old.items) (gathered (coming lines.old))) ≡ piece_then (at, bytes.new.items) (joined_of (taken_then next (coming lines.new)))) (λ e. (e ≡ ReadFault.NoMemory) ⊎ (gathered (coming lines.old) ≡ Err e)) }
+    ensures run { MatchResult result
+        (λ next. joined_of (piece_then (at, bytes.old.items) (gathered (coming lines.old)))
+        ≡ piece_then (at, bytes.new.items) (joined_of (taken_then next (coming lines.new))))
+        (λ e. (e ≡ ReadFault.NoMemory) ⊎ (gathered (coming lines.old) ≡ Err e)) }
     ensures fewer { IfOk result (λ next. lines_left next (coming lines.new) ≤ length (coming lines.old)) }
 {
     while let Some(line) = next_line(lines)? {

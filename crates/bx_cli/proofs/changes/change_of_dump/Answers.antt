@@ -15,5 +15,5 @@ returns g c =
       read.0,
       read.1,
       ap (λ w. let change : Change g.row.A.Denot = record { base = None; writes = w } in change) (writes ∙ moved_contents c.args.offset c.in_ok-runs.runs.items)
-      ∙ ap (λ pieces. dump_change {A = g.row.A.Denot} c.args.offset pieces) read.2,
+          ∙ ap (λ pieces. dump_change {A = g.row.A.Denot} c.args.offset pieces) read.2,
     )
