@@ -5,6 +5,7 @@ pub mod Runs
 pub mod Unfailed
 pub mod GivesBack
 pub mod Stands
+pub mod Joined
 pub mod Refusals
 pub mod Obeys
 pub mod SessionRuns

@@ -5,29 +5,33 @@ ghost use Rattle.bx_cli.specs.inner.Command.{moved};
 ghost use Rattle.bx_cli.specs.Copy.{CopiesBy, Makes};
 ghost use Rattle.bx_dd.specs.Transfer.{HasStopped};
 ghost use Rattle.bx_read.specs.Plain.{plain_answer};
+ghost use Rattle.bx_read.specs.Runs.{joined};
 ghost use Rattle.bx_read.specs.Text.{dump_pieces};
 
 use bx_dd::{Counts, DdFault, Plan, parse, transfer};
 use bx_image::Change;
-use bx_read::{ReadFault, read_dump, read_plain};
+use bx_read::{ReadFault, read_plain, read_runs};
 use bx_text::{Bytes, Piece, Pieces, Words};
 use std::alloc::{Allocator, Global};
 use std::io::Read;
 
-/// The change that puts each piece of a dump at its address plus `offset`. The whole text is read first.
+/// The change that puts each piece of a dump at its address plus `offset`, with one write for pieces that go on with one
+/// another. The whole text is read first.
 pub fn change_of_dump<A: Allocator + Clone>(
     alloc: &A,
     text: &[u8],
     offset: u64,
 ) -> Result<Change<A>, ReadFault>
     requires { offset ≤ 2 ^ 62 }
-    ensures { MatchResult result (λ c. (pieces : List (ℕ × List ℕ)) × (dump_pieces text.now ≡ Ok pieces) × (c ≡ dump_change offset pieces)) (λ e. (e ≡ ReadFault.NoMemory) ⊎ (dump_pieces text.now ≡ Err e)) }
+    ensures { MatchResult result
+        (λ c. (pieces : List (ℕ × List ℕ)) × (dump_pieces text.now ≡ Ok pieces) × (c ≡ dump_change offset (joined pieces)))
+        (λ e. (e ≡ ReadFault.NoMemory) ⊎ (dump_pieces text.now ≡ Err e)) }
 {
-    let mut pieces = read_dump(alloc.clone()?, text)?;
-    move_pieces(pieces.as_mut_slice(), offset);
+    let mut runs = read_runs(alloc.clone()?, text)?;
+    move_pieces(runs.as_mut_slice(), offset);
     Ok(Change {
         base: None,
-        writes: Pieces::from_vec(pieces),
+        writes: Pieces::from_vec(runs),
     })
 }
 

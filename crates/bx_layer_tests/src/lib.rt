@@ -10,6 +10,8 @@ mod journal;
 #[cfg(test)]
 mod read;
 #[cfg(test)]
+mod runs;
+#[cfg(test)]
 mod shared;
 #[cfg(test)]
 mod store;

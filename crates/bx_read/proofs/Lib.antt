@@ -17,3 +17,4 @@ pub mod FullLines
 pub mod RowsLemmas
 pub mod PairLaws
 pub mod FaultLemmas
+pub mod RunLemmas

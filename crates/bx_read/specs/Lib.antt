@@ -2,6 +2,7 @@ pub mod Digits
 pub mod Line
 pub mod Grammar
 pub mod Text
+pub mod Runs
 pub mod Lines
 pub mod Plain
 pub mod Laws

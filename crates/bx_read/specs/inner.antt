@@ -2,4 +2,5 @@
 pub mod Full
 pub mod Lanes
 pub mod Next
+pub mod NextLine
 pub mod Steps

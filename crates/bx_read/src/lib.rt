@@ -10,6 +10,7 @@ pub mod laws;
 mod line;
 mod lines;
 mod plain;
+mod runs;
 
 pub use dump::read_dump;
 pub use fault::ReadFault;
@@ -17,3 +18,4 @@ pub use full::{FullLine, full_text};
 pub use line::Line;
 pub use lines::DumpLines;
 pub use plain::read_plain;
+pub use runs::read_runs;

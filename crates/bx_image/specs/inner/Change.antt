@@ -1,5 +1,5 @@
 -- What proofs alone need: what a change makes of an image, what is saved of the image before, and what gives it back.
-use Rattle.std.specs.Prelude.{◌≡◌, ℕ, ◌-◌, Option, None, Some, List}
+use Rattle.std.specs.Prelude.{◌≡◌, ℕ, Option, None, Some, List}
 use Rattle.bx_image.specs.Device.{IsPartlyCut}
 
 -- after a failed cut to the base

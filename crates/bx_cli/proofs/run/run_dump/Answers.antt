@@ -1,7 +1,5 @@
-use Rattle.bx_cli.specs.Command.{dump_change}
-use Rattle.bx_read.specs.Text.{dump_pieces}
 use Rattle.bx_cli.proofs.Obeys.{obeys_next}
-use Rattle.bx_cli.proofs.Stands.{read_step}
+use Rattle.bx_cli.proofs.Joined.{dump_step}
 use Rattle.bx_cli.proofs.run.run_dump.Goals as goal
 
 pub returns : goal.returns
@@ -9,7 +7,7 @@ returns g c =
     let change = c.change_of_dump-change in
     record {
       obeys = obeys_next g.D.Device.honest g.T.TextStore.honest g.D.Device.image g.T.TextStore.text g.D.Device.failures g.T.TextStore.failures
-          (λ before after. read_step (dump_change c.args.offset) (dump_pieces c.args.text.now) change.result before after c.run_read.result
+          (λ before after. dump_step c.args.text.now c.args.offset change.result before after c.run_read.result
           (rw c.as_slice.ensures at change.ensures))
           c.run_read.ensures.obeys;
     }

@@ -1,0 +1,13 @@
+use Rattle.std.proofs.Common.{◌≡◌}
+use Rattle.bx_read.specs.Text.{dump_pieces, contents}
+use Rattle.bx_read.specs.Lines.{coming}
+use Rattle.bx_read.specs.inner.NextLine.{taken_then, lines_left, joined_of}
+use Rattle.bx_read.proofs.DumpLemmas.{after}
+use Rattle.bx_read.proofs.runs.gather_runs.Given as goal
+
+abbrev pub decreases-loop-next : goal.decreases-loop-next
+decreases-loop-next g l = lines_left l.next (coming l.lines)
+
+-- the runs so far, and those of the lines to come, are all
+abbrev pub invariant-loop-next : goal.invariant-loop-next
+invariant-loop-next g l = joined_of (dump_pieces l.text) ≡ after (contents l.runs.items) (joined_of (taken_then l.next (coming l.lines)))

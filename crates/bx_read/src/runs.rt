@@ -1,0 +1,159 @@
+//! Whole dumps, in which lines that go on with one another are one run.
+ghost use Rattle.std.specs.Prelude.{◌≡◌, ◌⊎◌, ◌+◌, ◌^◌, ◌<◌, ◌≤◌, ◌==◌, ◌++◌, ℕ, List, length, Ok, Err, MatchResult, IfOk, All};
+ghost use Rattle.bx_read.specs.Text.{dump_pieces, contents, gathered, piece_then};
+ghost use Rattle.bx_read.specs.Runs.{joined};
+ghost use Rattle.bx_read.specs.Lines.{coming};
+ghost use Rattle.bx_read.specs.inner.NextLine.{piece_of, IsNextLine, taken_then, lines_left, joined_of};
+
+use crate::fault::ReadFault;
+use crate::full::{ENDED, FullLine};
+use crate::line::Line;
+use crate::lines::DumpLines;
+use bx_text::{Bytes, Piece};
+use std::alloc::{Allocator, Global};
+
+/// Reads the text of a dump as `read_dump` does, but neighbours of which one begins where the one before ends are one
+/// piece. A line out of order, one that overlaps the line before it and one behind a gap each begin a piece of their own.
+pub fn read_runs<A: Allocator + Clone>(alloc: A, text: &[u8]) -> Result<Vec<Piece<A>, A>, ReadFault>
+    // The runs of the pieces, or the fault that reading them gives.
+    ensures exact { MatchResult result
+        (λ v. (pieces : List (ℕ × List ℕ)) × (dump_pieces text.now ≡ Ok pieces) × (contents v.items ≡ joined pieces))
+        (λ e. (e ≡ ReadFault.NoMemory) ⊎ (dump_pieces text.now ≡ Err e)) }
+    // Each run begins below 2^62.
+    ensures near { IfOk result (λ v. All (λ run. run.at < 2 ^ 62) v.items) }
+{
+    gather_runs(alloc, text)
+}
+
+/// The runs, one after another. Memory for the first one is guessed from the text's length, as if all lines went on.
+fn gather_runs<A: Allocator + Clone>(alloc: A, text: &[u8]) -> Result<Vec<Piece<A>, A>, ReadFault>
+    ensures { MatchResult result (λ v. joined_of (dump_pieces text.now) ≡ Ok (contents v.items))
+        (λ e. (e ≡ ReadFault.NoMemory) ⊎ (dump_pieces text.now ≡ Err e)) }
+{
+    let mut runs = Vec::new(alloc.clone()?);
+    let mut room = text.len() / ENDED * 16 + 16;
+    let mut lines = DumpLines::new(text);
+    let mut next = next_line(&mut lines)?;
+    while let Some(first) = next {
+        let taken = take_run(alloc.clone()?, &mut lines, first, room)?;
+        runs.push(taken.run)?;
+        next = taken.next;
+        room = 0;
+    }
+    Ok(runs)
+}
+
+/// A line of a dump.
+#[derive(Drop)]
+enum DumpLine<'a> {
+    /// One of xxd's default form that holds 16 bytes.
+    Full(FullLine),
+    /// Any other.
+    Other(Line<'a>),
+}
+
+impl<'a> DumpLine<'a> {
+    ghost use Rattle.bx_read.specs.inner.NextLine.{piece_of};
+
+    /// The address of its first byte.
+    #[inline]
+    fn at(&self) -> u64
+        ensures { result ≡ (piece_of self.now).0 }
+    {
+        match self {
+            DumpLine::Full(line) => line.at,
+            DumpLine::Other(line) => line.at,
+        }
+    }
+
+    /// Adds its bytes.
+    #[inline]
+    fn push_to<A: Allocator>(&self, bytes: &mut Vec<u8, A>) -> Result<(), ReadFault>
+        ensures { MatchResult result (λ _. bytes.new.items ≡ bytes.old.items ++ (piece_of self.now).1) (λ e. e ≡ ReadFault.NoMemory) }
+    {
+        match self {
+            DumpLine::Full(line) => bytes.extend_from_slice(&line.bytes)?,
+            DumpLine::Other(line) => {
+                let mut out = [0u8; 256];
+                let count = line.decode(&mut out);
+                bytes.extend_from_slice(&out[..count])?;
+            }
+        }
+        Ok(())
+    }
+}
+
+/// The next line, and none at the end.
+#[inline]
+fn next_line<'a>(lines: &mut DumpLines<'a>) -> Result<Option<DumpLine<'a>>, ReadFault>
+    ensures { MatchResult result (IsNextLine (coming lines.old) (coming lines.new)) (λ e. gathered (coming lines.old) ≡ Err e) }
+{
+    if let Some(full) = lines.take_full() {
+        return Ok(Some(DumpLine::Full(full)));
+    }
+    match lines.next() {
+        None => Ok(None),
+        Some(Err(fault)) => Err(fault),
+        Some(Ok(line)) => Ok(Some(DumpLine::Other(line))),
+    }
+}
+
+/// A run, and the line behind it.
+#[derive(Drop)]
+struct TakenRun<'a, A: Allocator = Global> {
+    run: Piece<A>,
+    next: Option<DumpLine<'a>>,
+}
+
+/// The run that a line begins, with room for so many bytes at first.
+fn take_run<'a, A: Allocator>(
+    alloc: A,
+    lines: &mut DumpLines<'a>,
+    first: DumpLine<'a>,
+    room: usize,
+) -> Result<TakenRun<'a, A>, ReadFault>
+    ensures run { MatchResult result
+        (λ t. joined_of (piece_then (piece_of first.entry) (gathered (coming lines.old)))
+        ≡ piece_then (t.run.at, t.run.bytes) (joined_of (taken_then t.next (coming lines.new))))
+        (λ e. (e ≡ ReadFault.NoMemory) ⊎ (gathered (coming lines.old) ≡ Err e)) }
+    ensures fewer { IfOk result (λ t. lines_left t.next (coming lines.new) ≤ length (coming lines.old)) }
+{
+    let at = first.at();
+    let mut bytes = Vec::with_capacity(alloc, room)?;
+    first.push_to(&mut bytes)?;
+    let next = grow(lines, at, &mut bytes)?;
+    let run = Piece {
+        at,
+        bytes: Bytes::from_vec(bytes),
+    };
+    Ok(TakenRun { run, next })
+}
+
+/// Adds the lines that go on with a run, and answers the first one that doesn't.
+fn grow<'a, A: Allocator>(
+    lines: &mut DumpLines<'a>,
+    at: u64,
+    bytes: &mut Vec<u8, A>,
+) -> Result<Option<DumpLine<'a>>, ReadFault>
+    ensures run { MatchResult result
+        (λ next. joined_of (piece_then (at, bytes.old.items) (gathered (coming lines.old)))
+        ≡ piece_then (at, bytes.new.items) (joined_of (taken_then next (coming lines.new))))
+        (λ e. (e ≡ ReadFault.NoMemory) ⊎ (gathered (coming lines.old) ≡ Err e)) }
+    ensures fewer { IfOk result (λ next. lines_left next (coming lines.new) ≤ length (coming lines.old)) }
+{
+    while let Some(line) = next_line(lines)? {
+        if !goes_on(at, bytes.len(), line.at()) {
+            return Ok(Some(line));
+        }
+        line.push_to(bytes)?;
+    }
+    Ok(None)
+}
+
+/// Whether what begins at `next` goes on with so many bytes at `at`.
+#[inline]
+fn goes_on(at: u64, count: usize, next: u64) -> bool
+    ensures { result ≡ (next == at + count) }
+{
+    next >= at && next - at == count as u64
+}
