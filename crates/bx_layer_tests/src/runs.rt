@@ -31,7 +31,9 @@ fn full_lines(alloc: Global, count: u32) -> Result<String, AllocError> {
     let mut text = String::new(alloc);
     for i in 0..count {
         let at = i.saturating_mul(16);
-        let line = format!(in alloc; "{at:08x}: 4142 4344 4546 4748 494a 4b4c 4d4e 4f50  ABCDEFGHIJKLMNOP\n")?;
+        let line = format!(in alloc;
+            "{at:08x}: 4142 4344 4546 4748 494a 4b4c 4d4e 4f50  ABCDEFGHIJKLMNOP\n"
+        )?;
         text.push_str(line.as_str())?;
     }
     Ok(text)
@@ -60,7 +62,12 @@ fn runs_of_any_lines(rt: HostRuntime) {
     assert_runs(&rt, alloc, "0: 4142\n3: 43\n4: 44\n", &[(0, 2), (3, 2)]);
     assert_runs(&rt, alloc, "0: 4142\n1: 4344\n3: 45\n", &[(0, 2), (1, 3)]);
     assert_runs(&rt, alloc, "8: 41\n0: 42\n1: 43\n", &[(8, 1), (0, 2)]);
-    assert_runs(&rt, alloc, "0: 41\n0: 42\n0: 43\n", &[(0, 1), (0, 1), (0, 1)]);
+    assert_runs(
+        &rt,
+        alloc,
+        "0: 41\n0: 42\n0: 43\n",
+        &[(0, 1), (0, 1), (0, 1)],
+    );
 }
 
 #[test]
