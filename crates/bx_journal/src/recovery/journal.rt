@@ -4,9 +4,9 @@ ghost use Rattle.bx_entries.specs.inner.Journal.{HasRead};
 ghost use Rattle.bx_journal.specs.Opening.{FaultCounts};
 ghost use Rattle.bx_entries.specs.inner.Tally.{IsCounted};
 
+use crate::SessionFault;
 use crate::session::fault::of_text;
 use crate::session::read::read_journal;
-use crate::SessionFault;
 use bx_entries::{Counted, JournalRead, StageRead, count_entries, told_length};
 use bx_store::TextStore;
 use std::alloc::{Allocator, Global};

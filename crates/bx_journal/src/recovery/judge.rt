@@ -11,7 +11,9 @@ ghost use Rattle.bx_entries.specs.Text.{split};
 
 use crate::SessionFault;
 use crate::session::read::read_journal;
-use bx_entries::{Counted, EntryRead, JournalRead, MOST_CHANGES, StageRead, count_entries, told_length};
+use bx_entries::{
+    Counted, EntryRead, JournalRead, MOST_CHANGES, StageRead, count_entries, told_length,
+};
 use bx_image::Device;
 use std::alloc::Allocator;
 
