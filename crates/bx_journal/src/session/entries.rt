@@ -5,9 +5,9 @@ ghost use Rattle.bx_journal.specs.Opening.{FaultCounts};
 ghost use Rattle.bx_journal.specs.Undoing.{AgainFault, HasCount};
 ghost use Rattle.bx_journal.specs.inner.Undoing.{IsReadAgain, IsReadFrom};
 
+use crate::SessionFault;
 use crate::session::fault::of_text;
 use crate::session::read::read_journal;
-use crate::SessionFault;
 use bx_entries::{EntryRead, JournalRead, StageRead};
 use bx_store::TextStore;
 use std::alloc::{Allocator, Global};

@@ -6,9 +6,9 @@ ghost use Rattle.bx_entries.specs.inner.Parsed.{AllKept};
 ghost use Rattle.bx_journal.specs.inner.Takens.{AreZeros, AreReady, AllShaped, IsZeros, TakenFault, length_at, entries_len as entries_long};
 ghost use Rattle.bx_journal.specs.inner.Undoing.{IsReadAgain};
 
+use crate::SessionFault;
 use crate::protocol::fill::fill_last;
 use crate::session::entries::FinishedRead;
-use crate::SessionFault;
 use bx_entries::{EntryRead, head_len, new_page};
 use bx_image::{Device, MAX_LEN, Saved, room_to_restore};
 use bx_store::TextStore;
