@@ -10,7 +10,6 @@ use Rattle.bx_entries.specs.Line.{after_in}
 use Rattle.bx_entries.specs.Text.{Entry, Stage, Between, Saving, Ending, Reading, Split, ended, split, start, next, next_at, after_lines}
 use Rattle.bx_entries.specs.Parsed.{told_by}
 use Rattle.bx_entries.specs.inner.Plain.{HasNoNewline}
-use Rattle.bx_entries.specs.Finished.{AllTell}
 use Rattle.std.proofs.lemmas.List.{take-append-drop, drop-take}
 use Rattle.std.proofs.Math.Seq.{drop-append_seam}
 use Rattle.bx_entries.specs.inner.Tally.{place_of, tally_of, LeadsTo, IsTallied, IsCountedAll}

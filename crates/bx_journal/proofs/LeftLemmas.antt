@@ -3,10 +3,10 @@ use Rattle.std.proofs.Common.{◌≡◌, ℕ, List, [], ◌++◌, take, drop, re
 use Rattle.std.proofs.lemmas.List.{take-append-drop}
 use Rattle.bx_entries.specs.declared.read.whole.JournalRead.{JournalRead}
 use Rattle.bx_entries.specs.declared.read.types.StageRead.{StageRead}
-use Rattle.bx_entries.specs.Text.{Entry, Between, Reading, Reads, IsRest, split}
+use Rattle.bx_entries.specs.Text.{Entry, Between, Reading, Reads, IsRest}
 use Rattle.bx_entries.specs.inner.Mark.{IsMark}
 use Rattle.bx_entries.specs.inner.Journal.{HasRead}
-use Rattle.bx_entries.specs.inner.Parsed.{IsMarked, entries_of, stage_of, reading_of}
+use Rattle.bx_entries.specs.inner.Parsed.{IsMarked, entries_of, reading_of}
 use Rattle.bx_entries.specs.inner.Tally.{IsCounted}
 use Rattle.bx_entries.specs.Finished.{IsFinished}
 use Rattle.bx_journal.specs.Undoing.{HasLeft}

@@ -1,5 +1,5 @@
 -- What proofs alone need: a store's text that is counted in windows.
-use Rattle.std.specs.Prelude.{◌≡◌, ◌<◌, ◌≤◌, ℕ, ◌+◌, Bool, List, ◌++◌, length, take, drop}
+use Rattle.std.specs.Prelude.{◌≡◌, ◌<◌, ◌≤◌, ℕ, ◌+◌, Bool, List, ◌++◌, take, drop}
 use Rattle.bx_entries.specs.declared.read.count.Tally.{Tally}
 use Rattle.bx_entries.specs.declared.read.window.Passed.{Passed}
 use Rattle.bx_journal.specs.declared.recovery.windows.CountedText.{CountedText}

@@ -1,4 +1,4 @@
-use Rattle.std.proofs.Common.{◌+◌, length, take, drop, refl, ap, ◌∙◌, arith, length-drop}
+use Rattle.std.proofs.Common.{◌+◌, length, drop, refl, ap, ◌∙◌, arith, length-drop}
 use Rattle.bx_entries.proofs.ReadLoop.{drop_twice}
 use Rattle.bx_entries.proofs.TallyLemmas.{IsFirstLine, tallied_more, tallied_same}
 use Rattle.bx_entries.proofs.read.window.count_lines.Goals as goal
