@@ -23,7 +23,7 @@ use Rattle.bx_cli.specs.Run.{ChangeStep, ReadStep, DumpStep}
 use Rattle.bx_cli.specs.Standing.{Standing, PerformUp}
 use Rattle.bx_cli.proofs.Stands.{read_step}
 
-module _ {A : Type 0} (offset : ℕ) where
+module _ (A : Type 0) (offset : ℕ) where
   abbrev write : ℕ × List ℕ → Piece A
   write piece = record { at = piece.0 + offset; bytes = piece.1 }
 
@@ -56,8 +56,8 @@ perform_same c d old (Err Interrupted) after same (inl before) = inl before
 perform_same c d old (Err Interrupted) after same (inr changed) =
     inr (changed ∙ ap (λ x. Standing.Down (change_to x old)) (same.same_effect (top old.stack)))
 perform_same c d old (Err NoMemory) after same step = step
-perform_same c d old (Err TooLarge) after same (is, room, large, stack) =
-    (is, room, λ fit. large ((same.same_fit (length (top old.stack)) MAX_LEN).1 fit), stack)
+perform_same c d old (Err TooLarge) after same (is, (room, large, stack)) =
+    (is, (room, λ fit. large ((same.same_fit (length (top old.stack)) MAX_LEN).1 fit), stack))
 perform_same c d old (Err (Damaged line)) after same step = step
 perform_same c d old (Err (TooFew have)) after same step = step
 perform_same c d old (Err Broken) after same step = step
@@ -80,5 +80,5 @@ pub dump_step : {A : Type 0} (text : List ℕ) (offset : ℕ) (read : Result (Ch
     ReadStep before (λ c. c) read reply after → DumpStep A before text offset reply after
 dump_step {A = A} text offset read before after reply is step = ⊎_elim
     (λ none. inl none)
-    (λ made. inr (read_same (λ pieces. dump_change {A = A} offset (joined pieces)) (dump_change {A = A} offset) (dump_pieces text) before after reply (dump_joined offset) made))
+    (λ made. inr (read_same (λ pieces. dump_change {A = A} offset (joined pieces)) (dump_change {A = A} offset) (dump_pieces text) before after reply (dump_joined A offset) made))
     (read_step (λ pieces. dump_change {A = A} offset (joined pieces)) (dump_pieces text) read before after reply is step)
