@@ -1,14 +1,28 @@
 -- What a refused command leaves.
-use Rattle.std.specs.Prelude.{◌==◌, ◌||◌, ◌&&◌, nat_le, IsTrue}
-use Rattle.bx_cli.specs.Fault.{number_of}
 use Rattle.bx_cli.specs.declared.command.Reply.{Reply}
 use Rattle.bx_cli.specs.declared.command.Reply.TheVariants.{Refused}
 use Rattle.bx_cli.specs.declared.fault.Fault.{Fault}
-use Rattle.bx_cli.specs.declared.fault.Fault.TheVariants.{Interrupted}
+use Rattle.bx_cli.specs.declared.fault.Fault.TheVariants.{ReadFailed, InputTooLong, BadAddress, MissingColon, BadPair, NoData, TooWide, AddressTooLarge, OddDigits, UnknownOperand, BadNumber, NumberTooLarge, ZeroSize, Conflict, MissingCbs, Repeated, Interrupted}
 
--- the fault of a dump's text (10 to 16), of dd's operands (20 to 26) or of dd's input (2 and 4): it is found before the session is called
+-- the fault of a dump's text, of dd's operands or of dd's input: it is found before the session is called
 abbrev pub IsOwnFault : Fault → Type 0
-IsOwnFault e = IsTrue (number_of e == 2 || (number_of e == 4 || (nat_le 10 (number_of e) && nat_le (number_of e) 26)))
+IsOwnFault ReadFailed = Unit {0}
+IsOwnFault InputTooLong = Unit {0}
+IsOwnFault (BadAddress _) = Unit {0}
+IsOwnFault (MissingColon _) = Unit {0}
+IsOwnFault (BadPair _) = Unit {0}
+IsOwnFault (NoData _) = Unit {0}
+IsOwnFault (TooWide _) = Unit {0}
+IsOwnFault (AddressTooLarge _) = Unit {0}
+IsOwnFault (OddDigits _) = Unit {0}
+IsOwnFault (UnknownOperand _) = Unit {0}
+IsOwnFault (BadNumber _) = Unit {0}
+IsOwnFault (NumberTooLarge _) = Unit {0}
+IsOwnFault (ZeroSize _) = Unit {0}
+IsOwnFault Conflict = Unit {0}
+IsOwnFault MissingCbs = Unit {0}
+IsOwnFault (Repeated _) = Unit {0}
+IsOwnFault e = ⊥
 
 -- the command was refused for a fault of its own
 abbrev pub IsOwnRefusal : Reply → Type 0
