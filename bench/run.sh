@@ -147,6 +147,13 @@ before="$bare; cp few image; '$BX' revert -f dump image"
 row $C - 'undo of that'             'cp of a copy'          -- "$BX" undo image              -- cp few image
 before="$before; '$BX' undo image > undone"
 row $C - 'redo of that'             'cp of a copy'          -- "$BX" redo image              -- cp less image
+made=-
+before="$bare; cp few image; '$BX' revert -f dump image"
+row $C 4 'undo -k 0, a large journal' 'cat of the journal'  -- "$BX" undo -k 0 image         -- cat image.bxj
+before="$before; printf '0: 41' | '$BX' revert image"
+row $C - 'undo of a byte, a large journal' 'cat of the journal' -- "$BX" undo image          -- cat image.bxj
+before="$bare; cp few image; '$BX' revert -f dump image; '$BX' undo image > undone"
+row $C 4 'undo -k 0, a large redo file' 'cat of the redo file' -- "$BX" undo -k 0 image      -- cat image.bxj.redo
 awk 'BEGIN { for (n = 1; n < 65536; n++) printf "change2 %08x %016x\n00000000: %-40s %s\nsave %08x\ndone2 %08x %016x\n",
   n, 16, "4142 4344 4546 4748 494a 4b4c 4d4e 4f50", "ABCDEFGHIJKLMNOP", n, n, 16 }' > many.bxj
 printf ABCDEFGHIJKLMNOP > many; head -c "$(($(stat -c %s many.bxj) / 68 * 16))" less | xxd > same
