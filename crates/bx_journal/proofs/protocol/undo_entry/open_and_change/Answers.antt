@@ -7,7 +7,7 @@ always_err (Ok x) p = tt
 always_err (Err e) p = p
 
 pub returns-in_err-cut-clause-order : goal.returns-in_err-cut-clause-order
-returns-in_err-cut-clause-order g c th = always_err c.from_residual.result (inl (refl, (refl, c.in_err-cut.ensures.failed th)))
+returns-in_err-cut-clause-order g c th = always_err _ (inl (refl, refl, c.in_err-cut.ensures.failed th))
 
 pub returns-in_err-change_undone-clause-order : goal.returns-in_err-change_undone-clause-order
-returns-in_err-change_undone-clause-order g c th = always_err c.from_residual.result (inr (search rules))
+returns-in_err-change_undone-clause-order g c th = always_err _ (inr (search rules))
