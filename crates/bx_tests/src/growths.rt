@@ -52,7 +52,7 @@ const ROWS: [LogRow; 2] = [
 const LINES: &str = "1 8 2\n2 10 0\n";
 
 /// A call that takes memory.
-#[derive(Clone, Copy, Debug)]
+#[derive(Clone, Copy)]
 enum Call {
     Copy,
     List,
@@ -202,17 +202,32 @@ fn sweep(rt: &impl Abort, alloc: Global, given: &Given, call: Call) -> Result<u3
 /// Operands of a transfer that converts and counts.
 const OPERANDS: &str = "ibs=3 cbs=4 if=a of=b conv=block,ucase";
 
-#[test]
-fn growths_of_outputs(rt: HostRuntime) -> Result<(), Fail> {
-    let alloc = rt.alloc();
+/// Refuses each growth of the call in turn, of which there are at least so many.
+fn refused(
+    rt: &impl Abort,
+    alloc: Global,
+    given: &Given,
+    call: Call,
+    least: u32,
+) -> Result<u32, Fail> {
+    let count = sweep(rt, alloc, given, call)?;
+    assert!(rt; count >= least);
+    Ok(count)
+}
+
+fn make_given(alloc: Global) -> Result<Given, Fail> {
     let job = plan_words(alloc, &words(alloc, COPY)?)?;
     let operands = words(alloc, OPERANDS)?;
-    let given = Given { job, operands };
-    for (call, least) in [(Call::Copy, 3), (Call::List, 1), (Call::Transfer, 5)] {
-        let count = sweep(&rt, alloc, &given, call)?;
-        println!(rt; "growths refused: {count} of {call:?}")?;
-        assert!(rt; count >= least);
-    }
+    Ok(Given { job, operands })
+}
+
+#[test]
+fn growths_of_outputs(rt: HostRuntime) -> Result<(), Fail> {
+    let given = make_given(rt.alloc())?;
+    let copy = refused(&rt, rt.alloc(), &given, Call::Copy, 3)?;
+    let list = refused(&rt, rt.alloc(), &given, Call::List, 1)?;
+    let transfer = refused(&rt, rt.alloc(), &given, Call::Transfer, 5)?;
+    println!(rt; "growths refused: {copy} of a copy, {list} of a log, {transfer} of a transfer")?;
     Ok(())
 }
 
