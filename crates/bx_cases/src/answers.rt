@@ -1,9 +1,10 @@
 //! What commands and openings answer, beside what a case tells.
-use crate::outcome::{Wrong, differs, fault_text};
+use crate::outcome::{Wrong, differs, fault_text, same_text};
 use bx_case_files::{Answer, Found, Opening, Records};
 use bx_cli::{Fault, Reply};
 use bx_dd::Counts;
 use std::alloc::{AllocError, Global};
+use std::fmt::Write;
 
 /// An opening, as a case file writes it.
 fn opening_text(alloc: Global, opening: Opening) -> Result<String, AllocError> {
@@ -29,15 +30,19 @@ pub fn same_opening(alloc: Global, wanted: Opening, found: Opening) -> Result<()
 
 /// Opening was refused, with this fault.
 pub fn same_refusal(alloc: Global, wanted: &Found, fault: Fault) -> Result<(), Wrong> {
-    let text = fault_text(alloc, fault)?;
     match wanted {
-        Found::Refused(wanted) if wanted.as_str() == text.as_str() => Ok(()),
-        Found::Refused(wanted) => { Err(differs(alloc, "opening", wanted.as_str(), text.as_str())) }
+        Found::Refused(wanted) => same_told(alloc, wanted.as_str(), fault),
         Found::Opened(opening) => {
             let wanted = opening_text(alloc, *opening)?;
-            Err(differs(alloc, "opening", wanted.as_str(), text.as_str()))
+            same_told(alloc, wanted.as_str(), fault)
         }
     }
+}
+
+/// Of an opening this text was told: that of the fault.
+fn same_told(alloc: Global, wanted: &str, fault: Fault) -> Result<(), Wrong> {
+    let found = fault_text(alloc, fault)?;
+    same_text(alloc, "opening", wanted, found.as_str())
 }
 
 /// Opening was refused, where it should not be.
@@ -59,19 +64,25 @@ fn records_of(counts: Counts) -> Records {
     }
 }
 
+fn push_blocks(text: &mut String, whole: u64, part: u64) -> Result<(), AllocError> {
+    write!(text, " {whole}+{part}")
+}
+
+fn push_records(text: &mut String, records: Records) -> Result<(), AllocError> {
+    push_blocks(text, records.whole_in, records.part_in)?;
+    push_blocks(text, records.whole_out, records.part_out)?;
+    let cut = records.cut;
+    write!(text, " {cut}")
+}
+
 fn counts_text(alloc: Global, number: u32, records: Records) -> Result<String, AllocError> {
-    let Records {
-        whole_in,
-        part_in,
-        whole_out,
-        part_out,
-        cut,
-    } = records;
-    format!(in alloc; "copied {number} {whole_in}+{part_in} {whole_out}+{part_out} {cut}")
+    let mut text = format!(in alloc; "copied {number}")?;
+    push_records(&mut text, records)?;
+    Ok(text)
 }
 
 /// A reply, as a case file writes it.
-pub fn reply_text(alloc: Global, reply: Reply) -> Result<String, AllocError> {
+fn reply_text(alloc: Global, reply: Reply) -> Result<String, AllocError> {
     match reply {
         Reply::Changed { number } => format!(in alloc; "changed {number}"),
         Reply::Copied { number, counts } => counts_text(alloc, number, records_of(counts)),
@@ -95,9 +106,11 @@ fn answer_text(alloc: Global, answer: &Answer) -> Result<String, AllocError> {
 /// This is the reply to a command.
 pub fn same_reply(alloc: Global, wanted: &Answer, reply: Reply) -> Result<(), Wrong> {
     let wanted = answer_text(alloc, wanted)?;
+    same_reply_text(alloc, wanted.as_str(), reply)
+}
+
+/// The reply to a command has this text.
+pub fn same_reply_text(alloc: Global, wanted: &str, reply: Reply) -> Result<(), Wrong> {
     let found = reply_text(alloc, reply)?;
-    if wanted.as_str() == found.as_str() {
-        return Ok(());
-    }
-    Err(differs(alloc, "reply", wanted.as_str(), found.as_str()))
+    same_text(alloc, "reply", wanted, found.as_str())
 }

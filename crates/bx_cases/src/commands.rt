@@ -4,6 +4,7 @@ use crate::outcome::{Wrong, same_bytes};
 use crate::places::Place;
 use crate::sessions::{Devices, Held, Texts, ask_for, close, contents, found_again, log_of, open};
 use bx_case_files::{Answer, Ask, CommandsCase, Opening, Row};
+use bx_cli::Reply;
 use bx_image::Device;
 use bx_journal::Session;
 use bx_store::TextStore;
@@ -51,6 +52,27 @@ fn stand<D: Device + Drop, T: TextStore + Drop, P: Place<D, T>>(
     again(alloc, place, session)
 }
 
+/// Closes a session, and looks at what its devices hold.
+fn closed<D: Device + Drop, T: TextStore + Drop>(
+    alloc: Global,
+    session: Session<D, T>,
+) -> Result<(Devices<D, T>, Held), Wrong> {
+    let mut devices = close(session);
+    let held = contents(alloc, &mut devices)?;
+    Ok((devices, held))
+}
+
+/// Finds devices again, and opens them.
+fn opened_again<D: Device + Drop, T: TextStore + Drop, P: Place<D, T>>(
+    alloc: Global,
+    place: &P,
+    devices: Devices<D, T>,
+    wanted: Opening,
+) -> Result<Session<D, T>, Wrong> {
+    let devices = place.again(devices)?;
+    opened(alloc, devices, wanted)
+}
+
 /// Closes a session, looks at what its devices hold, and opens them again: they are found clean.
 pub fn again<D: Device + Drop, T: TextStore + Drop, P: Place<D, T>>(
     alloc: Global,
@@ -58,10 +80,8 @@ pub fn again<D: Device + Drop, T: TextStore + Drop, P: Place<D, T>>(
     session: Session<D, T>,
 ) -> Result<Standing<D, T>, Wrong> {
     let wanted = found_again(&session);
-    let mut devices = close(session);
-    let held = contents(alloc, &mut devices)?;
-    let devices = place.again(devices)?;
-    let session = opened(alloc, devices, wanted)?;
+    let (devices, held) = closed(alloc, session)?;
+    let session = opened_again(alloc, place, devices, wanted)?;
     Ok(Standing { session, held })
 }
 
@@ -75,16 +95,31 @@ pub fn begun<D: Device + Drop, T: TextStore + Drop, P: Place<D, T>>(
     stand(alloc, place, devices, case.opening)
 }
 
+/// There is a reply, and it is this one.
+pub fn replied(alloc: Global, wanted: &Answer, reply: Option<Reply>) -> Result<(), Wrong> {
+    match reply {
+        Some(reply) => same_reply(alloc, wanted, reply),
+        None => Err(Wrong::NoMemory),
+    }
+}
+
 /// Asks for what a row tells, and compares the reply and the log.
 fn play_ask<D: Device + Drop, T: TextStore + Drop>(
     alloc: Global,
     session: &mut Session<D, T>,
     row: &Row,
 ) -> Result<(), Wrong> {
-    match ask_for(alloc, session, &row.ask, None)? {
-        Some(reply) => same_reply(alloc, &row.answer, reply)?,
-        None => return Err(Wrong::NoMemory),
-    }
+    let reply = ask_for(alloc, session, &row.ask, None)?;
+    replied(alloc, &row.answer, reply)?;
+    same_log(alloc, session, row)
+}
+
+/// The log is the one that a row tells.
+fn same_log<D: Device + Drop, T: TextStore + Drop>(
+    alloc: Global,
+    session: &mut Session<D, T>,
+    row: &Row,
+) -> Result<(), Wrong> {
     match &row.log {
         Some(log) => {
             let found = log_of(alloc, session)?;
@@ -116,6 +151,18 @@ fn wanted_text<'a>(told: &'a Option<Vec<u8>>, before: &'a Vec<u8>, kept: bool) -
     }
 }
 
+/// What a row tells of a session that was just opened.
+fn answer<D: Device + Drop, T: TextStore + Drop>(
+    alloc: Global,
+    session: &mut Session<D, T>,
+    row: &Row,
+) -> Result<(), Wrong> {
+    match (&row.ask, &row.answer) {
+        (Ask::Open, Answer::Opened(wanted)) => same_opening(alloc, *wanted, found_again(session)),
+        _ => play_ask(alloc, session, row),
+    }
+}
+
 /// A row of a session that was just opened, and is opened again behind it.
 pub fn play_row<D: Device + Drop, T: TextStore + Drop, P: Place<D, T>>(
     alloc: Global,
@@ -125,12 +172,7 @@ pub fn play_row<D: Device + Drop, T: TextStore + Drop, P: Place<D, T>>(
 ) -> Result<Standing<D, T>, Wrong> {
     let Standing { session, held } = standing;
     let mut session = session;
-    match (&row.ask, &row.answer) {
-        (Ask::Open, Answer::Opened(wanted)) => {
-            same_opening(alloc, *wanted, found_again(&session))?;
-        }
-        _ => play_ask(alloc, &mut session, row)?,
-    }
+    answer(alloc, &mut session, row)?;
     let behind = again(alloc, place, session)?;
     same_held(alloc, row, &held, &behind.held)?;
     Ok(behind)
@@ -159,18 +201,46 @@ pub fn play_once<D: Device + Drop, T: TextStore + Drop, P: Place<D, T>>(
     let Standing { session, .. } = begun(alloc, place, case)?;
     let mut session = session;
     for (i, row) in case.rows.iter().enumerate() {
-        if !matches!(&row.ask, Ask::Open) {
-            play_ask(alloc, &mut session, row)?;
-        }
-        if i == behind || matches!(&row.ask, Ask::Open) {
-            session = looked(alloc, place, session, row)?;
-        }
+        session = play_next(alloc, place, session, row, i == behind)?;
     }
     match case.rows.last() {
         Some(row) => {
             let _ = looked(alloc, place, session, row)?;
             Ok(())
         }
+        None => Ok(()),
+    }
+}
+
+/// A row of a session; the devices are closed and opened behind it where that is asked for, or the row tells it.
+fn play_next<D: Device + Drop, T: TextStore + Drop, P: Place<D, T>>(
+    alloc: Global,
+    place: &P,
+    session: Session<D, T>,
+    row: &Row,
+    is_closed: bool,
+) -> Result<Session<D, T>, Wrong> {
+    if matches!(&row.ask, Ask::Open) {
+        return looked(alloc, place, session, row);
+    }
+    let mut session = session;
+    play_ask(alloc, &mut session, row)?;
+    if is_closed {
+        return looked(alloc, place, session, row);
+    }
+    Ok(session)
+}
+
+/// The devices hold what a row tells.
+fn same_told(alloc: Global, row: &Row, held: &Held) -> Result<(), Wrong> {
+    same_bytes(alloc, "image", row.image.as_slice(), held.image.as_slice())?;
+    match &row.journal {
+        Some(journal) => same_bytes(
+            alloc,
+            "journal",
+            journal.as_slice(),
+            held.journal.as_slice(),
+        ),
         None => Ok(()),
     }
 }
@@ -183,14 +253,6 @@ fn looked<D: Device + Drop, T: TextStore + Drop, P: Place<D, T>>(
     row: &Row,
 ) -> Result<Session<D, T>, Wrong> {
     let Standing { session, held } = again(alloc, place, session)?;
-    same_bytes(alloc, "image", row.image.as_slice(), held.image.as_slice())?;
-    if let Some(journal) = &row.journal {
-        same_bytes(
-            alloc,
-            "journal",
-            journal.as_slice(),
-            held.journal.as_slice(),
-        )?;
-    }
+    same_told(alloc, row, &held)?;
     Ok(session)
 }

@@ -1,16 +1,18 @@
 //! Cases with each growth refused in turn.
 use crate::answers::{refused, same_opening, same_refusal, same_reply};
-use crate::commands::{begun, play_row};
+use crate::commands::{Standing, begun, play_row, replied};
 use crate::hunt::{Hunt, MOST_TRIES};
 use crate::outcome::{Wrong, differs, same_bytes};
 use crate::places::Memory;
-use crate::sessions::{MemDevices, MemSession, Texts, ask_for, close, in_memory, open};
+use crate::sessions::{MemDevices, MemSession, Opened, Texts, ask_for, close, in_memory, open};
 use crate::tally::{Failure, at};
 use crate::weight::is_swept;
 use bumpalo::Bump;
 use bx_case_files::{Ask, CommandsCase, Found, Opening, Row, TextCase};
 use bx_cli::{Fault, Reply};
+use bx_image::MemImage;
 use bx_ration::{arena, squeeze, used};
+use bx_store::MemText;
 use std::alloc::{Allocator, Global};
 
 /// Refuses each growth of each command of a case in turn. Tells how many they were.
@@ -22,17 +24,32 @@ pub fn play_growths(alloc: Global, case: &CommandsCase) -> Result<u32, Failure> 
     let mut growths = 0u32;
     for (i, row) in case.rows.iter().enumerate() {
         if is_swept(i, case.rows.len()) {
-            match each_growth(alloc, standing.held.texts(), row) {
-                Ok(more) => growths = growths.saturating_add(more),
-                Err(wrong) => return Err(at(growths, wrong)),
-            }
+            growths = more_growths(alloc, standing.held.texts(), row, growths)?;
         }
-        standing = match play_row(alloc, &Memory, standing, row) {
-            Ok(standing) => standing,
-            Err(wrong) => return Err(at(growths, wrong)),
-        };
+        standing = next_row(alloc, standing, row, growths)?;
     }
     Ok(growths)
+}
+
+/// Refuses each growth of a command in turn. Tells how many they were, with so many before.
+fn more_growths(alloc: Global, texts: Texts<'_>, row: &Row, growths: u32) -> Result<u32, Failure> {
+    match each_growth(alloc, texts, row) {
+        Ok(more) => Ok(growths.saturating_add(more)),
+        Err(wrong) => Err(at(growths, wrong)),
+    }
+}
+
+/// A row behind so many growths that were refused.
+fn next_row(
+    alloc: Global,
+    standing: Standing<MemImage, MemText>,
+    row: &Row,
+    growths: u32,
+) -> Result<Standing<MemImage, MemText>, Failure> {
+    match play_row(alloc, &Memory, standing, row) {
+        Ok(standing) => Ok(standing),
+        Err(wrong) => Err(at(growths, wrong)),
+    }
 }
 
 /// Refuses each growth of a command in turn. Tells how many they were.
@@ -65,6 +82,9 @@ fn squeezed_once(
     squeezed(alloc, &bump, texts, row, bytes)
 }
 
+/// What opening devices in an arena came to.
+type OpenedIn<'a> = Opened<MemImage<&'a Bump>, MemText<&'a Bump>, &'a Bump>;
+
 /// A session in an arena that has room.
 fn opened_in<'a>(
     alloc: Global,
@@ -77,6 +97,35 @@ fn opened_in<'a>(
     }
 }
 
+/// What one command came to in an arena.
+#[derive(Drop)]
+struct Asked<'a> {
+    reply: Option<Reply>,
+    /// How many bytes were taken.
+    taken: usize,
+    devices: MemDevices<&'a Bump>,
+}
+
+/// One command with so many bytes. Behind it there is room.
+fn asked_with<'a>(
+    alloc: Global,
+    bump: &'a Bump,
+    texts: Texts<'_>,
+    row: &Row,
+    bytes: usize,
+) -> Result<Asked<'a>, Wrong> {
+    let mut session = opened_in(alloc, bump, texts)?;
+    let reply = ask_for(bump, &mut session, &row.ask, Some((bump, bytes)))?;
+    let taken = used(bump, bytes);
+    bump.set_allocation_limit(None);
+    let devices = close(session);
+    Ok(Asked {
+        reply,
+        taken,
+        devices,
+    })
+}
+
 /// One command with so many bytes, and where that is too little again with enough. Tells how many it had taken when it was
 /// refused, if it was.
 fn squeezed<'a>(
@@ -86,29 +135,33 @@ fn squeezed<'a>(
     row: &Row,
     bytes: usize,
 ) -> Result<Option<usize>, Wrong> {
-    let mut session = opened_in(alloc, bump, texts)?;
-    let reply = ask_for(bump, &mut session, &row.ask, Some((bump, bytes)))?;
-    let taken = used(bump, bytes);
-    bump.set_allocation_limit(None);
-    match reply {
+    let asked = asked_with(alloc, bump, texts, row, bytes)?;
+    match asked.reply {
         None | Some(Reply::Refused(Fault::NoMemory)) => {
-            let devices = close(session);
-            unchanged(alloc, texts, &devices)?;
+            unchanged(alloc, texts, &asked.devices)?;
             with_room(alloc, bump, texts, row)?;
-            Ok(Some(taken))
+            Ok(Some(asked.taken))
         }
         Some(reply) => {
             same_reply(alloc, &row.answer, reply)?;
-            let devices = close(session);
-            same_bytes(
-                alloc,
-                "image",
-                row.image.as_slice(),
-                devices.image.as_slice(),
-            )?;
+            same_image(alloc, row, &asked.devices)?;
             Ok(None)
         }
     }
+}
+
+/// Devices hold the image that a row leaves.
+fn same_image<A: Allocator>(
+    alloc: Global,
+    row: &Row,
+    devices: &MemDevices<A>,
+) -> Result<(), Wrong> {
+    same_bytes(
+        alloc,
+        "image",
+        row.image.as_slice(),
+        devices.image.as_slice(),
+    )
 }
 
 /// Devices hold what they held.
@@ -125,17 +178,10 @@ pub fn unchanged<A: Allocator>(
 /// The command with room enough.
 fn with_room<'a>(alloc: Global, bump: &'a Bump, texts: Texts<'_>, row: &Row) -> Result<(), Wrong> {
     let mut session = opened_in(alloc, bump, texts)?;
-    match ask_for(bump, &mut session, &row.ask, None)? {
-        Some(reply) => same_reply(alloc, &row.answer, reply)?,
-        None => return Err(Wrong::NoMemory),
-    }
+    let reply = ask_for(bump, &mut session, &row.ask, None)?;
+    replied(alloc, &row.answer, reply)?;
     let devices = close(session);
-    same_bytes(
-        alloc,
-        "image",
-        row.image.as_slice(),
-        devices.image.as_slice(),
-    )
+    same_image(alloc, row, &devices)
 }
 
 /// Refuses each growth of an opening in turn. Tells how many they were.
@@ -174,28 +220,49 @@ fn squeezed_opening<'a>(
     texts: Texts<'_>,
     bytes: usize,
 ) -> Result<Option<usize>, Wrong> {
+    let (opened, taken) = opened_with(bump, texts, bytes)?;
+    match opened {
+        Ok((_, found)) => {
+            found_so(alloc, &case.found, Ok(found))?;
+            Ok(None)
+        }
+        Err((devices, fault)) => {
+            unchanged(alloc, texts, &devices)?;
+            if fault != Fault::NoMemory {
+                found_so(alloc, &case.found, Err(fault))?;
+                return Ok(None);
+            }
+            opens_so(alloc, bump, case, devices)?;
+            Ok(Some(taken))
+        }
+    }
+}
+
+/// What an opening with so many bytes came to, and how many were taken. Behind it there is room.
+fn opened_with<'a>(
+    bump: &'a Bump,
+    texts: Texts<'_>,
+    bytes: usize,
+) -> Result<(OpenedIn<'a>, usize), Wrong> {
     let devices = in_memory(bump, texts)?;
     squeeze(bump, bytes)?;
     let opened = open(bump, devices);
     let taken = used(bump, bytes);
     bump.set_allocation_limit(None);
-    let (devices, fault) = match opened {
-        Ok((_, found)) => {
-            found_so(alloc, &case.found, Ok(found))?;
-            return Ok(None);
-        }
-        Err(left) => left,
-    };
-    unchanged(alloc, texts, &devices)?;
-    if fault != Fault::NoMemory {
-        found_so(alloc, &case.found, Err(fault))?;
-        return Ok(None);
-    }
+    Ok((opened, taken))
+}
+
+/// Opening answers what the case tells.
+fn opens_so<'a>(
+    alloc: Global,
+    bump: &'a Bump,
+    case: &TextCase,
+    devices: MemDevices<&'a Bump>,
+) -> Result<(), Wrong> {
     match open(bump, devices) {
-        Ok((_, found)) => found_so(alloc, &case.found, Ok(found))?,
-        Err((_, fault)) => found_so(alloc, &case.found, Err(fault))?,
+        Ok((_, found)) => found_so(alloc, &case.found, Ok(found)),
+        Err((_, fault)) => found_so(alloc, &case.found, Err(fault)),
     }
-    Ok(Some(taken))
 }
 
 /// Opening found this, where the case tells an opening or a fault.

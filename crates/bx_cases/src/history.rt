@@ -1,9 +1,9 @@
 //! A plain list of images beside a run of commands on devices that fail.
-use crate::answers::{reply_text, same_reply};
+use crate::answers::{same_reply, same_reply_text};
 use crate::commands::{Standing, again};
-use crate::outcome::{Wrong, differs, same_text};
+use crate::outcome::{Wrong, fault_text};
 use crate::places::Memory;
-use crate::sessions::ask_for;
+use crate::sessions::{MemSession, ask_for};
 use bx_case_files::{Answer, Ask, Opening, Row};
 use bx_cli::{Fault, Reply};
 use bx_image::MemImage;
@@ -97,16 +97,23 @@ fn unwound(alloc: Global, standing: Standing<MemImage, MemText>) -> Result<Vec<V
     let mut images = Vec::new(alloc);
     images.push(held.image)?;
     for _ in 0..session.changes() {
-        let _ = ask_for(alloc, &mut session, &Ask::Undo(1), None)?;
-        let Standing {
-            session: next,
-            held,
-        } = again(alloc, &Memory, session)?;
-        session = next;
-        images.push(held.image)?;
+        session = step_back(alloc, session, &mut images)?;
     }
     images.reverse();
     Ok(images)
+}
+
+/// Takes the newest change back, and adds the image before it.
+fn step_back(
+    alloc: Global,
+    session: MemSession,
+    images: &mut Vec<Vec<u8>>,
+) -> Result<MemSession, Wrong> {
+    let mut session = session;
+    let _ = ask_for(alloc, &mut session, &Ask::Undo(1), None)?;
+    let Standing { session, held } = again(alloc, &Memory, session)?;
+    images.push(held.image)?;
+    Ok(session)
 }
 
 /// The images of a session and how many changes stand.
@@ -160,12 +167,13 @@ fn refused_so(alloc: Global, row: &Row, wanted: Fault, reply: Reply) -> Result<(
     if reply == Reply::Refused(wanted) {
         return Ok(());
     }
-    let found = reply_text(alloc, reply)?;
-    if let Answer::Refused(text) = &row.answer {
-        return same_text(alloc, "reply", text.as_str(), found.as_str());
+    match &row.answer {
+        Answer::Refused(text) => same_reply_text(alloc, text.as_str(), reply),
+        _ => {
+            let wanted = fault_text(alloc, wanted)?;
+            same_reply_text(alloc, wanted.as_str(), reply)
+        }
     }
-    let wanted = reply_text(alloc, Reply::Refused(wanted))?;
-    Err(differs(alloc, "reply", wanted.as_str(), found.as_str()))
 }
 
 impl<'a> Follower<'a> {
@@ -189,10 +197,11 @@ impl<'a> Follower<'a> {
 
     /// Whether the case tells what a row leaves: behind a refusal it doesn't tell what a change makes of the image.
     pub fn can_follow(&self, row: &Row) -> bool {
-        match (self.course, &row.ask, &row.answer) {
-            (Course::Refused, Ask::Undo(_) | Ask::Redo(_), _) => true,
-            (Course::Refused, _, Answer::Refused(_)) => true,
-            (Course::Refused, _, _) => false,
+        match self.course {
+            Course::Refused => match &row.ask {
+                Ask::Undo(_) | Ask::Redo(_) => true,
+                _ => matches!(&row.answer, Answer::Refused(_)),
+            },
             _ => true,
         }
     }
@@ -238,18 +247,33 @@ impl<'a> Follower<'a> {
 
     /// What the reply to a row makes of the images.
     pub fn follow(&mut self, alloc: Global, row: &'a Row, reply: Reply) -> Result<(), Wrong> {
-        match (self.course, reply) {
-            (Course::Stopped(_), _) => refused_so(alloc, row, Fault::Broken, reply),
-            (_, Reply::Refused(Fault::DeviceFailed)) => {
+        match self.course {
+            Course::Stopped(_) => refused_so(alloc, row, Fault::Broken, reply),
+            Course::Refused => self.follow_refused(alloc, row, reply),
+            Course::Whole => self.follow_whole(alloc, row, reply),
+        }
+    }
+
+    /// A row where a call failed before the first that writes.
+    fn follow_refused(&mut self, alloc: Global, row: &Row, reply: Reply) -> Result<(), Wrong> {
+        match reply {
+            Reply::Refused(Fault::DeviceFailed) => Ok(()),
+            _ => self.go_on_refused(alloc, row, reply),
+        }
+    }
+
+    /// A row where no call failed before.
+    fn follow_whole(&mut self, alloc: Global, row: &'a Row, reply: Reply) -> Result<(), Wrong> {
+        match reply {
+            Reply::Refused(Fault::DeviceFailed) => {
                 self.course = Course::Refused;
                 Ok(())
             }
-            (Course::Refused, _) => self.go_on_refused(alloc, row, reply),
-            (Course::Whole, Reply::Refused(Fault::Interrupted)) => {
+            Reply::Refused(Fault::Interrupted) => {
                 self.course = Course::Stopped(stop_of(row));
                 Ok(())
             }
-            (Course::Whole, _) => {
+            _ => {
                 same_reply(alloc, &row.answer, reply)?;
                 Ok(self.go_on(row, reply)?)
             }

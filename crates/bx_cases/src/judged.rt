@@ -2,9 +2,9 @@
 use crate::answers::{refused, same_opening};
 use crate::commands::{Standing, again};
 use crate::growths::unchanged;
-use crate::outcome::{Wrong, differs, fault_text, same_bytes, same_text};
+use crate::outcome::{Wrong, differs, same_bytes, same_faults};
 use crate::places::Memory;
-use crate::sessions::{MemSession, Texts, ask_for, close, in_memory, open};
+use crate::sessions::{Held, MemDevices, MemSession, Texts, ask_for, close, in_memory, open};
 use crate::weight::change_step;
 use bx_case_files::{Ask, Opening};
 use bx_cli::Fault;
@@ -29,12 +29,17 @@ fn undone_of(alloc: Global, texts: Texts<'_>, changes: u32) -> Result<Result<u32
     }
 }
 
-/// Undoing all leaves this image, and no text.
-fn unwinds(alloc: Global, session: MemSession, first: &[u8]) -> Result<(), Wrong> {
+/// Undoes all, and closes the session.
+fn unwound(alloc: Global, session: MemSession) -> Result<MemDevices, Wrong> {
     let mut session = session;
     let changes = session.changes();
     let _ = ask_for(alloc, &mut session, &Ask::Undo(changes), None)?;
-    let devices = close(session);
+    Ok(close(session))
+}
+
+/// Undoing all leaves this image, and no text.
+fn unwinds(alloc: Global, session: MemSession, first: &[u8]) -> Result<(), Wrong> {
+    let devices = unwound(alloc, session)?;
     same_bytes(alloc, "first image", first, devices.image.as_slice())?;
     same_bytes(
         alloc,
@@ -42,6 +47,34 @@ fn unwinds(alloc: Global, session: MemSession, first: &[u8]) -> Result<(), Wrong
         b"",
         devices.journal.as_slice(),
     )
+}
+
+/// Opening found what the judges said.
+fn same_found(
+    alloc: Global,
+    texts: Texts<'_>,
+    how: How,
+    changes: u32,
+    found: Opening,
+) -> Result<(), Wrong> {
+    let undone = undone_of(alloc, texts, changes)?.unwrap_or(u32::MAX);
+    same_opening(alloc, opening_of(how, changes, undone), found)
+}
+
+/// This is left: an image, so much of the journal, and the redo text where the journal was finished entries alone.
+fn same_left(
+    alloc: Global,
+    texts: Texts<'_>,
+    how: How,
+    image: &[u8],
+    kept: usize,
+    held: &Held,
+) -> Result<(), Wrong> {
+    same_bytes(alloc, "image", image, held.image.as_slice())?;
+    let (front, _) = texts.journal.split_at(kept.min(texts.journal.len()));
+    same_bytes(alloc, "journal", front, held.journal.as_slice())?;
+    let redo = if how == How::Clean { texts.redo } else { b"" };
+    same_bytes(alloc, "redo text", redo, held.redo.as_slice())
 }
 
 /// What is left agrees with what the judges said.
@@ -62,14 +95,9 @@ fn agrees(
     else {
         return Err(differs(alloc, "opening", "a refusal", "no fault"));
     };
-    let undone = undone_of(alloc, texts, *changes)?.unwrap_or(u32::MAX);
-    same_opening(alloc, opening_of(*how, *changes, undone), found)?;
-    let redo = if *how == How::Clean { texts.redo } else { b"" };
+    same_found(alloc, texts, *how, *changes, found)?;
     let Standing { session, held } = again(alloc, &Memory, session)?;
-    same_bytes(alloc, "image", image.as_slice(), held.image.as_slice())?;
-    let (front, _) = texts.journal.split_at((*kept).min(texts.journal.len()));
-    same_bytes(alloc, "journal", front, held.journal.as_slice())?;
-    same_bytes(alloc, "redo text", redo, held.redo.as_slice())?;
+    same_left(alloc, texts, *how, image.as_slice(), *kept, &held)?;
     match first {
         Some(first) => unwinds(alloc, session, first.as_slice()),
         None => Ok(()),
@@ -110,19 +138,30 @@ fn judged(alloc: Global, texts: Texts<'_>) -> Result<(), Wrong> {
     if is_long(&verdict) {
         return Ok(());
     }
+    opens_so(alloc, texts, &verdict)
+}
+
+/// Opening answers this.
+fn opens_so(alloc: Global, texts: Texts<'_>, verdict: &Verdict) -> Result<(), Wrong> {
     match open(alloc, in_memory(alloc, texts)?) {
-        Ok((session, found)) => agrees(alloc, session, found, texts, &verdict),
+        Ok((session, found)) => agrees(alloc, session, found, texts, verdict),
         Err((devices, fault)) => {
             unchanged(alloc, texts, &devices)?;
-            match fault_of(alloc, texts, &verdict)? {
-                Some(wanted) => {
-                    let wanted = fault_text(alloc, wanted)?;
-                    let found = fault_text(alloc, fault)?;
-                    same_text(alloc, "fault", wanted.as_str(), found.as_str())
-                }
-                None => Err(refused(alloc, fault)),
-            }
+            refused_so(alloc, texts, verdict, fault)
         }
+    }
+}
+
+/// A refusal is the one that the judges call for.
+fn refused_so(
+    alloc: Global,
+    texts: Texts<'_>,
+    verdict: &Verdict,
+    fault: Fault,
+) -> Result<(), Wrong> {
+    match fault_of(alloc, texts, verdict)? {
+        Some(wanted) => same_faults(alloc, wanted, fault),
+        None => Err(refused(alloc, fault)),
     }
 }
 
@@ -173,20 +212,47 @@ pub fn changed_bytes(alloc: Global, texts: Texts<'_>) -> Result<u32, Wrong> {
 
 /// Opens the text with one byte changed. Tells how often.
 fn changed_byte(alloc: Global, texts: Texts<'_>, place: usize) -> Result<u32, Wrong> {
-    let mut count = 0u32;
     let text = text_of(texts);
-    let step = change_step(text.len());
-    let first = place.checked_rem(step).unwrap_or(0);
     let mut changed = text.to_vec(alloc)?;
+    turns(alloc, texts, place, change_step(text.len()), &mut changed)
+}
+
+/// What is left of a number, where one in so many is taken.
+fn turn_of(number: usize, step: usize) -> usize {
+    number.checked_rem(step).unwrap_or(0)
+}
+
+/// Turns a byte of the text in each way, or in one of so many. Tells how often.
+fn turns(
+    alloc: Global,
+    texts: Texts<'_>,
+    place: usize,
+    step: usize,
+    changed: &mut Vec<u8>,
+) -> Result<u32, Wrong> {
+    let first = turn_of(place, step);
+    let mut count = 0u32;
     for turn in 1..=255u8 {
-        if (turn as usize).checked_rem(step).unwrap_or(0) == first {
-            turn_byte(&mut changed, place, turn);
-            judged(alloc, with_text(texts, changed.as_slice()))?;
-            turn_byte(&mut changed, place, turn);
+        if turn_of(turn as usize, step) == first {
+            turned(alloc, texts, place, turn, changed)?;
             count = count.saturating_add(1);
         }
     }
     Ok(count)
+}
+
+/// Opens the text with a byte turned, and turns it back.
+fn turned(
+    alloc: Global,
+    texts: Texts<'_>,
+    place: usize,
+    turn: u8,
+    changed: &mut Vec<u8>,
+) -> Result<(), Wrong> {
+    turn_byte(changed, place, turn);
+    judged(alloc, with_text(texts, changed.as_slice()))?;
+    turn_byte(changed, place, turn);
+    Ok(())
 }
 
 /// Turns these bits of a byte.

@@ -1,6 +1,6 @@
 //! What was left is opened, stands for the images that are expected, and is stopped while it is opened.
-use crate::answers::{refused, same_opening, same_reply};
-use crate::commands::{Standing, again};
+use crate::answers::{refused, same_opening};
+use crate::commands::{Standing, again, replied};
 use crate::fused::{OPENING_KINDS, fused};
 use crate::history::Images;
 use crate::outcome::{Wrong, same_bytes};
@@ -17,10 +17,8 @@ pub const MOST_CALLS: u64 = 10_000;
 
 /// Asks for an undo or redo, which is answered so.
 fn moved(alloc: Global, session: &mut MemSession, ask: &Ask, wanted: &Answer) -> Result<(), Wrong> {
-    match ask_for(alloc, session, ask, None)? {
-        Some(reply) => same_reply(alloc, wanted, reply),
-        None => Err(Wrong::NoMemory),
-    }
+    let reply = ask_for(alloc, session, ask, None)?;
+    replied(alloc, wanted, reply)
 }
 
 /// Makes the change again that was undone last. It leaves this image.
@@ -48,8 +46,8 @@ fn step_back(alloc: Global, session: MemSession, image: &[u8]) -> Result<MemSess
     Ok(session)
 }
 
-/// Makes all changes again that were undone, one by one. No redo text is left.
-fn all_made(
+/// Makes all changes again that were undone, one by one.
+fn steps_on(
     alloc: Global,
     session: MemSession,
     expected: &Images<'_>,
@@ -62,6 +60,16 @@ fn all_made(
     {
         session = step_on(alloc, session, image)?;
     }
+    Ok(session)
+}
+
+/// Makes all changes again that were undone, one by one. No redo text is left.
+fn all_made(
+    alloc: Global,
+    session: MemSession,
+    expected: &Images<'_>,
+) -> Result<MemSession, Wrong> {
+    let session = steps_on(alloc, session, expected)?;
     let Standing { session, held } = again(alloc, &Memory, session)?;
     same_bytes(
         alloc,
@@ -104,9 +112,14 @@ fn stopped_opening(
         Err((_, fault)) => return Err(refused(alloc, fault)),
     };
     let left = held_fused(alloc, devices)?;
-    let (session, _) = recovered(alloc, left.texts())?;
-    stands_for(alloc, session, expected)?;
+    still_stands(alloc, left.texts(), expected)?;
     Ok(Some(left))
+}
+
+/// What was left, opened, is what is expected.
+fn still_stands(alloc: Global, texts: Texts<'_>, expected: &Images<'_>) -> Result<(), Wrong> {
+    let (session, _) = recovered(alloc, texts)?;
+    stands_for(alloc, session, expected)
 }
 
 /// Stops an opening in one way at each call, and adds what each leaves to the list. Tells how often it was stopped.
@@ -166,11 +179,24 @@ pub fn openings(
         let Some(left) = list.pop() else {
             return Ok(stops);
         };
-        if !is_seen(seen.as_slice(), left.texts()) {
-            let more = stop_each(alloc, left.texts(), expected, &mut list)?;
-            stops = stops.saturating_add(more);
-            seen.push(left)?;
-        }
+        let more = stop_new(alloc, left, expected, &mut list, seen)?;
+        stops = stops.saturating_add(more);
     }
     Err(Wrong::Unknown)
+}
+
+/// Stops the opening of what was left at each call, where it wasn't opened before. Tells how often.
+fn stop_new(
+    alloc: Global,
+    left: Held,
+    expected: &Images<'_>,
+    list: &mut Vec<Held>,
+    seen: &mut Vec<Held>,
+) -> Result<u32, Wrong> {
+    if is_seen(seen.as_slice(), left.texts()) {
+        return Ok(0);
+    }
+    let more = stop_each(alloc, left.texts(), expected, list)?;
+    seen.push(left)?;
+    Ok(more)
 }

@@ -164,6 +164,23 @@ pub fn fault_text(alloc: Global, fault: Fault) -> Result<String, AllocError> {
     format!(in alloc; "{fault}")
 }
 
+/// This is the fault.
+pub fn same_fault(alloc: Global, wanted: &str, found: Fault) -> Result<(), Wrong> {
+    let found = fault_text(alloc, found)?;
+    same_text(alloc, "fault", wanted, found.as_str())
+}
+
+/// These faults are the same.
+pub fn same_faults(alloc: Global, wanted: Fault, found: Fault) -> Result<(), Wrong> {
+    let wanted = fault_text(alloc, wanted)?;
+    same_fault(alloc, wanted.as_str(), found)
+}
+
+/// No fault was found, where one with this text should be.
+pub fn no_fault(alloc: Global, wanted: &str) -> Wrong {
+    differs(alloc, "fault", wanted, "no fault")
+}
+
 /// The exit status of a fault: 2 where the words are wrong, else 1.
 pub fn status_of(fault: Fault) -> u8 {
     if fault == Fault::Usage { 2 } else { 1 }

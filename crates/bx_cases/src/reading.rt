@@ -1,5 +1,5 @@
 //! Cases of reading.
-use crate::outcome::{Wrong, differs, fault_text, same_bytes, same_number, same_text};
+use crate::outcome::{Wrong, differs, no_fault, same_bytes, same_fault, same_number};
 use crate::tally::{Failure, at};
 use bx_case_files::{ReadingCase, Reads};
 use bx_cli::Fault;
@@ -25,39 +25,43 @@ pub fn play_reading(alloc: Global, case: &ReadingCase) -> Result<u32, Failure> {
 
 /// A fault is the one that the case tells.
 fn refused(alloc: Global, reads: &Reads, fault: Fault) -> Result<(), Wrong> {
-    let found = fault_text(alloc, fault)?;
-    let wanted = match reads {
-        Reads::Fault(text) => text.as_str(),
-        _ => "no fault",
-    };
-    same_text(alloc, "fault", wanted, found.as_str())
+    match reads {
+        Reads::Fault(text) => same_fault(alloc, text.as_str(), fault),
+        _ => same_fault(alloc, "no fault", fault),
+    }
 }
 
 /// Reads plain hexadecimal.
 fn plain(alloc: Global, case: &ReadingCase) -> Result<(), Wrong> {
-    match (read_plain(alloc, case.text.as_slice()), &case.reads) {
-        (Err(fault), reads) => refused(alloc, reads, Fault::from(fault)),
-        (Ok(found), Reads::Bytes(wanted)) => {
-            same_bytes(alloc, "bytes", wanted.as_slice(), found.as_slice())
-        }
-        (Ok(_), Reads::Fault(wanted)) => {
-            Err(differs(alloc, "fault", wanted.as_str(), "no fault"))
-        }
-        (Ok(_), Reads::Pieces(_)) => Err(differs(alloc, "bytes", "pieces", "plain bytes")),
+    match read_plain(alloc, case.text.as_slice()) {
+        Ok(found) => same_plain(alloc, &case.reads, found.as_slice()),
+        Err(fault) => refused(alloc, &case.reads, Fault::from(fault)),
+    }
+}
+
+/// Plain hexadecimal reads as these bytes.
+fn same_plain(alloc: Global, reads: &Reads, found: &[u8]) -> Result<(), Wrong> {
+    match reads {
+        Reads::Bytes(wanted) => same_bytes(alloc, "bytes", wanted.as_slice(), found),
+        Reads::Fault(wanted) => Err(no_fault(alloc, wanted.as_str())),
+        Reads::Pieces(_) => Err(differs(alloc, "bytes", "pieces", "plain bytes")),
     }
 }
 
 /// Reads a dump.
 fn dump(alloc: Global, case: &ReadingCase) -> Result<(), Wrong> {
-    match (read_dump(alloc, case.text.as_slice()), &case.reads) {
-        (Err(fault), reads) => refused(alloc, reads, Fault::from(fault)),
-        (Ok(found), Reads::Pieces(wanted)) => {
-            same_pieces(alloc, wanted.as_slice(), found.as_slice())
-        }
-        (Ok(_), Reads::Fault(wanted)) => {
-            Err(differs(alloc, "fault", wanted.as_str(), "no fault"))
-        }
-        (Ok(_), Reads::Bytes(_)) => Err(differs(alloc, "pieces", "plain bytes", "pieces")),
+    match read_dump(alloc, case.text.as_slice()) {
+        Ok(found) => same_dump(alloc, &case.reads, found.as_slice()),
+        Err(fault) => refused(alloc, &case.reads, Fault::from(fault)),
+    }
+}
+
+/// A dump reads as these pieces.
+fn same_dump(alloc: Global, reads: &Reads, found: &[Piece]) -> Result<(), Wrong> {
+    match reads {
+        Reads::Pieces(wanted) => same_pieces(alloc, wanted.as_slice(), found),
+        Reads::Fault(wanted) => Err(no_fault(alloc, wanted.as_str())),
+        Reads::Bytes(_) => Err(differs(alloc, "pieces", "plain bytes", "pieces")),
     }
 }
 
@@ -65,8 +69,12 @@ fn dump(alloc: Global, case: &ReadingCase) -> Result<(), Wrong> {
 fn same_pieces(alloc: Global, wanted: &[(u64, Vec<u8>)], found: &[Piece]) -> Result<(), Wrong> {
     same_number(alloc, "pieces", wanted.len() as u64, found.len() as u64)?;
     for (wanted, found) in wanted.iter().zip(found.iter()) {
-        same_number(alloc, "address", wanted.0, found.at)?;
-        same_bytes(alloc, "piece", wanted.1.as_slice(), found.bytes.as_slice())?;
+        same_piece(alloc, wanted, found)?;
     }
     Ok(())
+}
+
+fn same_piece(alloc: Global, wanted: &(u64, Vec<u8>), found: &Piece) -> Result<(), Wrong> {
+    same_number(alloc, "address", wanted.0, found.at)?;
+    same_bytes(alloc, "piece", wanted.1.as_slice(), found.bytes.as_slice())
 }

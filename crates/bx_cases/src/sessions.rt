@@ -165,11 +165,14 @@ fn handed_back<D, T>(image: D, journal: T, redo: T, fault: Fault) -> (Devices<D,
     (devices, fault)
 }
 
+/// A session and what was found, or the devices and the fault.
+pub type Opened<D, T, A = Global> = Result<(Session<D, T, A>, Opening), (Devices<D, T>, Fault)>;
+
 /// Opens a session, or hands the devices back.
 pub fn open<D: Device, T: TextStore, A: Allocator + Clone>(
     alloc: A,
     devices: Devices<D, T>,
-) -> Result<(Session<D, T, A>, Opening), (Devices<D, T>, Fault)> {
+) -> Opened<D, T, A> {
     let Devices {
         image,
         journal,

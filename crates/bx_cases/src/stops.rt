@@ -46,10 +46,21 @@ fn run_rows<'a>(
         }
         Err((_, fault)) => return Err(refused(alloc, fault)),
     };
-    for row in &case.rows {
-        run_row(alloc, &mut session, row, follower)?;
-    }
+    run_each(alloc, &mut session, case, follower)?;
     held_fused(alloc, close(session))
+}
+
+/// Runs the rows of a case.
+fn run_each<'a>(
+    alloc: Global,
+    session: &mut FusedSession,
+    case: &'a CommandsCase,
+    follower: &mut Follower<'a>,
+) -> Result<(), Wrong> {
+    for row in &case.rows {
+        run_row(alloc, session, row, follower)?;
+    }
+    Ok(())
 }
 
 /// Another number of changes stands than may.
@@ -94,7 +105,18 @@ fn one_stop(
     let mut follower = Follower::new(Images::of(alloc, first)?);
     let devices = in_fused(alloc, first_texts(case), fused)?;
     let left = run_rows(alloc, devices, case, &mut follower)?;
-    let expected = follows(alloc, &left, &follower)?;
+    reopened(alloc, left, &follower, with_openings, seen)
+}
+
+/// What a run leaves opened again, with openings stopped too. Tells how often all was stopped.
+fn reopened(
+    alloc: Global,
+    left: Held,
+    follower: &Follower<'_>,
+    with_openings: bool,
+    seen: &mut Vec<Held>,
+) -> Result<u32, Wrong> {
+    let expected = follows(alloc, &left, follower)?;
     if follower.is_whole() {
         return Ok(0);
     }

@@ -15,6 +15,33 @@ pub fn at(call: u32, wrong: Wrong) -> Failure {
     Failure { call, wrong }
 }
 
+/// The front of a line: which case.
+fn tell_case(rt: &HostRuntime, file: &str, line: u64, name: &str) {
+    let _ = print!(rt; "{file}:{line}: {name}: ");
+}
+
+/// Behind it: which call of which sweep.
+fn tell_call(rt: &HostRuntime, sweep: &str, call: u32) {
+    let _ = print!(rt; "{sweep} {call}: ");
+}
+
+/// The end of the line: what is wrong.
+fn tell_wrong(rt: &HostRuntime, wrong: &Wrong) {
+    match wrong {
+        Wrong::NoMemory => tell_end(rt, "out of memory"),
+        Wrong::Unknown => tell_end(rt, "can't be played"),
+        Wrong::Differs(it) => tell_difference(rt, it.what, it.wanted.as_str(), it.found.as_str()),
+    }
+}
+
+fn tell_end(rt: &HostRuntime, text: &str) {
+    let _ = println!(rt; "{text}");
+}
+
+fn tell_difference(rt: &HostRuntime, what: &str, wanted: &str, found: &str) {
+    let _ = println!(rt; "{what}: wanted {wanted}, found {found}");
+}
+
 /// How many plays each sweep of a file made, and how many cases failed.
 #[derive(Drop)]
 pub struct Tally<'a> {
@@ -50,24 +77,9 @@ impl<'a> Tally<'a> {
 
     /// Tells a failure, on a line.
     pub fn tell(&self, rt: &HostRuntime, case: &Case, sweep: &str, failure: &Failure) {
-        let file = self.file;
-        let line = case.line;
-        let name = case.name.as_str();
-        let call = failure.call;
-        let _ = match &failure.wrong {
-            Wrong::NoMemory => println!(rt; "{file}:{line}: {name}: {sweep} {call}: out of memory"),
-            Wrong::Unknown => println!(rt;
-                "{file}:{line}: {name}: {sweep} {call}: can't be played"
-            ),
-            Wrong::Differs(it) => {
-                let what = it.what;
-                let wanted = it.wanted.as_str();
-                let found = it.found.as_str();
-                println!(rt;
-                    "{file}:{line}: {name}: {sweep} {call}: {what}: wanted {wanted}, found {found}"
-                )
-            }
-        };
+        tell_case(rt, self.file, case.line, case.name.as_str());
+        tell_call(rt, sweep, failure.call);
+        tell_wrong(rt, &failure.wrong);
     }
 
     /// Tells the counts, a line for each sweep.

@@ -6,10 +6,11 @@ use crate::judged::{changed_bytes, fronts};
 use crate::openings::openings;
 use crate::outcome::{Wrong, differs, same_bytes};
 use crate::places::{Files, Memory, Pages, Place};
-use crate::sessions::{Held, Texts, contents, held_of, in_memory, open};
+use crate::sessions::{Devices, Held, Texts, contents, held_of, in_memory, open};
 use crate::tally::{Failure, at};
 use bx_case_files::TextCase;
 use bx_image::Device;
+use bx_journal::Session;
 use bx_store::TextStore;
 use std::alloc::Global;
 
@@ -80,17 +81,36 @@ fn opens<D: Device + Drop, T: TextStore + Drop, P: Place<D, T>>(
     match open(alloc, place.devices(alloc, texts_of(case))?) {
         Ok((session, found)) => {
             found_so(alloc, &case.found, Ok(found))?;
-            let Standing { held, .. } = again(alloc, place, session)?;
-            same_left(alloc, case, &held)?;
+            leaves(alloc, place, case, session)?;
         }
         Err((devices, fault)) => {
             found_so(alloc, &case.found, Err(fault))?;
-            let mut devices = devices;
-            let held = contents(alloc, &mut devices)?;
-            same_left(alloc, case, &held)?;
+            left(alloc, case, devices)?;
         }
     }
     Ok(1)
+}
+
+/// A session that was opened leaves what the case tells.
+fn leaves<D: Device + Drop, T: TextStore + Drop, P: Place<D, T>>(
+    alloc: Global,
+    place: &P,
+    case: &TextCase,
+    session: Session<D, T>,
+) -> Result<(), Wrong> {
+    let Standing { held, .. } = again(alloc, place, session)?;
+    same_left(alloc, case, &held)
+}
+
+/// Devices that weren't opened hold what the case tells.
+fn left<D: Device + Drop, T: TextStore + Drop>(
+    alloc: Global,
+    case: &TextCase,
+    devices: Devices<D, T>,
+) -> Result<(), Wrong> {
+    let mut devices = devices;
+    let held = contents(alloc, &mut devices)?;
+    same_left(alloc, case, &held)
 }
 
 /// The images of what is opened; none where it isn't opened.

@@ -1,14 +1,16 @@
 //! Cases of words.
 use crate::jobs::same_job;
 use crate::outcome::{
-    Wrong, differs, fault_text, front_of, same_bytes, same_number, same_text, status_of,
+    Wrong, differs, fault_text, front_of, no_fault, same_bytes, same_fault, same_faults,
+    same_number, status_of,
 };
 use crate::streams::{Act, Input, Output, Turn};
 use crate::tally::{Failure, at};
 use bx_case_files::{Records, Refusal, WordsCase};
 use bx_cli::{Done, Fault, Job, plan_words, run_dump};
 use bx_dd::{Counts, report};
-use std::alloc::Global;
+use std::alloc::{AllocError, Global};
+use std::fmt::Write;
 
 /// The ways in which a case of words is played.
 pub static SWEEPS: [&str; 11] = [
@@ -52,38 +54,37 @@ pub fn play_words(alloc: Global, case: &WordsCase, sweep: usize) -> Result<u32, 
     }
 }
 
-/// A fault is the one that the case tells.
-fn same_fault(alloc: Global, wanted: &Refusal, fault: Fault) -> Result<(), Wrong> {
-    let found = fault_text(alloc, fault)?;
-    same_text(alloc, "fault", wanted.text.as_str(), found.as_str())?;
+/// A fault is the one that the case tells, and so is its status.
+fn same_refusal(alloc: Global, wanted: &Refusal, fault: Fault) -> Result<(), Wrong> {
+    same_fault(alloc, wanted.text.as_str(), fault)?;
     let found = status_of(fault) as u64;
     same_number(alloc, "status", wanted.status as u64, found)
 }
 
-/// What came where a fault should have, or a fault where none should be.
-fn unlike_fault(alloc: Global, wanted: &Option<Refusal>, found: Option<Fault>) -> Wrong {
-    let wanted = match wanted {
-        Some(refusal) => refusal.text.as_str(),
-        None => "no fault",
-    };
-    match found {
-        None => differs(alloc, "fault", wanted, "no fault"),
-        Some(fault) => match fault_text(alloc, fault) {
-            Ok(found) => differs(alloc, "fault", wanted, found.as_str()),
-            Err(_) => Wrong::NoMemory,
-        },
+/// A fault, where the case tells it or none should be.
+fn refused(alloc: Global, wanted: &Option<Refusal>, fault: Fault) -> Result<(), Wrong> {
+    match wanted {
+        Some(refusal) => same_refusal(alloc, refusal, fault),
+        None => same_fault(alloc, "no fault", fault),
+    }
+}
+
+/// No fault, where the case tells none.
+fn allowed(alloc: Global, wanted: &Option<Refusal>) -> Result<(), Wrong> {
+    match wanted {
+        Some(refusal) => Err(no_fault(alloc, refusal.text.as_str())),
+        None => Ok(()),
     }
 }
 
 /// The job that the words ask for, and that the case tells; none where the words are refused as the case tells.
 fn plan(alloc: Global, case: &WordsCase) -> Result<Option<Job>, Wrong> {
-    match (plan_words(alloc, &case.words), &case.fault) {
-        (Ok(job), _) => Ok(Some(job)),
-        (Err(fault), Some(refusal)) => {
-            same_fault(alloc, refusal, fault)?;
+    match plan_words(alloc, &case.words) {
+        Ok(job) => Ok(Some(job)),
+        Err(fault) => {
+            refused(alloc, &case.fault, fault)?;
             Ok(None)
         }
-        (Err(fault), None) => Err(unlike_fault(alloc, &case.fault, Some(fault))),
     }
 }
 
@@ -96,37 +97,61 @@ fn planned(alloc: Global, case: &WordsCase) -> Result<u32, Failure> {
 }
 
 fn plan_right(alloc: Global, case: &WordsCase) -> Result<(), Wrong> {
-    let Some(job) = plan(alloc, case)? else {
-        return Ok(());
-    };
-    if case.input.is_none() && case.fault.is_some() {
-        return Err(unlike_fault(alloc, &case.fault, None));
-    }
-    match &case.job {
-        Some(wanted) => same_job(alloc, wanted, &job),
+    match plan(alloc, case)? {
+        Some(job) => job_right(alloc, case, &job),
         None => Ok(()),
     }
 }
 
+fn job_right(alloc: Global, case: &WordsCase, job: &Job) -> Result<(), Wrong> {
+    if case.input.is_none() {
+        allowed(alloc, &case.fault)?;
+    }
+    match &case.job {
+        Some(wanted) => same_job(alloc, wanted, job),
+        None => Ok(()),
+    }
+}
+
+fn push_blocks(text: &mut String, whole: u64, part: u64, way: &str) -> Result<(), AllocError> {
+    write!(text, "{whole}+{part} records {way}\n")
+}
+
+fn push_cut(text: &mut String, cut: u64) -> Result<(), AllocError> {
+    match cut {
+        0 => Ok(()),
+        1 => text.push_str("1 truncated record\n"),
+        _ => write!(text, "{cut} truncated records\n"),
+    }
+}
+
+/// The report of dd's counts, as POSIX has it.
+fn push_report(text: &mut String, records: Records) -> Result<(), AllocError> {
+    push_blocks(text, records.whole_in, records.part_in, "in")?;
+    push_blocks(text, records.whole_out, records.part_out, "out")?;
+    push_cut(text, records.cut)
+}
+
 /// What dd counted is what the case tells, and so is its report.
 fn same_counts(alloc: Global, wanted: Records, counts: Counts) -> Result<(), Wrong> {
-    let Records {
-        whole_in,
-        part_in,
-        whole_out,
-        part_out,
-        cut,
-    } = wanted;
-    let mut text = format!(in alloc;
-        "{whole_in}+{part_in} records in\n{whole_out}+{part_out} records out\n"
-    )?;
-    if cut > 0 {
-        let end = if cut == 1 { "" } else { "s" };
-        text.push_str(format!(in alloc; "{cut} truncated record{end}\n")?.as_str())?;
-    }
+    let mut text = String::new(alloc);
+    push_report(&mut text, wanted)?;
+    same_report(alloc, text.as_bytes(), counts)
+}
+
+fn same_report(alloc: Global, wanted: &[u8], counts: Counts) -> Result<(), Wrong> {
     match report(alloc, &counts) {
-        Ok(found) => same_bytes(alloc, "report", text.as_bytes(), found.as_slice()),
+        Ok(found) => same_bytes(alloc, "report", wanted, found.as_slice()),
         Err(_) => Err(Wrong::NoMemory),
+    }
+}
+
+/// What was counted is what the case tells, where it tells it.
+fn counted(alloc: Global, case: &WordsCase, done: Done) -> Result<(), Wrong> {
+    match (done, case.count, case.records) {
+        (Done::Dumped(found), Some(wanted), _) => same_number(alloc, "count", wanted, found),
+        (Done::Copied(counts), _, Some(wanted)) => same_counts(alloc, wanted, counts),
+        _ => Ok(()),
     }
 }
 
@@ -138,18 +163,12 @@ fn right(
     output: &[u8],
 ) -> Result<(), Wrong> {
     same_bytes(alloc, "output", case.output.as_slice(), output)?;
-    match (done, &case.fault) {
-        (Err(fault), Some(refusal)) => same_fault(alloc, refusal, fault),
-        (Err(fault), None) => Err(unlike_fault(alloc, &case.fault, Some(fault))),
-        (Ok(_), Some(_)) => Err(unlike_fault(alloc, &case.fault, None)),
-        (Ok(Done::Dumped(found)), None) => match case.count {
-            Some(wanted) => same_number(alloc, "count", wanted, found),
-            None => Ok(()),
-        },
-        (Ok(Done::Copied(counts)), None) => match case.records {
-            Some(wanted) => same_counts(alloc, wanted, counts),
-            None => Ok(()),
-        },
+    match done {
+        Err(fault) => refused(alloc, &case.fault, fault),
+        Ok(done) => {
+            allowed(alloc, &case.fault)?;
+            counted(alloc, case, done)
+        }
     }
 }
 
@@ -162,35 +181,64 @@ fn stopped(
     output: &[u8],
 ) -> Result<(), Wrong> {
     front_of(alloc, "output", case.output.as_slice(), output)?;
-    let wanted_text = fault_text(alloc, wanted)?;
     match done {
-        Err(fault) => {
-            let found = fault_text(alloc, fault)?;
-            same_text(alloc, "fault", wanted_text.as_str(), found.as_str())
+        Err(fault) => same_faults(alloc, wanted, fault),
+        Ok(_) => {
+            let wanted = fault_text(alloc, wanted)?;
+            Err(no_fault(alloc, wanted.as_str()))
         }
-        Ok(_) => Err(differs(alloc, "fault", wanted_text.as_str(), "no fault")),
     }
+}
+
+/// What a run came to.
+#[derive(Drop)]
+struct Ran {
+    done: Result<Done, Fault>,
+    output: Vec<u8>,
+    /// How many bytes of the input were given.
+    given: usize,
+    /// Whether the call came at which something happens.
+    came: bool,
+}
+
+/// Runs a job.
+fn run(alloc: Global, job: &Job, from: Input<'_>, to: Output) -> Ran {
+    let mut from = from;
+    let mut to = to;
+    let done = run_dump(alloc, job, &mut from, &mut to);
+    let Output { taken, turn, .. } = to;
+    Ran {
+        done,
+        output: taken,
+        given: from.given,
+        came: from.turn.is_over && turn.is_over,
+    }
+}
+
+/// Runs a job with nothing in its way.
+fn run_freely(alloc: Global, job: &Job, input: &[u8], each: usize) -> Ran {
+    let from = Input::new(input, each, Turn::never());
+    let to = Output::new(alloc, each, Turn::never());
+    run(alloc, job, from, to)
 }
 
 /// Runs the job with nothing in its way.
 fn whole(alloc: Global, case: &WordsCase, each: usize) -> Result<u32, Failure> {
-    match whole_right(alloc, case, each) {
+    let Some(input) = &case.input else {
+        return Ok(0);
+    };
+    match whole_right(alloc, case, input.as_slice(), each) {
         Ok(count) => Ok(count),
         Err(wrong) => Err(at(0, wrong)),
     }
 }
 
-fn whole_right(alloc: Global, case: &WordsCase, each: usize) -> Result<u32, Wrong> {
-    let Some(input) = &case.input else {
-        return Ok(0);
-    };
+fn whole_right(alloc: Global, case: &WordsCase, input: &[u8], each: usize) -> Result<u32, Wrong> {
     let Some(job) = plan(alloc, case)? else {
         return Ok(0);
     };
-    let mut from = Input::new(input.as_slice(), each, Turn::never());
-    let mut to = Output::new(alloc, each, Turn::never());
-    let done = run_dump(alloc, &job, &mut from, &mut to);
-    right(alloc, case, done, to.taken.as_slice())?;
+    let ran = run_freely(alloc, &job, input, each);
+    right(alloc, case, ran.done, ran.output.as_slice())?;
     Ok(1)
 }
 
@@ -208,21 +256,25 @@ fn each_call(alloc: Global, case: &WordsCase, act: Act, reads: bool) -> Result<u
     let Some(input) = &case.input else {
         return Ok(0);
     };
-    let job = match plan(alloc, case) {
-        Ok(Some(job)) => job,
-        Ok(None) => return Ok(0),
-        Err(wrong) => return Err(at(0, wrong)),
-    };
+    match plan(alloc, case) {
+        Ok(Some(job)) => calls(alloc, case, &job, input.as_slice(), act, reads),
+        Ok(None) => Ok(0),
+        Err(wrong) => Err(at(0, wrong)),
+    }
+}
+
+/// Something happens at each call of a job in turn. Tells how many there are.
+fn calls(
+    alloc: Global,
+    case: &WordsCase,
+    job: &Job,
+    input: &[u8],
+    act: Act,
+    reads: bool,
+) -> Result<u32, Failure> {
     let mut call = 0u32;
     for plays in 0..MOST_CALLS {
-        match one_call(
-            alloc,
-            case,
-            &job,
-            input.as_slice(),
-            Turn::new(act, call),
-            reads,
-        ) {
+        match one_call(alloc, case, job, input, Turn::new(act, call), reads) {
             Ok(true) => call = next_call(call),
             Ok(false) => return Ok(plays),
             Err(wrong) => return Err(at(call, wrong)),
@@ -241,6 +293,25 @@ fn next_call(call: u32) -> u32 {
     call.saturating_add(1).saturating_add(call / 16)
 }
 
+/// Runs a job with something that happens at one read or write.
+fn run_turned(
+    alloc: Global,
+    case: &WordsCase,
+    job: &Job,
+    input: &[u8],
+    turn: Turn,
+    reads: bool,
+) -> Ran {
+    let (reading, writing) = if reads {
+        (turn, Turn::never())
+    } else {
+        (Turn::never(), turn)
+    };
+    let from = Input::new(input, each_of(input.len(), EACH_READ), reading);
+    let to = Output::new(alloc, each_of(case.output.len(), EACH_WRITE), writing);
+    run(alloc, job, from, to)
+}
+
 /// Something happens at one read or write. Tells whether the call came.
 fn one_call(
     alloc: Global,
@@ -250,31 +321,42 @@ fn one_call(
     turn: Turn,
     reads: bool,
 ) -> Result<bool, Wrong> {
-    let (reading, writing) = if reads {
-        (turn, Turn::never())
-    } else {
-        (Turn::never(), turn)
-    };
-    let mut from = Input::new(input, each_of(input.len(), EACH_READ), reading);
-    let mut to = Output::new(alloc, each_of(case.output.len(), EACH_WRITE), writing);
-    let done = run_dump(alloc, job, &mut from, &mut to);
-    if !(from.turn.is_over && to.turn.is_over) {
-        return Ok(false);
+    let ran = run_turned(alloc, case, job, input, turn, reads);
+    if ran.came {
+        turned_right(alloc, case, job, input, turn.act, reads, &ran)?;
     }
-    let output = to.taken.as_slice();
-    match turn.act {
-        Act::Interrupt | Act::Half => right(alloc, case, done, output)?,
+    Ok(ran.came)
+}
+
+/// What a run came to at one of whose calls something happened.
+fn turned_right(
+    alloc: Global,
+    case: &WordsCase,
+    job: &Job,
+    input: &[u8],
+    act: Act,
+    reads: bool,
+    ran: &Ran,
+) -> Result<(), Wrong> {
+    let output = ran.output.as_slice();
+    match act {
+        Act::Interrupt | Act::Half => right(alloc, case, ran.done, output),
         Act::Nothing if reads => {
-            let (front, _) = input.split_at(from.given.min(input.len()));
-            ended(alloc, job, front, done, output)?;
+            let (front, _) = input.split_at(ran.given.min(input.len()));
+            ended(alloc, job, front, ran.done, output)
         }
-        Act::Fail if reads => stopped(alloc, case, done, Fault::ReadFailed, output)?,
+        Act::Fail if reads => stopped(alloc, case, ran.done, Fault::ReadFailed, output),
         Act::Fail | Act::Nothing => {
             let written = output.len() as u64;
-            stopped(alloc, case, done, Fault::WriteFailed { written }, output)?
+            stopped(
+                alloc,
+                case,
+                ran.done,
+                Fault::WriteFailed { written },
+                output,
+            )
         }
     }
-    Ok(true)
 }
 
 /// What a run came to whose input ended early: what comes of that front of the input.
@@ -285,11 +367,9 @@ fn ended(
     done: Result<Done, Fault>,
     output: &[u8],
 ) -> Result<(), Wrong> {
-    let mut from = Input::new(front, usize::MAX, Turn::never());
-    let mut to = Output::new(alloc, usize::MAX, Turn::never());
-    let wanted = run_dump(alloc, job, &mut from, &mut to);
-    same_bytes(alloc, "output of a front", to.taken.as_slice(), output)?;
-    if wanted == done {
+    let wanted = run_freely(alloc, job, front, usize::MAX);
+    same_bytes(alloc, "output of a front", wanted.output.as_slice(), output)?;
+    if wanted.done == done {
         return Ok(());
     }
     Err(differs(
