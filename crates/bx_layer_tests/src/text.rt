@@ -178,7 +178,12 @@ fn assert_hex(rt: &impl Abort, text: &[u8], number: Option<u64>) {
 fn sizes(rt: HostRuntime) {
     assert_no_size(&rt, SizeStyle::Count, b"08", SizeFault::Bad);
     assert_no_size(&rt, SizeStyle::Bare, b"2k", SizeFault::Bad);
-    assert_no_size(&rt, SizeStyle::Bare, b"4611686018427387905", SizeFault::TooLarge);
+    assert_no_size(
+        &rt,
+        SizeStyle::Bare,
+        b"4611686018427387905",
+        SizeFault::TooLarge,
+    );
     assert_hex(&rt, b"FfFfFfFfFfFfFfFf", Some(u64::MAX));
     assert_hex(&rt, b"00000000000000001", None);
     assert_hex(&rt, b"12g", None);
