@@ -174,19 +174,23 @@ fn goes_on(rt: &impl Abort, alloc: Global, session: &mut MemSession) -> Result<(
 
 // A failed read refuses the command, and nothing was changed; the next command goes on. Four bytes are enough for the first two
 // blocks.
+fn all_inputs(rt: &impl Abort, alloc: Global, session: &mut MemSession) -> Result<(), Fault> {
+    let failed = Reply::Refused(Fault::ReadFailed);
+    for (interruptions, fails_after) in [(1000, 100), (0, 0), (0, 3), (0, 5)] {
+        let input = trickling(b"abcde", interruptions, fails_after);
+        let reply = replied(alloc, session, "ibs=2", input)?;
+        assert!(rt; reply == Some(failed) && session.changes() == 0);
+    }
+    goes_on(rt, alloc, session)
+}
+
 #[test]
 fn slow_and_broken_inputs(rt: HostRuntime) -> Result<(), Fail> {
     let alloc = rt.alloc();
     let Ok((mut session, _)) = open(alloc, trio(alloc, (b"01234567", b"", b""))?) else {
         return Err(Fault::Broken.into());
     };
-    let failed = Reply::Refused(Fault::ReadFailed);
-    for (interruptions, fails_after) in [(1000, 100), (0, 0), (0, 3), (0, 5)] {
-        let input = trickling(b"abcde", interruptions, fails_after);
-        let reply = replied(alloc, &mut session, "ibs=2", input)?;
-        assert!(rt; reply == Some(failed) && session.changes() == 0);
-    }
-    goes_on(&rt, alloc, &mut session)?;
+    assert!(rt; all_inputs(&rt, alloc, &mut session) == Ok(()));
     let left = session.close();
     assert_bytes(&rt, bytes_of(&left).0, b"abcde\0\0\0");
     Ok(())

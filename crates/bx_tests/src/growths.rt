@@ -100,7 +100,7 @@ fn make(rt: &impl Abort, alloc: Global, bump: &Bump, job: &Job, call: Call) -> R
     }
 }
 
-/// The call with so many bytes, and once more with enough: how many it had taken when it was refused, if it was.
+/// The call with so many bytes, in an arena of its own.
 fn refused_at(
     rt: &impl Abort,
     alloc: Global,
@@ -109,11 +109,23 @@ fn refused_at(
     bytes: usize,
 ) -> Result<Option<usize>, Fail> {
     let bump = arena(alloc)?;
-    squeeze(&bump, bytes)?;
-    let made = make(rt, alloc, &bump, job, call);
-    let taken = used(&bump, bytes);
+    refused_in(rt, alloc, &bump, job, call, bytes)
+}
+
+/// The call with so many bytes, and once more with enough: how many it had taken when it was refused, if it was.
+fn refused_in(
+    rt: &impl Abort,
+    alloc: Global,
+    bump: &Bump,
+    job: &Job,
+    call: Call,
+    bytes: usize,
+) -> Result<Option<usize>, Fail> {
+    squeeze(bump, bytes)?;
+    let made = make(rt, alloc, bump, job, call);
+    let taken = used(bump, bytes);
     bump.set_allocation_limit(None);
-    make(rt, alloc, &bump, job, call)?;
+    make(rt, alloc, bump, job, call)?;
     match made {
         Ok(()) => Ok(None),
         Err(fault) => {

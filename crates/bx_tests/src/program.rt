@@ -284,13 +284,21 @@ fn write_all<R: Files<File = File>>(rt: &R) -> Result<(), Fail> {
 
 const NO_MORE: &str = "rm one.img one.img.bxj one.img.bxj.redo one.dump";
 
+// Refused while another session holds the files.
+fn are_refused_beside<R>(rt: &R, lines: &str) -> Result<(), Fail>
+where
+    R: Abort + Files<File = File> + Input + Print + Eprint + AllocGlobal,
+{
+    let (image, texts) = (name_of(rt, "one.img")?, texts_of(rt, "one.img.bxj")?);
+    let first = trio(rt, &image, &texts, false);
+    assert!(rt; first.is_ok());
+    are_refused(rt, lines, b"ABxyEFGH")
+}
+
 // What an earlier session holds. The later one is refused, whatever it would do, and recovers nothing.
 #[test]
 fn two_sessions_at_once(rt: HostRuntime) -> Result<(), Fail> {
     write_all(&rt)?;
-    let (image, texts) = (name_of(&rt, "one.img")?, texts_of(&rt, "one.img.bxj")?);
-    let first = trio(&rt, &image, &texts, false);
-    assert!(rt; first.is_ok());
     let lines = "\
 revert -f one.dump one.img
 dd if=one.dump of=one.img
@@ -300,7 +308,7 @@ log one.img
 revert -f one.dump -J other.bxj one.img
 revert -f one.dump -J one.img.bxj other.img
 revert -f one.dump -J one.img.bxj.redo other.img";
-    are_refused(&rt, lines, b"ABxyEFGH")?;
+    are_refused_beside(&rt, lines)?;
     play(
         &rt,
         "no other.bxj other.bxj.redo other.img one.img.bxj.redo.redo",
@@ -312,9 +320,10 @@ revert -f one.dump -J one.img.bxj.redo other.img";
 #[test]
 fn one_session_after_another(rt: HostRuntime) -> Result<(), Fail> {
     fs::write(&rt, "turns.img", b"ABCD")?;
-    let (image, texts) = (name_of(&rt, "turns.img")?, texts_of(&rt, "turns.img.bxj")?);
-    assert!(rt; trio(&rt, &image, &texts, true).is_ok());
-    assert!(rt; trio(&rt, &image, &texts, true).is_ok());
+    for _ in 0..2 {
+        let (image, texts) = (name_of(&rt, "turns.img")?, texts_of(&rt, "turns.img.bxj")?);
+        assert!(rt; trio(&rt, &image, &texts, true).is_ok());
+    }
     play(
         &rt,
         "\
