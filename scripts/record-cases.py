@@ -5,9 +5,10 @@ Usage: scripts/record-cases.py [--out FOLDER] [--seed N] [--bx PATH]
 
 Each option is drawn alone, in pairs and in threes, with values and inputs from a generator of random numbers that
 begins with the seed: the same seed and tools give the same files. Inputs of each length up to 66, and of some that are
-longer, are dumped with few options, and dd converts each front of a text. dd is run onto images too, as cases of
-commands. docs/CASES.md has the form of the files, and the head of each its tool and version. With --bx nothing is
-written, but the cases of words are run by a program bx that was built, and each difference is printed.
+longer, are dumped with few options; the forms of od and hexdump whose lines have code of their own dump lines of each
+length. dd converts each front of a text, and is run onto images too, as cases of commands. docs/CASES.md has the form
+of the files, and the head of each its tool and version. With --bx nothing is written, but the cases of words are run by
+a program bx that was built, and each difference is printed.
 
 The expected output, counts and success come from the real tool. What is drawn keeps to the options on which README.md
 says that bx and the tool agree, by these rules:
@@ -200,7 +201,26 @@ def length_cases(tool):
 
 def dump_cases(tool, rng):
     drawn = [dump_case(tool, chosen, rng) for chosen in choices(tool) for _ in range(DRAWS[tool][len(chosen)])]
-    return drawn + length_cases(tool) + refused_cases(tool)
+    return drawn + length_cases(tool) + refused_cases(tool) + line_cases(tool)
+
+
+# Lines that are made value by value: of each length, and many of which none repeats the one before.
+
+LINES = {"od": ["-b", "-o", "-t x1", "-t x2", "-t x4", "-t x8"], "hexdump": ["-C"]}
+
+
+def rows():
+    """Six hundred bytes, with every byte among them."""
+    made = [11]
+    while len(made) < 600:
+        made.append((made[-1] * 5 + 37) % 256)
+    return bytes(made)
+
+
+def line_cases(tool):
+    """A line and one of each length behind it, and many lines."""
+    return [Case(tool, line.split(), rows()[:size], f"lines, {line}")
+            for line in LINES.get(tool, []) for size in [*range(17, 33), 600]]
 
 
 # dd: operands, and words of one conv=.

@@ -1,8 +1,7 @@
-//! Sources and writers that fail, sizes, fields, words, and refused growths.
+//! Sources and writers that fail, sizes, fields, and refused growths.
 use crate::shared::assert_bytes;
 use bx_text::{
-    IoFault, NoMemory, SizeFault, SizeStyle, Source, Words, dec_field, emit, hex_field, oct_field,
-    read_hex, read_size, xxd_line,
+    IoFault, SizeFault, SizeStyle, Source, dec_field, emit, hex_field, read_hex, read_size,
 };
 use linked_list_allocator::LocalHeap;
 use std::alloc::{Allocator, Global};
@@ -167,41 +166,8 @@ fn writer_takes_twenty(rt: HostRuntime) {
     assert_emit(&rt, &mut writer, b"0123456789a", Err(fault));
 }
 
-fn assert_size(rt: &impl Abort, style: SizeStyle, text: &str, size: Result<u64, SizeFault>) {
-    assert!(rt; read_size(text.as_bytes(), style) == size, "at {text}");
-}
-
-fn assert_counts(rt: &impl Abort) {
-    let style = SizeStyle::Count;
-    assert_size(rt, style, "0x10b", Ok(267));
-    assert_size(rt, style, "2k", Ok(2048));
-    assert_size(rt, style, "08", Err(SizeFault::Bad));
-    assert_size(rt, style, "", Err(SizeFault::Bad));
-    assert_size(rt, style, "0", Ok(0));
-    assert_size(rt, style, "0b", Ok(0));
-}
-
-fn assert_bare(rt: &impl Abort) {
-    let style = SizeStyle::Bare;
-    assert_size(rt, style, "2k", Err(SizeFault::Bad));
-    assert_size(rt, style, "010", Ok(8));
-    assert_size(rt, style, "4611686018427387904", Ok(1 << 62));
-    assert_size(rt, style, "4611686018427387905", Err(SizeFault::TooLarge));
-    assert_size(rt, style, "0Xff", Ok(255));
-}
-
-fn assert_products(rt: &impl Abort) {
-    let style = SizeStyle::Product;
-    assert_size(rt, style, "010", Ok(10));
-    assert_size(rt, style, "2x3k", Ok(6144));
-    assert_size(rt, style, "4M", Ok(4_194_304));
-    assert_size(rt, style, "1099511627776", Err(SizeFault::TooLarge));
-    assert_size(rt, style, "1099511627775", Ok(1_099_511_627_775));
-    assert_size(rt, style, "", Err(SizeFault::Bad));
-    assert_size(rt, style, "2x", Err(SizeFault::Bad));
-    assert_size(rt, style, "0x99999999999999999999", Ok(0));
-    assert_size(rt, style, "99999999999999999999999g", Err(SizeFault::Bad));
-    assert_size(rt, style, "1kB", Err(SizeFault::Bad));
+fn assert_no_size(rt: &impl Abort, style: SizeStyle, text: &[u8], fault: SizeFault) {
+    assert!(rt; read_size(text, style) == Err(fault));
 }
 
 fn assert_hex(rt: &impl Abort, text: &[u8], number: Option<u64>) {
@@ -210,94 +176,24 @@ fn assert_hex(rt: &impl Abort, text: &[u8], number: Option<u64>) {
 
 #[test]
 fn sizes(rt: HostRuntime) {
-    assert_counts(&rt);
-    assert_bare(&rt);
-    assert_products(&rt);
+    assert_no_size(&rt, SizeStyle::Count, b"08", SizeFault::Bad);
+    assert_no_size(&rt, SizeStyle::Bare, b"2k", SizeFault::Bad);
+    assert_no_size(
+        &rt,
+        SizeStyle::Bare,
+        b"4611686018427387905",
+        SizeFault::TooLarge,
+    );
     assert_hex(&rt, b"FfFfFfFfFfFfFfFf", Some(u64::MAX));
     assert_hex(&rt, b"00000000000000001", None);
     assert_hex(&rt, b"12g", None);
 }
 
-fn assert_hex_and_octal(rt: &impl Abort) {
-    assert_bytes(rt, hex_field(0xabc, 5, true).as_bytes(), b"00ABC");
-    assert_bytes(rt, oct_field(511, 7).as_bytes(), b"0000777");
-    let most = oct_field(u64::MAX, 22);
-    assert_bytes(rt, most.as_bytes(), b"1777777777777777777777");
-}
-
-fn assert_decimal(rt: &impl Abort) {
-    assert_bytes(rt, dec_field(-128, 5, b' ').as_bytes(), b" -128");
-    assert_bytes(rt, dec_field(0, 1, b'0').as_bytes(), b"0");
-    let least = dec_field(-(1 << 63), 1, b' ');
-    assert_bytes(rt, least.as_bytes(), b"-9223372036854775808");
-    let most = dec_field(18446744073709551615, 22, b'0');
-    assert_bytes(rt, most.as_bytes(), b"0018446744073709551615");
-}
-
-fn assert_line(rt: &impl Abort) {
-    assert_bytes(
-        rt,
-        xxd_line(2, b"CD").as_bytes(),
-        b"00000002: 4344                                     CD\n",
-    );
-}
-
 #[test]
 fn fields(rt: HostRuntime) {
-    assert_hex_and_octal(&rt);
-    assert_decimal(&rt);
-    assert_line(&rt);
-}
-
-fn assert_push<A: Allocator + Clone>(
-    rt: &impl Abort,
-    words: &mut Words<A>,
-    word: &str,
-    answer: Result<(), NoMemory>,
-) {
-    assert!(rt; words.push(word) == answer);
-}
-
-fn assert_word<A: Allocator>(rt: &impl Abort, words: &Words<A>, place: usize, word: Option<&str>) {
-    assert!(rt; words.get(place) == word);
-}
-
-fn assert_len<A: Allocator>(rt: &impl Abort, words: &Words<A>, len: usize) {
-    assert!(rt; words.len() == len);
-}
-
-fn assert_words<A: Allocator + Clone>(rt: &impl Abort, alloc: A) -> Result<(), Fail> {
-    let mut words = Words::new(alloc);
-    assert_push(rt, &mut words, "one", Ok(()));
-    let long =
-        "a word that is longer than all of the room that the heap has, with those that stand in it before, and so is refused";
-    assert_push(rt, &mut words, long, Err(NoMemory));
-    assert_len(rt, &words, 1);
-    assert_push(rt, &mut words, "two", Ok(()));
-    assert_word(rt, &words, 1, Some("two"));
-    assert_word(rt, &words, 2, None);
-    Ok(())
-}
-
-#[test]
-fn words(rt: HostRuntime) -> Result<(), Fail> {
-    let heap = LocalHeap::new(rt.alloc(), 160)?;
-    assert_words(&rt, &heap)
-}
-
-fn assert_no_room(rt: &impl Abort, alloc: Global, source: &mut Source<&[u8]>) -> Result<(), Fail> {
-    let full = LocalHeap::new(alloc, 32)?;
-    let _taken = Vec::<u8, _>::with_capacity(&full, 32)?;
-    assert_fault(rt, &full, source, IoFault::NoMemory);
-    Ok(())
-}
-
-#[test]
-fn refused_rest(rt: HostRuntime) -> Result<(), Fail> {
-    let mut source = Source::new(b"some bytes".as_slice(), 100);
-    assert_no_room(&rt, rt.alloc(), &mut source)?;
-    assert_fault(&rt, rt.alloc(), &mut source, IoFault::ReadFailed);
-    Ok(())
+    assert_bytes(&rt, hex_field(0xabc, 5, true).as_bytes(), b"00ABC");
+    let most = dec_field(18446744073709551615, 22, b'0');
+    assert_bytes(&rt, most.as_bytes(), b"0018446744073709551615");
 }
 
 // How much was read where memory was refused, and nothing where all was read.

@@ -1,5 +1,5 @@
 //! What opening is to answer, by a slow reading of the format of journals and redo texts.
-use bx_journal::How;
+use bx_journal::{How, Recovered, SessionFault};
 use std::alloc::{AllocError, Global};
 
 /// The greatest length of an image.
@@ -57,24 +57,20 @@ struct Reading {
     kept: usize,
 }
 
-/// What opening answers.
+/// What opening finds and leaves.
 #[derive(Drop)]
-pub enum Verdict {
-    Damaged {
-        line: u64,
-    },
-    LengthDiffers {
-        expected: u64,
-    },
-    /// The image that is left, how many bytes of the text stay, and the image once all is undone, where it is small.
-    Opened {
-        how: How,
-        changes: u32,
-        image: Vec<u8>,
-        kept: usize,
-        first: Option<Vec<u8>>,
-    },
+pub struct Finding {
+    pub recovered: Recovered,
+    pub image: Vec<u8>,
+    /// How many bytes of journal and redo text stay.
+    pub kept: usize,
+    pub kept_redo: usize,
+    /// The image once all is undone, where none on the way is large.
+    pub first: Option<Vec<u8>>,
 }
+
+/// What opening answers.
+pub type Verdict = Result<Finding, SessionFault>;
 
 fn digit(byte: u8) -> Option<u64> {
     match byte {
@@ -120,15 +116,16 @@ fn save_line(alloc: Global, n: usize) -> Result<String, AllocError> {
     format!(in alloc; "save {n:08x}")
 }
 
-fn may_begin(told: Option<u64>, len: u64) -> bool {
-    match told {
-        Some(expected) => len == expected && len <= MOST_LEN,
-        None => len <= MOST_LEN,
-    }
-}
-
 fn width_of(second: bool) -> usize {
     if second { 16 } else { 8 }
+}
+
+/// A line that begins as it is told, and goes on as another one.
+fn completed(alloc: Global, front: &[u8], least: &[u8]) -> Result<Vec<u8>, AllocError> {
+    let mut line = front.to_vec(alloc)?;
+    let (_, behind) = least.split_at(front.len().min(least.len()));
+    line.extend_from_slice(behind)?;
+    Ok(line)
 }
 
 /// The hexadecimal digits in front, as a number, and what follows them.
@@ -231,20 +228,25 @@ impl Reading {
         self.finished.len().saturating_add(1)
     }
 
+    /// Whether the next entry may tell this length.
+    fn may_begin(&self, len: u64) -> bool {
+        len == self.told.unwrap_or(len) && len <= MOST_LEN && self.number() <= MOST_ENTRIES
+    }
+
+    /// The length that a line of this form tells, where the next entry may begin with it.
+    fn started(&self, alloc: Global, line: &[u8], second: bool) -> Result<Option<u64>, AllocError> {
+        let head = start_head(alloc, second, self.number())?;
+        let digits = line.strip_prefix(head.as_bytes()).unwrap_or(b"".as_slice());
+        match number(digits, width_of(second)) {
+            Some(len) if self.may_begin(len) => Ok(Some(len)),
+            _ => Ok(None),
+        }
+    }
+
     /// Takes a line that begins an entry.
     fn start(&mut self, alloc: Global, line: &[u8]) -> Result<bool, AllocError> {
-        if self.number() > MOST_ENTRIES {
-            return Ok(false);
-        }
         for second in [false, true] {
-            let head = start_head(alloc, second, self.number())?;
-            let Some(digits) = line.strip_prefix(head.as_bytes()) else {
-                continue;
-            };
-            let Some(len) = number(digits, width_of(second)) else {
-                continue;
-            };
-            if may_begin(self.told, len) {
+            if let Some(len) = self.started(alloc, line, second)? {
                 self.stage = Stage::Saving;
                 self.open = Entry {
                     len,
@@ -273,21 +275,24 @@ impl Reading {
         }
     }
 
+    /// The length that a line tells which ends the entry, or none where it is of the first form.
+    fn ended(&self, alloc: Global, line: &[u8]) -> Result<Option<Option<u64>>, AllocError> {
+        let head = end_head(alloc, self.open.second, self.number())?;
+        match line.strip_prefix(head.as_bytes()) {
+            Some(b"") if !self.open.second => Ok(Some(None)),
+            Some(digits) if self.open.second => match number(digits, 16) {
+                Some(len) if len <= MOST_LEN => Ok(Some(Some(len))),
+                _ => Ok(None),
+            },
+            _ => Ok(None),
+        }
+    }
+
     /// Takes the line that ends an entry.
     fn end(&mut self, alloc: Global, line: &[u8]) -> Result<bool, AllocError> {
-        let head = end_head(alloc, self.open.second, self.number())?;
-        let Some(digits) = line.strip_prefix(head.as_bytes()) else {
+        let Some(told) = self.ended(alloc, line)? else {
             return Ok(false);
         };
-        let mut told = None;
-        if self.open.second {
-            told = number(digits, 16);
-            if told.unwrap_or(u64::MAX) > MOST_LEN {
-                return Ok(false);
-            }
-        } else if !digits.is_empty() {
-            return Ok(false);
-        }
         let entry = std::mem::replace(&mut self.open, Entry::new(alloc));
         self.finished.push(entry)?;
         self.told = told;
@@ -303,62 +308,28 @@ impl Reading {
         }
     }
 
-    /// Whether digits may be the front of a length of so many digits that a first line tells.
-    fn is_front_of_length(
-        &self,
-        alloc: Global,
-        digits: &[u8],
-        second: bool,
-    ) -> Result<bool, AllocError> {
-        let width = width_of(second);
-        if digits.len() > width {
-            return Ok(false);
-        }
-        if let Some(told) = self.told {
-            let whole = if second {
-                format!(in alloc; "{told:016x}")?
-            } else {
-                format!(in alloc; "{told:08x}")?
-            };
-            return Ok(whole.len() == width && whole.as_bytes().starts_with(digits));
-        }
-        let mut least = digits.to_vec(alloc)?;
-        least.resize(width, b'0')?;
-        Ok(number(least.as_slice(), width).unwrap_or(u64::MAX) <= MOST_LEN)
-    }
-
-    fn is_front_of_start(&self, alloc: Global, rest: &[u8]) -> Result<bool, AllocError> {
-        if self.number() > MOST_ENTRIES {
-            return Ok(false);
-        }
-        for second in [false, true] {
-            let head = start_head(alloc, second, self.number())?;
-            if head.as_bytes().starts_with(rest) && self.is_front_of_length(alloc, b"", second)? {
-                return Ok(true);
-            }
-            if let Some(digits) = rest.strip_prefix(head.as_bytes()) {
-                if self.is_front_of_length(alloc, digits, second)? {
-                    return Ok(true);
-                }
-            }
-        }
-        Ok(false)
-    }
-
-    fn is_front_of_end(&self, alloc: Global, rest: &[u8]) -> Result<bool, AllocError> {
-        let head = end_head(alloc, self.open.second, self.number())?;
-        if head.as_bytes().starts_with(rest) {
-            return Ok(true);
-        }
-        let Some(digits) = rest.strip_prefix(head.as_bytes()) else {
-            return Ok(false);
+    /// Whether a line of this form that begins an entry may go on from this.
+    fn may_start(&self, alloc: Global, rest: &[u8], second: bool) -> Result<bool, AllocError> {
+        let mut least = start_head(alloc, second, self.number())?;
+        let len = self.told.unwrap_or(0);
+        let digits = if second {
+            format!(in alloc; "{len:016x}")?
+        } else {
+            format!(in alloc; "{len:08x}")?
         };
-        if !self.open.second || digits.len() > 16 {
-            return Ok(false);
+        least.push_str(digits.as_str())?;
+        let line = completed(alloc, rest, least.as_bytes())?;
+        Ok(self.started(alloc, line.as_slice(), second)?.is_some())
+    }
+
+    /// Whether the line that ends the entry may go on from this.
+    fn may_end(&self, alloc: Global, rest: &[u8]) -> Result<bool, AllocError> {
+        let mut least = end_head(alloc, self.open.second, self.number())?;
+        if self.open.second {
+            least.push_str("0000000000000000")?;
         }
-        let mut least = digits.to_vec(alloc)?;
-        least.resize(16, b'0')?;
-        Ok(number(least.as_slice(), 16).unwrap_or(u64::MAX) <= MOST_LEN)
+        let line = completed(alloc, rest, least.as_bytes())?;
+        Ok(self.ended(alloc, line.as_slice())?.is_some())
     }
 
     /// Whether this may stand behind the last newline.
@@ -367,7 +338,9 @@ impl Reading {
             return Ok(true);
         }
         match self.stage {
-            Stage::Between => self.is_front_of_start(alloc, rest),
+            Stage::Between => {
+                Ok(self.may_start(alloc, rest, false)? || self.may_start(alloc, rest, true)?)
+            }
             Stage::Saving => {
                 if rest.starts_with(b"s") {
                     let whole = save_line(alloc, self.number())?;
@@ -375,7 +348,7 @@ impl Reading {
                 }
                 Ok(rest.len() <= 75 && rest.iter().all(|b| *b >= 0x20 && *b <= 0x7e))
             }
-            Stage::Ending => self.is_front_of_end(alloc, rest),
+            Stage::Ending => self.may_end(alloc, rest),
         }
     }
 }
@@ -420,36 +393,24 @@ fn unwound(alloc: Global, entries: &[Entry], image: &[u8]) -> Result<Option<Vec<
     Ok(Some(bytes))
 }
 
-/// The verdict on a text that was read.
-fn verdict_of(
+/// How a text that was read is found, and the image that is left.
+fn left_of(
     alloc: Global,
     reading: &Reading,
     image: &[u8],
     rest: &[u8],
-) -> Result<Verdict, AllocError> {
-    let changes = reading.finished.len();
-    let (how, bytes) = match reading.stage {
-        Stage::Between if rest.is_empty() => (How::Clean, image.to_vec(alloc)?),
-        Stage::Between | Stage::Saving => (How::Dropped, image.to_vec(alloc)?),
+) -> Result<(How, Vec<u8>), AllocError> {
+    match reading.stage {
+        Stage::Between if rest.is_empty() => Ok((How::Clean, image.to_vec(alloc)?)),
+        Stage::Between | Stage::Saving => Ok((How::Dropped, image.to_vec(alloc)?)),
         Stage::Ending => {
             let number = reading.number().min(MOST_ENTRIES) as u32;
-            let bytes = restored(alloc, &reading.open, image)?;
-            (How::Restored { number }, bytes)
-        }
-    };
-    if let Some(expected) = reading.told {
-        if expected != bytes.len() as u64 {
-            return Ok(Verdict::LengthDiffers { expected });
+            Ok((
+                How::Restored { number },
+                restored(alloc, &reading.open, image)?,
+            ))
         }
     }
-    let first = unwound(alloc, reading.finished.as_slice(), bytes.as_slice())?;
-    Ok(Verdict::Opened {
-        how,
-        changes: changes.min(MOST_ENTRIES) as u32,
-        image: bytes,
-        kept: reading.kept,
-        first,
-    })
 }
 
 /// Whether all of a text reads; else the reading ends at the damaged line. Answers what stands behind the last newline too.
@@ -475,23 +436,6 @@ fn read<'a>(
         reading.line = reading.line.saturating_add(1);
     }
     Ok((reading.ends_with(alloc, rest)?, rest))
-}
-
-/// What opening is to answer of an image and a journal.
-pub fn judge(alloc: Global, image: &[u8], text: &[u8]) -> Result<Verdict, AllocError> {
-    let mut reading = Reading::new(alloc);
-    let (reads, rest) = read(alloc, &mut reading, text)?;
-    if !reads {
-        return Ok(Verdict::Damaged { line: reading.line });
-    }
-    verdict_of(alloc, &reading, image, rest)
-}
-
-/// What opening is to answer of a redo text beside finished entries: refused at a line, or so many undone images.
-#[derive(Clone, Copy, Debug, PartialEq, Eq)]
-pub enum RedoVerdict {
-    Damaged { line: u64 },
-    Undone { count: u32 },
 }
 
 /// Where a text that reads to its end has a tail behind its finished entries, which begins at this line.
@@ -532,23 +476,77 @@ fn refused_line(reading: &Reading, image: &[u8], rest: &[u8], changes: u32) -> O
         .or(off_line(reading, image))
 }
 
-/// What opening is to answer of a redo text, where image and journal are in order and the journal has so many finished entries.
-pub fn judge_redo(
+/// How many undone images opening is to find beside so many changes, where image and journal are in order.
+fn judge_redo(
     alloc: Global,
     image: &[u8],
     redo: &[u8],
     changes: u32,
-) -> Result<RedoVerdict, AllocError> {
+) -> Result<Result<u32, SessionFault>, AllocError> {
     let mut reading = Reading::new(alloc);
     let (reads, rest) = read(alloc, &mut reading, redo)?;
-    if !reads {
-        return Ok(RedoVerdict::Damaged { line: reading.line });
+    let refused = if reads {
+        refused_line(&reading, image, rest, changes)
+    } else {
+        Some(reading.line)
+    };
+    match refused {
+        Some(line) => Ok(Err(SessionFault::RedoDamaged { line })),
+        None => Ok(Ok(count_of(&reading))),
     }
-    match refused_line(&reading, image, rest, changes) {
-        Some(line) => Ok(RedoVerdict::Damaged { line }),
-        None => {
-            let count = reading.finished.len().min(MOST_ENTRIES) as u32;
-            Ok(RedoVerdict::Undone { count })
+}
+
+fn count_of(reading: &Reading) -> u32 {
+    reading.finished.len().min(MOST_ENTRIES) as u32
+}
+
+/// What opening is to find where the journal was read, and the image that is left has the length that it tells.
+fn found(
+    alloc: Global,
+    reading: &Reading,
+    how: How,
+    image: Vec<u8>,
+    redo: &[u8],
+) -> Result<Verdict, AllocError> {
+    let changes = count_of(reading);
+    let (undone, kept_redo) = match how {
+        How::Clean => match judge_redo(alloc, image.as_slice(), redo, changes)? {
+            Ok(undone) => (undone, redo.len()),
+            Err(fault) => return Ok(Err(fault)),
+        },
+        _ => (0, 0),
+    };
+    let first = unwound(alloc, reading.finished.as_slice(), image.as_slice())?;
+    Ok(Ok(Finding {
+        recovered: Recovered {
+            how,
+            changes,
+            undone,
+        },
+        image,
+        kept: reading.kept,
+        kept_redo,
+        first,
+    }))
+}
+
+/// What opening is to answer of an image, a journal and a redo text.
+pub fn judge(
+    alloc: Global,
+    image: &[u8],
+    journal: &[u8],
+    redo: &[u8],
+) -> Result<Verdict, AllocError> {
+    let mut reading = Reading::new(alloc);
+    let (reads, rest) = read(alloc, &mut reading, journal)?;
+    if !reads {
+        return Ok(Err(SessionFault::Damaged { line: reading.line }));
+    }
+    let (how, left) = left_of(alloc, &reading, image, rest)?;
+    match reading.told {
+        Some(expected) if expected != left.len() as u64 => {
+            Ok(Err(SessionFault::LengthDiffers { expected }))
         }
+        _ => found(alloc, &reading, how, left, redo),
     }
 }

@@ -4,7 +4,7 @@ ghost use Rattle.std.specs.Prelude.{◌≡◌, ◌<◌, IfOk};
 use crate::expected::{assert_bytes, assert_number, words};
 use crate::sessions::{MemSession, bytes_of, open, run, trio};
 use bx_cli::{Command, Fault, Reply, plan_words, run_dump};
-use bx_dd::{Convert, Counts, DdFault, Plan, Transfer, parse, transfer};
+use bx_dd::{Convert, Counts, DdFault, Transfer, parse};
 use std::alloc::Global;
 use std::io;
 use std::io::{ErrorKind, Read};
@@ -46,18 +46,6 @@ fn trickling(rest: &[u8], interruptions: u32, fails_after: usize) -> Trickle<'_>
     }
 }
 
-fn plan(alloc: Global, line: &str) -> Result<Plan, DdFault> {
-    match words(alloc, line) {
-        Ok(words) => parse(alloc, &words),
-        Err(_) => Err(DdFault::NoMemory),
-    }
-}
-
-/// What is made of all that a reader gives. A test carries no facts about it.
-fn converted(alloc: Global, from: &mut impl Read, plan: &Plan) -> Result<Transfer, DdFault> {
-    transfer(alloc, from, plan)
-}
-
 fn counts(whole_in: u64, part_in: u64, whole_out: u64, part_out: u64, cut: u64) -> Counts {
     Counts {
         whole_in,
@@ -93,71 +81,27 @@ fn next_block(
     Ok(convert)
 }
 
+// Four blocks, and what is made of them.
+fn four_blocks(rt: &impl Abort, convert: Convert) -> Result<Transfer, DdFault>
+    requires { convert.form.ibs ≡ 3 }
+{
+    let convert = next_block(rt, convert, b"ab\n", 3, 0)?;
+    assert_bytes(rt, convert.out(), b"AB  ");
+    let convert = next_block(rt, convert, b"lon", 6, 3)?;
+    let convert = next_block(rt, convert, b"gli", 9, 4)?;
+    let convert = next_block(rt, convert, b"ne\n", 12, 0)?;
+    assert_bytes(rt, convert.out(), b"AB  LONG");
+    convert.finish()
+}
+
 #[test]
 fn held_after_each_block(rt: HostRuntime) -> Result<(), Fail> {
-    let plan = plan(rt.alloc(), "ibs=3 cbs=4 conv=block,ucase")?;
+    let operands = words(rt.alloc(), "ibs=3 cbs=4 conv=block,ucase")?;
+    let plan = parse(rt.alloc(), &operands)?;
     assert_eq!(rt; plan.ibs, 3);
-    let convert = Convert::new(rt.alloc(), &plan)?;
-    let convert = next_block(&rt, convert, b"ab\n", 3, 0)?;
-    assert_bytes(&rt, convert.out(), b"AB  ");
-    let convert = next_block(&rt, convert, b"lon", 6, 3)?;
-    let convert = next_block(&rt, convert, b"gli", 9, 4)?;
-    let convert = next_block(&rt, convert, b"ne\n", 12, 0)?;
-    assert_bytes(&rt, convert.out(), b"AB  LONG");
-    let transfer = convert.finish()?;
+    let transfer = four_blocks(&rt, Convert::new(rt.alloc(), &plan)?)?;
     assert_bytes(&rt, transfer.bytes.as_slice(), b"AB  LONG");
     assert_counts(&rt, transfer.counts, counts(4, 0, 0, 1, 1));
-    Ok(())
-}
-
-fn expect_synced(
-    rt: &impl Abort,
-    alloc: Global,
-    plan: &Plan,
-    interruptions: u32,
-) -> Result<(), DdFault> {
-    let mut from = trickling(b"abcdefghij", interruptions, 100);
-    let transfer = converted(alloc, &mut from, plan)?;
-    assert_bytes(rt, transfer.bytes.as_slice(), b"abcdefghij\0\0");
-    assert_counts(rt, transfer.counts, counts(2, 1, 0, 1, 0));
-    Ok(())
-}
-
-#[test]
-fn readers_that_give_little(rt: HostRuntime) -> Result<(), Fail> {
-    let sync = plan(rt.alloc(), "ibs=4 conv=sync")?;
-    for interruptions in [0, 1, 999] {
-        expect_synced(&rt, rt.alloc(), &sync, interruptions)?;
-    }
-    Ok(())
-}
-
-fn fails(alloc: Global, plan: &Plan, interruptions: u32, fails_after: usize) -> bool {
-    let mut from = trickling(b"abcdefghij", interruptions, fails_after);
-    match converted(alloc, &mut from, plan) {
-        Ok(_) => false,
-        Err(fault) => fault == DdFault::ReadFailed,
-    }
-}
-
-// Nothing past skip and count is asked for.
-fn expect_few(rt: &impl Abort, alloc: Global) -> Result<(), DdFault> {
-    let few = plan(alloc, "ibs=2 skip=1 count=1")?;
-    let mut from = trickling(b"abcdefghij", 0, 4);
-    let transfer = converted(alloc, &mut from, &few)?;
-    assert_bytes(rt, transfer.bytes.as_slice(), b"cd");
-    assert_bytes(rt, from.rest, b"efghij");
-    Ok(())
-}
-
-#[test]
-fn readers_that_fail(rt: HostRuntime) -> Result<(), Fail> {
-    let alloc = rt.alloc();
-    let plain = plan(alloc, "ibs=2")?;
-    for (interruptions, fails_after) in [(1000, 100), (0, 0), (0, 5), (0, 10)] {
-        assert!(rt; fails(alloc, &plain, interruptions, fails_after));
-    }
-    expect_few(&rt, alloc)?;
     Ok(())
 }
 
@@ -176,7 +120,7 @@ fn taken_by_fives(alloc: Global, line: &str, fails_after: usize) -> Result<usize
     Ok(bytes.len().saturating_sub(from.rest.len()))
 }
 
-// The same of a copy to a stream.
+// Nothing past skip and count is asked for.
 #[test]
 fn dd_reads_no_more(rt: HostRuntime) -> Result<(), Fail> {
     for fails_after in [1, 22, 48, 200] {
@@ -198,25 +142,56 @@ fn replied(
     Ok(replies.first().copied())
 }
 
+// Two transfers by single bytes behind as many interruptions as there may be: of one block, behind which no byte is asked for,
+// and of a whole block and a part of one.
+fn goes_on(rt: &impl Abort, alloc: Global, session: &mut MemSession) -> Result<(), Fault> {
+    let line = "bs=2 skip=1 count=1 seek=1 conv=notrunc";
+    let reply = replied(alloc, session, line, trickling(b"abcde", 999, 4))?;
+    let one = counts(1, 0, 1, 0, 0);
+    assert!(rt;
+        reply
+            == Some(Reply::Copied {
+                number: 1,
+                counts: one
+            })
+    );
+    let reply = replied(
+        alloc,
+        session,
+        "bs=4 conv=sync",
+        trickling(b"abcde", 999, 100),
+    )?;
+    let two = counts(1, 1, 2, 0, 0);
+    assert!(rt;
+        reply
+            == Some(Reply::Copied {
+                number: 2,
+                counts: two
+            })
+    );
+    Ok(())
+}
+
 // A failed read refuses the command, and nothing was changed; the next command goes on. Four bytes are enough for the first two
 // blocks.
+fn all_inputs(rt: &impl Abort, alloc: Global, session: &mut MemSession) -> Result<(), Fault> {
+    let failed = Reply::Refused(Fault::ReadFailed);
+    for (interruptions, fails_after) in [(1000, 100), (0, 0), (0, 3), (0, 5)] {
+        let input = trickling(b"abcde", interruptions, fails_after);
+        let reply = replied(alloc, session, "ibs=2", input)?;
+        assert!(rt; reply == Some(failed) && session.changes() == 0);
+    }
+    goes_on(rt, alloc, session)
+}
+
 #[test]
 fn slow_and_broken_inputs(rt: HostRuntime) -> Result<(), Fail> {
     let alloc = rt.alloc();
     let Ok((mut session, _)) = open(alloc, trio(alloc, (b"01234567", b"", b""))?) else {
         return Err(Fault::Broken.into());
     };
-    let failed = Reply::Refused(Fault::ReadFailed);
-    for (interruptions, fails_after) in [(1000, 100), (0, 0), (0, 3), (0, 5)] {
-        let input = trickling(b"abcde", interruptions, fails_after);
-        let reply = replied(alloc, &mut session, "ibs=2", input)?;
-        assert!(rt; reply == Some(failed) && session.changes() == 0);
-    }
-    let line = "bs=2 skip=1 count=1 seek=1 conv=notrunc";
-    let reply = replied(alloc, &mut session, line, trickling(b"abcde", 999, 4))?;
-    let counts = counts(1, 0, 1, 0, 0);
-    assert!(rt; reply == Some(Reply::Copied { number: 1, counts }));
+    assert!(rt; all_inputs(&rt, alloc, &mut session) == Ok(()));
     let left = session.close();
-    assert_bytes(&rt, bytes_of(&left).0, b"01cd4567");
+    assert_bytes(&rt, bytes_of(&left).0, b"abcde\0\0\0");
     Ok(())
 }

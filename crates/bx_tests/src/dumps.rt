@@ -109,15 +109,20 @@ fn sample() -> [u8; 600] {
 }
 
 // Each front of the bytes is dumped to its end.
+fn assert_fronts(rt: &impl Abort, alloc: Global, line: &str, bytes: &[u8]) -> Result<(), Fail> {
+    for n in 0..=bytes.len() {
+        let mut from = &bytes[..n.min(bytes.len())];
+        let (done, _) = dumped(alloc, line, &mut from)?;
+        assert!(rt; done == Done::Dumped(n as u64));
+    }
+    Ok(())
+}
+
 #[test]
 fn every_length(rt: HostRuntime) -> Result<(), Fail> {
-    let bytes = sample();
-    for line in ["xxd", "od", "hexdump -C", "strings"] {
-        for n in 0..601usize {
-            let mut from = &bytes[..n];
-            let (done, _) = dumped(rt.alloc(), line, &mut from)?;
-            assert!(rt; done == Done::Dumped(n as u64));
-        }
+    let lines = "xxd,od,hexdump -C,strings,od -b,od -tx1,od -tx2,od -tx4,od -tx8";
+    for line in lines.split(',') {
+        assert_fronts(&rt, rt.alloc(), line, &sample())?;
     }
     Ok(())
 }

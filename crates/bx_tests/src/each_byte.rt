@@ -1,8 +1,8 @@
 //! A journal or a redo text with each byte made each other byte: opening answers what the slow judge answers.
-use crate::sessions::{Held, Trio, bytes_of, open, trio};
+use crate::sessions::{Held, bytes_of, open, trio};
 use bx_cli::Fault;
-use bx_journal::{How, Recovered};
-use bx_scripts::judge::{RedoVerdict, Verdict, judge, judge_redo};
+use bx_journal::Recovered;
+use bx_scripts::judge::{Finding, judge};
 use std::alloc::{AllocError, Global};
 use std::process::Abort;
 use std::test::Fail;
@@ -18,85 +18,32 @@ const FIRST_FORM: &[u8] =
 const UNDONE_GAP: &[u8] =
     b"change2 00000001 0000000000000006\n00000002: 0000 005a                                ...Z\nsave 00000001\ndone2 00000001 0000000000000002\n";
 
-/// Whether the redo text was to be found so, and is left so: as it was where the journal was finished entries alone, else empty.
-fn agrees_on_redo(
-    alloc: Global,
-    found: Recovered,
-    left: &[u8],
-    held: Held<'_>,
-) -> Result<bool, AllocError> {
-    if found.how != How::Clean {
-        return Ok(found.undone == 0 && left.is_empty());
-    }
-    let count = found.undone;
-    let verdict = judge_redo(alloc, held.0, held.2, found.changes)?;
-    Ok(verdict == RedoVerdict::Undone { count } && left == held.2)
+fn front(bytes: &[u8], count: usize) -> &[u8] {
+    &bytes[..count.min(bytes.len())]
 }
 
-/// Whether what was found and is left is what the judges say.
-fn agrees(
-    alloc: Global,
-    found: Recovered,
-    left: Held<'_>,
-    held: Held<'_>,
-    verdict: &Verdict,
-) -> Result<bool, AllocError> {
-    match verdict {
-        Verdict::Opened {
-            how,
-            changes,
-            image,
-            kept,
-            ..
-        } if found.how == *how && found.changes == *changes && left.0 == image.as_slice() => {
-            let is_kept = left.1.len() == *kept && held.1.starts_with(left.1);
-            Ok(is_kept && agrees_on_redo(alloc, found, left.2, held)?)
+fn are_same(left: Held<'_>, wanted: Held<'_>) -> bool {
+    left.0 == wanted.0 && left.1 == wanted.1 && left.2 == wanted.2
+}
+
+/// Whether what was found and is left is what the judge says.
+fn agrees(found: Recovered, left: Held<'_>, held: Held<'_>, wanted: &Finding) -> bool {
+    let (journal, redo) = (front(held.1, wanted.kept), front(held.2, wanted.kept_redo));
+    found == wanted.recovered && are_same(left, (wanted.image.as_slice(), journal, redo))
+}
+
+/// Whether opening answers what the judge answers; where it refuses, nothing changes.
+fn is_judged(alloc: Global, held: Held<'_>) -> Result<bool, AllocError> {
+    let verdict = judge(alloc, held.0, held.1, held.2)?;
+    match (open(alloc, trio(alloc, held)?), verdict) {
+        (Ok((session, found)), Ok(wanted)) => {
+            let left = session.close();
+            Ok(agrees(found, bytes_of(&left), held, &wanted))
+        }
+        (Err((left, found)), Err(wanted)) => {
+            Ok(are_same(bytes_of(&left), held) && found == Fault::from(wanted))
         }
         _ => Ok(false),
-    }
-}
-
-/// Whether opening is to be refused so.
-fn is_refused(
-    alloc: Global,
-    held: Held<'_>,
-    verdict: &Verdict,
-    fault: Fault,
-) -> Result<bool, AllocError> {
-    match verdict {
-        Verdict::Damaged { line } => Ok(fault == Fault::Damaged { line: *line }),
-        Verdict::LengthDiffers { expected } => {
-            let expected = *expected;
-            Ok(fault == Fault::LengthDiffers { expected })
-        }
-        Verdict::Opened { how, changes, .. } => match judge_redo(alloc, held.0, held.2, *changes)? {
-            RedoVerdict::Damaged { line } => {
-                Ok(*how == How::Clean && fault == Fault::RedoDamaged { line })
-            }
-            RedoVerdict::Undone { .. } => Ok(false),
-        },
-    }
-}
-
-/// What opening answers of these, and leaves.
-fn opened(alloc: Global, held: Held<'_>) -> Result<(Result<Recovered, Fault>, Trio), AllocError> {
-    match open(alloc, trio(alloc, held)?) {
-        Ok((session, found)) => Ok((Ok(found), session.close())),
-        Err((left, fault)) => Ok((Err(fault), left)),
-    }
-}
-
-/// Whether opening answers what the judges answer; where it refuses, nothing changes.
-fn is_judged(alloc: Global, held: Held<'_>) -> Result<bool, AllocError> {
-    let verdict = judge(alloc, held.0, held.1)?;
-    let (found, left) = opened(alloc, held)?;
-    let left = bytes_of(&left);
-    match found {
-        Ok(found) => agrees(alloc, found, left, held, &verdict),
-        Err(fault) => {
-            let stays = left.0 == held.0 && left.1 == held.1 && left.2 == held.2;
-            Ok(stays && is_refused(alloc, held, &verdict, fault)?)
-        }
     }
 }
 

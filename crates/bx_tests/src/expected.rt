@@ -1,6 +1,6 @@
 //! What is compared again and again, and the words of a line.
 use bx_text::{NoMemory, Words};
-use std::alloc::Global;
+use std::alloc::Allocator;
 use std::process::Abort;
 
 pub fn assert_bytes(rt: &impl Abort, found: &[u8], wanted: &[u8]) {
@@ -12,7 +12,7 @@ pub fn assert_number(rt: &impl Abort, found: u64, wanted: u64) {
 }
 
 /// The words of a line, with a space between two of them.
-pub fn words(alloc: Global, line: &str) -> Result<Words, NoMemory> {
+pub fn words<A: Allocator + Clone>(alloc: A, line: &str) -> Result<Words<A>, NoMemory> {
     let mut words = Words::new(alloc);
     for word in line.split(' ') {
         words.push(word)?;

@@ -1,5 +1,4 @@
 //! The numbers and texts of all faults.
-use crate::expected::assert_bytes;
 use bx_cli::Fault;
 use bx_dd::DdFault;
 use std::alloc::Global;
@@ -115,35 +114,30 @@ fn fault_texts_of_sessions(rt: HostRuntime) {
     assert_shown(&rt, rt.alloc(), &SESSION);
 }
 
-fn expect_text(rt: &impl Abort, alloc: Global, fault: DdFault, text: &str) {
-    match fault.to_string(alloc) {
-        Ok(shown) => assert_bytes(rt, shown.as_bytes(), text.as_bytes()),
-        Err(_) => assert!(rt; false),
+static DD: [(DdFault, &str); 11] = [
+    (DdFault::NoMemory, "out of memory"),
+    (DdFault::ReadFailed, "read failed"),
+    (DdFault::InputTooLong, "input too long"),
+    (DdFault::UnknownOperand(1), "operand 1: unknown"),
+    (DdFault::BadNumber(2), "operand 2: bad number"),
+    (DdFault::NumberTooLarge(3), "operand 3: number too large"),
+    (DdFault::ZeroSize(4), "operand 4: zero size"),
+    (DdFault::Conflict, "conflicting conversions"),
+    (DdFault::MissingCbs, "cbs is missing"),
+    (DdFault::Repeated(15), "operand 15: given twice"),
+    (DdFault::SeekWithoutOutput, "seek needs an output file"),
+];
+
+fn shows_dd(alloc: Global, fault: DdFault, text: &str) -> bool {
+    match format!(in alloc; "{fault}") {
+        Ok(shown) => shown.as_str() == text,
+        Err(_) => false,
     }
 }
 
 #[test]
 fn fault_texts_of_dd(rt: HostRuntime) {
-    let alloc = rt.alloc();
-    expect_text(&rt, alloc, DdFault::NoMemory, "out of memory");
-    expect_text(&rt, alloc, DdFault::ReadFailed, "read failed");
-    expect_text(&rt, alloc, DdFault::InputTooLong, "input too long");
-    expect_text(&rt, alloc, DdFault::UnknownOperand(1), "operand 1: unknown");
-    expect_text(&rt, alloc, DdFault::BadNumber(2), "operand 2: bad number");
-    expect_text(
-        &rt,
-        alloc,
-        DdFault::NumberTooLarge(3),
-        "operand 3: number too large",
-    );
-    expect_text(&rt, alloc, DdFault::ZeroSize(4), "operand 4: zero size");
-    expect_text(&rt, alloc, DdFault::Conflict, "conflicting conversions");
-    expect_text(&rt, alloc, DdFault::MissingCbs, "cbs is missing");
-    expect_text(&rt, alloc, DdFault::Repeated(15), "operand 15: given twice");
-    expect_text(
-        &rt,
-        alloc,
-        DdFault::SeekWithoutOutput,
-        "seek needs an output file",
-    );
+    for (fault, text) in DD.iter() {
+        assert!(rt; shows_dd(rt.alloc(), *fault, text), "no {text}");
+    }
 }

@@ -6,12 +6,12 @@ use crate::expected::words;
 use crate::sessions::{MemSession, open, run, trio};
 use bumpalo::Bump;
 use bx_cli::{Command, Done, Fault, Job, Reply, log_text, plan_words, run_dump};
-use bx_dd::{Counts, DdFault, Plan, parse, report, transfer};
+use bx_dd::{Counts, report};
 use bx_journal::LogRow;
 use bx_ration::{ALIGN, arena, squeeze, used};
-use bx_text::{Bytes, Words};
+use bx_text::Bytes;
 use linked_list_allocator::LocalHeap;
-use std::alloc::{AllocError, Allocator, Global};
+use std::alloc::{AllocError, Global};
 use std::process::Abort;
 use std::test::Fail;
 
@@ -51,19 +51,14 @@ const ROWS: [LogRow; 2] = [
 
 const LINES: &str = "1 8 2\n2 10 0\n";
 
+const REPORT: &[u8] = b"0+1 records in\n0+1 records out\n1 truncated record\n";
+
 /// A call that takes memory.
 #[derive(Clone, Copy)]
 enum Call {
     Copy,
     List,
-    Transfer,
-}
-
-/// What the calls are made of.
-#[derive(Drop)]
-struct Given {
-    job: Job,
-    operands: Words,
+    Report,
 }
 
 /// Copies in memory of the arena. Where memory is refused, nothing was written.
@@ -90,67 +85,47 @@ fn list(rt: &impl Abort, bump: &Bump) -> Result<(), Fault> {
     Ok(())
 }
 
-fn is_reported<A: Allocator>(alloc: A, counts: &Counts) -> Result<bool, DdFault> {
-    let text = report(alloc, counts)?;
-    let wanted = b"4+0 records in\n0+1 records out\n1 truncated record\n";
-    Ok(text.as_slice() == wanted.as_slice())
-}
-
-fn is_put<A: Allocator>(alloc: A, plan: &Plan<A>, bytes: Bytes<A>) -> Result<bool, DdFault> {
-    let change = plan.change(alloc, bytes)?;
-    Ok(change.writes.as_slice().len() == 1)
-}
-
-// Converts, and makes the report and the change.
-fn later_steps<A: Allocator + Clone>(alloc: A, plan: &Plan<A>) -> Result<bool, DdFault> {
-    let mut from = b"ab\nlongline\n".as_slice();
-    let transfer = transfer(alloc.clone()?, &mut from, plan)?;
-    let right = transfer.bytes.as_slice() == b"AB  LONG".as_slice();
-    let reported = is_reported(alloc.clone()?, &transfer.counts)?;
-    let put = is_put(alloc, plan, transfer.bytes)?;
-    Ok(right && reported && put)
-}
-
-// Parses, converts, and makes the report and the change.
-fn all_steps<A: Allocator + Clone>(alloc: A, words: &Words) -> Result<bool, DdFault> {
-    let plan = parse(alloc.clone()?, words)?;
-    later_steps(alloc, &plan)
-}
-
-fn convert(rt: &impl Abort, bump: &Bump, operands: &Words) -> Result<(), Fault> {
-    let right = all_steps(bump, operands)?;
-    assert!(rt; right);
+/// Reports what was counted, in memory of the arena.
+fn tell(rt: &impl Abort, bump: &Bump) -> Result<(), Fault> {
+    let text = report(bump, &COUNTED)?;
+    assert!(rt; text.as_slice() == REPORT);
     Ok(())
 }
 
-fn make(
-    rt: &impl Abort,
-    alloc: Global,
-    bump: &Bump,
-    given: &Given,
-    call: Call,
-) -> Result<(), Fault> {
+fn make(rt: &impl Abort, alloc: Global, bump: &Bump, job: &Job, call: Call) -> Result<(), Fault> {
     match call {
-        Call::Copy => copy(rt, alloc, bump, &given.job),
+        Call::Copy => copy(rt, alloc, bump, job),
         Call::List => list(rt, bump),
-        Call::Transfer => convert(rt, bump, &given.operands),
+        Call::Report => tell(rt, bump),
     }
 }
 
-/// The call with so many bytes, and once more with enough: how many it had taken when it was refused, if it was.
+/// The call with so many bytes, in an arena of its own.
 fn refused_at(
     rt: &impl Abort,
     alloc: Global,
-    given: &Given,
+    job: &Job,
     call: Call,
     bytes: usize,
 ) -> Result<Option<usize>, Fail> {
     let bump = arena(alloc)?;
-    squeeze(&bump, bytes)?;
-    let made = make(rt, alloc, &bump, given, call);
-    let taken = used(&bump, bytes);
+    refused_in(rt, alloc, &bump, job, call, bytes)
+}
+
+/// The call with so many bytes, and once more with enough: how many it had taken when it was refused, if it was.
+fn refused_in(
+    rt: &impl Abort,
+    alloc: Global,
+    bump: &Bump,
+    job: &Job,
+    call: Call,
+    bytes: usize,
+) -> Result<Option<usize>, Fail> {
+    squeeze(bump, bytes)?;
+    let made = make(rt, alloc, bump, job, call);
+    let taken = used(bump, bytes);
     bump.set_allocation_limit(None);
-    make(rt, alloc, &bump, given, call)?;
+    make(rt, alloc, bump, job, call)?;
     match made {
         Ok(()) => Ok(None),
         Err(fault) => {
@@ -164,7 +139,7 @@ fn refused_at(
 fn next_growth(
     rt: &impl Abort,
     alloc: Global,
-    given: &Given,
+    job: &Job,
     call: Call,
     bytes: usize,
     taken: usize,
@@ -177,7 +152,7 @@ fn next_growth(
             break;
         }
         let middle = low.saturating_add(half);
-        let refused = refused_at(rt, alloc, given, call, middle.saturating_mul(ALIGN))?;
+        let refused = refused_at(rt, alloc, job, call, middle.saturating_mul(ALIGN))?;
         if refused == Some(taken) {
             low = middle;
         } else {
@@ -188,66 +163,25 @@ fn next_growth(
 }
 
 /// Refuses each growth of the call in turn, and tells how many they were.
-fn sweep(rt: &impl Abort, alloc: Global, given: &Given, call: Call) -> Result<u32, Fail> {
+fn sweep(rt: &impl Abort, alloc: Global, job: &Job, call: Call) -> Result<u32, Fail> {
     let mut bytes = 0;
     for count in 0..MOST_GROWTHS {
-        let Some(taken) = refused_at(rt, alloc, given, call, bytes)? else {
+        let Some(taken) = refused_at(rt, alloc, job, call, bytes)? else {
             return Ok(count);
         };
-        bytes = next_growth(rt, alloc, given, call, bytes, taken)?;
+        bytes = next_growth(rt, alloc, job, call, bytes, taken)?;
     }
     Err(Fault::NoMemory.into())
-}
-
-/// Operands of a transfer that converts and counts.
-const OPERANDS: &str = "ibs=3 cbs=4 if=a of=b conv=block,ucase";
-
-/// Refuses each growth of the call in turn, of which there are at least so many.
-fn refused(
-    rt: &impl Abort,
-    alloc: Global,
-    given: &Given,
-    call: Call,
-    least: u32,
-) -> Result<u32, Fail> {
-    let count = sweep(rt, alloc, given, call)?;
-    assert!(rt; count >= least);
-    Ok(count)
-}
-
-fn make_given(alloc: Global) -> Result<Given, Fail> {
-    let job = plan_words(alloc, &words(alloc, COPY)?)?;
-    let operands = words(alloc, OPERANDS)?;
-    Ok(Given { job, operands })
 }
 
 #[test]
 fn growths_of_outputs(rt: HostRuntime) -> Result<(), Fail> {
-    let given = make_given(rt.alloc())?;
-    let copy = refused(&rt, rt.alloc(), &given, Call::Copy, 3)?;
-    let list = refused(&rt, rt.alloc(), &given, Call::List, 1)?;
-    let transfer = refused(&rt, rt.alloc(), &given, Call::Transfer, 5)?;
-    println!(rt; "growths refused: {copy} of a copy, {list} of a log, {transfer} of a transfer")?;
-    Ok(())
-}
-
-// Whether so many bytes of a heap are enough for a transfer. All goes back to it.
-fn goes_back(rt: &impl Abort, alloc: Global, words: &Words, bytes: usize) -> Result<bool, Fail> {
-    let heap = LocalHeap::new(alloc, bytes)?;
-    let found = all_steps(&heap, words).is_ok();
-    assert!(rt; heap.used() == 0);
-    Ok(found)
-}
-
-#[test]
-fn nothing_of_a_transfer_is_lost(rt: HostRuntime) -> Result<(), Fail> {
-    let words = words(rt.alloc(), OPERANDS)?;
-    for units in 1..200usize {
-        if goes_back(&rt, rt.alloc(), &words, units * 16)? {
-            return Ok(());
-        }
+    let alloc = rt.alloc();
+    let job = plan_words(alloc, &words(alloc, COPY)?)?;
+    for (call, least) in [(Call::Copy, 3), (Call::List, 1), (Call::Report, 1)] {
+        assert!(rt; sweep(&rt, alloc, &job, call)? >= least);
     }
-    Err(Fault::NoMemory.into())
+    Ok(())
 }
 
 /// A dump of many lines that write the same bytes.
@@ -268,14 +202,22 @@ fn revert<'a>(heap: &'a LocalHeap, dump: &str) -> Result<HeapCommand<'a>, AllocE
     Ok(Command::Revert { text, offset: 0 })
 }
 
-/// A small change, a large one, an undo and a redo.
+fn transfer<'a>(heap: &'a LocalHeap) -> Result<HeapCommand<'a>, Fault>
+    ensures { IfOk result IsNear }
+{
+    let operands = words(heap, "ibs=3 cbs=4 conv=block,lcase,notrunc")?;
+    let input = b"AB\n".as_slice();
+    Ok(Command::Dd { operands, input })
+}
+
+/// A transfer, a large change, an undo and a redo.
 fn run_four<'a>(
     heap: &'a LocalHeap,
     session: &mut MemSession<&'a LocalHeap>,
     large: &str,
 ) -> Result<Vec<Reply, &'a LocalHeap>, Fault> {
     let mut list = [
-        revert(heap, "0: 61\n")?,
+        transfer(heap)?,
         revert(heap, large)?,
         Command::Undo { k: 1 },
         Command::Redo { j: 1 },
@@ -295,13 +237,13 @@ enum Outcome {
 fn outcome_of(replies: &[Reply]) -> Outcome {
     match replies {
         [
-            Reply::Changed { .. },
+            Reply::Copied { .. },
             Reply::Changed { .. },
             Reply::Undone { .. },
             Reply::Redone { .. },
         ] => Outcome::All,
         [
-            Reply::Changed { .. },
+            Reply::Copied { .. },
             Reply::Refused(_),
             Reply::Undone { .. },
             Reply::Redone { .. },
@@ -314,7 +256,7 @@ fn outcome_of(replies: &[Reply]) -> Outcome {
 fn image_of(changes: u32) -> &'static [u8] {
     match changes {
         0 => b"ABCDEFGH",
-        1 => b"aBCDEFGH",
+        1 => b"ab  EFGH",
         _ => b"bbbbbbbb",
     }
 }
@@ -354,7 +296,6 @@ fn nothing_is_lost(rt: HostRuntime) -> Result<(), Fail> {
     for units in 1..4000usize {
         match in_heap(&rt, rt.alloc(), units * 16, large.as_str())? {
             Outcome::All => {
-                println!(rt; "{goes_on} heaps in which the run went on")?;
                 assert!(rt; goes_on > 3);
                 return Ok(());
             }

@@ -14,8 +14,6 @@ mod faults;
 #[cfg(test)]
 mod growths;
 #[cfg(test)]
-mod lines;
-#[cfg(test)]
 mod program;
 #[cfg(test)]
 mod sessions;

@@ -1,9 +1,9 @@
 //! Which fault a read gives that fails: before the first write nothing was changed, and behind it opening recovers.
+use crate::image::guarded::change;
 use crate::shared::front;
 use bx_image::{Change, Device, FuseImage, MemImage};
 use bx_journal::{How, Recovered, Session, SessionFault};
 use bx_store::{FuseText, MemText, TextStore};
-use bx_text::{Bytes, Piece, Pieces};
 use std::alloc::{AllocError, Allocator, Global};
 use std::process::Abort;
 use std::test::Fail;
@@ -28,35 +28,42 @@ pub const UNDONE_TWO: &[u8] =
 const MANY: u64 = 100_000;
 
 /// No read fails.
-const NONE: u64 = u64::MAX;
+pub const NONE: u64 = u64::MAX;
 
 /// An image, its journal and its redo text.
 pub type Trio<D, T> = (D, T, T);
 
 /// The bytes of three.
-type Held<'a> = (&'a [u8], &'a [u8], &'a [u8]);
+pub type Held<'a> = (&'a [u8], &'a [u8], &'a [u8]);
 
 /// How many reads of the image, of the journal and of the redo text pass.
-type Passes = (u64, u64, u64);
+pub type Passes = (u64, u64, u64);
 
-type Opened = Result<Recovered, SessionFault>;
+pub type Opened = Result<Recovered, SessionFault>;
 
-const REFUSED: Opened = Err(SessionFault::DeviceFailed);
+pub const REFUSED: Opened = Err(SessionFault::DeviceFailed);
 
 /// What a session is asked for once it is open.
 #[derive(Clone, Copy)]
-enum Ask {
+pub enum Ask {
     Nothing,
+    /// A change of nothing.
+    Same,
     /// Puts `xy` at 2, where the image is cut.
     Replace,
+    /// Puts `WHOLE` bytes at 0.
+    Whole,
     UndoTwo,
     RedoTwo,
 }
 
-/// What is asked for, and what has to be answered.
-type Step = (Ask, Result<u32, SessionFault>);
+/// So many saved bytes make an entry of more than 256 KiB.
+pub const WHOLE: usize = 65_536;
 
-const NO_STEP: Step = (Ask::Nothing, Ok(0));
+/// What is asked for, and what has to be answered.
+pub type Step = (Ask, Result<u32, SessionFault>);
+
+pub const NO_STEP: Step = (Ask::Nothing, Ok(0));
 
 /// Opens a session over three devices, or hands them back.
 pub fn open<D: Device, T: TextStore, A: Allocator + Clone>(
@@ -71,7 +78,7 @@ pub fn open<D: Device, T: TextStore, A: Allocator + Clone>(
 }
 
 /// Opening that finds it so.
-fn found(how: How, changes: u32, undone: u32) -> Opened {
+pub fn found(how: How, changes: u32, undone: u32) -> Opened {
     Ok(Recovered {
         how,
         changes,
@@ -79,15 +86,15 @@ fn found(how: How, changes: u32, undone: u32) -> Opened {
     })
 }
 
-/// Two bytes at 2, where the image is cut.
-fn replacement(alloc: Global) -> Result<Change, AllocError> {
-    let bytes = Bytes::from_vec(b"xy".to_vec(alloc)?);
-    let mut pieces = Vec::new(alloc);
-    pieces.push(Piece { at: 2, bytes })?;
-    Ok(Change {
-        base: Some(2),
-        writes: Pieces::from_vec(pieces),
-    })
+fn change_of(alloc: Global, ask: Ask) -> Result<Change, AllocError> {
+    match ask {
+        Ask::Whole => {
+            let bytes = vec![in alloc; b'x'; WHOLE]?;
+            change(alloc, None, &[(0, bytes.as_slice())])
+        }
+        Ask::Replace => change(alloc, Some(2), &[(2, b"xy")]),
+        _ => change(alloc, None, &[]),
+    }
 }
 
 /// Makes the call.
@@ -101,17 +108,17 @@ fn asked<D: Device, T: TextStore>(
     }
     match ask {
         Ask::Nothing => Ok(0),
-        Ask::Replace => match replacement(alloc) {
+        Ask::UndoTwo => session.undo(2),
+        Ask::RedoTwo => session.redo(2),
+        _ => match change_of(alloc, ask) {
             Ok(change) => session.perform(&change),
             Err(_) => Err(SessionFault::NoMemory),
         },
-        Ask::UndoTwo => session.undo(2),
-        Ask::RedoTwo => session.redo(2),
     }
 }
 
 /// Opens a session and makes the call: both answer so. Answers what is left.
-fn sit<D: Device, T: TextStore>(
+pub fn sit<D: Device, T: TextStore>(
     alloc: Global,
     rt: &impl Abort,
     trio: Trio<D, T>,
@@ -131,15 +138,22 @@ fn sit<D: Device, T: TextStore>(
     }
 }
 
+pub type MemTrio<A = Global> = Trio<MemImage<A>, MemText<A>>;
+
+/// Three of these bytes, in memory.
+pub fn held<A: Allocator + Clone>(alloc: A, bytes: Held<'_>) -> Result<MemTrio<A>, AllocError> {
+    let image = MemImage::from_vec(bytes.0.to_vec(alloc.clone()?)?);
+    let journal = MemText::from_vec(bytes.1.to_vec(alloc.clone()?)?);
+    Ok((image, journal, MemText::from_vec(bytes.2.to_vec(alloc)?)))
+}
+
 /// Three devices of which so many reads pass.
-fn fused(
+pub fn fused(
     alloc: Global,
     start: Held<'_>,
     passes: Passes,
 ) -> Result<Trio<FuseImage<MemImage>, FuseText<MemText>>, AllocError> {
-    let image = MemImage::from_vec(start.0.to_vec(alloc)?);
-    let journal = MemText::from_vec(start.1.to_vec(alloc)?);
-    let redo_text = MemText::from_vec(start.2.to_vec(alloc)?);
+    let (image, journal, redo_text) = held(alloc, start)?;
     Ok((
         FuseImage::on_reads(image, passes.0),
         FuseText::on_reads(journal, passes.1),
@@ -147,10 +161,8 @@ fn fused(
     ))
 }
 
-type MemTrio = Trio<MemImage, MemText>;
-
 /// What a session leaves of which so many reads pass.
-fn left_by(
+pub fn left_by(
     alloc: Global,
     rt: &impl Abort,
     start: Held<'_>,
@@ -170,13 +182,13 @@ fn bytes_of(left: &MemTrio) -> Held<'_> {
     (left.0.as_slice(), left.1.as_slice(), left.2.as_slice())
 }
 
-fn assert_held(rt: &impl Abort, left: &MemTrio, wanted: Held<'_>) {
+pub fn assert_held(rt: &impl Abort, left: &MemTrio, wanted: Held<'_>) {
     let (image, journal, redo) = bytes_of(left);
     assert!(rt; image == wanted.0 && journal == wanted.1 && redo == wanted.2);
 }
 
 /// What opens, or is asked for, fails at a read, and changes nothing.
-fn assert_refused(
+pub fn assert_refused(
     alloc: Global,
     rt: &impl Abort,
     start: Held<'_>,
@@ -190,7 +202,7 @@ fn assert_refused(
 }
 
 /// Opening finds what was left so. Answers what it leaves.
-fn reopened(
+pub fn reopened(
     alloc: Global,
     rt: &impl Abort,
     left: &MemTrio,

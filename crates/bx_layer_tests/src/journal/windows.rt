@@ -1,11 +1,11 @@
 //! Texts that are counted in windows: of any size, and of a journal that is longer than two.
-use crate::journal::reads::{PATCHED, UNDONE_TWO, open};
+use crate::journal::reads::{
+    Held, NO_STEP, NONE, PATCHED, REFUSED, UNDONE_TWO, assert_refused, found, held, left_by, open,
+};
 use bumpalo::Bump;
 use bx_entries::{count_lines, counted_by, no_entries};
-use bx_image::MemImage;
-use bx_journal::SessionFault;
+use bx_journal::How;
 use bx_ration::ration;
-use bx_store::{FuseText, MemText};
 use std::alloc::{AllocError, Global};
 use std::process::Abort;
 use std::test::Fail;
@@ -82,38 +82,22 @@ fn long_journal(alloc: Global) -> Result<Vec<u8>, AllocError> {
     Ok(text)
 }
 
-// How many changes opening finds, where the journal passes so many reads.
-fn opens_behind(
-    alloc: Global,
-    journal: &[u8],
-    pass: u64,
-) -> Result<Result<u32, SessionFault>, Fail> {
-    let image = MemImage::from_vec(vec![in alloc; b'y'; LEN]?);
-    let journal = FuseText::on_reads(MemText::from_vec(journal.to_vec(alloc)?), pass);
-    let redo_text = FuseText::on_reads(MemText::new(alloc), u64::MAX);
-    match open(alloc, (image, journal, redo_text)) {
-        Ok((_, found)) => Ok(Ok(found.changes)),
-        Err((_, _, _, fault)) => Ok(Err(fault)),
-    }
-}
-
 // The length is read, and three windows; each is refused.
 #[test]
 fn each_window_fails(rt: HostRuntime) -> Result<(), Fail> {
     let alloc = rt.alloc();
-    let journal = long_journal(alloc)?;
+    let (image, journal) = (vec![in alloc; b'y'; LEN]?, long_journal(alloc)?);
+    let start: Held<'_> = (image.as_slice(), journal.as_slice(), b"");
     for pass in 0..4 {
-        let found = opens_behind(alloc, journal.as_slice(), pass)?;
-        assert!(rt; found == Err(SessionFault::DeviceFailed));
+        assert_refused(alloc, &rt, start, (NONE, pass, NONE), REFUSED, NO_STEP)?;
     }
-    assert!(rt; opens_behind(alloc, journal.as_slice(), 4)? == Ok(1));
+    let opened = found(How::Clean, 1, 0);
+    let _left = left_by(alloc, &rt, start, (NONE, 4, NONE), opened, NO_STEP)?;
     Ok(())
 }
 
-fn opens_in<'a>(alloc: Global, bump: &'a Bump, journal: &[u8]) -> Result<u32, Fail> {
-    let image = MemImage::from_vec(vec![in alloc; b'y'; LEN]?);
-    let journal = MemText::from_vec(journal.to_vec(alloc)?);
-    match open(bump, (image, journal, MemText::new(alloc))) {
+fn opens_in<'a>(alloc: Global, bump: &'a Bump, start: Held<'_>) -> Result<u32, AllocError> {
+    match open(bump, held(alloc, start)?) {
         Ok((_, found)) => Ok(found.changes),
         Err(_) => Ok(0),
     }
@@ -123,8 +107,9 @@ fn opens_in<'a>(alloc: Global, bump: &'a Bump, journal: &[u8]) -> Result<u32, Fa
 #[test]
 fn long_journal_in_a_window(rt: HostRuntime) -> Result<(), Fail> {
     let alloc = rt.alloc();
-    let journal = long_journal(alloc)?;
+    let (image, journal) = (vec![in alloc; b'y'; LEN]?, long_journal(alloc)?);
     let bump = ration(alloc, 270_000)?;
-    assert!(rt; opens_in(alloc, &bump, journal.as_slice())? == 1);
+    let changes = opens_in(alloc, &bump, (image.as_slice(), journal.as_slice(), b""))?;
+    assert!(rt; changes == 1);
     Ok(())
 }
