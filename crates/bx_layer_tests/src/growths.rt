@@ -259,7 +259,7 @@ fn growths_of_calls(rt: HostRuntime) -> Result<(), Fail> {
         (Call::Save, 5),
         (Call::Room, 5),
         (Call::Reserve, 1),
-        (Call::Log, 3),
+        (Call::Log, 2),
     ] {
         let count = sweep(&rt, rt.alloc(), call)?;
         println!(rt; "growths refused: {count} of {call:?}")?;
