@@ -1,5 +1,5 @@
 -- What an entry saves, summed line by line.
-use Rattle.std.proofs.Common.{◌≡◌, ℕ, suc, ◌+◌, Bool, true, false, List, [], ◌∷◌, length, map, refl, ap, sym, ◌∙◌, subst, arith, Option, Some, None}
+use Rattle.std.proofs.Common.{◌≡◌, ℕ, suc, ◌+◌, Bool, true, false, List, [], length, map, refl, ap, sym, ◌∙◌, subst, arith, Some}
 use Rattle.std.specs.Prelude.{sum, option_map, if◌then◌else◌}
 use Rattle.std.specs.Str.{bytes_eq}
 use Rattle.bx_entries.specs.declared.format.version.Version.{Version}
@@ -9,7 +9,7 @@ use Rattle.bx_entries.specs.declared.read.count.Tally.{Tally}
 use Rattle.bx_entries.specs.declared.read.rows.Summed.{Summed}
 use Rattle.bx_entries.specs.Kept.{Run, Kept, with_run}
 use Rattle.bx_entries.specs.Line.{save_line, saved_in}
-use Rattle.bx_entries.specs.Text.{Entry, Stage, Between, Saving, Ending, Reading, start, next, next_at, split, after_lines}
+use Rattle.bx_entries.specs.Text.{Entry, Stage, Between, Saving, Ending, Reading, start, next_at, split, after_lines}
 use Rattle.bx_entries.specs.inner.Tally.{place_of, tally_of, LeadsTo, IsTallied}
 use Rattle.bx_entries.specs.inner.Rows.{saved_length, saved_at, summed_of, SumsTo, HasAdded}
 use Rattle.bx_entries.proofs.Gathered.{with_run-sum}

@@ -1,9 +1,9 @@
 -- The rows of a text that is read in windows: a line more, and a window more.
-use Rattle.std.proofs.Common.{◌≡◌, ℕ, ◌+◌, List, [], ◌∷◌, ◌++◌, length, take, drop, refl, ap, sym, ◌∙◌, subst, inl, inr, append_assoc, append-nil, Result, Ok, Err, Some}
+use Rattle.std.proofs.Common.{◌≡◌, ℕ, ◌+◌, List, [], ◌∷◌, ◌++◌, take, drop, refl, ap, sym, ◌∙◌, subst, inl, inr, append_assoc, append-nil, Result, Ok, Err, Some}
 use Rattle.std.specs.Prelude.{IfOk, IfErr}
 use Rattle.bx_entries.specs.declared.read.count.Place.TheVariants.{Between as BetweenPlace}
 use Rattle.bx_entries.specs.declared.read.rows.Summed.{Summed}
-use Rattle.bx_entries.specs.Text.{Entry, Stage, Between, Saving, Ending, Reading, Split, ended, split, start, next, next_at, after_lines}
+use Rattle.bx_entries.specs.Text.{Entry, Stage, Between, Saving, Ending, Reading, Split, ended, split, start, next_at, after_lines}
 use Rattle.bx_entries.specs.inner.Plain.{HasNoNewline}
 use Rattle.bx_entries.specs.inner.Rows.{SumsTo, summed_of}
 use Rattle.bx_entries.specs.inner.Tally.{place_of}
@@ -20,7 +20,7 @@ use Rattle.bx_journal.specs.declared.session.rows.Listed.{Listed}
 use Rattle.bx_journal.specs.inner.Rows.{AreListed, AreListedTo, AreRowsOf, IsListed, IsListedAt, ended_row}
 
 -- a line adds a row where it ends an entry
-RowsNext : List Entry → Reading → Type 0
+abbrev RowsNext : List Entry → Reading → Type 0
 RowsNext es q = rows_of q.entries ≡ rows_of es ++ ended_row (place_of q.stage) (summed_of q)
 
 rows_next : (line : List ℕ) (q : Reading) (es : List Entry) (stage : Stage) → next_at es stage line ≡ Some q → RowsNext es q
@@ -92,16 +92,17 @@ listed_to honest stored at len from old new l to listed = record {
   listed = listed.leads to.front to.listed;
 }
 
--- all of a text, between two entries
-pub all_listed : (honest : Type 0) (stored : List ℕ) (s : Summed) (rows : List LogRow) (count : ℕ) → AreListed honest stored s rows → s.tally.place ≡ BetweenPlace → s.tally.count ≡ count → AreRowsOf honest stored rows count
-all_listed honest stored s rows count h place many =
+-- all of a text, between two entries, in a store that is the same as before
+pub all_listed : (honest now : Type 0) (stored text : List ℕ) (s : Summed) (rows : List LogRow) (count : ℕ) → (honest → now) → (honest → text ≡ stored) → AreListed now text s rows
+    → s.tally.place ≡ BetweenPlace → s.tally.count ≡ count → AreRowsOf honest stored rows count
+all_listed honest now stored text s rows count still same h place many =
     let listed = h.listed in
     let reading : Reading = listed.reading in
     let at : HasForm reading.stage BetweenPlace = has_form reading.stage BetweenPlace (ap (λ (u : Summed). u.tally.place) listed.is ∙ place) in
-    let lines : after_lines start (split h.text).lines ≡ Some (record { entries = reading.entries; stage = Between }) = listed.reads ∙ ap (λ s. Some (record { entries = reading.entries; stage = s })) at in
+    let lines : after_lines start (split h.text).lines ≡ Some (record { entries = reading.entries; stage = Between }) = listed.reads ∙ ap (λ z. Some (record { entries = reading.entries; stage = z })) at in
     record {
       text = h.text;
-      is = h.is;
+      is = λ th. sym (same th) ∙ h.is (still th);
       entries = reading.entries;
       finished = record { reads = record { lines = lines; rest = inl listed.whole }; whole = listed.whole };
       counted = ap (λ (u : Summed). u.tally.count) listed.is ∙ many;

@@ -61,11 +61,8 @@ pub fn sum_one(now: Summed, line: &[u8]) -> Option<Summed>
     match now.tally.place {
         Place::Between => {
             let len = len_at(tally.place)?;
-            Some(Summed {
-                tally,
-                len,
-                saved: 0,
-            })
+            let saved = 0;
+            Some(Summed { tally, len, saved })
         }
         Place::Saving { len, .. } => {
             let more = added(len, tally.place, line)?;

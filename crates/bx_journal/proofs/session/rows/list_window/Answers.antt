@@ -1,4 +1,4 @@
-use Rattle.std.proofs.Common.{◌++◌, take, drop, subst, arith}
+use Rattle.std.proofs.Common.{take, drop, subst, arith}
 use Rattle.std.specs.Prelude.{IfSome}
 use Rattle.bx_journal.specs.inner.Rows.{IsListedIn}
 use Rattle.bx_journal.proofs.WindowLemmas.{front_of}
