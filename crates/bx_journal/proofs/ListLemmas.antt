@@ -3,7 +3,6 @@ use Rattle.std.proofs.Common.{◌≡◌, ℕ, ◌+◌, List, [], ◌∷◌, ◌+
 use Rattle.std.specs.Prelude.{IfOk, IfErr}
 use Rattle.bx_entries.specs.declared.read.count.Place.TheVariants.{Between as BetweenPlace}
 use Rattle.bx_entries.specs.declared.read.rows.Summed.{Summed}
-use Rattle.bx_entries.specs.Finished.{IsFinished}
 use Rattle.bx_entries.specs.Text.{Entry, Stage, Between, Saving, Ending, Reading, Split, ended, split, start, next_at, after_lines}
 use Rattle.bx_entries.specs.inner.Plain.{HasNoNewline}
 use Rattle.bx_entries.specs.inner.Rows.{SumsTo, summed_of}
@@ -109,17 +108,6 @@ all_listed honest now stored text s rows count still same h place many =
       counted = ap (λ (u : Summed). u.tally.count) listed.is ∙ many;
       rows_are = listed.rows_are;
     }
-
-one_reading : (r q : Reading) → Some r ≡ Some q → r ≡ q
-one_reading r q e = cc
-
--- a text has the rows of its entries alone
-pub rows_once : (honest : Type 0) (stored : List ℕ) (rows : List LogRow) (count : ℕ) (entries : List Entry) → AreRowsOf honest stored rows count → honest → IsFinished stored entries → rows ≡ rows_of entries
-rows_once honest stored rows count entries are th finished =
-    let same : after_lines start (split are.text).lines ≡ after_lines start (split stored).lines = ap (λ t. after_lines start (split t).lines) (sym (are.is th)) in
-    let once : record { entries = are.entries; stage = Between } ≡ record { entries = entries; stage = Between } =
-    one_reading (record { entries = are.entries; stage = Between }) (record { entries = entries; stage = Between }) (sym are.finished.reads.lines ∙ same ∙ finished.reads.lines) in
-    are.rows_are ∙ ap (λ (r : Reading). rows_of r.entries) once
 
 -- what is said of a store that is the same as before
 module _ (H now : Type 0) (stored text : List ℕ) (count : ℕ) (still : H → now) (same : H → text ≡ stored) where
