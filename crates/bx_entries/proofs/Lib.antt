@@ -20,6 +20,7 @@ pub mod FrontLemmas
 pub mod Damage
 pub mod ReadLoop
 pub mod TallyLemmas
+pub mod SumLemmas
 pub mod PieceBound
 pub mod NearRows
 pub mod DigitLanes

@@ -23,12 +23,12 @@ abbrev pub LeadsIn : List Entry → Stage → List ℕ → Place → Type 0
 LeadsIn es s line p = (t : Stage) × (next_at es s line ≡ Some (record { entries = es; stage = t })) × (place_of t ≡ p)
 
 -- a stage that is at a place is of the place's form, whatever was saved
-abbrev HasForm : Stage → Place → Type 0
+abbrev pub HasForm : Stage → Place → Type 0
 HasForm stage BetweenPlace = stage ≡ Between
 HasForm stage (SavingPlace v len) = (s : Kept) × (stage ≡ Saving v s) × (s.len ≡ len)
 HasForm stage (EndingPlace v) = (s : Kept) × (stage ≡ Ending v s)
 
-has_form : (stage : Stage) (p : Place) → place_of stage ≡ p → HasForm stage p
+pub has_form : (stage : Stage) (p : Place) → place_of stage ≡ p → HasForm stage p
 has_form stage p is = subst (HasForm stage) is (form_of stage)
   where
     form_of : (stage : Stage) → HasForm stage (place_of stage)
@@ -104,7 +104,7 @@ pub record IsFirstLine (rest : List ℕ) (i : ℕ) : Type 0 where
   pub plain : HasNoNewline (take i rest)
   pub is : rest ≡ take i rest ++ 10 ∷ drop (i + 1) rest
 
-line_taken : (rest : List ℕ) (i : ℕ) → IsFirstLine rest i → take (i + 1) rest ≡ ended (take i rest)
+pub line_taken : (rest : List ℕ) (i : ℕ) → IsFirstLine rest i → take (i + 1) rest ≡ ended (take i rest)
 line_taken rest i f =
     let ten : take 1 (drop i rest) ≡ 10 ∷ [] = ap (take 1) (ap (drop i) f.is ∙ seam (take i rest) (10 ∷ drop (i + 1) rest) i (omega (arith, length-take i rest, f.below))) in
     take_sum i 1 rest ∙ ap (λ l. take i rest ++ l) ten
@@ -117,7 +117,7 @@ pub tallied_none : (only_second : Bool) → IsTallied only_second [] (record { c
 unfolding split after_lines
 tallied_none only_second = record { reading = start; reads = refl; whole = refl; many = refl; is = refl; tell = λ only. tt }
 
-last : (r q : Reading) (line : List ℕ) → next r line ≡ Some q → after_lines r (line ∷ []) ≡ Some q
+pub last : (r q : Reading) (line : List ℕ) → next r line ≡ Some q → after_lines r (line ∷ []) ≡ Some q
 unfolding after_lines
 last r q line e = rw e refl
 

@@ -9,4 +9,5 @@ pub mod Line
 pub mod Mark
 pub mod Parsed
 pub mod Plain
+pub mod Rows
 pub mod Tally

@@ -3,6 +3,7 @@ pub(crate) mod count;
 mod extend;
 mod full_lines;
 mod reuse_text;
+pub(crate) mod rows;
 mod tail;
 pub(crate) mod take_line;
 mod text;

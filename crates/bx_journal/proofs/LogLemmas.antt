@@ -9,7 +9,7 @@ use Rattle.bx_entries.specs.Kept.{Run, run_of, kept_of}
 use Rattle.bx_entries.specs.declared.read.types.EntryRead.{EntryRead}
 use Rattle.bx_journal.specs.declared.session.answers.LogRow.{LogRow}
 use Rattle.bx_journal.specs.Calls.{rows_of}
-use Rattle.bx_journal.specs.inner.Rows.{saved_length}
+use Rattle.bx_entries.specs.inner.Rows.{saved_length}
 use Rattle.bx_entries.specs.inner.Parsed.{entry_of, entries_of}
 use Rattle.bx_entries.proofs.ReadLemmas.{onto-push, length-entries_of}
 

@@ -9,7 +9,7 @@ use Rattle.bx_entries.specs.declared.read.types.EntryRead.{EntryRead}
 use Rattle.bx_entries.specs.DumpLine.{piece_of}
 use Rattle.bx_entries.specs.Line.{save_line, saved_in}
 use Rattle.bx_entries.specs.Text.{Entry, Stage, Between, Saving, Ending, Reading, Reads, next, next_at, start, after_lines, split, joined, ended}
-use Rattle.bx_journal.specs.inner.Rows.{saved_length}
+use Rattle.bx_entries.specs.inner.Rows.{saved_length}
 use Rattle.bx_entries.specs.inner.Parsed.{entry_of, entries_onto, entries_of}
 use Rattle.bx_entries.proofs.Inverse.{bind_some, map_some, test_some, next_between, next_ending}
 use Rattle.bx_journal.proofs.Tails.{joined_rest}

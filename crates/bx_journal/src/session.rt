@@ -17,6 +17,7 @@ mod prepare;
 pub(crate) mod read;
 mod records;
 mod redo;
+mod rows;
 mod undo;
 
 use crate::SessionFault;

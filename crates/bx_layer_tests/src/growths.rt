@@ -167,7 +167,7 @@ fn sweep(rt: &impl Abort, alloc: Global, call: Call) -> Result<u32, Fail> {
 
 #[test]
 fn growths_of_calls(rt: HostRuntime) -> Result<(), Fail> {
-    for (call, growths) in [(Call::ReadDump, 10), (Call::Push, 7), (Call::Log, 3)] {
+    for (call, growths) in [(Call::ReadDump, 10), (Call::Push, 7), (Call::Log, 2)] {
         assert!(rt; sweep(&rt, rt.alloc(), call)? >= growths);
     }
     Ok(())

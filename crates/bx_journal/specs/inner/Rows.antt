@@ -1,6 +1,59 @@
--- How many bytes saved lines have.
-use Rattle.std.specs.Prelude.{ℕ, length, map, sum}
-use Rattle.bx_entries.specs.Kept.{Run, Kept}
+-- What proofs alone need: the rows of a log, from a text that is read in windows.
+use Rattle.std.specs.Prelude.{◌≡◌, ◌<◌, ◌≤◌, ◌+◌, ℕ, Some, List, [], ◌∷◌, ◌++◌, length, take, drop}
+use Rattle.bx_entries.specs.declared.read.count.Place.{Place}
+use Rattle.bx_entries.specs.declared.read.count.Place.TheVariants.{Between as BetweenPlace, Saving as SavingPlace, Ending as EndingPlace}
+use Rattle.bx_entries.specs.declared.read.rows.Summed.{Summed}
+use Rattle.bx_entries.specs.inner.Rows.{summed_of}
+use Rattle.bx_entries.specs.Finished.{IsFinished}
+use Rattle.bx_entries.specs.Text.{Entry, Reading, split, start, after_lines}
+use Rattle.bx_journal.specs.declared.session.answers.LogRow.{LogRow}
+use Rattle.bx_journal.specs.declared.session.rows.Listed.{Listed}
+use Rattle.bx_journal.specs.Calls.{rows_of}
 
-abbrev pub saved_length : Kept → ℕ
-saved_length s = sum (map (λ (run : Run). length run.bytes) s.runs)
+-- the row of the entry that the last line ended, where the text stands at such a place
+abbrev pub ended_row : Place → Summed → List LogRow
+ended_row BetweenPlace s = record { number = s.tally.count; old_len = s.len; saved = s.saved } ∷ []
+ended_row (SavingPlace v len) s = []
+ended_row (EndingPlace v) s = []
+
+-- a text of whole lines leads to these sums, and its finished entries have these rows
+pub record IsListed (text : List ℕ) (s : Summed) (rows : List LogRow) : Type 0 where
+  pub reading : Reading
+  pub reads : after_lines start (split text).lines ≡ Some reading
+  pub whole : (split text).rest ≡ []
+  pub is : summed_of reading ≡ s
+  pub rows_are : rows ≡ rows_of reading.entries
+
+-- the whole lines at the start of a window lead from sums and rows to others
+pub record IsListedIn (window : List ℕ) (from : Summed) (old new : List LogRow) (l : Listed) : Type 0 where
+  pub leads : (front : List ℕ) → IsListed front from old → IsListed (front ++ take l.taken window) l.sums new
+  pub within : l.taken ≤ length window
+
+-- whole lines at a place, before `len`, lead from sums and rows to others; they are the store's, where that is honest
+pub record IsListedAt (honest : Type 0) (stored : List ℕ) (at len : ℕ) (from : Summed) (old new : List LogRow) (l : Listed) : Type 0 where
+  pub bytes : List ℕ
+  pub is : honest → bytes ≡ take l.taken (drop at stored)
+  pub leads : (front : List ℕ) → IsListed front from old → IsListed (front ++ bytes) l.sums new
+  pub some : 0 < l.taken
+  pub within : at + l.taken ≤ len
+
+-- the text up to a place leads to these sums and rows: the store's, where that is honest
+pub record AreListedTo (honest : Type 0) (stored : List ℕ) (at : ℕ) (s : Summed) (rows : List LogRow) : Type 0 where
+  pub front : List ℕ
+  pub is : honest → front ≡ take at stored
+  pub listed : IsListed front s rows
+
+-- all of a text does: the store's, where that is honest
+pub record AreListed (honest : Type 0) (stored : List ℕ) (s : Summed) (rows : List LogRow) : Type 0 where
+  pub text : List ℕ
+  pub is : honest → stored ≡ text
+  pub listed : IsListed text s rows
+
+-- the rows of so many finished entries alone: the store's, where that is honest
+pub record AreRowsOf (honest : Type 0) (stored : List ℕ) (rows : List LogRow) (count : ℕ) : Type 0 where
+  pub text : List ℕ
+  pub is : honest → stored ≡ text
+  pub entries : List Entry
+  pub finished : IsFinished text entries
+  pub counted : length entries ≡ count
+  pub rows_are : rows ≡ rows_of entries

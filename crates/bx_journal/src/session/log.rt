@@ -3,12 +3,13 @@ ghost use Rattle.std.specs.Prelude.{◌≡◌, ◌↔◌, ◌+◌, ◌<◌, ◌�
 ghost use Rattle.bx_journal.specs.Calls.{rows_of};
 ghost use Rattle.bx_entries.specs.inner.Parsed.{entries_of};
 ghost use Rattle.bx_entries.specs.Kept.{kept_of};
-ghost use Rattle.bx_journal.specs.inner.Rows.{saved_length};
+ghost use Rattle.bx_entries.specs.inner.Rows.{saved_length};
 ghost use Rattle.bx_entries.specs.Text.{Entry};
 ghost use Rattle.bx_journal.specs.Undoing.{AgainFault, HasCount};
 ghost use Rattle.bx_entries.specs.Finished.{IsFinished};
 
 use crate::session::entries::read_again;
+use crate::session::rows::rows_in_windows;
 use crate::{LogRow, Session, SessionFault};
 use bx_entries::EntryRead;
 use bx_image::{Device, Saved};
@@ -52,9 +53,56 @@ fn rows<A: Allocator + Clone>(
     Ok(rows)
 }
 
-impl<D: Device, T: TextStore, A: Allocator + Clone> Session<D, T, A> {
-    ghost use Rattle.bx_journal.specs.Opening.{FaultCounts};
+ghost use Rattle.bx_journal.specs.Opening.{FaultCounts};
+ghost use Rattle.bx_journal.specs.inner.Rows.{AreRowsOf};
 
+/// The rows of a text that is to be so many finished entries alone, and is read whole.
+fn rows_of_whole<T: TextStore, A: Allocator + Clone>(
+    alloc: &A,
+    store: &mut T,
+    count: u32,
+) -> Result<Vec<LogRow, A>, SessionFault>
+    requires { T.failures store.old < u64.MAX }
+    ensures rows { IfOk result (λ rows. AreRowsOf (T.honest store.old) (T.text store.old) rows.items count) }
+    ensures fault { IfErr result (AgainFault (T.honest store.old) (T.text store.old) count) }
+    ensures text { T.honest store.old → T.text store.new ≡ T.text store.old }
+    ensures honesty { T.honest store.new ↔ T.honest store.old }
+    ensures no_failure { OnOk result (T.failures store.new ≡ T.failures store.old) }
+    ensures counts { IfErr result (λ e. FaultCounts e 0 (T.failures store.old) 0 (T.failures store.new)) }
+{
+    let read = match read_again(alloc, store, count) {
+        Ok(read) => read,
+        Err(fault) => return Err(fault),
+    };
+    Ok(rows(alloc, &read.entries)?)
+}
+
+/// The rows of a text that is to be so many finished entries alone. It changes nothing. The text is read in windows, and
+/// only one that can't be read so is read whole.
+fn rows_of_text<T: TextStore, A: Allocator + Clone>(
+    alloc: &A,
+    store: &mut T,
+    count: u32,
+) -> Result<Vec<LogRow, A>, SessionFault>
+    requires { T.failures store.old < u64.MAX }
+    ensures rows { IfOk result (λ rows. AreRowsOf (T.honest store.old) (T.text store.old) rows.items count) }
+    ensures fault { IfErr result (AgainFault (T.honest store.old) (T.text store.old) count) }
+    ensures text { T.honest store.old → T.text store.new ≡ T.text store.old }
+    ensures honesty { T.honest store.new ↔ T.honest store.old }
+    ensures no_failure { OnOk result (T.failures store.new ≡ T.failures store.old) }
+    ensures counts { IfErr result (λ e. FaultCounts e 0 (T.failures store.old) 0 (T.failures store.new)) }
+{
+    let found = match rows_in_windows(alloc, store, count) {
+        Ok(found) => found,
+        Err(fault) => return Err(fault),
+    };
+    match found {
+        Some(rows) => Ok(rows),
+        None => rows_of_whole(alloc, store, count),
+    }
+}
+
+impl<D: Device, T: TextStore, A: Allocator + Clone> Session<D, T, A> {
     /// One row for each change, the oldest first. It reads the journal's text again, and changes nothing.
     pub fn log(&mut self) -> Result<Vec<LogRow, A>, SessionFault>
         requires { T.failures self.old.store < u64.MAX }
@@ -83,7 +131,7 @@ impl<D: Device, T: TextStore, A: Allocator + Clone> Session<D, T, A> {
         if self.is_broken {
             return Err(SessionFault::Broken);
         }
-        let read = read_again(&self.alloc, &mut self.store, self.count)?;
-        Ok(rows(&self.alloc, &read.entries)?)
+        let rows = rows_of_text(&self.alloc, &mut self.store, self.count)?;
+        Ok(rows)
     }
 }

@@ -1,0 +1,40 @@
+-- Entries of which the rows of a log are made, and which are not kept.
+use Rattle.std.specs.Prelude.{◌≡◌, ℕ, Some, List, [], ◌∷◌, length, map, sum}
+use Rattle.bx_entries.specs.declared.read.count.Place.{Place}
+use Rattle.bx_entries.specs.declared.read.count.Place.TheVariants.{Between as BetweenPlace, Saving as SavingPlace, Ending as EndingPlace}
+use Rattle.bx_entries.specs.declared.read.rows.Summed.{Summed}
+use Rattle.bx_entries.specs.Kept.{Run, Kept}
+use Rattle.bx_entries.specs.Line.{saved_in}
+use Rattle.bx_entries.specs.Text.{Entry, Stage, Between, Saving, Ending, Reading, next}
+use Rattle.bx_entries.specs.inner.Tally.{tally_of}
+
+-- how many bytes saved lines have
+abbrev pub saved_length : Kept → ℕ
+saved_length s = sum (map (λ (run : Run). length run.bytes) s.runs)
+
+-- what the newest of finished entries saved, nothing where there is none
+abbrev pub last_saved : List Entry → Kept
+last_saved [] = record { len = 0; runs = [] }
+last_saved (e ∷ es) = e.saved
+
+-- what the newest entry saved, finished or not
+abbrev pub saved_at : List Entry → Stage → Kept
+saved_at es Between = last_saved es
+saved_at es (Saving v s) = s
+saved_at es (Ending v s) = s
+
+-- a reading of which a tally is left, and of the newest entry a length and a sum
+abbrev pub summed_of : Reading → Summed
+summed_of r = record { tally = tally_of r; len = (saved_at r.entries r.stage).len; saved = saved_length (saved_at r.entries r.stage) }
+
+-- where a line leads from a reading, seen as sums
+pub record SumsTo (r : Reading) (line : List ℕ) (s : Summed) : Type 0 where
+  pub reading : Reading
+  pub leads : next r line ≡ Some reading
+  pub is : summed_of reading ≡ s
+
+-- how many bytes a line gives that leads from the saved lines of an entry to a place
+abbrev pub HasAdded : ℕ → Place → List ℕ → ℕ → Type 0
+HasAdded len BetweenPlace line more = ⊥
+HasAdded len (SavingPlace v n) line more = (p : Run) × (saved_in len line ≡ Some p) × (length p.bytes ≡ more)
+HasAdded len (EndingPlace v) line more = more ≡ 0

@@ -1,0 +1,133 @@
+-- The rows of a text that is read in windows: a line more, and a window more.
+use Rattle.std.proofs.Common.{◌≡◌, ℕ, ◌+◌, List, [], ◌∷◌, ◌++◌, take, drop, refl, ap, sym, ◌∙◌, subst, inl, inr, append_assoc, append-nil, Result, Ok, Err, Some}
+use Rattle.std.specs.Prelude.{IfOk, IfErr}
+use Rattle.bx_entries.specs.declared.read.count.Place.TheVariants.{Between as BetweenPlace}
+use Rattle.bx_entries.specs.declared.read.rows.Summed.{Summed}
+use Rattle.bx_entries.specs.Text.{Entry, Stage, Between, Saving, Ending, Reading, Split, ended, split, start, next_at, after_lines}
+use Rattle.bx_entries.specs.inner.Plain.{HasNoNewline}
+use Rattle.bx_entries.specs.inner.Rows.{SumsTo, summed_of}
+use Rattle.bx_entries.specs.inner.Tally.{place_of}
+use Rattle.bx_entries.proofs.Inverse.{next_between, next_saving, next_ending}
+use Rattle.bx_entries.proofs.Runs.{after_lines-append}
+use Rattle.bx_entries.proofs.Splits.{split-append, split-ended}
+use Rattle.bx_entries.proofs.TallyLemmas.{HasForm, has_form, IsFirstLine, last, line_taken, take_sum}
+use Rattle.bx_journal.specs.Calls.{rows_of}
+use Rattle.bx_journal.specs.Undoing.{AgainFault, IsOutOfStep}
+use Rattle.bx_journal.specs.declared.session.answers.LogRow.{LogRow}
+use Rattle.bx_journal.specs.declared.session.fault.SessionFault.{SessionFault}
+use Rattle.bx_journal.specs.declared.session.fault.SessionFault.TheVariants.{NoMemory, TooLarge, DeviceFailed, Damaged, TooFew, JournalFull, Interrupted, Broken, LengthDiffers, NothingToRedo, RedoDamaged}
+use Rattle.bx_journal.specs.declared.session.rows.Listed.{Listed}
+use Rattle.bx_journal.specs.inner.Rows.{AreListed, AreListedTo, AreRowsOf, IsListed, IsListedAt, ended_row}
+
+-- a line adds a row where it ends an entry
+abbrev RowsNext : List Entry → Reading → Type 0
+RowsNext es q = rows_of q.entries ≡ rows_of es ++ ended_row (place_of q.stage) (summed_of q)
+
+rows_next : (line : List ℕ) (q : Reading) (es : List Entry) (stage : Stage) → next_at es stage line ≡ Some q → RowsNext es q
+rows_next line q es Between e =
+    let b = next_between es line q e in
+    let is : q ≡ record { entries = es; stage = Saving b.1.0 (record { len = b.1.1; runs = [] }) } = b.2 ∙ ap (λ s. record { entries = es; stage = s }) b.1.7 in
+    subst (RowsNext es) (sym is) (sym (append-nil (rows_of es)))
+rows_next line q es (Saving v s) e =
+    elim (next_saving es v s line q e) [ inl is ↦ subst (RowsNext es) (sym is.1) (sym (append-nil (rows_of es))) | inr is ↦ subst (RowsNext es) (sym is.2) (sym (append-nil (rows_of es))) ]
+rows_next line q es (Ending v s) e = subst (RowsNext es) (sym (next_ending es v s line q e).1) refl
+
+-- nothing was read
+pub listed_none : (s : Summed) (rows : List LogRow) → s ≡ summed_of start → rows ≡ [] → IsListed [] s rows
+unfolding split after_lines
+listed_none s rows none empty = record { reading = start; reads = refl; whole = refl; is = sym none; rows_are = empty }
+
+-- one line more
+listed_on : (text line : List ℕ) (s u : Summed) (rows : List LogRow) → IsListed text s rows → HasNoNewline line → ((r : Reading) → summed_of r ≡ s → SumsTo r line u)
+    → IsListed (text ++ ended line) u (rows ++ ended_row u.tally.place u)
+unfolding split
+listed_on text line s u rows h plain lead =
+    let to : SumsTo h.reading line u = lead h.reading h.is in
+    let one : split (ended line) ≡ record { lines = line ∷ []; rest = [] } = split-ended line [] plain in
+    let parts : split (text ++ ended line) ≡ record { lines = (split text).lines ++ line ∷ []; rest = [] } =
+    split-append text (ended line) h.whole ∙ ap (λ (s : Split). record { lines = (split text).lines ++ s.lines; rest = s.rest }) one in
+    let lines : (split (text ++ ended line)).lines ≡ (split text).lines ++ line ∷ [] = ap (λ (s : Split). s.lines) parts in
+    let more : rows_of to.reading.entries ≡ rows_of h.reading.entries ++ ended_row u.tally.place u =
+    rows_next line to.reading h.reading.entries h.reading.stage to.leads ∙ ap (λ (w : Summed). rows_of h.reading.entries ++ ended_row w.tally.place w) to.is in
+    record {
+      reading = to.reading;
+      reads = ap (after_lines start) lines ∙ after_lines-append start h.reading (split text).lines (line ∷ []) h.reads ∙ last h.reading to.reading line to.leads;
+      whole = ap (λ (s : Split). s.rest) parts;
+      is = to.is;
+      rows_are = ap (λ rs. rs ++ ended_row u.tally.place u) h.rows_are ∙ sym more;
+    }
+
+-- one line more of a window
+pub listed_more : (front window rest : List ℕ) (taken i : ℕ) (s u : Summed) (rows new : List LogRow) → IsListed (front ++ take taken window) s rows → rest ≡ drop taken window → IsFirstLine rest i
+    → ((r : Reading) → summed_of r ≡ s → SumsTo r (take i rest) u) → new ≡ rows ++ ended_row u.tally.place u → IsListed (front ++ take (taken + (i + 1)) window) u new
+listed_more front window rest taken i s u rows new h left f lead pushed =
+    let taken_is : take (taken + (i + 1)) window ≡ take taken window ++ ended (take i rest) =
+    take_sum taken (i + 1) window ∙ ap (λ l. take taken window ++ take (i + 1) l) (sym left) ∙ ap (λ l. take taken window ++ l) (line_taken rest i f) in
+    let same : front ++ take (taken + (i + 1)) window ≡ (front ++ take taken window) ++ ended (take i rest) =
+    ap (λ l. front ++ l) taken_is ∙ sym (append_assoc front (take taken window) (ended (take i rest))) in
+    subst (λ l. IsListed l u new) (sym same)
+    (subst (IsListed ((front ++ take taken window) ++ ended (take i rest)) u) (sym pushed) (listed_on (front ++ take taken window) (take i rest) s u rows h f.plain lead))
+
+-- no line of a window
+pub listed_same : (front window : List ℕ) (s : Summed) (rows : List LogRow) → IsListed front s rows → IsListed (front ++ take 0 window) s rows
+listed_same front window s rows h = subst (λ l. IsListed l s rows) (sym (append-nil front)) h
+
+-- a window of a store that is the same as before
+pub listed_from : (honest now : Type 0) (stored text : List ℕ) (at len : ℕ) (from : Summed) (old new : List LogRow) (l : Listed) → (honest → now) → (honest → text ≡ stored) → IsListedAt now text at len from old new l
+    → IsListedAt honest stored at len from old new l
+listed_from honest now stored text at len from old new l still same listed = record {
+  bytes = listed.bytes;
+  is = λ h. listed.is (still h) ∙ ap (λ t. take l.taken (drop at t)) (same h);
+  leads = listed.leads;
+  some = listed.some;
+  within = listed.within;
+}
+
+-- a window more
+pub listed_to : (honest : Type 0) (stored : List ℕ) (at len : ℕ) (from : Summed) (old new : List LogRow) (l : Listed) → AreListedTo honest stored at from old → IsListedAt honest stored at len from old new l
+    → AreListedTo honest stored (at + l.taken) l.sums new
+listed_to honest stored at len from old new l to listed = record {
+  front = to.front ++ listed.bytes;
+  is = λ h. ap (λ t. t ++ listed.bytes) (to.is h) ∙ ap (λ t. take at stored ++ t) (listed.is h) ∙ sym (take_sum at l.taken stored);
+  listed = listed.leads to.front to.listed;
+}
+
+-- all of a text, between two entries, in a store that is the same as before
+pub all_listed : (honest now : Type 0) (stored text : List ℕ) (s : Summed) (rows : List LogRow) (count : ℕ) → (honest → now) → (honest → text ≡ stored) → AreListed now text s rows
+    → s.tally.place ≡ BetweenPlace → s.tally.count ≡ count → AreRowsOf honest stored rows count
+all_listed honest now stored text s rows count still same h place many =
+    let listed = h.listed in
+    let reading : Reading = listed.reading in
+    let at : HasForm reading.stage BetweenPlace = has_form reading.stage BetweenPlace (ap (λ (u : Summed). u.tally.place) listed.is ∙ place) in
+    let lines : after_lines start (split h.text).lines ≡ Some (record { entries = reading.entries; stage = Between }) = listed.reads ∙ ap (λ z. Some (record { entries = reading.entries; stage = z })) at in
+    record {
+      text = h.text;
+      is = λ th. sym (same th) ∙ h.is (still th);
+      entries = reading.entries;
+      finished = record { reads = record { lines = lines; rest = inl listed.whole }; whole = listed.whole };
+      counted = ap (λ (u : Summed). u.tally.count) listed.is ∙ many;
+      rows_are = listed.rows_are;
+    }
+
+-- what is said of a store that is the same as before
+module _ (H now : Type 0) (stored text : List ℕ) (count : ℕ) (still : H → now) (same : H → text ≡ stored) where
+  pub rows_before : {V E : Type 0} → (items : V → List LogRow) (r : Result V E) → IfOk r (λ v. AreRowsOf now text (items v) count) → IfOk r (λ v. AreRowsOf H stored (items v) count)
+  rows_before items (Ok v) f = record { text = f.text; is = λ h. sym (same h) ∙ f.is (still h); entries = f.entries; finished = f.finished; counted = f.counted; rows_are = f.rows_are }
+  rows_before items (Err e) f = tt
+
+  again_is : (e : SessionFault) → AgainFault now text count e → AgainFault H stored count e
+  again_is NoMemory f = tt
+  again_is DeviceFailed f = tt
+  again_is (Damaged line) f = λ h. subst (λ t. IsOutOfStep t count line) (same h) (f (still h))
+  again_is TooLarge f = f
+  again_is (TooFew have) f = f
+  again_is JournalFull f = f
+  again_is Interrupted f = f
+  again_is Broken f = f
+  again_is (LengthDiffers n) f = f
+  again_is (NothingToRedo have) f = f
+  again_is (RedoDamaged line) f = f
+
+  pub again_before : {T : Type 0} → (r : Result T SessionFault) → IfErr r (AgainFault now text count) → IfErr r (AgainFault H stored count)
+  again_before (Ok v) f = tt
+  again_before (Err e) f = again_is e f
