@@ -1,8 +1,9 @@
 //! Calls that take memory, with each growth refused in turn, and made again with room enough.
+use crate::image::guarded::change;
 use crate::journal::reads::{PATCHED, UNDONE, held, open};
 use crate::shared::assert_bytes;
 use bumpalo::Bump;
-use bx_image::MemImage;
+use bx_image::{Change, MemImage, room};
 use bx_journal::{Session, SessionFault};
 use bx_ration::{arena, squeeze, used};
 use bx_read::{ReadFault, read_dump};
@@ -20,6 +21,7 @@ const MOST_WORDS: usize = 600;
 enum Call {
     ReadDump,
     Push,
+    Room,
     Log,
 }
 
@@ -34,6 +36,9 @@ const TEXTS: [&str; 5] = [
     "a fourth word of more",
     "five",
 ];
+
+/// Writes whose bytes, and those behind a base of 9, are three runs of an image of ten bytes.
+const WRITES: [(u64, &[u8]); 4] = [(8, b"X"), (2, b"XY"), (3, b"Z"), (6, b"[")];
 
 /// The image behind the change of `PATCHED`.
 const CHANGED: &[u8] = b"ABxyEFGH";
@@ -89,6 +94,23 @@ fn pushes(rt: &impl Abort, bump: &Bump, bytes: usize) -> Result<Refused, AllocEr
     Ok(refused)
 }
 
+/// Makes room for what a change overwrites.
+fn makes_room<'a>(
+    rt: &impl Abort,
+    bump: &'a Bump,
+    change: &Change<&'a Bump>,
+    bytes: usize,
+) -> Result<Refused, AllocError> {
+    squeeze(bump, bytes)?;
+    match room(bump, change, 10) {
+        Ok(saved) => {
+            assert!(rt; saved.runs.as_slice().len() == 3);
+            Ok(None)
+        }
+        Err(_) => Ok(Some(used(bump, bytes))),
+    }
+}
+
 /// Lists the one change of a session; where that is refused, again with more memory.
 fn lists_one<'a>(
     rt: &impl Abort,
@@ -139,6 +161,7 @@ fn make(rt: &impl Abort, bump: &Bump, call: Call, bytes: usize) -> Result<Refuse
     match call {
         Call::ReadDump => Ok(reads_dump(rt, bump, bytes)?),
         Call::Push => Ok(pushes(rt, bump, bytes)?),
+        Call::Room => Ok(makes_room(rt, bump, &change(bump, Some(9), &WRITES)?, bytes)?),
         Call::Log => lists(rt, bump, bytes),
     }
 }
@@ -167,7 +190,12 @@ fn sweep(rt: &impl Abort, alloc: Global, call: Call) -> Result<u32, Fail> {
 
 #[test]
 fn growths_of_calls(rt: HostRuntime) -> Result<(), Fail> {
-    for (call, growths) in [(Call::ReadDump, 10), (Call::Push, 7), (Call::Log, 2)] {
+    for (call, growths) in [
+        (Call::ReadDump, 10),
+        (Call::Push, 7),
+        (Call::Room, 5),
+        (Call::Log, 2),
+    ] {
         assert!(rt; sweep(&rt, rt.alloc(), call)? >= growths);
     }
     Ok(())
