@@ -245,9 +245,10 @@ fn name_of<R: AllocGlobal>(rt: &R, name: &str) -> Result<Name, Fail> {
 
 // The names of an image's texts.
 fn texts_of<R: AllocGlobal>(rt: &R, journal: &str) -> Result<Texts, Fail> {
+    let journal = String::from_str(rt.alloc(), journal)?;
     let redo = format!(in rt.alloc(); "{journal}.redo")?;
     Ok(Texts {
-        journal: name_of(rt, journal)?,
+        journal: Name::from_string(journal),
         redo: Name::from_string(redo),
     })
 }
