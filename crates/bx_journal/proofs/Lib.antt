@@ -38,3 +38,4 @@ pub mod JudgeLemmas
 pub mod OpenedLemmas
 pub mod LeftLemmas
 pub mod WindowLemmas
+pub mod LastLemmas

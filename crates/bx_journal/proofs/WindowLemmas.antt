@@ -1,5 +1,5 @@
 -- Counting in windows: a window more.
-use Rattle.std.proofs.Common.{◌≡◌, ℕ, ◌+◌, ◌-◌, ◌≤◌, Bool, List, ◌++◌, length, take, drop, ap, sym, ◌∙◌, subst, arith, length-take, Result, Ok, Err}
+use Rattle.std.proofs.Common.{◌≡◌, ℕ, ◌+◌, ◌-◌, ◌≤◌, Bool, List, ◌++◌, length, take, drop, ap, sym, ◌∙◌, subst, arith, length-append, length-take, Result, Ok, Err}
 use Rattle.bx_entries.proofs.TallyLemmas.{take_less, take_sum}
 use Rattle.std.specs.Prelude.{IfOk, IfErr}
 use Rattle.bx_entries.specs.Text.{IsDamagedAt}
@@ -25,6 +25,7 @@ pub passed_from : (honest now : Type 0) (stored text : List ℕ) (only : Bool) (
 passed_from honest now stored text only at len t p still same passed = record {
   bytes = passed.bytes;
   is = λ h. passed.is (still h) ∙ ap (λ l. take p.taken (drop at l)) (same h);
+  long = passed.long;
   leads = passed.leads;
   some = passed.some;
   within = passed.within;
@@ -37,6 +38,7 @@ pub counted_on : (honest : Type 0) (stored : List ℕ) (only : Bool) (at len lin
     → IsCountedTo honest stored only (at + p.taken) p.tally (lines + p.lines)
 counted_on honest stored only at len lines t p to passed = record {
   front = to.front ++ passed.bytes;
+  long = omega (arith, length-append to.front passed.bytes, to.long, passed.long);
   is = λ h. ap (λ l. l ++ passed.bytes) (to.is h) ∙ ap (λ l. take at stored ++ l) (passed.is h) ∙ sym (take_sum at p.taken stored);
   tallied = passed.leads to.front lines to.tallied;
 }
