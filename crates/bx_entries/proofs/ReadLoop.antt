@@ -1,18 +1,19 @@
 -- The loop over a journal's lines.
-use Rattle.std.proofs.Common.{◌≡◌, ℕ, zero, suc, ◌+◌, ◌<◌, ◌≤◌, ◌^◌, Bool, true, false, List, [], ◌∷◌, ◌++◌, length, take, drop, get_or, refl, ap, sym, ◌∙◌, subst, arith, Option, Some, None, length-take}
-use Rattle.std.specs.Prelude.{slice_index, ◌==◌}
+use Rattle.std.proofs.Common.{◌≡◌, ℕ, zero, suc, ◌+◌, ◌<◌, ◌≤◌, ◌^◌, Bool, true, false, List, [], ◌∷◌, ◌++◌, length, take, drop, get_or, refl, ap, sym, ◌∙◌, subst, arith, Option, Some, None, Result, Ok, Err, length-take}
+use Rattle.std.specs.Prelude.{slice_index, ◌==◌, IfOk}
 use Rattle.std.proofs.lemmas.Grind.{common_steps}
 use Rattle.std.proofs.lemmas.List.{take-append-drop}
 use Rattle.std.proofs.Math.Seq.{drop-cons}
 use Rattle.bx_entries.specs.declared.read.types.EntryRead.{EntryRead}
 use Rattle.bx_entries.specs.declared.read.types.Front.{Front}
 use Rattle.bx_entries.specs.declared.read.types.StageRead.{StageRead}
+use Rattle.bx_entries.specs.declared.read.whole.JournalRead.{JournalRead}
 use Rattle.bx_entries.specs.declared.read.types.StageRead.TheVariants.{Between as BetweenRead, Saving as SavingRead, Ending as EndingRead}
 use Rattle.bx_entries.specs.inner.Plain.{HasNoNewline}
 use Rattle.bx_entries.specs.Text.{Entry, Split, split, after_lines, IsRest, Reads, IsDamagedAt}
-use Rattle.bx_entries.specs.inner.Journal.{IsBehind}
+use Rattle.bx_entries.specs.inner.Journal.{HasRead, HasReadBehind, IsBehind}
 use Rattle.bx_entries.specs.inner.Mark.{IsMark}
-use Rattle.bx_entries.specs.inner.Parsed.{entries_onto, stage_of, reading_onto, IsMarked, Leads, KeepsMarks, IsReadTo}
+use Rattle.bx_entries.specs.inner.Parsed.{entries_onto, stage_of, reading_of, reading_onto, IsMarked, Leads, KeepsMarks, IsReadTo}
 use Rattle.bx_entries.proofs.LineLoop.{IsLine}
 use Rattle.bx_entries.proofs.Damage.{mark_on, counted_on, stops_at, reads_at, rest_stops, lines_done}
 
@@ -38,6 +39,15 @@ behind_none text small = record {
   few = omega arith;
   countable = small;
 }
+
+-- what was read behind nothing is all
+pub read_all : {A E : Type 0} → (text : List ℕ) (r : Result (JournalRead A) E) → IfOk r (HasReadBehind text []) → IfOk r (λ j. HasRead text j)
+read_all text (Ok j) h = record { reads = h.reads; places = h.places }
+read_all text (Err e) h = tt
+
+pub reads_all : {A E : Type 0} → (text : List ℕ) (r : Result (JournalRead A) E) → IfOk r (HasReadBehind text []) → IfOk r (λ j. Reads text (reading_of j.entries.items j.stage))
+reads_all text (Ok j) h = h.reads
+reads_all text (Err e) h = tt
 
 pub marked_few : {A : Type 0} → (text : List ℕ) (older : List Entry) (es : List (EntryRead A)) (stage : StageRead A) (at : ℕ) → IsMarked text older es stage at → length older + length es ≤ 65535
 marked_few text older es BetweenRead at m = m.1

@@ -48,7 +48,7 @@ pub fn read_behind<A: Allocator + Clone>(
     front: Front,
     bytes: Vec<u8, A>,
 ) -> Result<JournalRead<A>, EntryFault>
-    requires behind { (text : List ℕ) × (older : List Entry) × IsBehind text older front bytes.items }
+    requires { (text : List ℕ) × (older : List Entry) × IsBehind text older front bytes.items }
     ensures read { (text : List ℕ) (older : List Entry) → IsBehind text older front bytes.items → IfOk result (HasReadBehind text older) }
     ensures fault { (text : List ℕ) (older : List Entry) → IsBehind text older front bytes.items → IfErr result (StopsReading text) }
 {

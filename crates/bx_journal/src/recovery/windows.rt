@@ -5,7 +5,9 @@ ghost use Rattle.bx_journal.specs.Opening.{FaultCounts};
 ghost use Rattle.bx_journal.specs.inner.Windows.{IsAllCounted, IsFrontCounted, IsPassed};
 
 use crate::SessionFault;
-use bx_entries::{Counted, Front, MOST_CHANGES, Passed, Tally, count_lines, counted_by, no_entries};
+use bx_entries::{
+    Counted, Front, MOST_CHANGES, Passed, Tally, count_lines, counted_by, no_entries,
+};
 use bx_image::DeviceFailed;
 use bx_store::TextStore;
 use std::alloc::Allocator;
@@ -82,12 +84,12 @@ fn count_windows<T: TextStore>(
         lines += passed.lines;
         tally = passed.tally;
     }
-    let Some(Counted { count, told }) = counted_by(tally) else {
+    let Some(counted) = counted_by(tally) else {
         return Ok(None);
     };
     Ok(Some(Front {
-        count,
-        told,
+        count: counted.count,
+        told: counted.told,
         at,
         lines,
     }))

@@ -9,18 +9,18 @@ use Rattle.bx_entries.proofs.ReadLoop.{drop_twice, start_read, marked_few, IsFou
 use Rattle.bx_entries.proofs.read.whole.read_behind.Goals as goal
 
 pub loop-i-init : goal.loop-i-init
-loop-i-init g c = record {
-  read = λ text older b. start_read text c.args.bytes.items older c.args.front c.new-entries.result.items b c.new-entries.ensures.items;
-  left = λ text is. is;
-  within = omega arith;
-  few = omega (arith, c.requires.1.1.lines);
-}
-
-pub take_line-requires : goal.take_line-requires
-take_line-requires g c =
+loop-i-init g c =
     let b = c.requires.1.1 in
-    let r = c.loop-i.invariant.read c.requires.0 c.requires.1.0 b in
-    omega (arith, b.count, marked_few c.requires.0 c.requires.1.0 c.loop-i.entries.items c.loop-i.stage c.loop-i.at r.marked)
+    let none : length c.new-entries.result.items ≡ 0 = ap length c.new-entries.ensures.items in
+    record {
+      read = λ text older b. start_read text c.args.bytes.items older c.args.front c.new-entries.result.items b c.new-entries.ensures.items;
+      left = λ text is. is;
+      within = omega arith;
+      few = omega (arith, b.lines);
+      size = omega arith;
+      countable = omega (arith, b.countable, b.mark.within, ap length b.rest, length-drop c.args.front.at c.requires.0);
+      many = omega (arith, b.few, none);
+    }
 
 pub returns-in_default-taken-clause-fault : goal.returns-in_default-taken-clause-fault
 returns-in_default-taken-clause-fault g c text older b =
@@ -46,17 +46,34 @@ loop-i-preserved g c =
     let same : at + (i + 1) ≡ at + i + 1 = omega arith in
     let behind : (text : List ℕ) → c.args.bytes.items ≡ drop c.args.front.at text → drop c.behind.result.from c.behind.result.bytes.items ≡ drop (at + i + 1) text =
     λ text is. c.behind.ensures ∙ ap (drop (i + 1)) (c.loop-i.invariant.left text is) ∙ drop_twice at (i + 1) text ∙ ap (λ n. drop n text) same in
+    let go : (text : List ℕ) (older : List Entry) → IsBehind text older c.args.front c.args.bytes.items
+        → IsReadTo text older new c.in-Ok-go_on.gone.stage (at + i + 1 + 68 * c.in-Ok-go_on.gone.count) (c.loop-i.line + 1 + c.in-Ok-go_on.gone.count) = λ text older b.
+    let read : IsReadTo text older es c.loop-i.stage at c.loop-i.line = c.loop-i.invariant.read text older b in
+    let keeps : KeepsMarks text older new (at + i + 1) (Some c.in-Some-taken.next) = subst (KeepsMarks text older new (at + i + 1)) c.in-Some-taken.is (c.in-Ok.ensures.marked text older b.count read.marked read.mark (omega arith)) in
+    let one = read_on text rest older es new c.loop-i.stage c.in-Some-taken.next at c.loop-i.line i read (c.rest_of.ensures ∙ c.loop-i.invariant.left text b.rest) found
+    (subst (Leads (reading_onto older es c.loop-i.stage) (take i rest) (entries_onto older new)) c.in-Some-taken.is
+    (subst (λ l. Leads (reading_onto older es c.loop-i.stage) l (entries_onto older new) c.in-Ok.taken) line (c.in-Ok.ensures.leads older b.count b.told))) keeps in
+    c.in-Ok-go_on.ensures.read text older new (at + i + 1) (c.loop-i.line + 1) one (behind text b.rest) in
+    let b = c.requires.1.1 in
+    let few = marked_few c.requires.0 c.requires.1.0 new c.in-Ok-go_on.gone.stage (at + i + 1 + 68 * c.in-Ok-go_on.gone.count) (go c.requires.0 c.requires.1.0 b).marked in
     record {
-      read = λ text older b.
-          let read : IsReadTo text older es c.loop-i.stage at c.loop-i.line = c.loop-i.invariant.read text older b in
-          let keeps : KeepsMarks text older new (at + i + 1) (Some c.in-Some-taken.next) = subst (KeepsMarks text older new (at + i + 1)) c.in-Some-taken.is (c.in-Ok.ensures.marked text older b.count read.marked read.mark (omega arith)) in
-          let one = read_on text rest older es new c.loop-i.stage c.in-Some-taken.next at c.loop-i.line i read (c.rest_of.ensures ∙ c.loop-i.invariant.left text b.rest) found
-          (subst (Leads (reading_onto older es c.loop-i.stage) (take i rest) (entries_onto older new)) c.in-Some-taken.is
-          (subst (λ l. Leads (reading_onto older es c.loop-i.stage) l (entries_onto older new) c.in-Ok.taken) line (c.in-Ok.ensures.leads older b.count b.told))) keeps in
-          c.in-Ok-go_on.ensures.read text older new (at + i + 1) (c.loop-i.line + 1) one (behind text b.rest);
+      read = go;
       left = λ text is. c.in-Ok-go_on.ensures.left ∙ ap (drop (68 * c.in-Ok-go_on.gone.count)) (behind text is) ∙ drop_twice (at + i + 1) (68 * c.in-Ok-go_on.gone.count) text;
       within = c.in-Ok-go_on.gone.text.within;
       few = omega arith;
+      size = omega (
+        arith,
+        c.loop-i.invariant.size,
+        ap length c.in-Ok-go_on.ensures.left,
+        length-drop (68 * c.in-Ok-go_on.gone.count) (drop c.behind.result.from c.behind.result.bytes.items),
+        c.in-Ok-go_on.ensures.within,
+        ap length c.behind.ensures,
+        length-drop (i + 1) (drop c.loop-i.text.1.0 c.loop-i.text.0.items),
+        ap length c.rest_of.ensures,
+        f.0,
+      );
+      countable = c.loop-i.invariant.countable;
+      many = omega (arith, few, b.count);
     }
 
 pub returns-then-not-rest_fits-clause-fault : goal.returns-then-not-rest_fits-clause-fault

@@ -1,4 +1,4 @@
-use Rattle.std.proofs.Common.{◌≡◌, ℕ, ◌+◌, ◌≤◌, List, length, drop}
+use Rattle.std.proofs.Common.{◌≡◌, ℕ, ◌+◌, ◌<◌, ◌≤◌, ◌^◌, List, length, drop}
 use Rattle.bx_entries.specs.Text.{Entry}
 use Rattle.bx_entries.specs.inner.Journal.{IsBehind}
 use Rattle.bx_entries.specs.inner.Parsed.{IsReadTo}
@@ -11,6 +11,9 @@ invariant-loop-i g l = record {
   left : (text : List ℕ) → l.fn.bytes.items ≡ drop l.front.at text → drop l.text.1.0 l.text.0.items ≡ drop l.at text;
   within : l.text.1.0 ≤ length l.text.0.items;
   few : l.line ≤ l.at + 1;
+  size : l.at + length (drop l.text.1.0 l.text.0.items) ≡ l.front.at + length l.fn.bytes.items;
+  countable : l.front.at + length l.fn.bytes.items < 2 ^ 64;
+  many : l.front.count + length l.entries.items ≤ 65535;
 }
 
 abbrev pub decreases-loop-i : goal.decreases-loop-i
