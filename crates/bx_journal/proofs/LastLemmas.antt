@@ -1,12 +1,15 @@
 -- The last entries of a text, read behind those that were counted.
-use Rattle.std.proofs.Common.{◌≡◌, ◌⊎◌, ℕ, ◌+◌, ◌-◌, ◌<◌, ◌≤◌, ◌^◌, false, List, [], ◌++◌, length, take, drop, refl, ap, sym, ◌∙◌, subst, inl, inr, arith, length-append, length-drop, Option, Some, None, Result, Ok, Err}
+use Rattle.std.proofs.Common.{◌≡◌, ◌⊎◌, ℕ, ◌+◌, ◌-◌, ◌<◌, ◌≤◌, ◌^◌, Bool, false, List, [], ◌++◌, length, take, drop, refl, ap, sym, ◌∙◌, subst, inl, inr, arith, length-append, length-drop, Option, Some, None, Result, Ok, Err}
 use Rattle.std.specs.Prelude.{IfOk, IfErr, IfSome}
 use Rattle.std.proofs.lemmas.List.{take-append-drop, take-append-le, take_all}
 use Rattle.std.proofs.Math.Seq.{drop-append_seam}
 use Rattle.bx_entries.specs.declared.read.types.EntryRead.{EntryRead}
 use Rattle.bx_entries.specs.declared.read.types.Front.{Front}
-use Rattle.bx_entries.specs.Text.{Entry, Between, split, start, after_lines}
-use Rattle.bx_entries.specs.inner.Journal.{IsBehind}
+use Rattle.bx_entries.specs.Text.{Entry, Between, Reads, split, start, after_lines}
+use Rattle.bx_entries.specs.declared.read.types.StageRead.TheVariants.{Between as BetweenRead}
+use Rattle.bx_entries.specs.declared.read.whole.JournalRead.{JournalRead}
+use Rattle.bx_entries.specs.inner.Journal.{HasReadBehind, IsBehind}
+use Rattle.bx_entries.specs.inner.Parsed.{entries_onto, reading_onto, AreMarked, IsMarked}
 use Rattle.bx_entries.specs.inner.Mark.{IsMark}
 use Rattle.bx_entries.specs.inner.Tally.{IsCounted}
 use Rattle.bx_journal.specs.declared.session.entries.FinishedRead.{FinishedRead}
@@ -15,6 +18,7 @@ use Rattle.bx_journal.specs.declared.session.fault.SessionFault.TheVariants.{NoM
 use Rattle.bx_journal.specs.Undoing.{AgainFault, IsOutOfStep}
 use Rattle.bx_journal.specs.inner.Undoing.{IsReadFrom, IsReadLast, IsLastFrom}
 use Rattle.bx_journal.specs.inner.Windows.{IsFrontCounted}
+use Rattle.bx_journal.proofs.Tails.{rest_none}
 
 -- all that is behind a place
 pub rest_is : (at len : ℕ) (text old new : List ℕ) → len ≡ length text → length old ≡ len - at → at ≤ len → new ≡ take (length old) (drop at text) → new ≡ drop at text
@@ -52,6 +56,19 @@ pub last_from : {A : Type 0} → (honest : Type 0) (stored text : List ℕ) (len
     → IfSome o (λ r. IsReadLast text r.entries.items count) → IfSome o (λ r. r.len ≡ len) → IfSome o (λ r. IsLastFrom honest stored r.len r.entries.items count)
 last_from honest stored text len count None is long read same = tt
 last_from honest stored text len count (Some r) is long read same = record { text = text; is = is; long = same ∙ long; read = read }
+
+-- a text that was read behind its older entries
+pub last_read : {A : Type 0} → (text : List ℕ) (older : List Entry) (j : JournalRead A) (len first count : ℕ) → HasReadBehind text older j → j.stage ≡ BetweenRead → j.whole ≡ len → first + length j.entries.items ≡ count
+    → first ≡ length older → len ≡ length text → IsReadLast text j.entries.items count
+last_read text older j len first count read is all many before long =
+    let es = j.entries.items in
+    let whole : j.whole ≡ length text = all ∙ long in record {
+      older = older;
+      finished = record { reads = subst (λ s. Reads text (reading_onto older es s)) is read.reads; whole = rest_none text j.whole read.places.rest whole };
+      mark = subst (λ n. IsMark text n (record { entries = entries_onto older es; stage = Between })) whole (subst (λ s. IsMark text j.whole (reading_onto older es s)) is read.places.mark);
+      marked = subst (AreMarked text older 0 es) whole (subst (λ s. IsMarked text older es s j.whole) is read.places.marked).0;
+      counted = omega (arith, many, before);
+    }
 
 -- all of it was read
 pub last_of_all : {A : Type 0} → (honest : Type 0) (stored : List ℕ) (len count : ℕ) (es : List (EntryRead A)) → IsReadFrom honest stored len es count → IsLastFrom honest stored len es count
@@ -94,17 +111,6 @@ module _ (H now : Type 0) (stored text : List ℕ) (still : H → now) (same : H
 pub few_of_all : {A E : Type 0} → (honest : Type 0) (stored : List ℕ) (count k : ℕ) (r : Result (FinishedRead A) E) → k ≤ count → IfOk r (λ o. IsReadFrom honest stored o.len o.entries.items count) → IfOk r (λ o. k ≤ length o.entries.items)
 few_of_all honest stored count k (Ok r) few f = omega (arith, few, f.read.counted)
 few_of_all honest stored count k (Err e) few f = tt
-
--- what was counted of a store is so of it later
-pub front_after : (H now : Type 0) (stored text : List ℕ) (f : Front) → (now → H) → (H → text ≡ stored) → IsFrontCounted H stored false f → IsFrontCounted now text false f
-front_after H now stored text f back same c = record {
-  front = c.front;
-  is = λ n. c.is (back n) ∙ ap (take f.at) (sym (same (back n)));
-  long = c.long;
-  counted = c.counted;
-  lines = c.lines;
-  few = c.few;
-}
 
 -- nothing but want of memory, or a failed device
 pub again_fault : (honest : Type 0) (text : List ℕ) (count : ℕ) (e : SessionFault) → (e ≡ NoMemory) ⊎ (e ≡ DeviceFailed) → AgainFault honest text count e

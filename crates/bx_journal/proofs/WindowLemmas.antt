@@ -4,6 +4,7 @@ use Rattle.bx_entries.proofs.TallyLemmas.{take_less, take_sum}
 use Rattle.std.specs.Prelude.{IfOk, IfErr}
 use Rattle.bx_entries.specs.Text.{IsDamagedAt}
 use Rattle.bx_entries.specs.declared.read.count.Tally.{Tally}
+use Rattle.bx_entries.specs.declared.read.types.Front.{Front}
 use Rattle.bx_entries.specs.declared.read.window.Passed.{Passed}
 use Rattle.bx_journal.specs.Opening.{FaultCounts}
 use Rattle.bx_journal.specs.declared.recovery.journal.Found.{Found}
@@ -11,7 +12,7 @@ use Rattle.bx_journal.specs.declared.recovery.journal.Found.TheVariants.{Finishe
 use Rattle.bx_journal.specs.declared.session.fault.SessionFault.{SessionFault}
 use Rattle.bx_journal.specs.declared.session.fault.SessionFault.TheVariants.{NoMemory, TooLarge, DeviceFailed, Damaged, TooFew, JournalFull, Interrupted, Broken, LengthDiffers, NothingToRedo, RedoDamaged}
 use Rattle.bx_journal.specs.inner.Recovery.{FindFault, IsFoundIn}
-use Rattle.bx_journal.specs.inner.Windows.{IsPassed, IsCountedTo}
+use Rattle.bx_journal.specs.inner.Windows.{IsPassed, IsCountedTo, IsFrontCounted}
 
 -- a front of a window that was filled
 pub front_of : (n m : ℕ) (window from : List ℕ) → n ≤ length window → window ≡ take m from → take n window ≡ take n from
@@ -41,6 +42,17 @@ counted_on honest stored only at len lines t p to passed = record {
   long = omega (arith, length-append to.front passed.bytes, to.long, passed.long);
   is = λ h. ap (λ l. l ++ passed.bytes) (to.is h) ∙ ap (λ l. take at stored ++ l) (passed.is h) ∙ sym (take_sum at p.taken stored);
   tallied = passed.leads to.front lines to.tallied;
+}
+
+-- what was counted of a store is so of it later
+pub front_after : (H now : Type 0) (stored text : List ℕ) (only : Bool) (f : Front) → (now → H) → (H → text ≡ stored) → IsFrontCounted H stored only f → IsFrontCounted now text only f
+front_after H now stored text only f back same c = record {
+  front = c.front;
+  is = λ n. c.is (back n) ∙ ap (take f.at) (sym (same (back n)));
+  long = c.long;
+  counted = c.counted;
+  lines = c.lines;
+  few = c.few;
 }
 
 -- what is said of a store that is the same as before
