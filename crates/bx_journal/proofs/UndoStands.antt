@@ -8,16 +8,20 @@ use Rattle.bx_journal.specs.Stack.{StandsFor, HaveLengths, stack_of}
 use Rattle.bx_entries.specs.inner.Parsed.{entry_of, entries_onto, AllKept}
 use Rattle.bx_entries.specs.Kept.{run_of, kept_of}
 use Rattle.bx_entries.specs.Finished.{IsFinished}
+use Rattle.bx_entries.specs.inner.Mark.{IsMark}
 use Rattle.bx_journal.specs.Undoing.{HasLeft}
 use Rattle.bx_entries.proofs.ReadLemmas.{onto-push}
 use Rattle.bx_journal.proofs.UndoLoop.{IsUndone, popped, cut_at, kept_pop}
 
+finished_mark : (bytes : List ℕ) (es : List Entry) (n : ℕ) → IsMark bytes n (record { entries = es; stage = Between }) → IsFinished (take n bytes) es
+finished_mark bytes es n mark = record {
+  reads = record { lines = mark.lines; rest = subst (IsRest es Between) (sym mark.whole) (inl refl) };
+  whole = mark.whole;
+}
+
 -- the text at the mark
 pub finished_at : {A : Type 0} → (bytes : List ℕ) (es : List (EntryRead A)) (to : ℕ) → (u : IsUndone bytes es to) → IsFinished (take to bytes) (entries_onto u.older es)
-finished_at bytes es to u = record {
-  reads = record { lines = u.mark.lines; rest = subst (IsRest (entries_onto u.older es) Between) (sym u.mark.whole) (inl refl) };
-  whole = u.mark.whole;
-}
+finished_at bytes es to u = finished_mark bytes (entries_onto u.older es) to u.mark
 
 -- a front of the text is left
 pub left_at : (bytes old new : List ℕ) (entries : List Entry) (to : ℕ) → old ≡ bytes → new ≡ take to bytes → IsFinished new entries → HasLeft old new entries
@@ -42,7 +46,7 @@ stood_next bytes text new x y stack es e to u is cut restored s =
     let same : s.entries ≡ entry_of e ∷ entries_onto u.older es = ap (λ (r : Reading). r.entries) here ∙ onto-push u.older es e in
     let lengths : HaveLengths (entry_of e ∷ entries_onto u.older es) x = subst (λ fs. HaveLengths fs x) same s.lengths in
     let p = popped bytes es e to u in
-    let f : IsFinished (take e.begins bytes) (entries_onto u.older es) = finished_at bytes es e.begins p.0 in
+    let f : IsFinished (take e.begins bytes) (entries_onto u.older es) = finished_mark bytes (entries_onto u.older es) e.begins p.1.beginning in
     let there : new ≡ take e.begins bytes = cut_at bytes text new es e to u is cut in
     record {
       entries = entries_onto u.older es;
@@ -66,7 +70,7 @@ dropped_next bytes text new es e all to i u is cut f =
     let same : drop i all ≡ entry_of e ∷ entries_onto u.older es = ap (λ (r : Reading). r.entries) here ∙ onto-push u.older es e in
     let left : entries_onto u.older es ≡ drop (i + 1) all = sym (ap (drop 1) same) ∙ drop_more i all in
     subst (IsFinished new) left
-    (subst (λ t. IsFinished t (entries_onto u.older es)) (sym (cut_at bytes text new es e to u is cut)) (finished_at bytes es e.begins (popped bytes es e to u).0))
+    (subst (λ t. IsFinished t (entries_onto u.older es)) (sym (cut_at bytes text new es e to u is cut)) (finished_mark bytes (entries_onto u.older es) e.begins (popped bytes es e to u).1.beginning))
 
 -- the newest of those that are to be taken back
 pub kept_next : {A : Type 0} → (limit n : ℕ) (es : List (EntryRead A)) (e : EntryRead A) → n ≤ length es → AllKept limit (drop n (es ++ e ∷ [])) → AllKept limit (drop n es) × AllWithin e.kept.len (map run_of e.kept.runs) × (e.kept.len ≤ limit)

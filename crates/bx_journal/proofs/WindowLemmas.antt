@@ -2,6 +2,7 @@
 use Rattle.std.proofs.Common.{◌≡◌, ℕ, ◌+◌, ◌-◌, ◌≤◌, Bool, List, ◌++◌, length, take, drop, ap, sym, ◌∙◌, subst, arith, length-append, length-take, Result, Ok, Err}
 use Rattle.bx_entries.proofs.TallyLemmas.{take_less, take_sum}
 use Rattle.std.specs.Prelude.{IfOk, IfErr}
+use Rattle.std.proofs.lemmas.List.{take_all}
 use Rattle.bx_entries.specs.Text.{IsDamagedAt}
 use Rattle.bx_entries.specs.declared.read.count.Tally.{Tally}
 use Rattle.bx_entries.specs.declared.read.types.Front.{Front}
@@ -12,7 +13,7 @@ use Rattle.bx_journal.specs.declared.recovery.journal.Found.TheVariants.{Finishe
 use Rattle.bx_journal.specs.declared.session.fault.SessionFault.{SessionFault}
 use Rattle.bx_journal.specs.declared.session.fault.SessionFault.TheVariants.{NoMemory, TooLarge, DeviceFailed, Damaged, TooFew, JournalFull, Interrupted, Broken, LengthDiffers, NothingToRedo, RedoDamaged}
 use Rattle.bx_journal.specs.inner.Recovery.{FindFault, IsFoundIn}
-use Rattle.bx_journal.specs.inner.Windows.{IsPassed, IsCountedTo, IsFrontCounted}
+use Rattle.bx_journal.specs.inner.Windows.{IsPassed, IsCountedTo, IsFrontCounted, IsAllCounted}
 
 -- a front of a window that was filled
 pub front_of : (n m : ℕ) (window from : List ℕ) → n ≤ length window → window ≡ take m from → take n window ≡ take n from
@@ -52,6 +53,16 @@ front_after H now stored text only f back same c = record {
   long = c.long;
   counted = c.counted;
   lines = c.lines;
+  few = c.few;
+}
+
+-- all of a text was counted
+pub all_of : (honest : Type 0) (stored : List ℕ) (only : Bool) (f : Front) (len : ℕ) → IsFrontCounted honest stored only f → (honest → len ≡ length stored) → f.at ≡ len
+    → IsAllCounted honest stored only (record { counted = record { count = f.count; told = f.told }; lines = f.lines })
+all_of honest stored only f len c long all = record {
+  text = c.front;
+  is = λ h. sym (c.is h ∙ take_all f.at stored (omega (arith, long h, all)));
+  counted = c.counted;
   few = c.few;
 }
 

@@ -1,5 +1,5 @@
 //! A text that is counted in windows: so much of it is in memory at a time, however long it is.
-ghost use Rattle.std.specs.Prelude.{◌≡◌, ◌↔◌, ◌⊎◌, ◌<◌, ◌≤◌, Bool, List, ℕ, length, is_err, OnOk, IfOk, IfErr, IfSome};
+ghost use Rattle.std.specs.Prelude.{◌≡◌, ◌↔◌, ◌⊎◌, ◌<◌, ◌≤◌, length, is_err, OnOk, IfOk, IfErr, IfSome};
 ghost use Rattle.bx_image.specs.Device.{GoesOn};
 ghost use Rattle.bx_journal.specs.Opening.{FaultCounts};
 ghost use Rattle.bx_journal.specs.inner.Windows.{IsAllCounted, IsFrontCounted, IsPassed};
@@ -141,23 +141,15 @@ pub fn count_text<T: TextStore, A: Allocator + Clone>(
     let Some(front) = found else {
         return Ok(None);
     };
-    Ok(all_counted(front, len))
-}
-
-/// What was counted, where that is all of a text of `len` bytes.
-fn all_counted(front: Front, len: u64) -> Option<CountedText>
-    ensures { (honest : Type 0) (stored : List ℕ) (only : Bool) → IsFrontCounted honest stored only front → (honest → len ≡ length stored)
-        → IfSome result (IsAllCounted honest stored only) }
-{
     if front.at != len {
-        return None;
+        return Ok(None);
     }
     let counted = Counted {
         count: front.count,
         told: front.told,
     };
-    Some(CountedText {
+    Ok(Some(CountedText {
         counted,
         lines: front.lines,
-    })
+    }))
 }
