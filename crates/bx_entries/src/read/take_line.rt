@@ -6,7 +6,7 @@ ghost use Rattle.bx_entries.specs.declared.read.types.EntryRead.{EntryRead as Fi
 ghost use Rattle.bx_entries.specs.inner.Mark.{IsMark};
 ghost use Rattle.bx_entries.specs.Text.{Between as Resting, Saving as Keeping, Ending as Closing, Entry, Reading, begins as begun, next_at, next};
 ghost use Rattle.bx_entries.specs.Parsed.{told_by};
-ghost use Rattle.bx_entries.specs.inner.Parsed.{Leads, KeepsMarks, stage_of, reading_of, reading_onto, entries_of, entries_onto, IsMarked, AreMarked};
+ghost use Rattle.bx_entries.specs.inner.Parsed.{Leads, KeepsMarks, stage_of, reading_onto, entries_of, entries_onto, IsMarked, AreMarked};
 
 use crate::format::line::{after_in, is_save, length_in, push_line, saved_in};
 use crate::{EntryRead, Front, StageRead, Version};

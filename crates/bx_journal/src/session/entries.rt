@@ -1,5 +1,5 @@
 //! The journal of an open session, read once more: all of it, or its last entries alone.
-ghost use Rattle.std.specs.Prelude.{◌≡◌, ◌↔◌, ◌⊎◌, ◌+◌, ◌-◌, ◌<◌, ◌≤◌, List, ℕ, false, length, drop, IfOk, IfErr, IfSome, IfNone, OnOk};
+ghost use Rattle.std.specs.Prelude.{◌≡◌, ◌↔◌, ◌⊎◌, ◌+◌, ◌<◌, ◌≤◌, List, ℕ, false, length, drop, IfOk, IfErr, IfSome, IfNone, OnOk};
 ghost use Rattle.bx_entries.specs.Text.{Entry};
 ghost use Rattle.bx_entries.specs.inner.Journal.{HasRead, HasReadBehind};
 ghost use Rattle.bx_journal.specs.Opening.{FaultCounts};

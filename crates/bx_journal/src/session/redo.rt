@@ -1,5 +1,5 @@
 //! Making undone changes again.
-ghost use Rattle.std.specs.Prelude.{◌≡◌, ◌↔◌, ◌+◌, ◌<◌, ◌≤◌, List, ℕ, drop, true, false, IfOk, IfErr, OnOk, IsErrOf, Ok as Done};
+ghost use Rattle.std.specs.Prelude.{◌≡◌, ◌↔◌, ◌+◌, ◌<◌, ◌≤◌, List, ℕ, length, drop, true, false, IfOk, IfErr, OnOk, IsErrOf, Ok as Done};
 ghost use Rattle.bx_journal.specs.Images.{Images as Pictures, redo_of};
 ghost use Rattle.bx_journal.specs.Machine.{RedoStep};
 ghost use Rattle.bx_journal.specs.Opening.{FaultCounts};

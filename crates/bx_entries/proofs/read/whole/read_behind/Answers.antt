@@ -47,7 +47,7 @@ loop-i-preserved g c =
     let behind : (text : List ℕ) → c.args.bytes.items ≡ drop c.args.front.at text → drop c.behind.result.from c.behind.result.bytes.items ≡ drop (at + i + 1) text =
     λ text is. c.behind.ensures ∙ ap (drop (i + 1)) (c.loop-i.invariant.left text is) ∙ drop_twice at (i + 1) text ∙ ap (λ n. drop n text) same in
     let go : (text : List ℕ) (older : List Entry) → IsBehind text older c.args.front c.args.bytes.items
-        → IsReadTo text older new c.in-Ok-go_on.gone.stage (at + i + 1 + 68 * c.in-Ok-go_on.gone.count) (c.loop-i.line + 1 + c.in-Ok-go_on.gone.count) = λ text older b.
+    → IsReadTo text older new c.in-Ok-go_on.gone.stage (at + i + 1 + 68 * c.in-Ok-go_on.gone.count) (c.loop-i.line + 1 + c.in-Ok-go_on.gone.count) = λ text older b.
     let read : IsReadTo text older es c.loop-i.stage at c.loop-i.line = c.loop-i.invariant.read text older b in
     let keeps : KeepsMarks text older new (at + i + 1) (Some c.in-Some-taken.next) = subst (KeepsMarks text older new (at + i + 1)) c.in-Some-taken.is (c.in-Ok.ensures.marked text older b.count read.marked read.mark (omega arith)) in
     let one = read_on text rest older es new c.loop-i.stage c.in-Some-taken.next at c.loop-i.line i read (c.rest_of.ensures ∙ c.loop-i.invariant.left text b.rest) found
