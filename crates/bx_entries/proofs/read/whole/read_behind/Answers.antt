@@ -1,4 +1,4 @@
-use Rattle.std.proofs.Common.{◌≡◌, ◌×◌, ℕ, suc, ◌+◌, ◌*◌, ◌≤◌, List, length, take, drop, Some, refl, ap, sym, ◌∙◌, subst, arith, true, false, length-drop}
+use Rattle.std.proofs.Common.{◌≡◌, ℕ, suc, ◌+◌, ◌*◌, ◌≤◌, List, length, take, drop, Some, refl, ap, sym, ◌∙◌, subst, arith, true, false, length-drop}
 use Rattle.bx_entries.specs.Text.{Entry}
 use Rattle.bx_entries.specs.inner.Journal.{IsBehind}
 use Rattle.bx_entries.specs.inner.Plain.{HasNoNewline}
@@ -10,7 +10,7 @@ use Rattle.bx_entries.proofs.read.whole.read_behind.Goals as goal
 
 pub loop-i-init : goal.loop-i-init
 loop-i-init g c =
-    let b = c.requires.1.1 in
+    let b = c.requires.2 in
     let none : length c.new-entries.result.items ≡ 0 = ap length c.new-entries.ensures.items in
     record {
       read = λ text older b. start_read text c.args.bytes.items older c.args.front c.new-entries.result.items b c.new-entries.ensures.items;
@@ -54,8 +54,8 @@ loop-i-preserved g c =
     (subst (Leads (reading_onto older es c.loop-i.stage) (take i rest) (entries_onto older new)) c.in-Some-taken.is
     (subst (λ l. Leads (reading_onto older es c.loop-i.stage) l (entries_onto older new) c.in-Ok.taken) line (c.in-Ok.ensures.leads older b.count b.told))) keeps in
     c.in-Ok-go_on.ensures.read text older new (at + i + 1) (c.loop-i.line + 1) one (behind text b.rest) in
-    let b = c.requires.1.1 in
-    let few = marked_few c.requires.0 c.requires.1.0 new c.in-Ok-go_on.gone.stage (at + i + 1 + 68 * c.in-Ok-go_on.gone.count) (go c.requires.0 c.requires.1.0 b).marked in
+    let b = c.requires.2 in
+    let few = marked_few c.requires.0 c.requires.1 new c.in-Ok-go_on.gone.stage (at + i + 1 + 68 * c.in-Ok-go_on.gone.count) (go c.requires.0 c.requires.1 b).marked in
     record {
       read = go;
       left = λ text is. c.in-Ok-go_on.ensures.left ∙ ap (drop (68 * c.in-Ok-go_on.gone.count)) (behind text is) ∙ drop_twice (at + i + 1) (68 * c.in-Ok-go_on.gone.count) text;
