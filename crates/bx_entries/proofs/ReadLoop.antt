@@ -27,7 +27,7 @@ start_read {A = A} text bytes older front es b none =
     subst (λ fs. IsReadTo text older fs BetweenRead front.at (front.lines + 1)) (sym none) empty
 
 -- nothing stands before a text
-pub behind_none : (text : List ℕ) → length text < 2 ^ 64 → IsBehind text [] (record { count = 0; told = None; at = 0; lines = 0 }) text
+pub behind_none : (text : List ℕ) → length text + 1 < 2 ^ 64 → IsBehind text [] (record { count = 0; told = None; at = 0; lines = 0 }) text
 unfolding split after_lines
 behind_none text small = record {
   mark = record { within = omega arith; lines = refl; whole = refl };

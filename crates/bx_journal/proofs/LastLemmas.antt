@@ -28,7 +28,7 @@ front_taken : (front bytes : List ℕ) (at : ℕ) → length front ≡ at → ta
 front_taken front bytes at long = take-append-le at front bytes (omega (arith, long)) ∙ take_all at front (omega (arith, long))
 
 -- what was counted, and all that is behind it
-pub behind_front : (honest : Type 0) (stored bytes : List ℕ) (f : Front) (len : ℕ) → (c : IsFrontCounted honest stored false f) → f.at + length bytes ≡ len → len < 2 ^ 64 → IsBehind (c.front ++ bytes) c.counted.counted.entries f bytes
+pub behind_front : (honest : Type 0) (stored bytes : List ℕ) (f : Front) (len : ℕ) → (c : IsFrontCounted honest stored false f) → f.at + length bytes ≡ len → len + 1 < 2 ^ 64 → IsBehind (c.front ++ bytes) c.counted.counted.entries f bytes
 behind_front honest stored bytes f len c all small =
     let counted : IsCounted c.front f.count f.told = c.counted.counted in
     let taken : take f.at (c.front ++ bytes) ≡ c.front = front_taken c.front bytes f.at c.long in

@@ -1,5 +1,5 @@
 -- A text that was read, with its places.
-use Rattle.std.specs.Prelude.{◌≡◌, ◌<◌, ◌≤◌, ◌^◌, ℕ, List, [], drop, take, length}
+use Rattle.std.specs.Prelude.{◌≡◌, ◌+◌, ◌<◌, ◌≤◌, ◌^◌, ℕ, List, [], drop, take, length}
 use Rattle.bx_entries.specs.declared.read.types.Front.{Front}
 use Rattle.bx_entries.specs.declared.read.whole.JournalRead.{JournalRead}
 use Rattle.bx_entries.specs.inner.Mark.{IsMark}
@@ -26,7 +26,7 @@ pub record IsBehind (text : List ℕ) (older : List Entry) (front : Front) (byte
   pub many : front.lines ≡ length (split (take front.at text)).lines
   pub lines : front.lines ≤ front.at
   pub few : front.count ≤ 65535
-  pub countable : length text < 2 ^ 64
+  pub countable : length text + 1 < 2 ^ 64
 
 -- the text was read, and its places are known
 pub record HasRead {A : Type 0} (text : List ℕ) (j : JournalRead A) : Type 0 where

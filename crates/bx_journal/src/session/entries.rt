@@ -152,6 +152,7 @@ fn read_from<T: TextStore, A: Allocator + Clone>(
     requires within { front.at ≤ len }
     requires long { T.honest store.old → len ≡ length (T.text store.old) }
     requires front { IsFrontCounted (T.honest store.old) (T.text store.old) false front }
+    requires countable_text { len < u64.MAX }
     ensures read { IfOk result (λ found. IfSome found (λ o. IsLastFrom (T.honest store.old) (T.text store.old) o.len o.entries.items count)) }
     ensures few { IfOk result (λ found. IfSome found (λ o. k ≤ length o.entries.items)) }
     ensures fault { IfErr result (λ e. (e ≡ SessionFault.NoMemory) ⊎ (e ≡ SessionFault.DeviceFailed)) }
@@ -187,6 +188,9 @@ fn find_last<T: TextStore, A: Allocator + Clone>(
     ensures counts { IfErr result (λ e. FaultCounts e 0 (T.failures store.old) 0 (T.failures store.new)) }
 {
     let len = store.len()?;
+    if len == u64::MAX {
+        return Ok(None);
+    }
     let found = count_front(alloc, store, len, false, count - k)?;
     let Some(front) = found else {
         return Ok(None);

@@ -11,5 +11,5 @@ pub returns : goal.returns
 returns g c older told =
     c.told_length.ensures ∙ told-some older c.args.entries.now
     (λ none.
-        let clash : false ≡ true = sym c.if-is_empty.false ∙ c.is_empty.ensures ∙ ap (λ n. n == 0) none in
-        absurd (cc))
+    let clash : false ≡ true = sym c.if-is_empty.false ∙ c.is_empty.ensures ∙ ap (λ n. n == 0) none in
+    absurd (cc))

@@ -12,7 +12,7 @@ invariant-loop-i g l = record {
   within : l.text.1.0 ≤ length l.text.0.items;
   few : l.line ≤ l.at + 1;
   size : l.at + length (drop l.text.1.0 l.text.0.items) ≡ l.front.at + length l.fn.bytes.items;
-  countable : l.front.at + length l.fn.bytes.items < 2 ^ 64;
+  countable : l.front.at + length l.fn.bytes.items + 1 < 2 ^ 64;
   many : l.front.count + length l.entries.items ≤ 65535;
 }
 
