@@ -2,8 +2,10 @@
 """Which definitions the public contracts rest on, and whether docs/BELIEVE.md lists them.
 
 A public contract is a clause of an exported function, method, trait or type of the crates below. The names in its clauses
-are followed through specs/: what is met is what a reader has to believe. The page's headings give the order; below each, this
-script writes the definitions of that file with the sentence that stands above them in specs/.
+are followed through specs/. What the contracts of calls meet is what a reader has to believe. A law is a public function that
+takes nothing and does nothing, so its clauses are proved of definitions: what laws alone meet is a second reading of them, and
+stands in the page's part D. The page's headings give the order; below each, this script writes the definitions of that file
+with the sentence that stands above them in specs/.
 """
 import argparse
 import pathlib
@@ -13,6 +15,8 @@ import sys
 CRATES = ["bx_text", "bx_read", "bx_image", "bx_store", "bx_dump", "bx_dd", "bx_entries", "bx_journal", "bx_cli"]
 # whose calls no other crate exports: their definitions count where a public contract above names them
 INNER = ["bx_entries"]
+# the page's part of what laws alone name
+TOLD = "D"
 NAME = re.compile(r"[A-Za-z_][A-Za-z0-9_'-]*")
 HEAD = re.compile(r"^(?:(?:abbrev|unfoldable|pub) )*(record |data )?([A-Za-z_][\w'-]*)(?= *[:({ ])")
 
@@ -88,9 +92,14 @@ def exports_of(root, crate):
 
 
 def items_of(text):
-    """(what, name, text) of each item at the left margin, with its clauses; a body is left out where it can be told"""
-    for match in re.finditer(r"^(pub(?:\([a-z]+\))? )?(unsafe )?(fn|trait|struct|enum|impl|const)\b(.*?)(?=^(?:\}|\{\}|[^\s{}][^\n]*;)$)", text, re.M | re.S):
-        yield match.group(1) or "", match.group(3), match.group(4)
+    """(access, kind, text, end) of each item at the left margin, with its clauses; a body is left out where it can be told"""
+    for match in re.finditer(r"^(pub(?:\([a-z]+\))? )?(unsafe )?(fn|trait|struct|enum|impl|const)\b(.*?)(?=^(\}|\{\}|[^\s{}][^\n]*;)$)", text, re.M | re.S):
+        yield match.group(1) or "", match.group(3), match.group(4), match.group(5)
+
+
+def is_law(kind, rest, end):
+    """whether an item is a function that takes nothing and does nothing"""
+    return kind == "fn" and end == "{}" and re.match(r"\s*\w+(<[^>]*>)?\(\)\s", rest) is not None
 
 
 def clauses_of(text):
@@ -121,14 +130,14 @@ def methods_of(body):
 
 
 def public_names(root, crate):
-    """the specs that the public contracts of a crate name"""
-    exports, named = exports_of(root, crate), set()
+    """the specs that the public contracts of a crate name: of its calls, and of its laws"""
+    exports, called, said = exports_of(root, crate), set(), set()
     folder = root / "crates" / crate / "src"
     for path in sorted(folder.rglob("*.rt")):
         text = path.read_text()
         known = imports_of(text)
         module = "mod " + str(path.relative_to(folder).with_suffix(""))
-        for access, kind, rest in items_of(text):
+        for access, kind, rest, end in items_of(text):
             name = NAME.search(re.sub(r"^<[^>]*>", "", rest.strip()))
             shown = access == "pub " and name and (name.group() in exports or module in exports)
             clauses = []
@@ -146,8 +155,8 @@ def public_names(root, crate):
             for clause in clauses:
                 for word in NAME.findall(clause):
                     if word in known:
-                        named.add(known[word])
-    return named
+                        (said if is_law(kind, rest, end) else called).add(known[word])
+    return called, said
 
 
 def closure(definitions, imports, named):
@@ -173,23 +182,41 @@ def listed(definitions):
     return [f"- `{d.name}`: {d.sentence}" if d.sentence else f"- `{d.name}`" for d in definitions]
 
 
-def filled(page, needed):
-    """the page with the items below its headings as they are to be, and the files that it has no heading for"""
-    by_place = {}
-    for definition in needed.values():
-        by_place.setdefault(definition.place, []).append(definition)
-    lines, skipping = [], False
+def by_place(some):
+    places = {}
+    for definition in some:
+        places.setdefault(definition.place, []).append(definition)
+    return places
+
+
+def size(some):
+    return sum(len(d.lines) for d in some)
+
+
+def filled(page, believed, told):
+    """the page with the items below its headings as they are to be, the lines of each part, and what is wrong with the headings"""
+    left = {False: by_place(believed), True: by_place(told)}
+    lines, sizes, bad, part, skipping = [], {}, [], "", False
     for line in page.split("\n"):
+        begun = re.match(r"## (\w)\. ", line)
         head = re.match(r"### `([\w/.]+)`", line)
+        if begun:
+            part = begun.group(1)
+            sizes[part] = 0
         if head:
-            lines += [line, "", *listed(by_place.pop(head.group(1), [])), ""]
+            here = left[part == TOLD].pop(head.group(1), [])
+            if not here:
+                bad.append(f"part {part}: nothing of {head.group(1)} stands there")
+            sizes[part] += size(here)
+            lines += [line, "", *listed(here), ""]
             skipping = True
         elif not skipping or line and not line.startswith("- "):
             skipping = False
             lines.append(line)
     while lines and not lines[-1]:
         lines.pop()
-    return "\n".join(lines) + "\n", sorted(by_place)
+    bad += [f"no heading for {place}" for place in sorted(left[False])] + [f"no heading in part {TOLD} for {place}" for place in sorted(left[True])]
+    return "\n".join(lines) + "\n", sizes, bad
 
 
 def main():
@@ -200,29 +227,30 @@ def main():
     parser.add_argument("--unneeded", action="store_true", help="what no public contract needs")
     args = parser.parse_args()
     definitions, imports = read_specs(args.root)
-    named = set()
+    called, said = set(), set()
     for crate in CRATES:
         if crate in INNER:
             continue
-        named |= public_names(args.root, crate)
-    met = closure(definitions, imports, named)
-    needed = {key: d for key, d in definitions.items() if key in met}
-    rest = {key: d for key, d in definitions.items() if key not in met}
-    size = lambda some: sum(len(d.lines) for d in some)
-    print(f"{size(needed.values())} lines in {len(needed)} definitions are needed by public contracts, {size(rest.values())} in {len(rest)} aren't")
-    if args.files:
-        places = {}
-        for definition in needed.values():
-            places.setdefault(definition.place, []).append(definition)
-        for place in sorted(places):
-            print(f"{size(places[place]):5} {place}: {' '.join(d.name for d in places[place])}")
-    if args.unneeded:
-        for (crate, file, name), definition in sorted(rest.items()):
-            print(f"unneeded: {crate}/{file} {name} {len(definition.lines)}")
+        of_calls, of_laws = public_names(args.root, crate)
+        called |= of_calls
+        said |= of_laws
+    met, met_by_all = closure(definitions, imports, called), closure(definitions, imports, called | said)
+    believed = [d for key, d in definitions.items() if key in met]
+    told = [d for key, d in definitions.items() if key in met_by_all and key not in met]
+    rest = [d for key, d in definitions.items() if key not in met_by_all]
     page = args.root / "docs" / "BELIEVE.md"
-    text, missing = filled(page.read_text(), needed)
-    bad = [f"no heading for {place}" for place in missing]
-    bad += [f"no sentence above {d.place} {d.name}" for d in needed.values() if not d.sentence]
+    text, sizes, bad = filled(page.read_text(), believed, told)
+    parts = ", ".join(f"{part} {lines}" for part, lines in sizes.items() if part != TOLD)
+    print(f"{size(believed)} lines in {len(believed)} definitions are needed by the contracts of calls ({parts})")
+    print(f"{size(told)} in {len(told)} by those of laws alone ({TOLD}), {size(rest)} in {len(rest)} by no public contract")
+    if args.files:
+        for what, some in (("", believed), (f"{TOLD} ", told)):
+            for place, here in sorted(by_place(some).items()):
+                print(f"{size(here):5} {what}{place}: {' '.join(d.name for d in here)}")
+    if args.unneeded:
+        for d in rest:
+            print(f"unneeded: {d.place} {d.name} {len(d.lines)}")
+    bad += [f"no sentence above {d.place} {d.name}" for d in believed + told if not d.sentence]
     if args.write:
         page.write_text(text)
     elif text != page.read_text():
