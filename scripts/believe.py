@@ -93,8 +93,9 @@ def exports_of(root, crate):
 
 def items_of(text):
     """(access, kind, text, end) of each item at the left margin, with its clauses; a body is left out where it can be told"""
-    for match in re.finditer(r"^(pub(?:\([a-z]+\))? )?(unsafe )?(fn|trait|struct|enum|impl|const)\b(.*?)(?=^(\}|\{\}|[^\s{}][^\n]*;)$)", text, re.M | re.S):
-        yield match.group(1) or "", match.group(3), match.group(4), match.group(5)
+    begins = r"^(pub(?:\([a-z]+\))? )?(unsafe )?(fn|trait|struct|enum|impl|const)\b"
+    for match in re.finditer(begins + r"(?:([^\n]*;)$|(.*?)(?=^(\}|\{\}|[^\s{}][^\n]*;)$))", text, re.M | re.S):
+        yield match.group(1) or "", match.group(3), match.group(4) or match.group(5), match.group(6)
 
 
 def is_law(kind, rest, end):
@@ -103,9 +104,9 @@ def is_law(kind, rest, end):
 
 
 def clauses_of(text):
-    """the braces of requires, ensures and ghost items"""
-    found, at = [], 0
-    for match in re.finditer(r"\b(requires|ensures|ghost)\b[^{;=]*=?\s*\{", text):
+    """the braces of requires, ensures and ghost items; what is only brought in isn't named"""
+    found = []
+    for match in re.finditer(r"\b(requires|ensures|ghost(?! use))\b[^{;=]*=?\s*\{", text):
         depth, i = 0, match.end() - 1
         while i < len(text):
             if text[i] == "{":
