@@ -104,9 +104,9 @@ def is_law(kind, rest, end):
 
 
 def clauses_of(text):
-    """the braces of requires, ensures and ghost items; what is only brought in isn't named"""
+    """the braces of requires, ensures and ghost items, but for what is only brought in and invariants of models, which callers don't see"""
     found = []
-    for match in re.finditer(r"\b(requires|ensures|ghost(?! use))\b[^{;=]*=?\s*\{", text):
+    for match in re.finditer(r"\b(requires|ensures|ghost(?! use| invariant))\b[^{;=]*=?\s*\{", text):
         depth, i = 0, match.end() - 1
         while i < len(text):
             if text[i] == "{":

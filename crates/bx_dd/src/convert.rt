@@ -1,10 +1,10 @@
 //! Blocks converted one by one.
-ghost use Rattle.std.specs.Prelude.{◌≡◌, ◌≢◌, ℕ, ◌+◌, ◌-◌, ◌*◌, ◌%◌, ◌^◌, ◌<◌, ◌≤◌, List, [], ◌++◌, length, take, vec_capacity, IfOk, OnOk, IsOkUnless};
+ghost use Rattle.std.specs.Prelude.{◌≡◌, ◌≢◌, ℕ, ◌+◌, ◌-◌, ◌*◌, ◌%◌, ◌^◌, ◌<◌, ◌≤◌, List, [], ◌++◌, length, min, take, vec_capacity, IfOk, OnOk, IsOkUnless};
 ghost use Rattle.bx_dd.specs.Counting.{counts_of};
-ghost use Rattle.bx_dd.specs.Output.{block_of, converted, held_count, joined, shaped};
+ghost use Rattle.bx_dd.specs.Output.{block_of, converted, joined, unfinished};
 ghost use Rattle.bx_dd.specs.Plan.{form_of};
-ghost use Rattle.bx_dd.specs.Standing.{IsAfter, HasSizes, Stands, finished};
-ghost use Rattle.bx_dd.specs.inner.Standing.{last_of};
+ghost use Rattle.bx_dd.specs.Standing.{IsAfter, Stands};
+ghost use Rattle.bx_dd.specs.inner.Standing.{last_of, HasSizes};
 ghost use Rattle.bx_dd.specs.declared.convert.form.Shape.TheVariants.{Flat, Unblock};
 
 mod block;
@@ -42,7 +42,7 @@ impl<A: Allocator> Model for Convert<A> {
 
     ghost use Rattle.bx_dd.specs.declared.convert.form.Shape.TheVariants.{Flat, Unblock};
     ghost use Rattle.std.specs.Prelude.{length, vec_capacity, ◌<◌, ◌≤◌, ◌≡◌, ◌≢◌, ◌+◌, ◌%◌, ◌^◌};
-    ghost use Rattle.bx_dd.specs.Standing.{HasSizes};
+    ghost use Rattle.bx_dd.specs.inner.Standing.{HasSizes};
 
     ghost view = { λ c. record { form = c.form; taken = c.taken; out = c.out.items; held = c.held.items; over = c.over; cut = c.cut } };
 
@@ -143,7 +143,8 @@ impl<A: Allocator> Convert<A> {
     /// How many bytes of the record that may go on are kept.
     pub fn held(&self) -> u64
         ensures held { result ≡ length self.now.held }
-        ensures kept { (input : List ℕ) → IsAfter input self.now → result ≡ held_count self.now.form.shape self.now.form.cbs (joined self.now.form input) }
+        ensures kept { (input : List ℕ) → IsAfter input self.now →
+            let form = self.now.form in result ≡ min form.cbs (unfinished form.shape form.cbs (joined form input)) }
     {
         self.held.len() as u64
     }
@@ -151,8 +152,6 @@ impl<A: Allocator> Convert<A> {
     /// What the records that are finished give.
     pub fn out(&self) -> &[u8]
         ensures out { result.now ≡ self.now.out }
-        ensures written { (input : List ℕ) → IsAfter input self.now →
-            let form = self.now.form in result.now ≡ shaped form.shape form.cbs (finished form.shape form.cbs (joined form input)) }
     {
         self.out.as_slice()
     }

@@ -4,16 +4,11 @@ use Rattle.std.specs.Io.KnownBytes.{Consumes, IsAtEnd}
 use Rattle.bx_text.specs.declared.stream.State.{State}
 use Rattle.bx_text.specs.declared.stream.State.TheVariants.{Open, Ended}
 use Rattle.bx_dd.specs.declared.fault.DdFault.{DdFault}
-use Rattle.bx_dd.specs.declared.operands.plan.Plan.{Plan}
-use Rattle.bx_dd.specs.Transfer.{IsWithin, IsStopCause}
+use Rattle.bx_dd.specs.Transfer.{IsStopCause}
 
 -- the same, and no more than `most` bytes were read
 abbrev pub StopsWithin : ℕ → Option (List ℕ) → Option (List ℕ) → ℕ → DdFault → Type 0
 StopsWithin most old new room fault = (bytes : List ℕ) × Consumes old new bytes × IsStopCause fault room (length bytes) × (length bytes ≤ most)
-
--- no more was read than the plan's skip and count ask for
-abbrev pub ReadsWithin : {A : Type 0} → Plan A → Option (List ℕ) → Option (List ℕ) → Type 0
-ReadsWithin plan old new = (input : List ℕ) × Consumes old new input × IsWithin plan.ibs plan.skip plan.count input
 
 -- these bytes were read: n blocks, or fewer up to the input's end
 pub record HasRead (old new : Option (List ℕ)) (n size : ℕ) (state : State) (input : List ℕ) : Type 0 where

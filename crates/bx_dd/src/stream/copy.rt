@@ -6,7 +6,7 @@ ghost use Rattle.std.specs.Option.{ForSome};
 ghost use Rattle.bx_dd.specs.Counting.{counts_of};
 ghost use Rattle.bx_dd.specs.Plan.{form_of};
 ghost use Rattle.bx_dd.specs.Output.{converted, cut_records, joined};
-ghost use Rattle.bx_dd.specs.Standing.{HasSizes};
+ghost use Rattle.bx_dd.specs.inner.Standing.{HasSizes};
 ghost use Rattle.bx_dd.specs.Streaming.{IsCopy, StopsCopy};
 ghost use Rattle.bx_dd.specs.inner.Paged.{PassesBy, StageBy, StopsStageOf};
 ghost use Rattle.bx_dd.specs.inner.Streaming.{CopiesRest, Goes, StopsPass, Skips, StopsSkip, most_of, unit_of};

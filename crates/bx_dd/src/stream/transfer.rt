@@ -3,8 +3,8 @@ ghost use Rattle.std.specs.Prelude.{◌≡◌, ℕ, ◌+◌, ◌-◌, ◌*◌, �
 ghost use Rattle.std.specs.Io.KnownBytes.{Consumes, IsAtEnd};
 ghost use Rattle.bx_text.specs.Stream.{IsReadCause};
 ghost use Rattle.bx_dd.specs.Standing.{IsAfter};
-ghost use Rattle.bx_dd.specs.Transfer.{HasStopped, IsStopCause, IsTransfer};
-ghost use Rattle.bx_dd.specs.inner.Transfer.{HasRead, ReadsWithin, StopsWithin};
+ghost use Rattle.bx_dd.specs.Transfer.{Copies, HasStopped, IsStopCause, IsWithin};
+ghost use Rattle.bx_dd.specs.inner.Transfer.{HasRead, StopsWithin};
 
 use crate::convert::Convert;
 use crate::fault::DdFault;
@@ -26,9 +26,10 @@ pub fn transfer<R: Read, A: Allocator + Clone, P: Allocator>(
     r: &mut R,
     plan: &Plan<P>,
 ) -> Result<Transfer<A>, DdFault>
-    ensures ok { IfOk result (λ t. IsTransfer plan.now (R.remaining r.old) (R.remaining r.new) t) }
+    ensures ok { IfOk result (λ t. Copies plan.now (R.remaining r.old) (R.remaining r.new) t.bytes t.counts) }
     ensures err { IfErr result (λ e. HasStopped (R.remaining r.old) (R.remaining r.new) (2 ^ 40) e) }
-    ensures within { OnErr result (ReadsWithin plan.now (R.remaining r.old) (R.remaining r.new)) }
+    ensures within { OnErr result ((input : List ℕ) × Consumes (R.remaining r.old) (R.remaining r.new) input
+        × IsWithin plan.now.ibs plan.now.skip plan.now.count input) }
 {
     let mut block = vec![in alloc.clone()?; 0u8; plan.ibs as usize]?;
     let mut meter = Meter::new(LIMIT);

@@ -1,6 +1,8 @@
 //! xxd's dump.
 ghost use Rattle.std.specs.Prelude.{◌≡◌, ◌+◌, ◌*◌, ◌^◌, ◌<◌, ◌≤◌, length, IfOk, IfErr};
-ghost use Rattle.bx_dump.specs.Styles.{columns_text, group_of, include_items, named_text, plain_text, styled, DumpsXxd, IsCountable, StopsXxd};
+ghost use Rattle.bx_dump.specs.Pages.{WritesAll, WritesFrontOf};
+ghost use Rattle.bx_dump.specs.Styles.{columns_text, group_of, include_items, named_text, styled, xxd_of, IsCountable};
+ghost use Rattle.bx_dump.specs.inner.Styles.{plain_text};
 ghost use Rattle.bx_dump.specs.inner.XxdDump.{StopsFront, StopsLines, StopsText, WritesLines, WritesText};
 
 use crate::driver::pages::{Part, dump_part};
@@ -179,8 +181,8 @@ pub fn xxd<R: Read, W: Write>(
     o: &XxdOptions,
 ) -> Result<u64, IoFault>
     requires name { IsCountable style }
-    ensures ok { IfOk result (DumpsXxd style.entry o.now (R.remaining r.old) (R.remaining r.new) (W.contents w.old) (W.contents w.new)) }
-    ensures err { IfErr result (StopsXxd style.entry o.now (R.remaining r.old) (R.remaining r.new) (W.contents w.old) (W.contents w.new)) }
+    ensures ok { IfOk result (WritesAll (xxd_of style.entry o.now) (R.remaining r.old) (R.remaining r.new) (W.contents w.old) (W.contents w.new)) }
+    ensures err { IfErr result (WritesFrontOf (xxd_of style.entry o.now) (R.remaining r.old) (R.remaining r.new) (W.contents w.old) (W.contents w.new)) }
 {
     match dump_styled(r, w, style, o) {
         Ok(part) => Ok(part.read),
