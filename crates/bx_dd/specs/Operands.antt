@@ -47,23 +47,18 @@ is_conversion part =
 
 -- ---- faults, each with the operand's place from 1
 
--- the fault of a number
-abbrev pub number_fault : ℕ → Result ℕ SizeFault → Option DdFault
-number_fault at (Ok n) = None
-number_fault at (Err Bad) = Some (BadNumber at)
-number_fault at (Err TooLarge) = Some (NumberTooLarge at)
+-- the fault of a number: of one that is read, what the check finds
+abbrev pub checked : ℕ → (ℕ → Option DdFault) → Result ℕ SizeFault → Option DdFault
+checked at check (Ok n) = check n
+checked at check (Err Bad) = Some (BadNumber at)
+checked at check (Err TooLarge) = Some (NumberTooLarge at)
 
--- the fault of a size, which is 1 to `most`
-abbrev pub size_fault : ℕ → ℕ → Result ℕ SizeFault → Option DdFault
-size_fault at most (Ok n) = if nat_lt most n then Some (NumberTooLarge at) else if n == 0 then Some (ZeroSize at) else None
-size_fault at most (Err Bad) = Some (BadNumber at)
-size_fault at most (Err TooLarge) = Some (NumberTooLarge at)
-
--- the fault of a value
+-- the fault of a value; a size is 1 to `most`
 abbrev pub value_fault : ℕ → Kind → List ℕ → Option DdFault
 value_fault at File value = if length value == 0 then Some (UnknownOperand at) else None
-value_fault at (Size most) value = size_fault at most (number_of value)
-value_fault at Number value = number_fault at (number_of value)
+value_fault at (Size most) value =
+    checked at (λ n. if nat_lt most n then Some (NumberTooLarge at) else if n == 0 then Some (ZeroSize at) else None) (number_of value)
+value_fault at Number value = checked at (λ n. None) (number_of value)
 value_fault at Conversions value = if list_all is_conversion (parts_of value) then None else Some (UnknownOperand at)
 
 -- whether the word is an operand of this name

@@ -1,5 +1,6 @@
 -- The text of xxd in each style.
-use Rattle.std.specs.Prelude.{ℕ, zero, suc, ◌+◌, ◌^◌, ◌≤◌, Bool, false, ◌&&◌, ◌||◌, nat_le, if◌then◌else◌, List, [], ◌∷◌, ◌++◌, map, length, codes, None, Some}
+use Rattle.std.specs.Prelude.{ℕ, zero, suc, ◌+◌, ◌^◌, ◌≤◌, false, if◌then◌else◌, List, [], ◌∷◌, ◌++◌, map, length, codes, None, Some}
+use Rattle.std.specs.Char.{is_ascii_alphanumeric, is_ascii_digit}
 use Rattle.std.specs.Fmt.{digits}
 use Rattle.bx_dump.specs.Lines.{in_lines}
 use Rattle.bx_dump.specs.Pages.{Dump}
@@ -11,22 +12,14 @@ use Rattle.bx_dump.specs.declared.xxd.options.XxdStyle.{XxdStyle}
 use Rattle.bx_dump.specs.declared.xxd.options.XxdStyle.TheVariants.{Normal, Plain, Bits, Include}
 use Rattle.bx_dump.specs.declared.xxd.options.XxdOptions.{XxdOptions}
 
--- a decimal digit
-abbrev pub is_digit : ℕ → Bool
-is_digit b = nat_le 48 b && nat_le b 57
-
--- an ASCII letter or digit
-abbrev pub is_word : ℕ → Bool
-is_word b = is_digit b || nat_le 65 b && nat_le b 90 || nat_le 97 b && nat_le b 122
-
 -- what stands in front of a name
 abbrev pub name_front : List ℕ → List ℕ
 name_front [] = []
-name_front (b ∷ bs) = if is_digit b then codes "__" else []
+name_front (b ∷ bs) = if is_ascii_digit b then codes "__" else []
 
 -- a name as C has it, with `_` for what is no letter and no digit
 abbrev pub c_name : List ℕ → List ℕ
-c_name name = name_front name ++ map (λ b. if is_word b then b else 95) name
+c_name name = name_front name ++ map (λ b. if is_ascii_alphanumeric b then b else 95) name
 
 -- all items: lines with a comma between two, and a newline at the end
 abbrev pub include_items : ℕ → List ℕ → List ℕ

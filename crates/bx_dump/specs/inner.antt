@@ -13,3 +13,4 @@ pub mod Rows
 pub mod Xxd
 pub mod Strings
 pub mod Od
+pub mod Folded

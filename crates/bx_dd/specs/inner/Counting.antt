@@ -1,4 +1,4 @@
--- What proofs alone need.
+-- What proofs alone need: what is left after whole pieces.
 use Rattle.std.specs.Prelude.{ℕ, ◌%◌, min}
 
 -- 1 where a rest is left after whole pieces, else 0

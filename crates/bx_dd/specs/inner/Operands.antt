@@ -1,11 +1,14 @@
--- What proofs alone need.
-use Rattle.std.specs.Prelude.{ℕ, ◌+◌, Bool, not, ◌==◌, ◌&&◌, ◌||◌, if◌then◌else◌, List, codes}
+-- What proofs alone need: what operands ask for, in its parts.
+use Rattle.std.specs.Prelude.{ℕ, ◌+◌, Bool, not, ◌==◌, ◌&&◌, ◌||◌, if◌then◌else◌, List, codes, nat_lt, Option, None, Some, Result}
 use Rattle.std.specs.List.{position_or_len}
 use Rattle.bx_dd.specs.declared.convert.form.Letters.{Letters}
 use Rattle.bx_dd.specs.declared.convert.form.Letters.TheVariants.{Keep, Upper, Lower}
 use Rattle.bx_dd.specs.declared.convert.form.Shape.{Shape}
 use Rattle.bx_dd.specs.declared.convert.form.Shape.TheVariants.{Flat, Block, Unblock}
-use Rattle.bx_dd.specs.Operands.{block_size, converts, is_given, is_named}
+use Rattle.bx_dd.specs.Operands.{block_size, converts, is_given, is_named, checked}
+use Rattle.bx_dd.specs.declared.fault.DdFault.{DdFault}
+use Rattle.bx_dd.specs.declared.fault.DdFault.TheVariants.{NumberTooLarge, ZeroSize}
+use Rattle.bx_text.specs.declared.number.size.SizeFault.{SizeFault}
 
 -- the byte `=`
 abbrev pub is_equals : ℕ → Bool
@@ -38,3 +41,11 @@ is_conflict words = (converts (codes "lcase") words && converts (codes "ucase") 
 -- records are asked for, and no size of them is given
 abbrev pub is_cbs_missing : List (List ℕ) → Bool
 is_cbs_missing words = (converts (codes "block") words || converts (codes "unblock") words) && not (is_given (codes "cbs") words)
+
+-- the fault of a number
+abbrev pub number_fault : ℕ → Result ℕ SizeFault → Option DdFault
+number_fault at r = checked at (λ n. None) r
+
+-- the fault of a size, which is 1 to `most`
+abbrev pub size_fault : ℕ → ℕ → Result ℕ SizeFault → Option DdFault
+size_fault at most r = checked at (λ n. if nat_lt most n then Some (NumberTooLarge at) else if n == 0 then Some (ZeroSize at) else None) r

@@ -1,4 +1,4 @@
--- What proofs alone need.
+-- What proofs alone need: the bytes that end a record, and those that fill it up.
 use Rattle.std.specs.Prelude.{ℕ, Bool, not, ◌==◌}
 
 -- the byte that records are filled up with

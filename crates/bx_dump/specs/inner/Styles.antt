@@ -1,14 +1,15 @@
 -- What proofs alone need: the parts of a declaration, and lines of plain digits.
 use Rattle.std.specs.Prelude.{ℕ, false, if◌then◌else◌, List, [], ◌++◌, codes}
+use Rattle.std.specs.Char.{is_ascii_alphanumeric}
 use Rattle.std.specs.Fmt.{digits}
 use Rattle.bx_dump.specs.Lines.{in_lines}
 use Rattle.bx_dump.specs.Rows.{plain_line}
 use Rattle.bx_dump.specs.declared.xxd.options.XxdOptions.{XxdOptions}
-use Rattle.bx_dump.specs.Styles.{c_name, is_word}
+use Rattle.bx_dump.specs.Styles.{c_name}
 
 -- what stands for a byte of a name
 abbrev pub name_byte : ℕ → ℕ
-name_byte b = if is_word b then b else 95
+name_byte b = if is_ascii_alphanumeric b then b else 95
 
 -- what a declaration begins with
 abbrev pub include_head : List ℕ → List ℕ

@@ -13,9 +13,10 @@ use std::io::Write;
 fn name_char(byte: u8) -> u8
     ensures { result ≡ name_byte byte }
 {
-    match byte {
-        b'0'..=b'9' | b'A'..=b'Z' | b'a'..=b'z' => byte,
-        _ => b'_',
+    if byte.is_ascii_alphanumeric() {
+        byte
+    } else {
+        b'_'
     }
 }
 
