@@ -24,7 +24,7 @@ DumpsJob (Xxd job) r0 r1 w0 w1 (Dumped n) = (s : XxdStyle) × IsStyleOf job.look
 DumpsJob (Hexdump job) r0 r1 w0 w1 (Dumped n) = WritesAll (hexdump_of job.options) r0 r1 w0 w1 n
 DumpsJob (Od job) r0 r1 w0 w1 (Dumped n) = WritesAll (od_of job.options) r0 r1 w0 w1 n
 DumpsJob (Strings job) r0 r1 w0 w1 (Dumped n) = WritesAll (strings_of job.options) r0 r1 w0 w1 n
-DumpsJob (Dd job) r0 r1 w0 w1 (Copied counts) = (job.plan.output ≡ None) × (job.plan.seek ≡ 0) × IsCopy job.plan r0 r1 w0 w1 counts
+DumpsJob (Dd job) r0 r1 w0 w1 (Copied counts) = (job.plan.output ≡ None) × ((job.plan.seek ≡ 0) × IsCopy job.plan r0 r1 w0 w1 counts)
 DumpsJob job r0 r1 w0 w1 done = ⊥
 
 -- a dump's fault among those of all crates, and what it leaves

@@ -4,7 +4,7 @@ ghost use Rattle.bx_dd.specs.Counting.{counts_of};
 ghost use Rattle.bx_dd.specs.Output.{block_of, converted, joined, unfinished};
 ghost use Rattle.bx_dd.specs.Plan.{form_of};
 ghost use Rattle.bx_dd.specs.Standing.{IsAfter};
-ghost use Rattle.bx_dd.specs.inner.Paged.{CutsWithin, Takes};
+ghost use Rattle.bx_dd.specs.inner.Paged.{Takes, TakesWithin};
 ghost use Rattle.bx_dd.specs.inner.Standing.{last_of, HasSizes};
 ghost use Rattle.bx_dd.specs.declared.convert.form.Shape.TheVariants.{Flat, Unblock};
 
@@ -183,7 +183,7 @@ fn take_block<A: Allocator>(
     requires space { form.shape ≢ Flat → form.cbs ≤ vec_capacity held.old }
     requires part { form.shape ≡ Unblock → length held.old.items < form.cbs }
     requires few { tail.cut + 16777216 < 2 ^ 64 }
-    ensures within { IfOk result (λ t. (length held.new.items ≤ form.cbs) × CutsWithin form tail (length b.now) t) }
+    ensures within { IfOk result (TakesWithin form held.new.items tail (length b.now)) }
     ensures part { IfOk result (λ t. form.shape ≡ Unblock → length held.new.items < form.cbs) }
     ensures space { vec_capacity held.old ≤ vec_capacity held.new }
     ensures next { Takes form out.old.items out.new.items held.old.items held.new.items tail (block_of form b.now) result }

@@ -117,6 +117,6 @@ Takes form out0 out1 kept0 kept1 tail bytes outcome =
     (z : List ℕ) → Stands form.shape form.cbs z out0 kept0 tail.over tail.cut →
     IfOk outcome (λ t. Stands form.shape form.cbs (z ++ bytes) out1 kept1 t.over t.cut)
 
--- no more records were cut than a block has bytes, and of a whole block no more than it has
-abbrev pub CutsWithin : Form → Tail → ℕ → Tail → Type 0
-CutsWithin form tail n t = (t.cut ≤ tail.cut + form.ibs) × (n ≡ form.ibs → t.cut ≤ tail.cut + n)
+-- what is kept has room, and no more records were cut than a block has bytes, and of a whole block no more than it has
+abbrev pub TakesWithin : Form → List ℕ → Tail → ℕ → Tail → Type 0
+TakesWithin form kept tail n t = (length kept ≤ form.cbs) × (t.cut ≤ tail.cut + form.ibs) × (n ≡ form.ibs → t.cut ≤ tail.cut + n)
