@@ -121,41 +121,95 @@ impl Fault {
         }
     }
 
-    // The text in front of the number that the fault tells, and the text behind it. Where it tells none, the first is all.
-    fn texts(&self) -> (&'static str, &'static str) {
+    // The text of a fault that tells no number; empty where it tells one.
+    fn plain(&self) -> &'static str {
         match self {
-            Fault::NoMemory => ("out of memory", ""),
-            Fault::ReadFailed => ("read failed", ""),
-            Fault::WriteFailed { .. } => ("write failed after ", " bytes"),
-            Fault::InputTooLong => ("input too long", ""),
-            Fault::SkipPastEnd => ("skip is past the end of the input", ""),
-            Fault::BadAddress { .. } => ("line ", ": bad address"),
-            Fault::MissingColon { .. } => ("line ", ": missing colon"),
-            Fault::BadPair { .. } => ("line ", ": bad pair"),
-            Fault::NoData { .. } => ("line ", ": no bytes"),
-            Fault::TooWide { .. } => ("line ", ": more than 256 bytes"),
-            Fault::AddressTooLarge { .. } => ("line ", ": address too large"),
-            Fault::OddDigits { .. } => ("line ", ": odd number of digits"),
-            Fault::UnknownOperand { .. } => ("operand ", ": unknown"),
-            Fault::BadNumber { .. } => ("operand ", ": bad number"),
-            Fault::NumberTooLarge { .. } => ("operand ", ": number too large"),
-            Fault::ZeroSize { .. } => ("operand ", ": zero size"),
-            Fault::Conflict => ("conflicting conversions", ""),
-            Fault::MissingCbs => ("cbs is missing", ""),
-            Fault::Repeated { .. } => ("operand ", ": given twice"),
-            Fault::SeekWithoutOutput => ("seek needs an output file", ""),
-            Fault::TooLarge => ("image too large", ""),
-            Fault::DeviceFailed => ("device failed", ""),
-            Fault::Damaged { .. } => ("journal line ", " is damaged"),
-            Fault::TooFew { .. } => ("only ", " changes to undo"),
-            Fault::JournalFull => ("journal is full", ""),
-            Fault::Interrupted => ("interrupted: open again to recover", ""),
-            Fault::Broken => ("session is broken", ""),
-            Fault::LengthDiffers { .. } => ("image should have ", " bytes"),
-            Fault::NothingToRedo { .. } => ("only ", " changes to redo"),
-            Fault::RedoDamaged { .. } => ("redo line ", " is damaged"),
-            Fault::Usage => ("bad arguments", ""),
-            Fault::OpenFailed => ("cannot open file", ""),
+            Fault::NoMemory => "out of memory",
+            Fault::ReadFailed => "read failed",
+            Fault::InputTooLong => "input too long",
+            Fault::SkipPastEnd => "skip is past the end of the input",
+            Fault::Conflict => "conflicting conversions",
+            Fault::MissingCbs => "cbs is missing",
+            Fault::SeekWithoutOutput => "seek needs an output file",
+            Fault::TooLarge => "image too large",
+            Fault::DeviceFailed => "device failed",
+            Fault::JournalFull => "journal is full",
+            Fault::Interrupted => "interrupted: open again to recover",
+            Fault::Broken => "session is broken",
+            Fault::Usage => "bad arguments",
+            Fault::OpenFailed => "cannot open file",
+            Fault::WriteFailed { .. }
+            | Fault::BadAddress { .. }
+            | Fault::MissingColon { .. }
+            | Fault::BadPair { .. }
+            | Fault::NoData { .. }
+            | Fault::TooWide { .. }
+            | Fault::AddressTooLarge { .. }
+            | Fault::OddDigits { .. }
+            | Fault::UnknownOperand { .. }
+            | Fault::BadNumber { .. }
+            | Fault::NumberTooLarge { .. }
+            | Fault::ZeroSize { .. }
+            | Fault::Repeated { .. }
+            | Fault::Damaged { .. }
+            | Fault::TooFew { .. }
+            | Fault::LengthDiffers { .. }
+            | Fault::NothingToRedo { .. }
+            | Fault::RedoDamaged { .. } => "",
+        }
+    }
+
+    // The text in front of the number that a fault tells.
+    fn front(&self) -> &'static str {
+        match self {
+            Fault::WriteFailed { .. } => "write failed after ",
+            Fault::BadAddress { .. }
+            | Fault::MissingColon { .. }
+            | Fault::BadPair { .. }
+            | Fault::NoData { .. }
+            | Fault::TooWide { .. }
+            | Fault::AddressTooLarge { .. }
+            | Fault::OddDigits { .. } => "line ",
+            Fault::UnknownOperand { .. }
+            | Fault::BadNumber { .. }
+            | Fault::NumberTooLarge { .. }
+            | Fault::ZeroSize { .. }
+            | Fault::Repeated { .. } => "operand ",
+            Fault::Damaged { .. } => "journal line ",
+            Fault::TooFew { .. } | Fault::NothingToRedo { .. } => "only ",
+            Fault::LengthDiffers { .. } => "image should have ",
+            Fault::RedoDamaged { .. } => "redo line ",
+            _ => "",
+        }
+    }
+
+    // The text behind it, of a line or an operand.
+    fn flaw(&self) -> &'static str {
+        match self {
+            Fault::BadAddress { .. } => ": bad address",
+            Fault::MissingColon { .. } => ": missing colon",
+            Fault::BadPair { .. } => ": bad pair",
+            Fault::NoData { .. } => ": no bytes",
+            Fault::TooWide { .. } => ": more than 256 bytes",
+            Fault::AddressTooLarge { .. } => ": address too large",
+            Fault::OddDigits { .. } => ": odd number of digits",
+            Fault::UnknownOperand { .. } => ": unknown",
+            Fault::BadNumber { .. } => ": bad number",
+            Fault::NumberTooLarge { .. } => ": number too large",
+            Fault::ZeroSize { .. } => ": zero size",
+            Fault::Repeated { .. } => ": given twice",
+            _ => "",
+        }
+    }
+
+    // The text behind the number.
+    fn back(&self) -> &'static str {
+        match self {
+            Fault::WriteFailed { .. } | Fault::LengthDiffers { .. } => " bytes",
+            Fault::Damaged { .. } | Fault::RedoDamaged { .. } => " is damaged",
+            Fault::TooFew { .. } => " changes to undo",
+            Fault::NothingToRedo { .. } => " changes to redo",
+            _ => self.flaw(),
         }
     }
 
@@ -186,10 +240,13 @@ impl Fault {
 
 impl fmt::Display for Fault {
     fn fmt<W: fmt::Write>(&self, f: &mut fmt::Formatter<W>) -> fmt::Result {
-        let (front, back) = self.texts();
         match self.told() {
-            Some(number) => write!(f, "{front}{number}{back}"),
-            None => f.write_str(front),
+            Some(number) => {
+                let front = self.front();
+                let back = self.back();
+                write!(f, "{front}{number}{back}")
+            }
+            None => f.write_str(self.plain()),
         }
     }
 }
