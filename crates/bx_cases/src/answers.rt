@@ -109,6 +109,12 @@ pub fn same_reply(alloc: Global, wanted: &Answer, reply: Reply) -> Result<(), Wr
     same_reply_text(alloc, wanted.as_str(), reply)
 }
 
+/// These replies are the same.
+pub fn same_replies(alloc: Global, wanted: Reply, found: Reply) -> Result<(), Wrong> {
+    let wanted = reply_text(alloc, wanted)?;
+    same_reply_text(alloc, wanted.as_str(), found)
+}
+
 /// The reply to a command has this text.
 pub fn same_reply_text(alloc: Global, wanted: &str, reply: Reply) -> Result<(), Wrong> {
     let found = reply_text(alloc, reply)?;

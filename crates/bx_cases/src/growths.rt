@@ -4,7 +4,9 @@ use crate::commands::{Standing, begun, play_row, replied};
 use crate::hunt::{Hunt, MOST_TRIES};
 use crate::outcome::{Wrong, differs, same_bytes};
 use crate::places::Memory;
-use crate::sessions::{MemDevices, MemSession, Opened, Texts, ask_for, close, in_memory, open};
+use crate::sessions::{
+    Limit, MemDevices, MemSession, Opened, Texts, ask_for, close, in_memory, open,
+};
 use crate::tally::{Failure, at};
 use crate::weight::is_swept;
 use bumpalo::Bump;
@@ -101,29 +103,22 @@ fn opened_in<'a>(
 #[derive(Drop)]
 struct Asked<'a> {
     reply: Option<Reply>,
-    /// How many bytes were taken.
-    taken: usize,
     devices: MemDevices<&'a Bump>,
 }
 
-/// One command with so many bytes. Behind it there is room.
+/// One command, with memory that may be short. Behind it there is room.
 fn asked_with<'a>(
     alloc: Global,
     bump: &'a Bump,
     texts: Texts<'_>,
     row: &Row,
-    bytes: usize,
+    limit: Limit<'a>,
 ) -> Result<Asked<'a>, Wrong> {
     let mut session = opened_in(alloc, bump, texts)?;
-    let reply = ask_for(bump, &mut session, &row.ask, Some((bump, bytes)))?;
-    let taken = used(bump, bytes);
+    let reply = ask_for(bump, &mut session, &row.ask, limit)?;
     bump.set_allocation_limit(None);
     let devices = close(session);
-    Ok(Asked {
-        reply,
-        taken,
-        devices,
-    })
+    Ok(Asked { reply, devices })
 }
 
 /// One command with so many bytes, and where that is too little again with enough. Tells how many it had taken when it was
@@ -135,12 +130,13 @@ fn squeezed<'a>(
     row: &Row,
     bytes: usize,
 ) -> Result<Option<usize>, Wrong> {
-    let asked = asked_with(alloc, bump, texts, row, bytes)?;
+    let asked = asked_with(alloc, bump, texts, row, Some((bump, bytes)))?;
+    let taken = used(bump, bytes);
     match asked.reply {
         None | Some(Reply::Refused(Fault::NoMemory)) => {
             unchanged(alloc, texts, &asked.devices)?;
             with_room(alloc, bump, texts, row)?;
-            Ok(Some(asked.taken))
+            Ok(Some(taken))
         }
         Some(reply) => {
             same_reply(alloc, &row.answer, reply)?;
@@ -177,11 +173,9 @@ pub fn unchanged<A: Allocator>(
 
 /// The command with room enough.
 fn with_room<'a>(alloc: Global, bump: &'a Bump, texts: Texts<'_>, row: &Row) -> Result<(), Wrong> {
-    let mut session = opened_in(alloc, bump, texts)?;
-    let reply = ask_for(bump, &mut session, &row.ask, None)?;
-    replied(alloc, &row.answer, reply)?;
-    let devices = close(session);
-    same_image(alloc, row, &devices)
+    let asked = asked_with(alloc, bump, texts, row, None)?;
+    replied(alloc, &row.answer, asked.reply)?;
+    same_image(alloc, row, &asked.devices)
 }
 
 /// Refuses each growth of an opening in turn. Tells how many they were.
@@ -222,20 +216,26 @@ fn squeezed_opening<'a>(
 ) -> Result<Option<usize>, Wrong> {
     let (opened, taken) = opened_with(bump, texts, bytes)?;
     match opened {
-        Ok((_, found)) => {
-            found_so(alloc, &case.found, Ok(found))?;
-            Ok(None)
-        }
+        Ok((_, found)) => answered(alloc, case, Ok(found)),
         Err((devices, fault)) => {
             unchanged(alloc, texts, &devices)?;
             if fault != Fault::NoMemory {
-                found_so(alloc, &case.found, Err(fault))?;
-                return Ok(None);
+                return answered(alloc, case, Err(fault));
             }
             opens_so(alloc, bump, case, devices)?;
             Ok(Some(taken))
         }
     }
+}
+
+/// Opening answered what the case tells, with no growth refused.
+fn answered(
+    alloc: Global,
+    case: &TextCase,
+    found: Result<Opening, Fault>,
+) -> Result<Option<usize>, Wrong> {
+    found_so(alloc, &case.found, found)?;
+    Ok(None)
 }
 
 /// What an opening with so many bytes came to, and how many were taken. Behind it there is room.

@@ -3,7 +3,7 @@ use crate::answers::{same_reply, same_reply_text};
 use crate::commands::{Standing, again};
 use crate::outcome::{Wrong, fault_text};
 use crate::places::Memory;
-use crate::sessions::{MemSession, ask_for};
+use crate::sessions::{MemSession, redo, undo};
 use bx_case_files::{Answer, Ask, Opening, Row};
 use bx_cli::{Fault, Reply};
 use bx_image::MemImage;
@@ -86,7 +86,7 @@ fn all_redone(
     let Standing { session, .. } = standing;
     let mut session = session;
     let undone = session.undone();
-    let _ = ask_for(alloc, &mut session, &Ask::Redo(undone), None)?;
+    let _ = redo(alloc, &mut session, undone)?;
     again(alloc, &Memory, session)
 }
 
@@ -110,7 +110,7 @@ fn step_back(
     images: &mut Vec<Vec<u8>>,
 ) -> Result<MemSession, Wrong> {
     let mut session = session;
-    let _ = ask_for(alloc, &mut session, &Ask::Undo(1), None)?;
+    let _ = undo(alloc, &mut session, 1)?;
     let Standing { session, held } = again(alloc, &Memory, session)?;
     images.push(held.image)?;
     Ok(session)

@@ -4,9 +4,9 @@ use crate::commands::{Standing, again};
 use crate::growths::unchanged;
 use crate::outcome::{Wrong, differs, same_bytes, same_faults};
 use crate::places::Memory;
-use crate::sessions::{Held, MemDevices, MemSession, Texts, ask_for, close, in_memory, open};
+use crate::sessions::{Held, MemDevices, MemSession, Texts, close, in_memory, open, undo};
 use crate::weight::change_step;
-use bx_case_files::{Ask, Opening};
+use bx_case_files::Opening;
 use bx_cli::Fault;
 use bx_journal::How;
 use bx_scripts::judge::{RedoVerdict, Verdict, judge, judge_redo};
@@ -33,7 +33,7 @@ fn undone_of(alloc: Global, texts: Texts<'_>, changes: u32) -> Result<Result<u32
 fn unwound(alloc: Global, session: MemSession) -> Result<MemDevices, Wrong> {
     let mut session = session;
     let changes = session.changes();
-    let _ = ask_for(alloc, &mut session, &Ask::Undo(changes), None)?;
+    let _ = undo(alloc, &mut session, changes)?;
     Ok(close(session))
 }
 

@@ -59,15 +59,20 @@ pub type MemDevices<A = Global> = Devices<MemImage<A>, MemText<A>>;
 
 pub type MemSession<A = Global> = Session<MemImage<A>, MemText<A>, A>;
 
+fn mem_image<A: Allocator + Clone>(alloc: &A, bytes: &[u8]) -> Result<MemImage<A>, Wrong> {
+    Ok(MemImage::from_vec(bytes.to_vec(alloc.clone()?)?))
+}
+
+fn mem_text<A: Allocator + Clone>(alloc: &A, bytes: &[u8]) -> Result<MemText<A>, Wrong> {
+    Ok(MemText::from_vec(bytes.to_vec(alloc.clone()?)?))
+}
+
 /// Devices in memory of `alloc` that hold this.
 pub fn in_memory<A: Allocator + Clone>(alloc: A, texts: Texts<'_>) -> Result<MemDevices<A>, Wrong> {
-    let image = MemImage::from_vec(texts.image.to_vec(alloc.clone()?)?);
-    let journal = MemText::from_vec(texts.journal.to_vec(alloc.clone()?)?);
-    let redo = MemText::from_vec(texts.redo.to_vec(alloc)?);
     Ok(Devices {
-        image,
-        journal,
-        redo,
+        image: mem_image(&alloc, texts.image)?,
+        journal: mem_text(&alloc, texts.journal)?,
+        redo: mem_text(&alloc, texts.redo)?,
     })
 }
 
@@ -338,15 +343,54 @@ pub fn ask_for<D: Device, T: TextStore, A: Allocator + Clone>(
     ask: &Ask,
     limit: Limit<'_>,
 ) -> Result<Option<Reply>, Wrong> {
-    if let Ask::Change { base, writes } = ask {
-        let change = change_of(alloc, *base, writes.as_slice())?;
-        limit_to(limit)?;
-        return perform(session, &change);
+    match ask {
+        Ask::Change { base, writes } => {
+            ask_change(alloc, session, *base, writes.as_slice(), limit)
+        }
+        _ => ask_command(alloc, session, ask, limit),
     }
+}
+
+fn ask_command<D: Device, T: TextStore, A: Allocator + Clone>(
+    alloc: A,
+    session: &mut Session<D, T, A>,
+    ask: &Ask,
+    limit: Limit<'_>,
+) -> Result<Option<Reply>, Wrong> {
     match command_of(alloc.clone()?, ask)? {
         Some(command) => run_one(alloc, session, command, limit),
         None => Err(Wrong::Unknown),
     }
+}
+
+fn ask_change<D: Device, T: TextStore, A: Allocator + Clone>(
+    alloc: A,
+    session: &mut Session<D, T, A>,
+    base: Option<u64>,
+    writes: &[bx_case_files::Write],
+    limit: Limit<'_>,
+) -> Result<Option<Reply>, Wrong> {
+    let change = change_of(alloc, base, writes)?;
+    limit_to(limit)?;
+    perform(session, &change)
+}
+
+/// Takes changes back.
+pub fn undo<D: Device, T: TextStore, A: Allocator + Clone>(
+    alloc: A,
+    session: &mut Session<D, T, A>,
+    k: u32,
+) -> Result<Option<Reply>, Wrong> {
+    run_one(alloc, session, Command::Undo { k }, None)
+}
+
+/// Makes undone changes again.
+pub fn redo<D: Device, T: TextStore, A: Allocator + Clone>(
+    alloc: A,
+    session: &mut Session<D, T, A>,
+    j: u32,
+) -> Result<Option<Reply>, Wrong> {
+    run_one(alloc, session, Command::Redo { j }, None)
 }
 
 /// Makes a change that no command makes.
