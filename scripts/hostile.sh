@@ -870,19 +870,20 @@ each_call() { # each_call NAME IMAGE JOURNAL FIRST ARG ..
 }
 
 # The same for a command that only reads and writes: what is written is a front of the text. Where memory is refused it is nothing,
-# or all of it where dd's report can't be made.
+# or all of it where dd's report can't be made; a run that answers 0 has told all of the report.
 each_of_dump() { # each_of_dump ARG ..
     local n total wrong=0 refused=0 status size text
     printf 'Hello World\n\0\1\2 and some more text\n' > input
     shimmed a 0 "$@" || wrong=1
     cp out text
+    cp err told
     total=$(cat count)
     for n in $(seq 1 "$total"); do
         shimmed a "$n" "$@"
         status=$?
         if [ "$status" = 1 ] && [ "$(cat err)" = "bx: out of memory" ] && { [ ! -s out ] || { [ "$1" = dd ] && cmp -s out text; }; }; then
             refused=$((refused + 1))
-        elif [ "$status" != 0 ] || ! cmp -s out text; then
+        elif [ "$status" != 0 ] || ! cmp -s out text || ! cmp -s err told; then
             wrong=$((wrong + 1))
         fi
     done
