@@ -4,7 +4,8 @@ man = $(DESTDIR)$(PREFIX)/share/man/man1
 bash = $(DESTDIR)$(PREFIX)/share/bash-completion/completions
 fish = $(DESTDIR)$(PREFIX)/share/fish/vendor_completions.d
 zsh = $(DESTDIR)$(PREFIX)/share/zsh/$(if $(filter /usr,$(PREFIX)),vendor-completions,site-functions)
-.PHONY: all look test install uninstall package tour pictures check-docs compare record hostile hints bench clean
+# The cases of commands and texts, played in each way that their kind allows.
+.PHONY: all look test install uninstall package tour pictures check-docs compare cases record hostile hints bench clean
 
 all: bx
 
@@ -66,6 +67,11 @@ check-completions:
 # The real tools beside bx, on random inputs and options.
 compare: all
 	scripts/compare.py --bx ./bx
+
+# The cases of commands on images and of texts that are opened, by the proved player.
+cases:
+	cd crates/bx_cases && rt run > /dev/null
+	d=$$(mktemp -d) && cp cases/data/*.cases $$d && cd $$d && $(CURDIR)/crates/bx_cases/out/bx_cases; s=$$?; rm -rf $$d; exit $$s
 
 # The case files that hold what the real tools do, and random lists of commands, written again.
 record:
