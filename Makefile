@@ -4,7 +4,6 @@ man = $(DESTDIR)$(PREFIX)/share/man/man1
 bash = $(DESTDIR)$(PREFIX)/share/bash-completion/completions
 fish = $(DESTDIR)$(PREFIX)/share/fish/vendor_completions.d
 zsh = $(DESTDIR)$(PREFIX)/share/zsh/$(if $(filter /usr,$(PREFIX)),vendor-completions,site-functions)
-# The cases of commands and texts, played in each way that their kind allows.
 .PHONY: all look test install uninstall package tour pictures check-docs compare cases record hostile hints bench clean
 
 all: bx

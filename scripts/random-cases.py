@@ -1,5 +1,5 @@
 #!/usr/bin/env python3
-"""Writes random lists of commands on an image, beside a plain list of images, as cases for crates/bx_cases/data.
+"""Writes random lists of commands on an image, beside a plain list of images, as cases for cases/data.
 
 Usage: scripts/random-cases.py [--out FILE] [--seed N] [--lists N] [--length N]
 
@@ -167,7 +167,7 @@ def list_lines(number, rng, length):
 
 def main():
     parser = argparse.ArgumentParser(description=__doc__.split("\n")[0])
-    parser.add_argument("--out", default="crates/bx_cases/data/random.cases")
+    parser.add_argument("--out", default="cases/data/random.cases")
     parser.add_argument("--seed", type=int, default=1)
     parser.add_argument("--lists", type=int, default=4)
     parser.add_argument("--length", type=int, default=200)

@@ -1,5 +1,5 @@
 #!/usr/bin/env python3
-"""Records what xxd, od, hexdump, strings and dd write, as cases for crates/bx_cases/data.
+"""Records what xxd, od, hexdump, strings and dd write, as cases for crates/bx_cases/data and cases/data.
 
 Usage: scripts/record-cases.py [--out FOLDER] [--seed N] [--bx PATH]
 
@@ -579,7 +579,7 @@ def main():
                 bad += sum(map(bool, found))
                 print(*filter(None, found), sep="\n", end="\n" if any(found) else "")
             else:
-                out = options.out or "crates/bx_cases/data"
+                out = options.out or ("cases/data" if kind == "commands" else "crates/bx_cases/data")
                 with open(os.path.join(out, name + ".cases"), "w", encoding="ascii") as file:
                     file.write(text)
             print(f"{name}: {len(cases)} cases, {len(text)} bytes, {', '.join(versions(tool)[1:])}")
