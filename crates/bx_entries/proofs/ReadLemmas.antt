@@ -9,7 +9,7 @@ use Rattle.bx_entries.specs.Line.{after_in}
 use Rattle.bx_entries.specs.Text.{Entry, Between, next, next_at}
 use Rattle.bx_entries.specs.inner.Mark.{HasMarks}
 use Rattle.bx_entries.specs.Parsed.{told_by}
-use Rattle.bx_entries.specs.inner.Parsed.{entry_of, entries_onto, entries_of, reading_of, AreMarked, IsMarked}
+use Rattle.bx_entries.specs.inner.Parsed.{entry_of, entries_onto, entries_of, reading_onto, AreMarked, IsMarked}
 
 pub onto-push : {A : Type 0} → (done : List Entry) (es : List (EntryRead A)) (e : EntryRead A) → entries_onto done (es ++ e ∷ []) ≡ entry_of e ∷ entries_onto done es
 onto-push done [] e = refl
@@ -41,24 +41,24 @@ marked-below text done from to more [] are le = omega (arith, are, le)
 marked-below text done from to more (e ∷ es) are le = (are.0, are.1, marked-below text (entry_of e ∷ done) e.saved to more es are.2 le)
 
 -- the line that ends an entry
-pub entry_ends : {A : Type 0} → (es : List (EntryRead A)) (e : EntryRead A) (n : ℕ) (line : List ℕ) → suc (length es) ≡ n → after_in e.version n line ≡ Some e.after
-    → next (reading_of es (EndingRead e.version e.kept e.begins e.saved)) line ≡ Some (reading_of (es ++ e ∷ []) BetweenRead)
+pub entry_ends : {A : Type 0} → (older : List Entry) (es : List (EntryRead A)) (e : EntryRead A) (n : ℕ) (line : List ℕ) → suc (length older + length es) ≡ n → after_in e.version n line ≡ Some e.after
+    → next (reading_onto older es (EndingRead e.version e.kept e.begins e.saved)) line ≡ Some (reading_onto older (es ++ e ∷ []) BetweenRead)
 unfolding next_at
-entry_ends es e n line counted is =
-    let number : suc (length (entries_of es)) ≡ n = ap suc (length-entries_of es) ∙ counted in
-    rw (number, is) (ap (λ fs. Some (record { entries = fs; stage = Between })) (sym (onto-push [] es e)))
+entry_ends older es e n line counted is =
+    let number : suc (length (entries_onto older es)) ≡ n = omega (arith, length-onto older es, counted) in
+    rw (number, is) (ap (λ fs. Some (record { entries = fs; stage = Between })) (sym (onto-push older es e)))
 
-pub entry_stops : {A : Type 0} → (es : List (EntryRead A)) (v : Version) (kept : Saved A) (begins saved n : ℕ) (line : List ℕ) → suc (length es) ≡ n → after_in v n line ≡ None
-    → next (reading_of es (EndingRead v kept begins saved)) line ≡ None
+pub entry_stops : {A : Type 0} → (older : List Entry) (es : List (EntryRead A)) (v : Version) (kept : Saved A) (begins saved n : ℕ) (line : List ℕ) → suc (length older + length es) ≡ n → after_in v n line ≡ None
+    → next (reading_onto older es (EndingRead v kept begins saved)) line ≡ None
 unfolding next_at
-entry_stops es v kept begins saved n line counted none =
-    let number : suc (length (entries_of es)) ≡ n = ap suc (length-entries_of es) ∙ counted in
+entry_stops older es v kept begins saved n line counted none =
+    let number : suc (length (entries_onto older es)) ≡ n = omega (arith, length-onto older es, counted) in
     rw (number, none) refl
 
-pub entry_marked : {A : Type 0} → (text : List ℕ) (es : List (EntryRead A)) (e : EntryRead A) (at after : ℕ) → IsMarked text es (EndingRead e.version e.kept e.begins e.saved) at → at ≤ after
-    → IsMarked text (es ++ e ∷ []) BetweenRead after
-entry_marked text es e at after m le = (
-  marked-push text [] 0 at after es e m.0 (record { beginning = m.1; saving = m.2; order = m.3 }) (omega (arith, m.4, le)),
+pub entry_marked : {A : Type 0} → (text : List ℕ) (older : List Entry) (es : List (EntryRead A)) (e : EntryRead A) (at after : ℕ) → IsMarked text older es (EndingRead e.version e.kept e.begins e.saved) at → at ≤ after
+    → IsMarked text older (es ++ e ∷ []) BetweenRead after
+entry_marked text older es e at after m le = (
+  marked-push text older 0 at after es e m.0 (record { beginning = m.1; saving = m.2; order = m.3 }) (omega (arith, m.4, le)),
   omega (arith, m.5, length-append es (e ∷ [])),
 )
 
@@ -69,6 +69,15 @@ told-push done es e = ap told_by (onto-push done es e)
 told-onto : {A : Type 0} → (done : List Entry) (f : EntryRead A) (es : List (EntryRead A)) → told_by (entries_onto (entry_of f ∷ done) es) ≡ option_and_then (λ (e : EntryRead A). e.after) (slice_get (f ∷ es) (length es))
 told-onto done f [] = refl
 told-onto done f (h ∷ es) = told-onto (entry_of f ∷ done) h es
+
+-- where there are none, the last of the older ones tells it
+pub told-none : {A : Type 0} → (older : List Entry) (es : List (EntryRead A)) (told : Option ℕ) → length es ≡ 0 → told ≡ told_by older → told ≡ told_by (entries_onto older es)
+told-none older [] told none is = is
+told-none older (f ∷ es) told none is = absurd (omega (arith, none))
+
+pub told-some : {A : Type 0} → (older : List Entry) (es : List (EntryRead A)) → (length es ≡ 0 → ⊥) → told_by (entries_of es) ≡ told_by (entries_onto older es)
+told-some older [] some = absurd (some refl)
+told-some older (f ∷ es) some = told-onto [] f es ∙ sym (told-onto older f es)
 
 -- the last of them tells the length
 pub told-last : {A : Type 0} → (es : List (EntryRead A)) (e : Option (EntryRead A)) → e ≡ slice_get es (length es - 1) → option_and_then (λ (f : EntryRead A). f.after) e ≡ told_by (entries_of es)

@@ -1,33 +1,58 @@
 -- The loop over a journal's lines.
-use Rattle.std.proofs.Common.{◌≡◌, ℕ, zero, suc, ◌+◌, ◌<◌, ◌≤◌, Bool, true, false, List, [], ◌∷◌, ◌++◌, length, take, drop, get_or, refl, ap, sym, ◌∙◌, subst, arith, Option, Some, None, length-take}
-use Rattle.std.specs.Prelude.{slice_index, ◌==◌}
+use Rattle.std.proofs.Common.{◌≡◌, ℕ, zero, suc, ◌+◌, ◌<◌, ◌≤◌, ◌^◌, Bool, true, false, List, [], ◌∷◌, ◌++◌, length, take, drop, get_or, refl, ap, sym, ◌∙◌, subst, arith, Option, Some, None, Result, Ok, Err, length-take}
+use Rattle.std.specs.Prelude.{slice_index, ◌==◌, IfOk}
 use Rattle.std.proofs.lemmas.Grind.{common_steps}
 use Rattle.std.proofs.lemmas.List.{take-append-drop}
 use Rattle.std.proofs.Math.Seq.{drop-cons}
 use Rattle.bx_entries.specs.declared.read.types.EntryRead.{EntryRead}
+use Rattle.bx_entries.specs.declared.read.types.Front.{Front}
 use Rattle.bx_entries.specs.declared.read.types.StageRead.{StageRead}
+use Rattle.bx_entries.specs.declared.read.whole.JournalRead.{JournalRead}
 use Rattle.bx_entries.specs.declared.read.types.StageRead.TheVariants.{Between as BetweenRead, Saving as SavingRead, Ending as EndingRead}
 use Rattle.bx_entries.specs.inner.Plain.{HasNoNewline}
-use Rattle.bx_entries.specs.Text.{Split, split, after_lines, IsRest, Reads, IsDamagedAt}
+use Rattle.bx_entries.specs.Text.{Entry, Split, split, after_lines, IsRest, Reads, IsDamagedAt}
+use Rattle.bx_entries.specs.inner.Journal.{HasRead, HasReadBehind, IsBehind}
 use Rattle.bx_entries.specs.inner.Mark.{IsMark}
-use Rattle.bx_entries.specs.inner.Parsed.{entries_of, stage_of, reading_of, IsMarked, Leads, KeepsMarks, IsReadTo}
+use Rattle.bx_entries.specs.inner.Parsed.{entries_onto, stage_of, reading_of, reading_onto, IsMarked, Leads, KeepsMarks, IsReadTo}
 use Rattle.bx_entries.proofs.LineLoop.{IsLine}
 use Rattle.bx_entries.proofs.Damage.{mark_on, counted_on, stops_at, reads_at, rest_stops, lines_done}
 
-pub start_read : {A : Type 0} → (text : List ℕ) (es : List (EntryRead A)) → es ≡ [] → IsReadTo text es BetweenRead 0 1
-unfolding split after_lines
-start_read text es none =
-    let empty : IsReadTo text [] BetweenRead 0 1 = record {
-      mark = record { within = omega arith; lines = refl; whole = refl };
-      marked = (omega arith, omega arith);
-      counted = refl;
+pub start_read : {A : Type 0} → (text bytes : List ℕ) (older : List Entry) (front : Front) (es : List (EntryRead A)) → IsBehind text older front bytes → es ≡ [] → IsReadTo text older es BetweenRead front.at (front.lines + 1)
+start_read {A = A} text bytes older front es b none =
+    let empty : IsReadTo {A = A} text older [] BetweenRead front.at (front.lines + 1) = record {
+      mark = b.mark;
+      marked = (omega arith, omega (arith, b.few, b.count));
+      counted = omega (arith, b.many);
     } in
-    subst (λ fs. IsReadTo text fs BetweenRead 0 1) (sym none) empty
+    subst (λ fs. IsReadTo text older fs BetweenRead front.at (front.lines + 1)) (sym none) empty
 
-pub marked_few : {A : Type 0} → (text : List ℕ) (es : List (EntryRead A)) (stage : StageRead A) (at : ℕ) → IsMarked text es stage at → length es ≤ 65535
-marked_few text es BetweenRead at m = m.1
-marked_few text es (SavingRead v len runs begins) at m = omega (arith, m.3)
-marked_few text es (EndingRead v kept begins saved) at m = omega (arith, m.5)
+-- nothing stands before a text
+pub behind_none : (text : List ℕ) → length text + 1 < 2 ^ 64 → IsBehind text [] (record { count = 0; told = None; at = 0; lines = 0 }) text
+unfolding split after_lines
+behind_none text small = record {
+  mark = record { within = omega arith; lines = refl; whole = refl };
+  rest = refl;
+  count = refl;
+  told = refl;
+  many = refl;
+  lines = omega arith;
+  few = omega arith;
+  countable = small;
+}
+
+-- what was read behind nothing is all
+pub read_all : {A E : Type 0} → (text : List ℕ) (r : Result (JournalRead A) E) → IfOk r (HasReadBehind text []) → IfOk r (λ j. HasRead text j)
+read_all text (Ok j) h = record { reads = h.reads; places = h.places }
+read_all text (Err e) h = tt
+
+pub reads_all : {A E : Type 0} → (text : List ℕ) (r : Result (JournalRead A) E) → IfOk r (HasReadBehind text []) → IfOk r (λ j. Reads text (reading_of j.entries.items j.stage))
+reads_all text (Ok j) h = h.reads
+reads_all text (Err e) h = tt
+
+pub marked_few : {A : Type 0} → (text : List ℕ) (older : List Entry) (es : List (EntryRead A)) (stage : StageRead A) (at : ℕ) → IsMarked text older es stage at → length older + length es ≤ 65535
+marked_few text older es BetweenRead at m = m.1
+marked_few text older es (SavingRead v len runs begins) at m = omega (arith, m.3)
+marked_few text older es (EndingRead v kept begins saved) at m = omega (arith, m.5)
 
 -- the first newline of what is left
 pub record IsFound (rest : List ℕ) (i : ℕ) : Type 0 where
@@ -41,35 +66,35 @@ line_of text rest at i left f = record { plain = f.plain; is = sym left ∙ f.is
 long_of : (rest : List ℕ) (i : ℕ) → IsFound rest i → length (take i rest) ≡ i
 long_of rest i f = omega (arith, length-take i rest, f.below)
 
-pub read_on : {A : Type 0} → (text rest : List ℕ) (es new : List (EntryRead A)) (stage s : StageRead A) (at line i : ℕ) → IsReadTo text es stage at line → rest ≡ drop at text → IsFound rest i
-    → Leads (reading_of es stage) (take i rest) (entries_of new) (Some s) → KeepsMarks text new (at + i + 1) (Some s) → IsReadTo text new s (at + i + 1) (line + 1)
-read_on text rest es new stage s at line i read left f leads keeps =
+pub read_on : {A : Type 0} → (text rest : List ℕ) (older : List Entry) (es new : List (EntryRead A)) (stage s : StageRead A) (at line i : ℕ) → IsReadTo text older es stage at line → rest ≡ drop at text → IsFound rest i
+    → Leads (reading_onto older es stage) (take i rest) (entries_onto older new) (Some s) → KeepsMarks text older new (at + i + 1) (Some s) → IsReadTo text older new s (at + i + 1) (line + 1)
+read_on text rest older es new stage s at line i read left f leads keeps =
     let l : IsLine (drop at text) (take i rest) (drop (i + 1) rest) = line_of text rest at i left f in
     let place : at + length (take i rest) + 1 ≡ at + i + 1 = omega (arith, long_of rest i f) in
-    let mark : IsMark text (at + i + 1) (record { entries = entries_of new; stage = stage_of s }) =
-    subst (λ n. IsMark text n (record { entries = entries_of new; stage = stage_of s })) place (mark_on text (take i rest) (drop (i + 1) rest) at (reading_of es stage) (reading_of new s) read.mark l leads) in
+    let mark : IsMark text (at + i + 1) (record { entries = entries_onto older new; stage = stage_of s }) =
+    subst (λ n. IsMark text n (record { entries = entries_onto older new; stage = stage_of s })) place (mark_on text (take i rest) (drop (i + 1) rest) at (reading_onto older es stage) (reading_onto older new s) read.mark l leads) in
     let more : length (split (take (at + i + 1) text)).lines ≡ suc (length (split (take at text)).lines) =
-    subst (λ n. length (split (take n text)).lines ≡ suc (length (split (take at text)).lines)) place (counted_on text (take i rest) (drop (i + 1) rest) at (reading_of es stage) read.mark l) in
+    subst (λ n. length (split (take n text)).lines ≡ suc (length (split (take at text)).lines)) place (counted_on text (take i rest) (drop (i + 1) rest) at (reading_onto older es stage) read.mark l) in
     record { mark = mark; marked = keeps mark; counted = omega (arith, read.counted, more) }
 
-pub read_stops : {A : Type 0} → (text rest : List ℕ) (es : List (EntryRead A)) (new : List (EntryRead A)) (stage : StageRead A) (at line i : ℕ) → IsReadTo text es stage at line → rest ≡ drop at text → IsFound rest i
-    → Leads (reading_of es stage) (take i rest) (entries_of new) (let none : Option (StageRead A) = None in none) → IsDamagedAt text line
-read_stops {A = A} text rest es new stage at line i read left f leads =
-    subst (IsDamagedAt text) (sym read.counted) (stops_at text (take i rest) (drop (i + 1) rest) at (reading_of es stage) read.mark (line_of text rest at i left f) leads)
+pub read_stops : {A : Type 0} → (text rest : List ℕ) (older : List Entry) (es : List (EntryRead A)) (new : List (EntryRead A)) (stage : StageRead A) (at line i : ℕ) → IsReadTo text older es stage at line → rest ≡ drop at text → IsFound rest i
+    → Leads (reading_onto older es stage) (take i rest) (entries_onto older new) (let none : Option (StageRead A) = None in none) → IsDamagedAt text line
+read_stops {A = A} text rest older es new stage at line i read left f leads =
+    subst (IsDamagedAt text) (sym read.counted) (stops_at text (take i rest) (drop (i + 1) rest) at (reading_onto older es stage) read.mark (line_of text rest at i left f) leads)
 
-pub read_ends : {A : Type 0} → (text rest : List ℕ) (es : List (EntryRead A)) (stage : StageRead A) (at line : ℕ) → IsReadTo text es stage at line → rest ≡ drop at text → HasNoNewline rest
-    → IsRest (entries_of es) (stage_of stage) rest → Reads text (reading_of es stage)
-read_ends text rest es stage at line read left plain fits =
-    reads_at text at (reading_of es stage) read.mark (subst HasNoNewline left plain) (subst (IsRest (entries_of es) (stage_of stage)) left fits)
+pub read_ends : {A : Type 0} → (text rest : List ℕ) (older : List Entry) (es : List (EntryRead A)) (stage : StageRead A) (at line : ℕ) → IsReadTo text older es stage at line → rest ≡ drop at text → HasNoNewline rest
+    → IsRest (entries_onto older es) (stage_of stage) rest → Reads text (reading_onto older es stage)
+read_ends text rest older es stage at line read left plain fits =
+    reads_at text at (reading_onto older es stage) read.mark (subst HasNoNewline left plain) (subst (IsRest (entries_onto older es) (stage_of stage)) left fits)
 
-pub rest_at_end : {A : Type 0} → (text rest : List ℕ) (es : List (EntryRead A)) (stage : StageRead A) (at line : ℕ) → IsReadTo text es stage at line → rest ≡ drop at text → HasNoNewline rest → drop at text ≡ (split text).rest
-rest_at_end text rest es stage at line read left plain = sym (ap (λ (s : Split). s.rest) (lines_done text at (reading_of es stage) read.mark (subst HasNoNewline left plain)))
+pub rest_at_end : {A : Type 0} → (text rest : List ℕ) (older : List Entry) (es : List (EntryRead A)) (stage : StageRead A) (at line : ℕ) → IsReadTo text older es stage at line → rest ≡ drop at text → HasNoNewline rest → drop at text ≡ (split text).rest
+rest_at_end text rest older es stage at line read left plain = sym (ap (λ (s : Split). s.rest) (lines_done text at (reading_onto older es stage) read.mark (subst HasNoNewline left plain)))
 
-pub read_fails : {A : Type 0} → (text rest : List ℕ) (es : List (EntryRead A)) (stage : StageRead A) (at line : ℕ) → IsReadTo text es stage at line → rest ≡ drop at text → HasNoNewline rest
-    → (IsRest (entries_of es) (stage_of stage) rest → ⊥) → IsDamagedAt text line
-read_fails text rest es stage at line read left plain apart =
+pub read_fails : {A : Type 0} → (text rest : List ℕ) (older : List Entry) (es : List (EntryRead A)) (stage : StageRead A) (at line : ℕ) → IsReadTo text older es stage at line → rest ≡ drop at text → HasNoNewline rest
+    → (IsRest (entries_onto older es) (stage_of stage) rest → ⊥) → IsDamagedAt text line
+read_fails text rest older es stage at line read left plain apart =
     subst (IsDamagedAt text) (sym read.counted)
-    (rest_stops text at (reading_of es stage) read.mark (subst HasNoNewline left plain) (λ h. apart (subst (IsRest (entries_of es) (stage_of stage)) (sym left) h)))
+    (rest_stops text at (reading_onto older es stage) read.mark (subst HasNoNewline left plain) (λ h. apart (subst (IsRest (entries_onto older es) (stage_of stage)) (sym left) h)))
 
 -- no newline among the first bytes
 pub plain_to : (text : List ℕ) (k : ℕ) → ((i : ℕ) → i < k → i < length text → slice_index text i == 10 ≡ true → ⊥) → HasNoNewline (take k text)

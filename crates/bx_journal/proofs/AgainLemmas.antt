@@ -9,8 +9,9 @@ use Rattle.bx_entries.specs.Text.{Entry, Between, Reading, Reads, split}
 use Rattle.bx_entries.specs.inner.Journal.{HasRead}
 use Rattle.bx_entries.specs.inner.Parsed.{entries_of, reading_of, entry_of, entries_onto, AllKept}
 use Rattle.bx_journal.specs.Undoing.{HasCount, AgainFault, IsOutOfStep}
-use Rattle.bx_journal.specs.inner.Undoing.{IsReadAgain}
-use Rattle.bx_entries.proofs.ReadLemmas.{length-entries_of}
+use Rattle.bx_journal.specs.inner.Undoing.{IsReadLast}
+use Rattle.bx_entries.specs.Finished.{IsFinished}
+use Rattle.bx_entries.proofs.ReadLemmas.{length-entries_of, length-onto}
 use Rattle.bx_journal.proofs.OpenLemmas.{read_once}
 use Rattle.bx_journal.proofs.Judged.{undamaged}
 use Rattle.std.specs.Prelude.{All}
@@ -52,11 +53,16 @@ all_kept {A = A} limit (e ∷ es) each below =
     (each.0, All-head (λ (e : EntryRead A). e.kept.len ≤ limit) e es below, all_kept limit es each.1 (All-tail (λ (e : EntryRead A). e.kept.len ≤ limit) e es below))
 
 -- room for the greatest of the lengths is room for each
-pub kept_last : {A : Type 0} → (text : List ℕ) (es last : List (EntryRead A)) (count n longest room : ℕ) → IsReadAgain text es count → last ≡ drop n es → All (λ (e : EntryRead A). e.kept.len ≤ longest) last → longest ≤ room → AllKept room (drop n es)
+pub kept_last : {A : Type 0} → (text : List ℕ) (es last : List (EntryRead A)) (count n longest room : ℕ) → IsReadLast text es count → last ≡ drop n es → All (λ (e : EntryRead A). e.kept.len ≤ longest) last → longest ≤ room → AllKept room (drop n es)
 kept_last {A = A} text es last count n longest room read is below within =
-    let sane : AreSane (entries_of es) = (read_sane (split text).lines (record { entries = entries_of es; stage = Between }) read.finished.reads.lines).0 in
+    let sane : AreSane (entries_onto read.older es) = (read_sane (split text).lines (record { entries = entries_onto read.older es; stage = Between }) read.finished.reads.lines).0 in
     let here : All (λ (e : EntryRead A). e.kept.len ≤ longest) (drop n es) = subst (All (λ (e : EntryRead A). e.kept.len ≤ longest)) is below in
-    kept_more longest room (drop n es) (all_kept longest (drop n es) (each_drop n es (each_within [] es sane)) here) within
+    kept_more longest room (drop n es) (all_kept longest (drop n es) (each_drop n es (each_within read.older es sane)) here) within
+
+-- the text is that of so many
+pub has_count : {A : Type 0} → (stored text : List ℕ) (es : List (EntryRead A)) (count : ℕ) → IsReadLast text es count → stored ≡ text → HasCount stored count
+has_count stored text es count read is =
+    (entries_onto read.older es, subst (λ t. IsFinished t (entries_onto read.older es)) (sym is) read.finished, omega (arith, length-onto read.older es, read.counted))
 
 -- a text of so many finished entries alone isn't called damaged
 pub in_step : (honest : Type 0) (text : List ℕ) (count : ℕ) (e : SessionFault) → honest → HasCount text count → AgainFault honest text count e → (line : ℕ) → e ≡ Damaged line → ⊥

@@ -158,7 +158,7 @@ module _ {A : Type 0} (text : List ℕ) (changes : ℕ) (j : JournalRead A) (rea
   }
 
   marked_read : j.stage ≡ BetweenRead → AreMarked text [] 0 j.entries.items j.whole
-  marked_read is = (subst (λ s. IsMarked text j.entries.items s j.whole) is read.places.marked).0
+  marked_read is = (subst (λ s. IsMarked text [] j.entries.items s j.whole) is read.places.marked).0
 
   -- an entry that is unfit
   pub entry_unfit : (at : ℕ) → j.stage ≡ BetweenRead → j.whole ≡ length text → IsUntoldAt j.entries.items at ⊎ IsBeyondAt j.entries.items changes at → IsUnfitFrom text changes at

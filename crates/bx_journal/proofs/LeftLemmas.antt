@@ -18,7 +18,7 @@ pub left_at_stage : {A : Type 0} → (text bytes new : List ℕ) (j : JournalRea
 left_at_stage text bytes new j stage read is same cut =
     let es : List Entry = entries_of j.entries.items in
     let n : ℕ = begins_at stage j.whole in
-    let marked : IsMarked bytes j.entries.items stage j.whole = subst (λ s. IsMarked bytes j.entries.items s j.whole) is read.places.marked in
+    let marked : IsMarked bytes [] j.entries.items stage j.whole = subst (λ s. IsMarked bytes [] j.entries.items s j.whole) is read.places.marked in
     let here : IsMark bytes j.whole (reading_of j.entries.items stage) = subst (λ s. IsMark bytes j.whole (reading_of j.entries.items s)) is read.places.mark in
     let mark : IsMark bytes n (record { entries = es; stage = Between }) = begin_mark bytes j.entries.items stage j.whole here marked in
     let reads : Reads (take n bytes) (record { entries = es; stage = Between }) = record { lines = mark.lines; rest = subst (IsRest es Between) (sym mark.whole) (inl refl) } in

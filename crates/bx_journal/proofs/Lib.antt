@@ -39,3 +39,4 @@ pub mod OpenedLemmas
 pub mod LeftLemmas
 pub mod WindowLemmas
 pub mod ListLemmas
+pub mod LastLemmas

@@ -25,7 +25,7 @@ begins_at BetweenRead at = at
 begins_at (SavingRead v len runs begins) at = begins
 begins_at (EndingRead v kept begins saved) at = begins
 
-pub begin_mark : {A : Type 0} → (text : List ℕ) (es : List (EntryRead A)) (stage : StageRead A) (at : ℕ) → IsMark text at (reading_of es stage) → IsMarked text es stage at → IsMark text (begins_at stage at) (record { entries = entries_of es; stage = Between })
+pub begin_mark : {A : Type 0} → (text : List ℕ) (es : List (EntryRead A)) (stage : StageRead A) (at : ℕ) → IsMark text at (reading_of es stage) → IsMarked text [] es stage at → IsMark text (begins_at stage at) (record { entries = entries_of es; stage = Between })
 begin_mark text es BetweenRead at mark m = mark
 begin_mark text es (SavingRead v len runs begins) at mark m = m.1
 begin_mark text es (EndingRead v kept begins saved) at mark m = m.1
@@ -34,7 +34,7 @@ pub tail_at : {A : Type 0} → (text bytes x : List ℕ) (stack : List (List ℕ
     → HasTail text x stack (entries_of j.entries.items) (stage_of stage) (begins_at stage j.whole)
 tail_at text bytes x stack j stage read is same rec =
     let es : List Entry = entries_of j.entries.items in
-    let marked : IsMarked bytes j.entries.items stage j.whole = subst (λ s. IsMarked bytes j.entries.items s j.whole) is read.places.marked in
+    let marked : IsMarked bytes [] j.entries.items stage j.whole = subst (λ s. IsMarked bytes [] j.entries.items s j.whole) is read.places.marked in
     let mark : IsMark bytes j.whole (reading_of j.entries.items stage) = subst (λ s. IsMark bytes j.whole (reading_of j.entries.items s)) is read.places.mark in
     let reads : Reads bytes (reading_of j.entries.items stage) = subst (λ s. Reads bytes (reading_of j.entries.items s)) is read.reads in
     tail_of text x stack (entries_of j.entries.items) (stage_of stage) (begins_at stage j.whole) rec

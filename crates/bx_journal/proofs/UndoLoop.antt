@@ -8,15 +8,16 @@ use Rattle.bx_journal.specs.Phase.{IsAtRest}
 use Rattle.bx_entries.specs.inner.Mark.{IsMark, HasMarks}
 use Rattle.bx_journal.specs.inner.Step.{TakesBack}
 use Rattle.bx_journal.specs.Stack.{stack_of}
-use Rattle.bx_entries.specs.inner.Parsed.{entry_of, entries_of, AreMarked, AllKept}
+use Rattle.bx_entries.specs.inner.Parsed.{entry_of, entries_onto, AreMarked, AllKept}
 use Rattle.bx_image.specs.Change.{AllWithin}
 use Rattle.bx_entries.proofs.ReadLemmas.{onto-push, marked-pop}
 use Rattle.bx_journal.proofs.UndoSteps.{mark_in}
 
--- the entries that are left end at a place
+-- the entries that are left end at a place; before those that were read stand older ones
 pub record IsUndone {A : Type 0} (bytes : List ℕ) (es : List (EntryRead A)) (to : ℕ) : Type 0 where
-  pub marked : AreMarked bytes [] 0 es to
-  pub mark : IsMark bytes to (record { entries = entries_of es; stage = Between })
+  pub older : List Entry
+  pub marked : AreMarked bytes older 0 es to
+  pub mark : IsMark bytes to (record { entries = entries_onto older es; stage = Between })
 
 -- where undoing is in a text that was read again: the store's, where that is honest
 pub record IsUndoing {A : Type 0} (honest : Type 0) (first now : List ℕ) (es : List (EntryRead A)) : Type 0 where
@@ -30,25 +31,26 @@ one_reading : {p q : Reading} → Some p ≡ Some q → p ≡ q
 one_reading e = cc
 
 -- the places of the newest entry
-pub popped : {A : Type 0} → (bytes : List ℕ) (es : List (EntryRead A)) (e : EntryRead A) (to : ℕ) → IsUndone bytes (es ++ e ∷ []) to → IsUndone bytes es e.begins × HasMarks bytes (entries_of es) e.version (entry_of e) e.begins e.saved × (e.saved ≤ to)
+pub popped : {A : Type 0} → (bytes : List ℕ) (es : List (EntryRead A)) (e : EntryRead A) (to : ℕ) → (u : IsUndone bytes (es ++ e ∷ []) to)
+    → IsUndone bytes es e.begins × HasMarks bytes (entries_onto u.older es) e.version (entry_of e) e.begins e.saved × (e.saved ≤ to)
 popped bytes es e to u =
-    let m = marked-pop bytes [] 0 to es e u.marked in
-    (record { marked = m.0; mark = m.1.beginning }, m.1, m.2)
+    let m = marked-pop bytes u.older 0 to es e u.marked in
+    (record { older = u.older; marked = m.0; mark = m.1.beginning }, m.1, m.2)
 
 top_is : (es : List Entry) (e : Entry) (x : List ℕ) (stack : List (List ℕ)) → stack ≡ stack_of (e ∷ es) x → stack ≡ x ∷ drop 1 stack
 unfolding stack_of
 top_is es e x stack is = is ∙ ap (λ s. x ∷ drop 1 s) (sym is)
 
-entries_same : {A : Type 0} → (bytes text x : List ℕ) (stack : List (List ℕ)) (es : List (EntryRead A)) (e : EntryRead A) (to : ℕ) → IsUndone bytes (es ++ e ∷ []) to → text ≡ take to bytes → (rest : IsAtRest text x stack)
-    → rest.stands.entries ≡ entry_of e ∷ entries_of es
+entries_same : {A : Type 0} → (bytes text x : List ℕ) (stack : List (List ℕ)) (es : List (EntryRead A)) (e : EntryRead A) (to : ℕ) → (u : IsUndone bytes (es ++ e ∷ []) to) → text ≡ take to bytes → (rest : IsAtRest text x stack)
+    → rest.stands.entries ≡ entry_of e ∷ entries_onto u.older es
 entries_same bytes text x stack es e to u is rest =
-    let same : record { entries = rest.stands.entries; stage = Between } ≡ record { entries = entries_of (es ++ e ∷ []); stage = Between } =
+    let same : record { entries = rest.stands.entries; stage = Between } ≡ record { entries = entries_onto u.older (es ++ e ∷ []); stage = Between } =
     one_reading (sym rest.stands.reads.lines ∙ ap (λ t. after_lines start (split t).lines) is ∙ u.mark.lines) in
-    ap (λ (r : Reading). r.entries) same ∙ onto-push [] es e
+    ap (λ (r : Reading). r.entries) same ∙ onto-push u.older es e
 
 pub shape_of : {A : Type 0} → (bytes text x : List ℕ) (stack : List (List ℕ)) (es : List (EntryRead A)) (e : EntryRead A) (to : ℕ) → IsUndone bytes (es ++ e ∷ []) to → text ≡ take to bytes → IsAtRest text x stack → stack ≡ x ∷ drop 1 stack
 shape_of bytes text x stack es e to u is rest =
-    top_is (entries_of es) (entry_of e) x stack (rest.stands.stack_is ∙ ap (λ fs. stack_of fs x) (entries_same bytes text x stack es e to u is rest))
+    top_is (entries_onto u.older es) (entry_of e) x stack (rest.stands.stack_is ∙ ap (λ fs. stack_of fs x) (entries_same bytes text x stack es e to u is rest))
 
 pub takes_back : {A : Type 0} → (bytes text x : List ℕ) (stack : List (List ℕ)) (es : List (EntryRead A)) (e : EntryRead A) (to : ℕ) → IsUndone bytes (es ++ e ∷ []) to → text ≡ take to bytes → IsAtRest text x stack
     → TakesBack text x (drop 1 stack) e.version (entry_of e) e.begins e.saved
@@ -57,12 +59,12 @@ takes_back bytes text x stack es e to u is rest =
     let shape : stack ≡ x ∷ drop 1 stack = shape_of bytes text x stack es e to u is rest in
     let moved : IsAtRest text x (x ∷ drop 1 stack) = subst (IsAtRest text x) shape rest in
     let within : e.begins ≤ to = omega (arith, p.1.order, p.2) in
-    let marks : HasMarks (take to bytes) (entries_of es) e.version (entry_of e) e.begins e.saved = record {
-      beginning = mark_in bytes e.begins to (record { entries = entries_of es; stage = Between }) p.1.beginning within u.mark.within;
-      saving = mark_in bytes e.saved to (record { entries = entries_of es; stage = Ending e.version (kept_of e.kept) }) p.1.saving p.2 u.mark.within;
+    let marks : HasMarks (take to bytes) (entries_onto u.older es) e.version (entry_of e) e.begins e.saved = record {
+      beginning = mark_in bytes e.begins to (record { entries = entries_onto u.older es; stage = Between }) p.1.beginning within u.mark.within;
+      saving = mark_in bytes e.saved to (record { entries = entries_onto u.older es; stage = Ending e.version (kept_of e.kept) }) p.1.saving p.2 u.mark.within;
       order = p.1.order;
     } in
-    record { rest = moved; entries = entries_of es; newest = entries_same bytes text x (x ∷ drop 1 stack) es e to u is moved; marks = subst (λ t. HasMarks t (entries_of es) e.version (entry_of e) e.begins e.saved) (sym is) marks }
+    record { rest = moved; entries = entries_onto u.older es; newest = entries_same bytes text x (x ∷ drop 1 stack) es e to u is moved; marks = subst (λ t. HasMarks t (entries_onto u.older es) e.version (entry_of e) e.begins e.saved) (sym is) marks }
 
 pub drop_one : (n : ℕ) (xs : List (List ℕ)) → drop 1 (drop n xs) ≡ drop (n + 1) xs
 drop_one zero xs = refl

@@ -1,9 +1,11 @@
 -- Counting in windows: a window more.
-use Rattle.std.proofs.Common.{◌≡◌, ℕ, ◌+◌, ◌-◌, ◌≤◌, Bool, List, ◌++◌, length, take, drop, ap, sym, ◌∙◌, subst, arith, length-take, Result, Ok, Err}
+use Rattle.std.proofs.Common.{◌≡◌, ℕ, ◌+◌, ◌-◌, ◌≤◌, Bool, List, ◌++◌, length, take, drop, ap, sym, ◌∙◌, subst, arith, length-append, length-take, Result, Ok, Err}
 use Rattle.bx_entries.proofs.TallyLemmas.{take_less, take_sum}
 use Rattle.std.specs.Prelude.{IfOk, IfErr}
+use Rattle.std.proofs.lemmas.List.{take_all}
 use Rattle.bx_entries.specs.Text.{IsDamagedAt}
 use Rattle.bx_entries.specs.declared.read.count.Tally.{Tally}
+use Rattle.bx_entries.specs.declared.read.types.Front.{Front}
 use Rattle.bx_entries.specs.declared.read.window.Passed.{Passed}
 use Rattle.bx_journal.specs.Opening.{FaultCounts}
 use Rattle.bx_journal.specs.declared.recovery.journal.Found.{Found}
@@ -11,7 +13,7 @@ use Rattle.bx_journal.specs.declared.recovery.journal.Found.TheVariants.{Finishe
 use Rattle.bx_journal.specs.declared.session.fault.SessionFault.{SessionFault}
 use Rattle.bx_journal.specs.declared.session.fault.SessionFault.TheVariants.{NoMemory, TooLarge, DeviceFailed, Damaged, TooFew, JournalFull, Interrupted, Broken, LengthDiffers, NothingToRedo, RedoDamaged}
 use Rattle.bx_journal.specs.inner.Recovery.{FindFault, IsFoundIn}
-use Rattle.bx_journal.specs.inner.Windows.{IsPassed, IsCountedTo}
+use Rattle.bx_journal.specs.inner.Windows.{IsPassed, IsCountedTo, IsFrontCounted, IsAllCounted}
 
 -- a front of a window that was filled
 pub front_of : (n m : ℕ) (window from : List ℕ) → n ≤ length window → window ≡ take m from → take n window ≡ take n from
@@ -25,6 +27,7 @@ pub passed_from : (honest now : Type 0) (stored text : List ℕ) (only : Bool) (
 passed_from honest now stored text only at len t p still same passed = record {
   bytes = passed.bytes;
   is = λ h. passed.is (still h) ∙ ap (λ l. take p.taken (drop at l)) (same h);
+  long = passed.long;
   leads = passed.leads;
   some = passed.some;
   within = passed.within;
@@ -37,8 +40,30 @@ pub counted_on : (honest : Type 0) (stored : List ℕ) (only : Bool) (at len lin
     → IsCountedTo honest stored only (at + p.taken) p.tally (lines + p.lines)
 counted_on honest stored only at len lines t p to passed = record {
   front = to.front ++ passed.bytes;
+  long = omega (arith, length-append to.front passed.bytes, to.long, passed.long);
   is = λ h. ap (λ l. l ++ passed.bytes) (to.is h) ∙ ap (λ l. take at stored ++ l) (passed.is h) ∙ sym (take_sum at p.taken stored);
   tallied = passed.leads to.front lines to.tallied;
+}
+
+-- what was counted of a store is so of it later
+pub front_after : (H now : Type 0) (stored text : List ℕ) (only : Bool) (f : Front) → (now → H) → (H → text ≡ stored) → IsFrontCounted H stored only f → IsFrontCounted now text only f
+front_after H now stored text only f back same c = record {
+  front = c.front;
+  is = λ n. c.is (back n) ∙ ap (take f.at) (sym (same (back n)));
+  long = c.long;
+  counted = c.counted;
+  lines = c.lines;
+  few = c.few;
+}
+
+-- all of a text was counted
+pub all_of : (honest : Type 0) (stored : List ℕ) (only : Bool) (f : Front) (len : ℕ) → IsFrontCounted honest stored only f → (honest → len ≡ length stored) → f.at ≡ len
+    → IsAllCounted honest stored only (record { counted = record { count = f.count; told = f.told }; lines = f.lines })
+all_of honest stored only f len c long all = record {
+  text = c.front;
+  is = λ h. sym (c.is h ∙ take_all f.at stored (omega (arith, long h, all)));
+  counted = c.counted;
+  few = c.few;
 }
 
 -- what is said of a store that is the same as before

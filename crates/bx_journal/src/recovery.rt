@@ -4,4 +4,4 @@ mod journal;
 mod judge;
 pub(crate) mod take_back;
 pub(crate) mod unfinished_entry;
-mod windows;
+pub(crate) mod windows;

@@ -1,5 +1,5 @@
 -- What proofs alone need: what the reader has in hand, as a reading.
-use Rattle.std.specs.Prelude.{◌≡◌, ◌≤◌, ◌<◌, ℕ, suc, Option, None, Some, List, [], ◌∷◌, length, take, map}
+use Rattle.std.specs.Prelude.{◌≡◌, ◌≤◌, ◌<◌, ◌+◌, ℕ, suc, Option, None, Some, List, [], ◌∷◌, length, take, map}
 use Rattle.bx_entries.specs.Kept.{run_of, kept_of}
 use Rattle.bx_entries.specs.declared.read.types.EntryRead.{EntryRead}
 use Rattle.bx_entries.specs.declared.read.types.StageRead.{StageRead}
@@ -24,8 +24,12 @@ stage_of BetweenRead = Between
 stage_of (SavingRead v len runs begins) = Saving v (record { len = len; runs = map run_of runs.items })
 stage_of (EndingRead v kept begins saved) = Ending v (kept_of kept)
 
+-- what was read behind older entries, which are the newest first
+abbrev pub reading_onto : {A : Type 0} → List Entry → List (EntryRead A) → StageRead A → Reading
+reading_onto older entries stage = record { entries = entries_onto older entries; stage = stage_of stage }
+
 abbrev pub reading_of : {A : Type 0} → List (EntryRead A) → StageRead A → Reading
-reading_of entries stage = record { entries = entries_of entries; stage = stage_of stage }
+reading_of entries stage = reading_onto [] entries stage
 
 -- Entries that were read, the oldest first, lie one after another between two places. Those before them are `done`
 abbrev pub AreMarked : {A : Type 0} → List ℕ → List Entry → ℕ → List (EntryRead A) → ℕ → Type 0
@@ -33,14 +37,16 @@ AreMarked text done from [] to = from ≤ to
 AreMarked text done from (e ∷ es) to =
     (from ≤ e.begins) × HasMarks text done e.version (entry_of e) e.begins e.saved × AreMarked text (entry_of e ∷ done) e.saved es to
 
--- what was read up to a place, with the places where its entries begin and where their save lines end
-abbrev pub IsMarked : {A : Type 0} → List ℕ → List (EntryRead A) → StageRead A → ℕ → Type 0
-IsMarked text es BetweenRead at = AreMarked text [] 0 es at × (length es ≤ 65535)
-IsMarked text es (SavingRead v len runs begins) at =
-    AreMarked text [] 0 es begins × IsMark text begins (record { entries = entries_of es; stage = Between }) × (begins ≤ at) × (length es < 65535)
-IsMarked text es (EndingRead v kept begins saved) at =
-    AreMarked text [] 0 es begins × IsMark text begins (record { entries = entries_of es; stage = Between })
-    × IsMark text saved (record { entries = entries_of es; stage = Ending v (kept_of kept) }) × (begins ≤ saved) × (saved ≤ at) × (length es < 65535)
+-- what was read up to a place behind older entries, with the places where its entries begin and where their save lines end
+abbrev pub IsMarked : {A : Type 0} → List ℕ → List Entry → List (EntryRead A) → StageRead A → ℕ → Type 0
+IsMarked text older es BetweenRead at = AreMarked text older 0 es at × (length older + length es ≤ 65535)
+IsMarked text older es (SavingRead v len runs begins) at =
+    AreMarked text older 0 es begins × IsMark text begins (record { entries = entries_onto older es; stage = Between }) × (begins ≤ at)
+    × (length older + length es < 65535)
+IsMarked text older es (EndingRead v kept begins saved) at =
+    AreMarked text older 0 es begins × IsMark text begins (record { entries = entries_onto older es; stage = Between })
+    × IsMark text saved (record { entries = entries_onto older es; stage = Ending v (kept_of kept) }) × (begins ≤ saved) × (saved ≤ at)
+    × (length older + length es < 65535)
 
 -- where a line leads from a reading: nowhere, or to these finished entries and a stage
 abbrev pub Leads : {A : Type 0} → Reading → List ℕ → List Entry → Option (StageRead A) → Type 0
@@ -48,14 +54,14 @@ Leads r line es None = next r line ≡ None
 Leads r line es (Some s) = next r line ≡ Some (record { entries = es; stage = stage_of s })
 
 -- what was read up to a place, if anything, has its places
-abbrev pub KeepsMarks : {A : Type 0} → List ℕ → List (EntryRead A) → ℕ → Option (StageRead A) → Type 0
-KeepsMarks text es after None = Unit {0}
-KeepsMarks text es after (Some s) = IsMark text after (record { entries = entries_of es; stage = stage_of s }) → IsMarked text es s after
+abbrev pub KeepsMarks : {A : Type 0} → List ℕ → List Entry → List (EntryRead A) → ℕ → Option (StageRead A) → Type 0
+KeepsMarks text older es after None = Unit {0}
+KeepsMarks text older es after (Some s) = IsMark text after (reading_onto older es s) → IsMarked text older es s after
 
--- the text is read up to a place behind a whole line, of which `line` is the number of the next one
-pub record IsReadTo {A : Type 0} (text : List ℕ) (es : List (EntryRead A)) (stage : StageRead A) (at line : ℕ) : Type 0 where
-  pub mark : IsMark text at (record { entries = entries_of es; stage = stage_of stage })
-  pub marked : IsMarked text es stage at
+-- the text is read up to a place behind a whole line, of which `line` is the number of the next one, and of the entries those behind `older`
+pub record IsReadTo {A : Type 0} (text : List ℕ) (older : List Entry) (es : List (EntryRead A)) (stage : StageRead A) (at line : ℕ) : Type 0 where
+  pub mark : IsMark text at (reading_onto older es stage)
+  pub marked : IsMarked text older es stage at
   pub counted : line ≡ suc (length (split (take at text)).lines)
 
 -- the runs of each entry end within its length, which is at most a limit

@@ -4,6 +4,7 @@ ghost use Rattle.bx_entries.specs.Kept.{run_of};
 ghost use Rattle.bx_entries.specs.declared.read.types.EntryRead.{EntryRead as Finished};
 ghost use Rattle.bx_entries.specs.inner.Followed.{GoesOnBy};
 ghost use Rattle.bx_entries.specs.inner.Parsed.{IsReadTo};
+ghost use Rattle.bx_entries.specs.Text.{Entry};
 
 use crate::StageRead;
 use crate::format::line::push;
@@ -55,8 +56,8 @@ pub fn go_on<A: Allocator + Clone>(
 ) -> Result<GoneOn<A>, NoMemory>
     ensures within { IfOk result (λ g. 68 * g.count ≤ length (drop text.from text.bytes.items)) }
     ensures left { IfOk result (λ g. drop g.text.from g.text.bytes.items ≡ drop (68 * g.count) (drop text.from text.bytes.items)) }
-    ensures read { (whole : List ℕ) (es : List (Finished A)) (at line : ℕ) → IsReadTo whole es stage at line → drop text.from text.bytes.items ≡ drop at whole
-        → IfOk result (λ g. IsReadTo whole es g.stage (at + 68 * g.count) (line + g.count)) }
+    ensures read { (whole : List ℕ) (older : List Entry) (es : List (Finished A)) (at line : ℕ) → IsReadTo whole older es stage at line
+        → drop text.from text.bytes.items ≡ drop at whole → IfOk result (λ g. IsReadTo whole older es g.stage (at + 68 * g.count) (line + g.count)) }
 {
     match stage {
         StageRead::Saving {

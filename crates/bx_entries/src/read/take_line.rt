@@ -6,10 +6,10 @@ ghost use Rattle.bx_entries.specs.declared.read.types.EntryRead.{EntryRead as Fi
 ghost use Rattle.bx_entries.specs.inner.Mark.{IsMark};
 ghost use Rattle.bx_entries.specs.Text.{Between as Resting, Saving as Keeping, Ending as Closing, Entry, Reading, begins as begun, next_at, next};
 ghost use Rattle.bx_entries.specs.Parsed.{told_by};
-ghost use Rattle.bx_entries.specs.inner.Parsed.{Leads, KeepsMarks, stage_of, reading_of, entries_of, IsMarked, AreMarked};
+ghost use Rattle.bx_entries.specs.inner.Parsed.{Leads, KeepsMarks, stage_of, reading_onto, entries_of, entries_onto, IsMarked, AreMarked};
 
 use crate::format::line::{after_in, is_save, length_in, push_line, saved_in};
-use crate::{EntryRead, StageRead, Version};
+use crate::{EntryRead, Front, StageRead, Version};
 use bx_image::Saved;
 use bx_text::{NoMemory, Piece, Pieces};
 use std::alloc::Allocator;
@@ -40,8 +40,9 @@ pub fn take_start<A: Allocator + Clone>(
 ) -> Result<Option<StageRead<A>>, NoMemory>
     ensures leads { (es : List Entry) → suc (length es) ≡ number → told ≡ told_by es
         → IfOk result (Leads (record { entries = es; stage = Resting }) line.now es) }
-    ensures marked { (text : List ℕ) (es : List (Finished A)) (after : ℕ) → IsMarked text es StageRead.Between at → suc (length es) ≡ number
-        → IsMark text at (record { entries = entries_of es; stage = Resting }) → at ≤ after → IfOk result (KeepsMarks text es after) }
+    ensures marked { (text : List ℕ) (older : List Entry) (es : List (Finished A)) (after : ℕ) → IsMarked text older es StageRead.Between at
+        → suc (length older + length es) ≡ number → IsMark text at (record { entries = entries_onto older es; stage = Resting }) → at ≤ after
+        → IfOk result (KeepsMarks text older es after) }
 {
     if number > MOST_CHANGES {
         return Ok(None);
@@ -87,8 +88,8 @@ pub fn take_saved<A: Allocator + Clone>(
 ) -> Result<Option<StageRead<A>>, NoMemory>
     ensures leads { (es : List Entry) → suc (length es) ≡ number
         → IfOk result (Leads (record { entries = es; stage = Keeping version (record { len = len; runs = map run_of runs.items }) }) line.now es) }
-    ensures marked { (text : List ℕ) (es : List (Finished A)) (at : ℕ) → IsMarked text es (StageRead.Saving version len runs begins) at → at ≤ after
-        → IfOk result (KeepsMarks text es after) }
+    ensures marked { (text : List ℕ) (older : List Entry) (es : List (Finished A)) (at : ℕ)
+        → IsMarked text older es (StageRead.Saving version len runs begins) at → at ≤ after → IfOk result (KeepsMarks text older es after) }
 {
     if is_save(number, line) {
         let kept = Saved {
@@ -124,12 +125,14 @@ pub fn take_end<A: Allocator>(
     saved: u64,
     line: &[u8],
 ) -> Result<bool, NoMemory>
-    ensures taken { suc (length entries.old.items) ≡ number
-        → IfOk result (λ b. b ≡ true → next (reading_of entries.old.items (StageRead.Ending version kept begins saved)) line.now ≡ Some (reading_of entries.new.items StageRead.Between)) }
-    ensures damaged { suc (length entries.old.items) ≡ number
-        → IfOk result (λ b. b ≡ false → next (reading_of entries.old.items (StageRead.Ending version kept begins saved)) line.now ≡ None) }
-    ensures marked { (text : List ℕ) (at after : ℕ) → IsMarked text entries.old.items (StageRead.Ending version kept begins saved) at → at ≤ after
-        → IfOk result (λ b. b ≡ true → IsMarked text entries.new.items StageRead.Between after) }
+    ensures taken { (older : List Entry) → suc (length older + length entries.old.items) ≡ number
+        → IfOk result (λ b. b ≡ true → next (reading_onto older entries.old.items (StageRead.Ending version kept begins saved)) line.now
+        ≡ Some (reading_onto older entries.new.items StageRead.Between)) }
+    ensures damaged { (older : List Entry) → suc (length older + length entries.old.items) ≡ number
+        → IfOk result (λ b. b ≡ false → next (reading_onto older entries.old.items (StageRead.Ending version kept begins saved)) line.now ≡ None) }
+    ensures marked { (text : List ℕ) (older : List Entry) (at after : ℕ)
+        → IsMarked text older entries.old.items (StageRead.Ending version kept begins saved) at → at ≤ after
+        → IfOk result (λ b. b ≡ true → IsMarked text older entries.new.items StageRead.Between after) }
 {
     let Some(after) = after_in(version, number, line) else {
         return Ok(false);
@@ -147,24 +150,27 @@ pub fn take_end<A: Allocator>(
     Ok(true)
 }
 
-/// Takes a line at a place, which ends at another. The answer is none where it is out of place.
+/// Takes a line at a place, which ends at another, behind entries that stand before those that were read. The answer is
+/// none where it is out of place.
 pub fn take_line<A: Allocator + Clone>(
     alloc: &A,
+    front: Front,
     entries: &mut Vec<EntryRead<A>, A>,
     stage: StageRead<A>,
     at: u64,
     after: u64,
     line: &[u8],
 ) -> Result<Option<StageRead<A>>, NoMemory>
-    requires few { length entries.old.items ≤ 65535 }
-    ensures leads { IfOk result (Leads (reading_of entries.old.items stage) line.now (entries_of entries.new.items)) }
-    ensures marked { (text : List ℕ) → IsMarked text entries.old.items stage at → IsMark text at (reading_of entries.old.items stage) → at ≤ after
-        → IfOk result (KeepsMarks text entries.new.items after) }
+    requires few { front.count + length entries.old.items ≤ 65535 }
+    ensures leads { (older : List Entry) → front.count ≡ length older → front.told ≡ told_by older
+        → IfOk result (Leads (reading_onto older entries.old.items stage) line.now (entries_onto older entries.new.items)) }
+    ensures marked { (text : List ℕ) (older : List Entry) → front.count ≡ length older → IsMarked text older entries.old.items stage at
+        → IsMark text at (reading_onto older entries.old.items stage) → at ≤ after → IfOk result (KeepsMarks text older entries.new.items after) }
 {
-    let number = entries.len() as u32 + 1;
+    let number = front.count + entries.len() as u32 + 1;
     match stage {
         StageRead::Between => {
-            let told = told_length(entries);
+            let told = told_behind(front.told, entries);
             take_start(alloc, number, told, at, line)
         }
         StageRead::Saving {
@@ -186,6 +192,17 @@ pub fn take_line<A: Allocator + Clone>(
             }
         }
     }
+}
+
+/// The length that the next entry has to begin with: of these entries the last one tells it, and where there are none, the
+/// last of those before them.
+pub fn told_behind<A: Allocator>(told: Option<u64>, entries: &[EntryRead<A>]) -> Option<u64>
+    ensures { (older : List Entry) → told ≡ told_by older → result ≡ told_by (entries_onto older entries.now) }
+{
+    if entries.is_empty() {
+        return told;
+    }
+    told_length(entries)
 }
 
 /// The length that the next entry has to begin with, where the last one tells it.

@@ -4,6 +4,16 @@ use bx_image::Saved;
 use bx_text::Piece;
 use std::alloc::{Allocator, Global};
 
+/// What stands before a text that is read: so many entries, of which the last tells this length, in so many bytes and
+/// lines.
+#[derive(Clone, Copy)]
+pub struct Front {
+    pub count: u32,
+    pub told: Option<u64>,
+    pub at: u64,
+    pub lines: u64,
+}
+
 /// A finished entry, and where it begins and its save line ends.
 #[derive(Drop)]
 pub struct EntryRead<A: Allocator = Global> {

@@ -1,15 +1,15 @@
 //! All of a journal's text.
-ghost use Rattle.std.specs.Prelude.{IfOk, IfErr};
-ghost use Rattle.bx_entries.specs.Text.{Reads, split};
+ghost use Rattle.std.specs.Prelude.{List, ℕ, IfOk, IfErr};
+ghost use Rattle.bx_entries.specs.Text.{Entry, Reads, split};
 ghost use Rattle.bx_entries.specs.inner.Parsed.{reading_of};
 
 use crate::format::newline::line_end;
 use crate::read::extend::go_on;
 use crate::read::full_lines::ENDED;
 use crate::read::tail::rest_fits;
-use crate::read::take_line::{take_line, told_length};
+use crate::read::take_line::{take_line, told_behind};
 use crate::read::text::{Unread, behind, rest_of};
-use crate::{EntryFault, EntryRead, StageRead};
+use crate::{EntryFault, EntryRead, Front, StageRead};
 use std::alloc::{Allocator, Global};
 
 /// What was read. The last newline is before `whole`.
@@ -20,7 +20,7 @@ pub struct JournalRead<A: Allocator = Global> {
     pub whole: u64,
 }
 
-ghost use Rattle.bx_entries.specs.inner.Journal.{HasRead};
+ghost use Rattle.bx_entries.specs.inner.Journal.{HasRead, HasReadBehind, IsBehind};
 ghost use Rattle.bx_entries.specs.inner.Fault.{StopsReading};
 
 /// Reads a journal's text, or says at which line it is damaged. What it reads takes the text's memory where it can.
@@ -32,15 +32,35 @@ pub fn read_journal<A: Allocator + Clone>(
     ensures read { IfOk result (λ j. HasRead bytes.items j) }
     ensures fault { IfErr result (StopsReading bytes.items) }
 {
+    let front = Front {
+        count: 0,
+        told: None,
+        at: 0,
+        lines: 0,
+    };
+    read_behind(alloc, front, bytes)
+}
+
+/// Reads what a journal's text has behind a front of finished entries alone, or says at which line of the whole text it is
+/// damaged. The places are those in the whole text. What it reads takes the memory of `bytes` where it can.
+pub fn read_behind<A: Allocator + Clone>(
+    alloc: &A,
+    front: Front,
+    bytes: Vec<u8, A>,
+) -> Result<JournalRead<A>, EntryFault>
+    requires { (text : List ℕ) × (older : List Entry) × IsBehind text older front bytes.items }
+    ensures read { (text : List ℕ) (older : List Entry) → IsBehind text older front bytes.items → IfOk result (HasReadBehind text older) }
+    ensures fault { (text : List ℕ) (older : List Entry) → IsBehind text older front bytes.items → IfErr result (StopsReading text) }
+{
     let mut entries = Vec::new(alloc.clone()?);
     let mut stage = StageRead::Between;
-    let mut at: u64 = 0;
-    let mut line: u64 = 1;
+    let mut at: u64 = front.at;
+    let mut line: u64 = front.lines + 1;
     let mut text = Unread { bytes, from: 0 };
     while let Some(i) = line_end(rest_of(&text)) {
         let after = at + i as u64 + 1;
         let (now, _) = rest_of(&text).split_at(i);
-        let Ok(taken) = take_line(alloc, &mut entries, stage, at, after, now) else {
+        let Ok(taken) = take_line(alloc, front, &mut entries, stage, at, after, now) else {
             return Err(EntryFault::NoMemory);
         };
         let Some(next) = taken else {
@@ -54,8 +74,8 @@ pub fn read_journal<A: Allocator + Clone>(
         stage = gone.stage;
         text = gone.text;
     }
-    let number = entries.len() as u32 + 1;
-    let told = told_length(&entries);
+    let number = front.count + entries.len() as u32 + 1;
+    let told = told_behind(front.told, &entries);
     if !rest_fits(number, told, &stage, rest_of(&text)) {
         return Err(EntryFault::Damaged { line });
     }

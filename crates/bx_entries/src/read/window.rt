@@ -1,5 +1,6 @@
 //! A journal's text that is counted a window at a time: no line of it is kept.
-ghost use Rattle.std.specs.Prelude.{◌≡◌, ◌+◌, ◌≤◌, ◌++◌, [], Bool, List, ℕ, length, take, IfSome};
+ghost use Rattle.std.specs.Prelude.{◌≡◌, ◌+◌, ◌<◌, ◌≤◌, ◌++◌, ◌∷◌, [], Bool, List, ℕ, length, take, drop, IfSome};
+ghost use Rattle.bx_entries.specs.inner.Plain.{HasNoNewline};
 ghost use Rattle.bx_entries.specs.inner.Tally.{IsTallied, IsCountedAll};
 
 use crate::read::count::{Place, Tally, next_end, take_one};
@@ -31,9 +32,21 @@ pub fn no_entries() -> Tally
     }
 }
 
-/// Counts the whole lines at the start of a window: all of them, where each is in place. It answers none where one isn't,
-/// and with `only_second` also where an entry tells no length.
-pub fn count_lines(tally: Tally, window: &[u8], only_second: bool) -> Option<Passed>
+/// Where the first newline is, while fewer entries than the limit are counted.
+#[inline(always)]
+fn end_below(limit: u32, tally: Tally, text: &[u8]) -> Option<usize>
+    ensures { IfSome result (λ i. (i < length text.now) × HasNoNewline (take i text.now) × (text.now ≡ take i text.now ++ 10 ∷ drop (i + 1) text.now)) }
+{
+    if tally.count >= limit {
+        return None;
+    }
+    next_end(tally.place, text)
+}
+
+/// Counts the whole lines at the start of a window, where each is in place: all of them, or those up to the end of the
+/// entry whose number is the limit. It answers none where one isn't in place, and with `only_second` also where an entry
+/// tells no length.
+pub fn count_lines(tally: Tally, window: &[u8], only_second: bool, limit: u32) -> Option<Passed>
     ensures tallied { (front : List ℕ) (n : ℕ) → IsTallied only_second front tally n
         → IfSome result (λ p. IsTallied only_second (front ++ take p.taken window.now) p.tally (n + p.lines)) }
     ensures within { IfSome result (λ p. p.taken ≤ length window.now) }
@@ -44,7 +57,7 @@ pub fn count_lines(tally: Tally, window: &[u8], only_second: bool) -> Option<Pas
     let mut lines: u64 = 0;
     let mut taken: usize = 0;
     let mut rest = window;
-    while let Some(i) = next_end(now.place, rest) {
+    while let Some(i) = end_below(limit, now, rest) {
         now = take_one(now, &rest[..i], only_second)?;
         let (_, behind) = rest.split_at(i + 1);
         rest = behind;

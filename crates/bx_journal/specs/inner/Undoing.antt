@@ -1,11 +1,11 @@
 -- What proofs alone need: what undoing starts from and leaves.
-use Rattle.std.specs.Prelude.{◌≡◌, ◌≤◌, ◌<◌, ◌^◌, ℕ, List, [], length}
+use Rattle.std.specs.Prelude.{◌≡◌, ◌≤◌, ◌<◌, ◌+◌, ◌^◌, ℕ, List, [], length}
 use Rattle.bx_journal.specs.declared.session.fault.SessionFault.{SessionFault}
 use Rattle.bx_journal.specs.declared.session.fault.SessionFault.TheVariants.{NoMemory, TooLarge, DeviceFailed, Damaged, TooFew, JournalFull, Interrupted, Broken, LengthDiffers, NothingToRedo, RedoDamaged}
 use Rattle.bx_entries.specs.declared.read.types.EntryRead.{EntryRead}
-use Rattle.bx_entries.specs.Text.{Between}
+use Rattle.bx_entries.specs.Text.{Between, Entry}
 use Rattle.bx_entries.specs.inner.Mark.{IsMark}
-use Rattle.bx_entries.specs.inner.Parsed.{AreMarked, entries_of}
+use Rattle.bx_entries.specs.inner.Parsed.{AreMarked, entries_of, entries_onto}
 use Rattle.bx_entries.specs.Finished.{IsFinished}
 use Rattle.bx_journal.specs.Undoing.{IsOutOfStep}
 
@@ -25,12 +25,28 @@ pub record IsReadFrom {A : Type 0} (honest : Type 0) (stored : List ℕ) (len : 
   pub countable : length text < 2 ^ 64
   pub read : IsReadAgain text es count
 
--- the text of a store, where that is honest, is these entries alone, with their places
-pub record AreReadFrom {A : Type 0} (honest : Type 0) (stored : List ℕ) (es : List (EntryRead A)) : Type 0 where
+-- the last of so many finished entries alone, with their places; the entries before them are `older`, the newest first
+pub record IsReadLast {A : Type 0} (text : List ℕ) (es : List (EntryRead A)) (count : ℕ) : Type 0 where
+  pub older : List Entry
+  pub finished : IsFinished text (entries_onto older es)
+  pub mark : IsMark text (length text) (record { entries = entries_onto older es; stage = Between })
+  pub marked : AreMarked text older 0 es (length text)
+  pub counted : length older + length es ≡ count
+
+-- the same of a text of this length: the store's, where that is honest
+pub record IsLastFrom {A : Type 0} (honest : Type 0) (stored : List ℕ) (len : ℕ) (es : List (EntryRead A)) (count : ℕ) : Type 0 where
   pub text : List ℕ
   pub is : honest → stored ≡ text
-  pub mark : IsMark text (length text) (record { entries = entries_of es; stage = Between })
-  pub marked : AreMarked text [] 0 es (length text)
+  pub long : len ≡ length text
+  pub read : IsReadLast text es count
+
+-- the text of a store, where that is honest, is some older entries and these alone, with the places of these
+pub record AreReadFrom {A : Type 0} (honest : Type 0) (stored : List ℕ) (es : List (EntryRead A)) : Type 0 where
+  pub text : List ℕ
+  pub older : List Entry
+  pub is : honest → stored ≡ text
+  pub mark : IsMark text (length text) (record { entries = entries_onto older es; stage = Between })
+  pub marked : AreMarked text older 0 es (length text)
 
 -- what a fault of reading is, where the redo text was read
 abbrev pub redo_fault : SessionFault → SessionFault

@@ -1,6 +1,7 @@
 -- What proofs alone need: a store's text that is counted in windows.
-use Rattle.std.specs.Prelude.{◌≡◌, ◌<◌, ◌≤◌, ℕ, ◌+◌, Bool, List, ◌++◌, take, drop}
+use Rattle.std.specs.Prelude.{◌≡◌, ◌<◌, ◌≤◌, ℕ, ◌+◌, Bool, List, ◌++◌, length, take, drop}
 use Rattle.bx_entries.specs.declared.read.count.Tally.{Tally}
+use Rattle.bx_entries.specs.declared.read.types.Front.{Front}
 use Rattle.bx_entries.specs.declared.read.window.Passed.{Passed}
 use Rattle.bx_journal.specs.declared.recovery.windows.CountedText.{CountedText}
 use Rattle.bx_entries.specs.inner.Tally.{IsTallied, IsCountedAll}
@@ -9,6 +10,7 @@ use Rattle.bx_entries.specs.inner.Tally.{IsTallied, IsCountedAll}
 pub record IsPassed (honest : Type 0) (stored : List ℕ) (only_second : Bool) (at len : ℕ) (t : Tally) (p : Passed) : Type 0 where
   pub bytes : List ℕ
   pub is : honest → bytes ≡ take p.taken (drop at stored)
+  pub long : length bytes ≡ p.taken
   pub leads : (front : List ℕ) (n : ℕ) → IsTallied only_second front t n → IsTallied only_second (front ++ bytes) p.tally (n + p.lines)
   pub some : 0 < p.taken
   pub within : at + p.taken ≤ len
@@ -19,7 +21,17 @@ pub record IsPassed (honest : Type 0) (stored : List ℕ) (only_second : Bool) (
 pub record IsCountedTo (honest : Type 0) (stored : List ℕ) (only_second : Bool) (at : ℕ) (t : Tally) (lines : ℕ) : Type 0 where
   pub front : List ℕ
   pub is : honest → front ≡ take at stored
+  pub long : length front ≡ at
   pub tallied : IsTallied only_second front t lines
+
+-- a front of a text is so many finished entries alone: of the store's, where that is honest
+pub record IsFrontCounted (honest : Type 0) (stored : List ℕ) (only_second : Bool) (f : Front) : Type 0 where
+  pub front : List ℕ
+  pub is : honest → front ≡ take f.at stored
+  pub long : length front ≡ f.at
+  pub counted : IsCountedAll only_second front f.count f.told f.lines
+  pub lines : f.lines ≤ f.at
+  pub few : f.count ≤ 65535
 
 -- all of a text was counted: the store's, where that is honest
 pub record IsAllCounted (honest : Type 0) (stored : List ℕ) (only_second : Bool) (c : CountedText) : Type 0 where

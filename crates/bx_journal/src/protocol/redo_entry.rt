@@ -1,12 +1,13 @@
 //! Making undone changes again: some entries of the redo text, the last first.
-ghost use Rattle.std.specs.Prelude.{◌≡◌, ◌+◌, ◌-◌, ◌<◌, ◌≤◌, [], ℕ, length, drop, reverse, vec_capacity, IfOk, OnOk, OnErr};
+ghost use Rattle.std.specs.Prelude.{◌≡◌, ◌+◌, ◌-◌, ◌<◌, ◌≤◌, [], List, ℕ, length, drop, reverse, vec_capacity, IfOk, OnOk, OnErr};
 ghost use Rattle.bx_journal.specs.Images.{Images as Pictures, redo_of};
 ghost use Rattle.bx_journal.specs.Machine.{changes_of};
-ghost use Rattle.bx_entries.specs.inner.Parsed.{AllKept, entries_of};
+ghost use Rattle.bx_entries.specs.inner.Parsed.{AllKept};
 ghost use Rattle.bx_journal.specs.Redo.{Finds};
 ghost use Rattle.bx_journal.specs.inner.Devices.{AreBelow, StepsOn};
 ghost use Rattle.bx_journal.specs.inner.Takens.{AreReady, AllShaped, entries_len};
-ghost use Rattle.bx_entries.specs.Text.{IsPrefix};
+ghost use Rattle.bx_entries.specs.Text.{Entry, IsPrefix};
+ghost use Rattle.bx_entries.specs.Finished.{IsFinished};
 ghost use Rattle.bx_journal.specs.inner.Turns.{AreAtRest, AreStanding};
 ghost use Rattle.bx_journal.specs.Undoing.{HasLeft};
 ghost use Rattle.bx_journal.specs.inner.Undoing.{AreReadFrom};
@@ -47,8 +48,8 @@ pub fn redo_entries<D: Device, T: TextStore, A: Allocator>(
         → AreStanding (T.text store.old) (D.image device.old) (T.text redo_text.old) s → count ≡ changes_of s.stack
         → OnOk result (AreStanding (T.text store.new) (D.image device.new) (T.text redo_text.new) (redo_of (length takens.old.items) s)) }
     ensures number { IfOk result (λ n. n ≡ count + length takens.old.items) }
-    ensures left { T.honest redo_text.old
-        → OnOk result (HasLeft (T.text redo_text.old) (T.text redo_text.new) (drop (length takens.old.items) (entries_of entries.old.items))) }
+    ensures left { T.honest redo_text.old → (all : List Entry) → IsFinished (T.text redo_text.old) all
+        → OnOk result (HasLeft (T.text redo_text.old) (T.text redo_text.new) (drop (length takens.old.items) all)) }
     ensures front { T.honest store.old → OnOk result (IsPrefix (T.text store.old) (T.text store.new)) }
     ensures finds { D.honest device.old → T.honest store.old → T.honest redo_text.old → (s : Pictures)
         → AreAtRest (T.text store.old) (D.image device.old) (T.text redo_text.old) s → count ≡ changes_of s.stack

@@ -5,7 +5,7 @@ ghost use Rattle.bx_entries.specs.declared.format.version.Version.{Version as Fo
 ghost use Rattle.bx_journal.specs.Images.{Images as Pictures, undo_of};
 ghost use Rattle.bx_entries.specs.Kept.{kept_of};
 ghost use Rattle.bx_journal.specs.Opening.{OneMore};
-ghost use Rattle.bx_entries.specs.inner.Parsed.{AllKept, entries_of};
+ghost use Rattle.bx_entries.specs.inner.Parsed.{AllKept};
 ghost use Rattle.bx_journal.specs.Phase.{IsAtRest, RecoversEither};
 ghost use Rattle.bx_journal.specs.inner.Devices.{AreBelow, StepsOn};
 ghost use Rattle.bx_journal.specs.inner.Phase.{IsOpen};
@@ -16,6 +16,7 @@ ghost use Rattle.bx_journal.specs.inner.Step.{TakesBack};
 ghost use Rattle.bx_journal.specs.inner.Takens.{AreReady, AllShaped, entries_len};
 ghost use Rattle.bx_journal.specs.inner.Undone.{CanUndo, Undoes};
 ghost use Rattle.bx_entries.specs.Text.{Entry};
+ghost use Rattle.bx_entries.specs.Finished.{IsFinished};
 ghost use Rattle.bx_journal.specs.inner.Turns.{AreAtRest, AreStanding, kept_text, side_of};
 ghost use Rattle.bx_journal.specs.Undoing.{HasLeft};
 ghost use Rattle.bx_journal.specs.inner.Undoing.{AreReadFrom};
@@ -163,8 +164,8 @@ pub fn undo_entries<D: Device, T: TextStore, A: Allocator>(
         → OnOk result (IsAtRest (T.text store.new) (D.image device.new) (drop (length takens.old.items) stack)) }
     ensures stands { D.honest device.old → T.honest store.old → (stack : List (List ℕ)) → StandsFor (T.text store.old) (D.image device.old) stack
         → OnOk result (StandsFor (T.text store.new) (D.image device.new) (drop (length takens.old.items) stack)) }
-    ensures left { T.honest store.old
-        → OnOk result (HasLeft (T.text store.old) (T.text store.new) (drop (length takens.old.items) (entries_of entries.old.items))) }
+    ensures left { T.honest store.old → (all : List Entry) → IsFinished (T.text store.old) all
+        → OnOk result (HasLeft (T.text store.old) (T.text store.new) (drop (length takens.old.items) all)) }
     ensures fault { D.honest device.old → T.honest store.old → (stack : List (List ℕ)) → IsAtRest (T.text store.old) (D.image device.old) stack
         → OnErr result ((j : ℕ) × (j ≤ length takens.old.items) × Recovers (T.text store.new) (D.image device.new) (drop j stack)) }
     ensures images { D.honest device.old → T.honest store.old → T.honest redo_text.old → (s : Pictures)

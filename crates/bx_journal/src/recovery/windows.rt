@@ -2,16 +2,21 @@
 ghost use Rattle.std.specs.Prelude.{◌≡◌, ◌↔◌, ◌⊎◌, ◌<◌, ◌≤◌, length, is_err, OnOk, IfOk, IfErr, IfSome};
 ghost use Rattle.bx_image.specs.Device.{GoesOn};
 ghost use Rattle.bx_journal.specs.Opening.{FaultCounts};
-ghost use Rattle.bx_journal.specs.inner.Windows.{IsAllCounted, IsPassed};
+ghost use Rattle.bx_journal.specs.inner.Windows.{IsAllCounted, IsFrontCounted, IsPassed};
 
 use crate::SessionFault;
-use bx_entries::{Counted, Passed, Tally, count_lines, counted_by, no_entries};
+use bx_entries::{
+    Counted, Front, MOST_CHANGES, Passed, Tally, count_lines, counted_by, no_entries,
+};
 use bx_image::DeviceFailed;
 use bx_store::TextStore;
 use std::alloc::Allocator;
 
 /// So many bytes of a text are read at a time.
 const WINDOW: u64 = 262_144;
+
+/// More entries than a text can have.
+const ALL: u32 = MOST_CHANGES + 1;
 
 /// What a text's entries were counted as, and how many lines it has.
 #[derive(Clone, Copy)]
@@ -20,8 +25,8 @@ pub struct CountedText {
     pub lines: u64,
 }
 
-/// Counts the whole lines of the window at a place, in a text of `len` bytes. It answers none where no line ends in it, or
-/// one isn't counted.
+/// Counts the whole lines of the window at a place, in a text of `len` bytes: those up to the end of the entry whose
+/// number is the limit. It answers none where no line ends in it, or one isn't counted.
 fn pass_window<T: TextStore>(
     store: &mut T,
     window: &mut [u8],
@@ -29,6 +34,7 @@ fn pass_window<T: TextStore>(
     len: u64,
     tally: Tally,
     only_second: bool,
+    limit: u32,
 ) -> Result<Option<Passed>, DeviceFailed>
     requires countable { T.failures store.old < u64.MAX }
     requires within { T.honest store.old → len ≤ length (T.text store.old) }
@@ -40,7 +46,7 @@ fn pass_window<T: TextStore>(
     let more = (window.len() as u64).min(len - at) as usize;
     let (now, _) = window.split_at_mut(more);
     store.read_at(at, now)?;
-    let Some(passed) = count_lines(tally, now, only_second) else {
+    let Some(passed) = count_lines(tally, now, only_second, limit) else {
         return Ok(None);
     };
     if passed.taken == 0 {
@@ -49,26 +55,28 @@ fn pass_window<T: TextStore>(
     Ok(Some(passed))
 }
 
-/// Counts the entries of a text of `len` bytes, a window at a time. What is left of a window's last line is read again with
-/// the next one. It answers none where the text is anything but finished entries, with `only_second` also where one tells no
-/// length, and where a line is longer than the window.
+/// Counts the first entries of a text of `len` bytes, a window at a time: so many as the limit says, or all. What is left of
+/// a window's last line is read again with the next one. It answers none where the text is anything but finished entries up
+/// to there, with `only_second` also where one tells no length, and where a line is longer than the window.
 fn count_windows<T: TextStore>(
     store: &mut T,
     window: &mut [u8],
     len: u64,
     only_second: bool,
-) -> Result<Option<CountedText>, DeviceFailed>
+    limit: u32,
+) -> Result<Option<Front>, DeviceFailed>
     requires countable { T.failures store.old < u64.MAX }
     requires long { T.honest store.old → len ≡ length (T.text store.old) }
-    ensures counted { IfOk result (λ found. IfSome found (IsAllCounted (T.honest store.old) (T.text store.old) only_second)) }
+    ensures counted { IfOk result (λ found. IfSome found (IsFrontCounted (T.honest store.old) (T.text store.old) only_second)) }
+    ensures within { IfOk result (λ found. IfSome found (λ f. f.at ≤ len)) }
     ensures text { T.honest store.old → T.text store.new ≡ T.text store.old }
     ensures goes_on { GoesOn T.honest T.room T.failures (is_err result) store.old store.new }
 {
     let mut at: u64 = 0;
     let mut lines: u64 = 0;
     let mut tally = no_entries();
-    while at < len {
-        let found = pass_window(store, window, at, len, tally, only_second)?;
+    while at < len && tally.count < limit {
+        let found = pass_window(store, window, at, len, tally, only_second, limit)?;
         let Some(passed) = found else {
             return Ok(None);
         };
@@ -79,7 +87,38 @@ fn count_windows<T: TextStore>(
     let Some(counted) = counted_by(tally) else {
         return Ok(None);
     };
-    Ok(Some(CountedText { counted, lines }))
+    Ok(Some(Front {
+        count: counted.count,
+        told: counted.told,
+        at,
+        lines,
+    }))
+}
+
+/// Counts the first entries of a text of `len` bytes, so many as the limit says or all, in as much memory for any length. It
+/// answers none where they can't be counted so: where they aren't finished entries, with `only_second` also where one tells
+/// no length, and where a line is very long.
+pub fn count_front<T: TextStore, A: Allocator + Clone>(
+    alloc: &A,
+    store: &mut T,
+    len: u64,
+    only_second: bool,
+    limit: u32,
+) -> Result<Option<Front>, SessionFault>
+    requires countable { T.failures store.old < u64.MAX }
+    requires long { T.honest store.old → len ≡ length (T.text store.old) }
+    ensures counted { IfOk result (λ found. IfSome found (IsFrontCounted (T.honest store.old) (T.text store.old) only_second)) }
+    ensures within { IfOk result (λ found. IfSome found (λ f. f.at ≤ len)) }
+    ensures fault { IfErr result (λ e. (e ≡ SessionFault.NoMemory) ⊎ (e ≡ SessionFault.DeviceFailed)) }
+    ensures text { T.honest store.old → T.text store.new ≡ T.text store.old }
+    ensures honesty { T.honest store.new ↔ T.honest store.old }
+    ensures no_failure { OnOk result (T.failures store.new ≡ T.failures store.old) }
+    ensures counts { IfErr result (λ e. FaultCounts e 0 (T.failures store.old) 0 (T.failures store.new)) }
+{
+    let size = WINDOW.min(len) as usize;
+    let mut window = vec![in alloc.clone()?; 0u8; size]?;
+    let found = count_windows(store, window.as_mut_slice(), len, only_second, limit)?;
+    Ok(found)
 }
 
 /// Counts the entries of a text in as much memory for any length. It answers none where it can't be counted so: where it is
@@ -98,8 +137,19 @@ pub fn count_text<T: TextStore, A: Allocator + Clone>(
     ensures counts { IfErr result (λ e. FaultCounts e 0 (T.failures store.old) 0 (T.failures store.new)) }
 {
     let len = store.len()?;
-    let size = WINDOW.min(len) as usize;
-    let mut window = vec![in alloc.clone()?; 0u8; size]?;
-    let found = count_windows(store, window.as_mut_slice(), len, only_second)?;
-    Ok(found)
+    let found = count_front(alloc, store, len, only_second, ALL)?;
+    let Some(front) = found else {
+        return Ok(None);
+    };
+    if front.at != len {
+        return Ok(None);
+    }
+    let counted = Counted {
+        count: front.count,
+        told: front.told,
+    };
+    Ok(Some(CountedText {
+        counted,
+        lines: front.lines,
+    }))
 }

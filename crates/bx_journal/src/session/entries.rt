@@ -1,18 +1,21 @@
-//! The journal of an open session, read once more.
-ghost use Rattle.std.specs.Prelude.{◌≡◌, ◌↔◌, ◌+◌, ◌<◌, List, ℕ, length, IfOk, IfErr, IfSome, IfNone, OnOk};
-ghost use Rattle.bx_entries.specs.inner.Journal.{HasRead};
+//! The journal of an open session, read once more: all of it, or its last entries alone.
+ghost use Rattle.std.specs.Prelude.{◌≡◌, ◌↔◌, ◌⊎◌, ◌+◌, ◌<◌, ◌≤◌, List, ℕ, false, length, drop, IfOk, IfErr, IfSome, IfNone, OnOk};
+ghost use Rattle.bx_entries.specs.Text.{Entry};
+ghost use Rattle.bx_entries.specs.inner.Journal.{HasRead, HasReadBehind};
 ghost use Rattle.bx_journal.specs.Opening.{FaultCounts};
 ghost use Rattle.bx_journal.specs.Undoing.{AgainFault, HasCount};
-ghost use Rattle.bx_journal.specs.inner.Undoing.{IsReadAgain, IsReadFrom};
+ghost use Rattle.bx_journal.specs.inner.Undoing.{IsLastFrom, IsReadAgain, IsReadFrom, IsReadLast};
+ghost use Rattle.bx_journal.specs.inner.Windows.{IsFrontCounted};
 
 use crate::SessionFault;
+use crate::recovery::windows::count_front;
 use crate::session::fault::of_text;
 use crate::session::read::read_journal;
-use bx_entries::{EntryRead, JournalRead, StageRead};
+use bx_entries::{EntryFault, EntryRead, Front, JournalRead, StageRead, read_behind};
 use bx_store::TextStore;
 use std::alloc::{Allocator, Global};
 
-/// How many bytes a text of finished entries alone has, and those entries.
+/// How many bytes a text of finished entries alone has, and those entries, or the last of them.
 #[derive(Drop)]
 pub struct FinishedRead<A: Allocator = Global> {
     pub len: u64,
@@ -71,5 +74,154 @@ pub fn read_again<T: TextStore, A: Allocator + Clone>(
     match finished(len, journal, count) {
         Some(read) => Ok(read),
         None => Err(SessionFault::Damaged { line: 1 }),
+    }
+}
+
+/// Reads what a text of `len` bytes has from a place on. It changes nothing.
+fn read_rest<T: TextStore, A: Allocator + Clone>(
+    alloc: &A,
+    store: &mut T,
+    at: u64,
+    len: u64,
+) -> Result<Vec<u8, A>, SessionFault>
+    requires countable { T.failures store.old < u64.MAX }
+    requires within { at ≤ len }
+    requires long { T.honest store.old → len ≡ length (T.text store.old) }
+    ensures bytes { T.honest store.old → IfOk result (λ bytes. bytes.items ≡ drop at (T.text store.old)) }
+    ensures size { IfOk result (λ bytes. at + length bytes.items ≡ len) }
+    ensures fault { IfErr result (λ e. (e ≡ SessionFault.NoMemory) ⊎ (e ≡ SessionFault.DeviceFailed)) }
+    ensures text { T.honest store.old → T.text store.new ≡ T.text store.old }
+    ensures honesty { T.honest store.new ↔ T.honest store.old }
+    ensures no_failure { OnOk result (T.failures store.new ≡ T.failures store.old) }
+    ensures counts { IfErr result (λ e. FaultCounts e 0 (T.failures store.old) 0 (T.failures store.new)) }
+{
+    let size = (len - at) as usize;
+    let mut bytes = vec![in alloc.clone()?; 0u8; size]?;
+    store.read_at(at, bytes.as_mut_slice())?;
+    Ok(bytes)
+}
+
+/// What was read behind a front of so many entries, in a text of so many bytes, where that is all of its entries, and at
+/// least k.
+fn last_of<A: Allocator>(
+    len: u64,
+    first: u32,
+    journal: JournalRead<A>,
+    k: u32,
+    count: u32,
+) -> Option<FinishedRead<A>>
+    ensures some { (text : List ℕ) (older : List Entry) → HasReadBehind text older journal → first ≡ length older → len ≡ length text
+        → IfSome result (λ o. IsReadLast text o.entries.items count) }
+    ensures len { IfSome result (λ o. o.len ≡ len) }
+    ensures few { IfSome result (λ o. k ≤ length o.entries.items) }
+{
+    let JournalRead {
+        entries,
+        stage,
+        whole,
+    } = journal;
+    match stage {
+        StageRead::Between => {
+            if whole != len {
+                return None;
+            }
+            if first as usize + entries.len() != count as usize {
+                return None;
+            }
+            if entries.len() < k as usize {
+                return None;
+            }
+            Some(FinishedRead { len, entries })
+        }
+        StageRead::Saving { .. } => None,
+        StageRead::Ending { .. } => None,
+    }
+}
+
+/// Reads what stands behind a front of finished entries in a text of `len` bytes: the last k entries at least, of so many in
+/// all. It answers none where the text isn't so many finished entries alone. It changes nothing.
+fn read_from<T: TextStore, A: Allocator + Clone>(
+    alloc: &A,
+    store: &mut T,
+    front: Front,
+    len: u64,
+    k: u32,
+    count: u32,
+) -> Result<Option<FinishedRead<A>>, SessionFault>
+    requires countable { T.failures store.old < u64.MAX }
+    requires within { front.at ≤ len }
+    requires long { T.honest store.old → len ≡ length (T.text store.old) }
+    requires front { IsFrontCounted (T.honest store.old) (T.text store.old) false front }
+    requires countable_text { len < u64.MAX }
+    ensures read { IfOk result (λ found. IfSome found (λ o. IsLastFrom (T.honest store.old) (T.text store.old) o.len o.entries.items count)) }
+    ensures few { IfOk result (λ found. IfSome found (λ o. k ≤ length o.entries.items)) }
+    ensures fault { IfErr result (λ e. (e ≡ SessionFault.NoMemory) ⊎ (e ≡ SessionFault.DeviceFailed)) }
+    ensures text { T.honest store.old → T.text store.new ≡ T.text store.old }
+    ensures honesty { T.honest store.new ↔ T.honest store.old }
+    ensures no_failure { OnOk result (T.failures store.new ≡ T.failures store.old) }
+    ensures counts { IfErr result (λ e. FaultCounts e 0 (T.failures store.old) 0 (T.failures store.new)) }
+{
+    let bytes = read_rest(alloc, store, front.at, len)?;
+    match read_behind(alloc, front, bytes) {
+        Ok(journal) => Ok(last_of(len, front.count, journal, k, count)),
+        Err(EntryFault::NoMemory) => Err(SessionFault::NoMemory),
+        Err(EntryFault::Damaged { .. }) => Ok(None),
+    }
+}
+
+/// Reads the last k entries of a text that is to be so many finished entries alone. It answers none where the text isn't
+/// that, or a line is very long. It changes nothing.
+fn find_last<T: TextStore, A: Allocator + Clone>(
+    alloc: &A,
+    store: &mut T,
+    count: u32,
+    k: u32,
+) -> Result<Option<FinishedRead<A>>, SessionFault>
+    requires countable { T.failures store.old < u64.MAX }
+    requires few { k ≤ count }
+    ensures read { IfOk result (λ found. IfSome found (λ o. IsLastFrom (T.honest store.old) (T.text store.old) o.len o.entries.items count)) }
+    ensures few { IfOk result (λ found. IfSome found (λ o. k ≤ length o.entries.items)) }
+    ensures fault { IfErr result (λ e. (e ≡ SessionFault.NoMemory) ⊎ (e ≡ SessionFault.DeviceFailed)) }
+    ensures text { T.honest store.old → T.text store.new ≡ T.text store.old }
+    ensures honesty { T.honest store.new ↔ T.honest store.old }
+    ensures no_failure { OnOk result (T.failures store.new ≡ T.failures store.old) }
+    ensures counts { IfErr result (λ e. FaultCounts e 0 (T.failures store.old) 0 (T.failures store.new)) }
+{
+    let len = store.len()?;
+    if len == u64::MAX {
+        return Ok(None);
+    }
+    let found = count_front(alloc, store, len, false, count - k)?;
+    let Some(front) = found else {
+        return Ok(None);
+    };
+    read_from(alloc, store, front, len, k, count)
+}
+
+/// Reads the last k entries of a text that is to be so many finished entries alone: what it takes of memory is in proportion
+/// to their text. Where they can't be found so, all of the text is read, which says where it is damaged. It changes nothing.
+pub fn read_last_of<T: TextStore, A: Allocator + Clone>(
+    alloc: &A,
+    store: &mut T,
+    count: u32,
+    k: u32,
+) -> Result<FinishedRead<A>, SessionFault>
+    requires countable { T.failures store.old < u64.MAX }
+    requires few { k ≤ count }
+    ensures read { IfOk result (λ o. IsLastFrom (T.honest store.old) (T.text store.old) o.len o.entries.items count) }
+    ensures few { IfOk result (λ o. k ≤ length o.entries.items) }
+    ensures fault { IfErr result (AgainFault (T.honest store.old) (T.text store.old) count) }
+    ensures text { T.honest store.old → T.text store.new ≡ T.text store.old }
+    ensures honesty { T.honest store.new ↔ T.honest store.old }
+    ensures no_failure { OnOk result (T.failures store.new ≡ T.failures store.old) }
+    ensures counts { IfErr result (λ e. FaultCounts e 0 (T.failures store.old) 0 (T.failures store.new)) }
+{
+    let found = match find_last(alloc, store, count, k) {
+        Ok(found) => found,
+        Err(fault) => return Err(fault),
+    };
+    match found {
+        Some(read) => Ok(read),
+        None => read_again(alloc, store, count),
     }
 }

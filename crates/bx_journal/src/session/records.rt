@@ -4,7 +4,7 @@ ghost use Rattle.bx_image.specs.Change.{AllWithin};
 ghost use Rattle.bx_journal.specs.Opening.{ThreeCounts};
 ghost use Rattle.bx_entries.specs.inner.Parsed.{AllKept};
 ghost use Rattle.bx_journal.specs.inner.Takens.{AreZeros, AreReady, AllShaped, IsZeros, TakenFault, length_at, entries_len as entries_long};
-ghost use Rattle.bx_journal.specs.inner.Undoing.{IsReadAgain};
+ghost use Rattle.bx_journal.specs.inner.Undoing.{IsReadLast};
 
 use crate::SessionFault;
 use crate::protocol::fill::fill_last;
@@ -118,7 +118,7 @@ fn make_room<D: Device, T: TextStore, A: Allocator>(
     more: u64,
 ) -> Result<(), NoMemory>
     requires few { k ≤ length read.now.entries.items }
-    ensures kept { (text : List ℕ) (count : ℕ) → IsReadAgain text read.now.entries.items count
+    ensures kept { (text : List ℕ) (count : ℕ) → IsReadLast text read.now.entries.items count
         → OnOk result (AllKept (D.room device.new) (drop (length read.now.entries.items - k) read.now.entries.items)) }
     ensures roomed { OnOk result (min (to_len + more) (2 ^ 64 - 1) ≤ T.room to.new) }
     ensures limit { OnOk result (min (to_len + more) (2 ^ 64 - 1) ≤ 2 ^ 62) }
@@ -153,7 +153,7 @@ pub fn prepare_takens<D: Device, T: TextStore, A: Allocator + Clone>(
     requires device_countable { D.failures device.old < u64.MAX }
     requires to_countable { T.failures to.old < u64.MAX }
     requires few { k ≤ length read.now.entries.items }
-    ensures kept { (text : List ℕ) (count : ℕ) → IsReadAgain text read.now.entries.items count
+    ensures kept { (text : List ℕ) (count : ℕ) → IsReadLast text read.now.entries.items count
         → OnOk result (AllKept (D.room device.new) (drop (length read.now.entries.items - k) read.now.entries.items)) }
     ensures filled { D.honest device.old → IfOk result (λ o. AreReady (D.image device.old) (reverse read.now.entries.items) (reverse o.takens.items)) }
     ensures shaped { IfOk result (λ o. AllShaped o.takens.items) }

@@ -1,15 +1,15 @@
 //! Making undone changes again.
-ghost use Rattle.std.specs.Prelude.{◌≡◌, ◌↔◌, ◌+◌, ◌<◌, ◌≤◌, List, ℕ, drop, true, false, IfOk, IfErr, OnOk, IsErrOf, Ok as Done};
+ghost use Rattle.std.specs.Prelude.{◌≡◌, ◌↔◌, ◌+◌, ◌<◌, ◌≤◌, List, ℕ, length, drop, true, false, IfOk, IfErr, OnOk, IsErrOf, Ok as Done};
 ghost use Rattle.bx_journal.specs.Images.{Images as Pictures, redo_of};
 ghost use Rattle.bx_journal.specs.Machine.{RedoStep};
 ghost use Rattle.bx_journal.specs.Opening.{FaultCounts};
 ghost use Rattle.bx_entries.specs.Text.{Entry, IsPrefix};
 ghost use Rattle.bx_journal.specs.Undoing.{HasCount, HasLeft};
 ghost use Rattle.bx_entries.specs.Finished.{IsFinished};
-ghost use Rattle.bx_journal.specs.inner.Undoing.{IsReadFrom, RedoAgainFault, redo_fault};
+ghost use Rattle.bx_journal.specs.inner.Undoing.{IsLastFrom, RedoAgainFault, redo_fault};
 
 use crate::protocol::redo_entry::redo_entries;
-use crate::session::entries::{FinishedRead, read_again};
+use crate::session::entries::{FinishedRead, read_last_of};
 use crate::session::records::prepare_takens;
 use crate::{Session, SessionFault};
 use bx_image::Device;
@@ -35,21 +35,24 @@ fn of_redo(fault: SessionFault) -> SessionFault
     }
 }
 
-/// Reads a redo text that is to be so many finished entries alone. It changes nothing.
+/// Reads the last j entries of a redo text that is to be so many finished entries alone. It changes nothing.
 fn read_undone<T: TextStore, A: Allocator + Clone>(
     alloc: &A,
     redo_text: &mut T,
     undone: u32,
+    j: u32,
 ) -> Result<FinishedRead<A>, SessionFault>
-    requires { T.failures redo_text.old < u64.MAX }
-    ensures read { IfOk result (λ o. IsReadFrom (T.honest redo_text.old) (T.text redo_text.old) o.len o.entries.items undone) }
+    requires countable { T.failures redo_text.old < u64.MAX }
+    requires few { j ≤ undone }
+    ensures read { IfOk result (λ o. IsLastFrom (T.honest redo_text.old) (T.text redo_text.old) o.len o.entries.items undone) }
+    ensures few { IfOk result (λ o. j ≤ length o.entries.items) }
     ensures fault { IfErr result (RedoAgainFault (T.honest redo_text.old) (T.text redo_text.old) undone) }
     ensures text { T.honest redo_text.old → T.text redo_text.new ≡ T.text redo_text.old }
     ensures honesty { T.honest redo_text.new ↔ T.honest redo_text.old }
     ensures no_failure { OnOk result (T.failures redo_text.new ≡ T.failures redo_text.old) }
     ensures counts { IfErr result (λ e. FaultCounts e 0 (T.failures redo_text.old) 0 (T.failures redo_text.new)) }
 {
-    match read_again(alloc, redo_text, undone) {
+    match read_last_of(alloc, redo_text, undone, j) {
         Ok(read) => Ok(read),
         Err(fault) => Err(of_redo(fault)),
     }
@@ -80,8 +83,8 @@ impl<D: Device, T: TextStore, A: Allocator + Clone> Session<D, T, A> {
 
     /// Makes the last j undone changes again, the one undone last first, and answers how many changes then stand.
     ///
-    /// All memory is taken before the first write: it is in proportion to the redo text and to the bytes that the j
-    /// changes overwrite. The faults come in this order: `Broken`, `NothingToRedo`, `DeviceFailed` and `NoMemory` of
+    /// All memory is taken before the first write: it is in proportion to the text of the last j entries of the redo text
+    /// and to the bytes that the j changes overwrite. The faults come in this order: `Broken`, `NothingToRedo`, `DeviceFailed` and `NoMemory` of
     /// reading, `RedoDamaged` where the redo text was changed by others, `DeviceFailed` of the lengths, `NoMemory`,
     /// `DeviceFailed` of reading the image, and `Interrupted` from the first write on. Each but the last changes nothing.
     pub fn redo(&mut self, j: u32) -> Result<u32, SessionFault>
@@ -140,7 +143,7 @@ impl<D: Device, T: TextStore, A: Allocator + Clone> Session<D, T, A> {
         if is_beyond(j, self.undone) {
             return Err(SessionFault::NothingToRedo { have: self.undone });
         }
-        let mut read = read_undone(&self.alloc, &mut self.redo_text, self.undone)?;
+        let mut read = read_undone(&self.alloc, &mut self.redo_text, self.undone, j)?;
         let mut taking = prepare_takens(
             &self.alloc,
             &mut self.device,

@@ -7,7 +7,7 @@ ghost use Rattle.bx_journal.specs.Undoing.{HasCount, HasLeft};
 ghost use Rattle.bx_entries.specs.Finished.{IsFinished};
 
 use crate::protocol::undo_entry::undo_entries;
-use crate::session::entries::read_again;
+use crate::session::entries::read_last_of;
 use crate::session::records::prepare_takens;
 use crate::{Session, SessionFault};
 use bx_image::Device;
@@ -32,8 +32,8 @@ impl<D: Device, T: TextStore, A: Allocator + Clone> Session<D, T, A> {
     /// Takes the last k changes back, the newest first, and answers how many are left. Their images are then undone, and
     /// can be made again; but an image of more than `MAX_LEN` bytes, and what was undone before it, is given up.
     ///
-    /// All memory is taken before the first write: it is in proportion to the journal's text and to the bytes that the
-    /// k changes wrote or added. The faults come in this order: `Broken`, `TooFew`, `DeviceFailed` and `NoMemory` of
+    /// All memory is taken before the first write: it is in proportion to the text of the journal's last k entries and to
+    /// the bytes that the k changes wrote or added. The faults come in this order: `Broken`, `TooFew`, `DeviceFailed` and `NoMemory` of
     /// reading, `Damaged` where the text was changed by others, `DeviceFailed` of the lengths, `NoMemory`, `DeviceFailed`
     /// of reading the image, and `Interrupted` from the first write on. Each but the last changes nothing.
     pub fn undo(&mut self, k: u32) -> Result<u32, SessionFault>
@@ -96,7 +96,7 @@ impl<D: Device, T: TextStore, A: Allocator + Clone> Session<D, T, A> {
         if k > self.count {
             return Err(SessionFault::TooFew { have: self.count });
         }
-        let mut read = read_again(&self.alloc, &mut self.store, self.count)?;
+        let mut read = read_last_of(&self.alloc, &mut self.store, self.count, k)?;
         let mut taking = prepare_takens(
             &self.alloc,
             &mut self.device,

@@ -236,46 +236,56 @@ fn reads_of_openings_fail(rt: HostRuntime) -> Result<(), Fail> {
 /// Two changes that stand, and two that were undone.
 const HALF: Held<'static> = (b"b", MADE_TWO, UNDONE_TWO);
 
-// Each of these reads is refused, and changes nothing.
-fn moves_refused(alloc: Global, rt: &impl Abort, ask: Ask) -> Result<(), Fail> {
+// Each of these reads is refused, and changes nothing, and so is the last one of the text that is moved from.
+fn moves_refused(alloc: Global, rt: &impl Abort, ask: Ask, last: Passes) -> Result<(), Fail> {
     let refused = (ask, Err(SessionFault::DeviceFailed));
     for passes in [
         (2, NONE, NONE),
         (3, NONE, NONE),
         (NONE, 2, NONE),
         (NONE, NONE, 2),
+        last,
     ] {
         assert_refused(alloc, rt, HALF, passes, found(How::Clean, 2, 2), refused)?;
     }
     Ok(())
 }
 
-// A move of two that is stopped between them, so that opening finds this, and one that goes through.
+// A move of two that is stopped between them, so that opening finds this, and one that goes through. So many reads of the
+// texts pass.
 fn move_stops(
     alloc: Global,
     rt: &impl Abort,
     ask: Ask,
+    texts: (u64, u64),
     behind: Opened,
     all: u32,
 ) -> Result<(), Fail> {
     let clean = found(How::Clean, 2, 2);
     let stopped = (ask, Err(SessionFault::Interrupted));
-    let left = left_by(alloc, rt, HALF, (4, 3, 3), clean, stopped)?;
+    let left = left_by(alloc, rt, HALF, (4, texts.0, texts.1), clean, stopped)?;
     let _opened = reopened(alloc, rt, &left, behind)?;
-    let _whole = left_by(alloc, rt, HALF, (5, 3, 3), clean, (ask, Ok(all)))?;
+    let _whole = left_by(
+        alloc,
+        rt,
+        HALF,
+        (5, texts.0, texts.1),
+        clean,
+        (ask, Ok(all)),
+    )?;
     Ok(())
 }
 
-// The text that is moved from is read, then the lengths of the image and of the other text, then the bytes that will be
+// The length of the text that is moved from is read, then its last two entries, then the lengths of the image and of the other text, then the bytes that will be
 // overwritten: each is refused, and changes nothing. Between the two changes the image is read again. Opening asked for the
 // image's length twice, and for that of each text, and read a window of each.
 #[test]
 fn reads_of_moves_fail(rt: HostRuntime) -> Result<(), Fail> {
     let alloc = rt.alloc();
-    moves_refused(alloc, &rt, Ask::UndoTwo)?;
-    moves_refused(alloc, &rt, Ask::RedoTwo)?;
-    move_stops(alloc, &rt, Ask::UndoTwo, found(How::Clean, 1, 3), 0)?;
-    move_stops(alloc, &rt, Ask::RedoTwo, found(How::Clean, 3, 1), 4)
+    moves_refused(alloc, &rt, Ask::UndoTwo, (NONE, 3, NONE))?;
+    moves_refused(alloc, &rt, Ask::RedoTwo, (NONE, NONE, 3))?;
+    move_stops(alloc, &rt, Ask::UndoTwo, (4, 3), found(How::Clean, 1, 3), 0)?;
+    move_stops(alloc, &rt, Ask::RedoTwo, (3, 4), found(How::Clean, 3, 1), 4)
 }
 
 /// An image without changes.

@@ -20,7 +20,7 @@ fn count_by(text: &[u8], size: usize, only_second: bool) -> Option<u32> {
     let mut rest = text;
     for _ in 0..text.len() {
         let window = &rest[..size.min(rest.len())];
-        let passed = count_lines(tally, window, only_second)?;
+        let passed = count_lines(tally, window, only_second, u32::MAX)?;
         if passed.taken == 0 {
             break;
         }

@@ -14,7 +14,7 @@ loop-i-init c = record {
 
 pub loop-i-preserved : goal.loop-i-preserved
 loop-i-preserved c =
-    let f = c.in-Some.ensures.found in
+    let f = c.in-Some.ensures in
     let inv = c.loop-i.invariant in
     let line : IsFirstLine c.loop-i.rest.now c.in-Some.i = record { below = f.0; plain = f.1; is = f.2 } in
     let long = length-drop c.loop-i.taken c.args.window.now in

@@ -6,7 +6,8 @@ use Rattle.bx_image.specs.Change.{effect, saved, restore, IsAsGood}
 use Rattle.bx_entries.specs.Kept.{kept_of}
 use Rattle.bx_entries.specs.Entry.{head_text, end_text}
 use Rattle.bx_journal.specs.Images.{redo_of}
-use Rattle.bx_entries.specs.inner.Parsed.{AllKept, entries_of}
+use Rattle.bx_entries.specs.Finished.{IsFinished}
+use Rattle.bx_entries.specs.inner.Parsed.{AllKept}
 use Rattle.bx_journal.specs.Phase.{IsAtRest}
 use Rattle.bx_journal.specs.Redo.{Finds}
 use Rattle.bx_journal.specs.inner.Redo.{LeavesEither}
@@ -214,7 +215,8 @@ loop-i-preserved g c =
       made = omega (arith, inv.made);
       few = inv.few;
       bound = omega (arith, inv.bound, most, c.fill_last.ensures.count);
-      dropped = dropped_next es e (entries_of c.args.entries.now.items) c.loop-i.i (ap entries_of (sym c.in-Some-pop.ensures.items) ∙ inv.dropped);
+      dropped = λ rh all finished. dropped_next inv.place.text (g.T.TextStore.text c.loop-i.redo_text) (g.T.TextStore.text c.write_entry.new.redo_text) es e all inv.place.to c.loop-i.i u (inv.place.left rh) (wrote.redo (inv.redo_honest.1 rh))
+          (inv.dropped rh all finished);
       front = λ th. prefix_more (g.T.TextStore.text c.args.store.now) (g.T.TextStore.text c.loop-i.store) (g.T.TextStore.text c.write_entry.new.store) (head_text (c.loop-i.count + 1) (kept_of t)) c.as_bytes.result.now (inv.front th) (wrote.text (inv.store_honest.1 th));
       kept = kept_more (g.D.Device.room c.loop-i.device) (g.D.Device.room c.fill_last.new.device) (drop n es) kept.0 (omega (arith, c.write_entry.ensures.room, c.fill_last.ensures.goes_on.no_less_room));
       device_honest = ((λ h. inv.device_honest.0 (c.write_entry.ensures.steps_on.device_honesty.0 (c.fill_last.ensures.goes_on.honesty.0 h))), λ h. c.fill_last.ensures.goes_on.honesty.1 (c.write_entry.ensures.steps_on.device_honesty.1 (inv.device_honest.1 h)));
@@ -320,7 +322,7 @@ loop-i-init g c =
       made = omega arith;
       few = c.requires.few;
       bound = c.requires.bound;
-      dropped = refl;
+      dropped = λ rh all finished. finished;
       front = λ th. ([], sym (append-nil (g.T.TextStore.text c.args.store.now)));
       kept = c.requires.kept;
       device_honest = ((λ h. h), λ h. h);
@@ -332,7 +334,7 @@ loop-i-init g c =
       place = record {
         text = text;
         to = length text;
-        undone = record { marked = c.requires.read.marked; mark = c.requires.read.mark };
+        undone = record { older = c.requires.read.older; marked = c.requires.read.marked; mark = c.requires.read.mark };
         is = c.requires.read.is;
         left = λ rh. c.requires.read.is rh ∙ sym (take_all (length text) text (omega arith));
       };
@@ -363,11 +365,11 @@ returns-clause-number g c =
     omega (arith, c.loop-i.invariant.made, all)
 
 pub returns-clause-left : goal.returns-clause-left
-returns-clause-left g c rh =
+returns-clause-left g c rh entries finished =
     let inv = c.loop-i.invariant in
-    let all : c.loop-i.i ≡ length c.args.takens.now.items = omega (arith, c.len-k.ensures, c.loop-i.invariant.more, c.loop-i-test.false) in
-    left_at inv.place.text (g.T.TextStore.text c.args.redo_text.now) (g.T.TextStore.text c.loop-i.redo_text) c.loop-i.entries.items (drop (length c.args.takens.now.items) (entries_of c.args.entries.now.items)) inv.place.to
-    inv.place.undone (inv.place.is rh) (inv.place.left rh) (inv.dropped ∙ ap (λ n. drop n (entries_of c.args.entries.now.items)) all)
+    let all : c.loop-i.i ≡ length c.args.takens.now.items = omega (arith, c.len-k.ensures, inv.more, c.loop-i-test.false) in
+    left_at inv.place.text (g.T.TextStore.text c.args.redo_text.now) (g.T.TextStore.text c.loop-i.redo_text) (drop (length c.args.takens.now.items) entries) inv.place.to (inv.place.is rh) (inv.place.left rh)
+    (subst (λ n. IsFinished (g.T.TextStore.text c.loop-i.redo_text) (drop n entries)) all (inv.dropped rh entries finished))
 
 pub returns-in_err-write_entry-clause-steps_on : goal.returns-in_err-write_entry-clause-steps_on
 returns-in_err-write_entry-clause-steps_on g c =

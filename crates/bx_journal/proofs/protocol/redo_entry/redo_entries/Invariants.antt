@@ -1,10 +1,11 @@
-use Rattle.std.proofs.Common.{◌≡◌, ◌+◌, ◌≤◌, ◌↔◌, ◌-◌, [], length, drop}
+use Rattle.std.proofs.Common.{◌≡◌, ◌+◌, ◌≤◌, ◌↔◌, ◌-◌, [], List, length, drop}
 use Rattle.std.specs.Prelude.{reverse, vec_capacity}
 use Rattle.bx_journal.specs.Images.{Images, redo_of}
 use Rattle.bx_journal.specs.Machine.{changes_of}
-use Rattle.bx_entries.specs.inner.Parsed.{AllKept, entries_of}
+use Rattle.bx_entries.specs.Finished.{IsFinished}
+use Rattle.bx_entries.specs.inner.Parsed.{AllKept}
 use Rattle.bx_journal.specs.inner.Takens.{AreReady, AllShaped, entries_len}
-use Rattle.bx_entries.specs.Text.{IsPrefix}
+use Rattle.bx_entries.specs.Text.{Entry, IsPrefix}
 use Rattle.bx_journal.specs.inner.Turns.{AreAtRest, AreStanding}
 use Rattle.bx_journal.proofs.UndoLoop.{IsUndoing}
 use Rattle.bx_journal.proofs.protocol.redo_entry.redo_entries.Given as goal
@@ -17,7 +18,7 @@ invariant-loop-i g l = record {
   few : length l.fn.takens.items ≤ length l.fn.entries.items;
   bound : l.count + length l.takens.items ≤ 65535;
   kept : AllKept (g.D.Device.room l.device) (drop (length l.fn.entries.items - length l.fn.takens.items) l.entries.items);
-  dropped : entries_of l.entries.items ≡ drop l.i (entries_of l.fn.entries.items);
+  dropped : g.T.TextStore.honest l.fn.redo_text → (all : List Entry) → IsFinished (g.T.TextStore.text l.fn.redo_text) all → IsFinished (g.T.TextStore.text l.redo_text) (drop l.i all);
   front : g.T.TextStore.honest l.fn.store → IsPrefix (g.T.TextStore.text l.fn.store) (g.T.TextStore.text l.store);
   device_honest : g.D.Device.honest l.device ↔ g.D.Device.honest l.fn.device;
   store_honest : g.T.TextStore.honest l.store ↔ g.T.TextStore.honest l.fn.store;

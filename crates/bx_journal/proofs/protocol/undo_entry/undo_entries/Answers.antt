@@ -7,7 +7,8 @@ use Rattle.bx_image.specs.Change.{restore}
 use Rattle.bx_entries.specs.Kept.{kept_of}
 use Rattle.bx_entries.specs.Entry.{entry_text}
 use Rattle.bx_journal.specs.Images.{undo_of}
-use Rattle.bx_entries.specs.inner.Parsed.{AllKept, entry_of, entries_of}
+use Rattle.bx_entries.specs.Finished.{IsFinished}
+use Rattle.bx_entries.specs.inner.Parsed.{AllKept, entry_of}
 use Rattle.bx_journal.specs.Phase.{IsAtRest}
 use Rattle.bx_journal.specs.Redo.{Finds}
 use Rattle.bx_journal.specs.Stack.{Recovers, StandsFor}
@@ -213,7 +214,8 @@ loop-i-preserved g c =
       few = inv.few;
       bound = by_len (nat_le t.len MAX_LEN) c.loop-i.undone c.undone_with-undone.result (length ts) (length c.fill_last.new.takens.items) (c.args.undone + length c.args.takens.now.items) c.undone_with-undone.ensures c.fill_last.ensures.count (omega (arith, inv.bound, most));
       kept = kept_more (g.D.Device.room c.loop-i.device) (g.D.Device.room c.fill_last.new.device) (drop n es) kept.0 (omega (arith, c.undo_entry.ensures.undoes.room_kept, c.fill_last.ensures.goes_on.no_less_room));
-      dropped = dropped_next es e (entries_of c.args.entries.now.items) c.loop-i.i (ap entries_of (sym c.in-Some-pop.ensures.items) ∙ inv.dropped);
+      dropped = λ th all finished. dropped_next inv.place.text (g.T.TextStore.text c.loop-i.store) (g.T.TextStore.text c.undo_entry.new.store) es e all inv.place.to c.loop-i.i u (inv.place.left th) (undo.text (inv.store_honest.1 th))
+          (inv.dropped th all finished);
       device_honest = ((λ h. inv.device_honest.0 (c.undo_entry.ensures.steps_on.device_honesty.0 (c.fill_last.ensures.goes_on.honesty.0 h))), λ h. c.fill_last.ensures.goes_on.honesty.1 (c.undo_entry.ensures.steps_on.device_honesty.1 (inv.device_honest.1 h)));
       store_honest = ((λ h. inv.store_honest.0 (c.undo_entry.ensures.steps_on.store_honesty.0 h)), λ h. c.undo_entry.ensures.steps_on.store_honesty.1 (inv.store_honest.1 h));
       redo_honest = ((λ h. inv.redo_honest.0 (c.undo_entry.ensures.steps_on.redo_honesty.0 h)), λ h. c.undo_entry.ensures.steps_on.redo_honesty.1 (inv.redo_honest.1 h));
@@ -307,7 +309,7 @@ loop-i-init g c =
       few = c.requires.few;
       bound = omega arith;
       kept = c.requires.kept;
-      dropped = refl;
+      dropped = λ th all finished. finished;
       device_honest = ((λ h. h), λ h. h);
       store_honest = ((λ h. h), λ h. h);
       redo_honest = ((λ h. h), λ h. h);
@@ -317,7 +319,7 @@ loop-i-init g c =
       place = record {
         text = text;
         to = length text;
-        undone = record { marked = c.requires.read.marked; mark = c.requires.read.mark };
+        undone = record { older = c.requires.read.older; marked = c.requires.read.marked; mark = c.requires.read.mark };
         is = c.requires.read.is;
         left = λ th. c.requires.read.is th ∙ sym (take_all (length text) text (omega arith));
       };
@@ -351,11 +353,11 @@ returns-clause-stands g c dh th stack stands =
     subst (λ n. StandsFor (g.T.TextStore.text c.loop-i.store) (g.D.Device.image c.loop-i.device) (drop n stack)) all (c.loop-i.invariant.stood dh th stack stands)
 
 pub returns-clause-left : goal.returns-clause-left
-returns-clause-left g c th =
+returns-clause-left g c th entries finished =
     let inv = c.loop-i.invariant in
-    let all : c.loop-i.i ≡ length c.args.takens.now.items = omega (arith, c.len-k.ensures, c.loop-i.invariant.more, c.loop-i-test.false) in
-    left_at inv.place.text (g.T.TextStore.text c.args.store.now) (g.T.TextStore.text c.loop-i.store) c.loop-i.entries.items (drop (length c.args.takens.now.items) (entries_of c.args.entries.now.items)) inv.place.to
-    inv.place.undone (inv.place.is th) (inv.place.left th) (inv.dropped ∙ ap (λ n. drop n (entries_of c.args.entries.now.items)) all)
+    let all : c.loop-i.i ≡ length c.args.takens.now.items = omega (arith, c.len-k.ensures, inv.more, c.loop-i-test.false) in
+    left_at inv.place.text (g.T.TextStore.text c.args.store.now) (g.T.TextStore.text c.loop-i.store) (drop (length c.args.takens.now.items) entries) inv.place.to (inv.place.is th) (inv.place.left th)
+    (subst (λ n. IsFinished (g.T.TextStore.text c.loop-i.store) (drop n entries)) all (inv.dropped th entries finished))
 
 pub returns-in_err-undo_entry-clause-steps_on : goal.returns-in_err-undo_entry-clause-steps_on
 returns-in_err-undo_entry-clause-steps_on g c =

@@ -1,7 +1,9 @@
 use Rattle.std.proofs.Common.{◌≡◌, ◌+◌, ◌≤◌, ◌↔◌, ◌-◌, ℕ, [], List, length, drop}
 use Rattle.std.specs.Prelude.{reverse, vec_capacity}
 use Rattle.bx_journal.specs.Images.{Images, undo_of}
-use Rattle.bx_entries.specs.inner.Parsed.{AllKept, entries_of}
+use Rattle.bx_entries.specs.Finished.{IsFinished}
+use Rattle.bx_entries.specs.Text.{Entry}
+use Rattle.bx_entries.specs.inner.Parsed.{AllKept}
 use Rattle.bx_journal.specs.Phase.{IsAtRest}
 use Rattle.bx_journal.specs.Stack.{StandsFor}
 use Rattle.bx_journal.specs.inner.Takens.{AreReady, AllShaped, entries_len}
@@ -16,7 +18,7 @@ invariant-loop-i g l = record {
   few : length l.fn.takens.items ≤ length l.fn.entries.items;
   bound : l.undone + length l.takens.items ≤ l.fn.undone + length l.fn.takens.items;
   kept : AllKept (g.D.Device.room l.device) (drop (length l.fn.entries.items - length l.fn.takens.items) l.entries.items);
-  dropped : entries_of l.entries.items ≡ drop l.i (entries_of l.fn.entries.items);
+  dropped : g.T.TextStore.honest l.fn.store → (all : List Entry) → IsFinished (g.T.TextStore.text l.fn.store) all → IsFinished (g.T.TextStore.text l.store) (drop l.i all);
   device_honest : g.D.Device.honest l.device ↔ g.D.Device.honest l.fn.device;
   store_honest : g.T.TextStore.honest l.store ↔ g.T.TextStore.honest l.fn.store;
   redo_honest : g.T.TextStore.honest l.redo_text ↔ g.T.TextStore.honest l.fn.redo_text;

@@ -24,3 +24,16 @@ loop-at-preserved g c =
         counted = now.goes_on.counted ∙ inv.goes_on.counted;
       };
     }
+
+pub returns-clause-counted : goal.returns-clause-counted
+returns-clause-counted g c =
+    let inv = c.loop-at.invariant in
+    let now = c.in-Some-counted_by.ensures in
+    record {
+      front = inv.counted.front;
+      is = inv.counted.is;
+      long = inv.counted.long;
+      counted = now.counted c.args.only_second inv.counted.front c.loop-at.lines inv.counted.tallied;
+      lines = inv.lines;
+      few = now.few inv.few;
+    }

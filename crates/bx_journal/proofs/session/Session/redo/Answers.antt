@@ -1,20 +1,20 @@
-use Rattle.std.proofs.Common.{◌≡◌, ◌≤◌, ◌+◌, ◌-◌, ℕ, suc, Some, List, length, drop, refl, ap, sym, ◌∙◌, subst, arith, length-drop}
+use Rattle.std.proofs.Common.{◌≡◌, ◌≤◌, ◌+◌, ◌-◌, ℕ, suc, List, length, drop, refl, ap, sym, ◌∙◌, subst, arith, length-drop}
 use Rattle.std.specs.Prelude.{reverse}
 use Rattle.std.proofs.lemmas.Grind.{common_steps}
 use Rattle.bx_journal.specs.declared.session.fault.SessionFault.TheVariants.{RedoDamaged}
 use Rattle.bx_journal.specs.Images.{redo_of}
 use Rattle.bx_journal.specs.Machine.{changes_of}
-use Rattle.bx_entries.specs.inner.Parsed.{AllKept, entries_of}
+use Rattle.bx_entries.specs.inner.Parsed.{AllKept}
 use Rattle.bx_journal.specs.Phase.{IsAtRest}
 use Rattle.bx_journal.specs.Redo.{Finds, IsRedoOf}
 use Rattle.bx_journal.specs.Stack.{StandsFor}
 use Rattle.bx_journal.specs.inner.Takens.{AreReady}
-use Rattle.bx_entries.specs.Text.{Entry, Between, Reading, IsPrefix}
+use Rattle.bx_entries.specs.Text.{IsPrefix}
 use Rattle.bx_journal.specs.inner.Turns.{AreAtRest, AreStanding}
 use Rattle.bx_journal.specs.Undoing.{HasLeft, IsOutOfStep}
 use Rattle.bx_entries.specs.Finished.{IsFinished}
 use Rattle.bx_journal.specs.inner.Undoing.{RedoAgainFault}
-use Rattle.bx_entries.proofs.ReadLemmas.{length-entries_of}
+use Rattle.bx_journal.proofs.AgainLemmas.{has_count}
 use Rattle.bx_journal.proofs.RedoingLemmas.{redo_in_step, length_redone}
 use Rattle.bx_journal.proofs.TakingLemmas.{redo_moved}
 use Rattle.bx_journal.proofs.session.Session.redo.Goals as goal
@@ -43,6 +43,7 @@ pub redo_entries-requires-clause-read : goal.redo_entries-requires-clause-read
 redo_entries-requires-clause-read g c =
     let again = c.in_ok-read.ensures.read in record {
       text = again.text;
+      older = again.read.older;
       is = λ rh.
           let before = c.prepare_takens.ensures.from_honesty.0 rh in
           c.prepare_takens.ensures.from_text before ∙ c.read_undone.ensures.text (c.read_undone.ensures.honesty.0 before) ∙ again.is (c.read_undone.ensures.honesty.0 before);
@@ -120,31 +121,17 @@ returns-in-Ok-clause-sound g c =
 pub returns-in-Ok-clause-whole : goal.returns-in-Ok-clause-whole
 returns-in-Ok-clause-whole g c =
     rw (← c.self.view_is) (λ rh.
-    let read = c.in_ok-read.ensures.read.read in (
-      entries_of c.in_ok-read.read.entries.items,
-      subst (λ t. IsFinished t (entries_of c.in_ok-read.read.entries.items)) (sym (c.in_ok-read.ensures.read.is rh)) read.finished,
-      length-entries_of c.in_ok-read.read.entries.items ∙ read.counted,
-    ))
+    let last = c.in_ok-read.ensures.read in has_count (g.T.TextStore.text c.self.inside.redo_text) last.text c.in_ok-read.read.entries.items c.self.inside.undone last.read (last.is rh))
 
 pub returns-in-Ok-clause-text : goal.returns-in-Ok-clause-text
 returns-in-Ok-clause-text g c =
     rw (← c.self.view_is) (λ rh entries finished.
-    let es : List Entry = entries_of c.in_ok-read.read.entries.items in
     let redo : List ℕ = g.T.TextStore.text c.self.inside.redo_text in
     let redo_new : List ℕ = g.T.TextStore.text c.redo_entries.new.redo_text in
     let text : g.T.TextStore.text c.prepare_takens.new.from ≡ redo = c.prepare_takens.ensures.from_text (c.read_undone.ensures.honesty.1 rh) ∙ c.read_undone.ensures.text rh in
-    let read : IsFinished redo es = subst (λ t. IsFinished t es) (sym (c.in_ok-read.ensures.read.is rh)) c.in_ok-read.ensures.read.read.finished in
-    subst (λ (fs : List Entry). HasLeft redo redo_new (drop c.args.j fs)) (finished_same redo es entries read finished)
-    (subst (λ t. HasLeft t redo_new (drop c.args.j es)) text
-    (subst (λ n. HasLeft (g.T.TextStore.text c.prepare_takens.new.from) redo_new (drop n es)) c.in_ok-taking.ensures.count
-    (c.in-Ok.ensures.left (c.prepare_takens.ensures.from_honesty.1 (c.read_undone.ensures.honesty.1 rh))))))
-  where
-    some_same : {A : Type 0} (x y : A) → Some x ≡ Some y → x ≡ y
-    some_same x y e = cc
-
-    finished_same : (text : List ℕ) (es fs : List Entry) → IsFinished text es → IsFinished text fs → es ≡ fs
-    finished_same text es fs one other =
-        ap (λ (r : Reading). r.entries) (some_same (record { entries = es; stage = Between }) (record { entries = fs; stage = Between }) (sym one.reads.lines ∙ other.reads.lines))
+    subst (λ t. HasLeft t redo_new (drop c.args.j entries)) text
+    (subst (λ n. HasLeft (g.T.TextStore.text c.prepare_takens.new.from) redo_new (drop n entries)) c.in_ok-taking.ensures.count
+    (c.in-Ok.ensures.left (c.prepare_takens.ensures.from_honesty.1 (c.read_undone.ensures.honesty.1 rh)) entries (subst (λ t. IsFinished t entries) (sym text) finished))))
 
 pub returns-in-Ok-clause-front : goal.returns-in-Ok-clause-front
 returns-in-Ok-clause-front g c =

@@ -11,5 +11,5 @@ returns-in-Err-clause-fault g c =
 
 pub returns-in-Err-clause-counts : goal.returns-in-Err-clause-counts
 returns-in-Err-clause-counts g c =
-    subst (λ e. FaultCounts e 0 (g.T.TextStore.failures c.args.redo_text.now) 0 (g.T.TextStore.failures c.read_again.new.store)) (sym c.of_redo.ensures)
-    (redo_counts c.in-Err.fault (g.T.TextStore.failures c.args.redo_text.now) (g.T.TextStore.failures c.read_again.new.store) c.in-Err.ensures.counts)
+    subst (λ e. FaultCounts e 0 (g.T.TextStore.failures c.args.redo_text.now) 0 (g.T.TextStore.failures c.read_last_of.new.store)) (sym c.of_redo.ensures)
+    (redo_counts c.in-Err.fault (g.T.TextStore.failures c.args.redo_text.now) (g.T.TextStore.failures c.read_last_of.new.store) c.in-Err.ensures.counts)
