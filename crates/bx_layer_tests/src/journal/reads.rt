@@ -276,9 +276,9 @@ fn move_stops(
     Ok(())
 }
 
-// The length of the text that is moved from is read, then its last two entries, then the lengths of the image and of the other text, then the bytes that will be
-// overwritten: each is refused, and changes nothing. Between the two changes the image is read again. Opening asked for the
-// image's length twice, and for that of each text, and read a window of each.
+// The length of the text that is moved from is read, then its last two entries, then the lengths of the image and of the
+// other text, then the bytes that will be overwritten: each is refused, and changes nothing. Between the two changes the image
+// is read again. Opening asked for the image's length twice, and for that of each text, and read a window of each.
 #[test]
 fn reads_of_moves_fail(rt: HostRuntime) -> Result<(), Fail> {
     let alloc = rt.alloc();
