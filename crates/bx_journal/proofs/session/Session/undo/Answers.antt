@@ -1,4 +1,4 @@
-use Rattle.std.proofs.Common.{◌≡◌, ◌≤◌, ◌-◌, ℕ, suc, List, length, drop, refl, ap, sym, ◌∙◌, subst, arith, length-drop}
+use Rattle.std.proofs.Common.{◌≡◌, ◌≤◌, ◌-◌, ℕ, suc, List, length, drop, refl, sym, ◌∙◌, subst, arith, length-drop}
 use Rattle.std.specs.Prelude.{reverse}
 use Rattle.std.proofs.lemmas.Grind.{common_steps}
 use Rattle.bx_journal.specs.declared.session.fault.SessionFault.TheVariants.{Damaged}

@@ -1,5 +1,4 @@
 use Rattle.std.proofs.Common.{◌≡◌, ◌+◌, ◌<◌, ◌^◌, ◌++◌, ℕ, List, length, length-append, arith}
-use Rattle.bx_entries.specs.Text.{Entry}
 use Rattle.bx_entries.specs.inner.Journal.{IsBehind}
 use Rattle.bx_journal.proofs.LastLemmas.{behind_front, joined_is, last_from}
 use Rattle.bx_journal.proofs.session.entries.read_from.Goals as goal
