@@ -1,8 +1,8 @@
 //! The case files of a folder.
-use crate::places::clear;
+use crate::commands::{self, play_commands};
 use crate::reading::{self, play_reading};
-use crate::sweeps::{SWEEPS, play_commands};
-use crate::tally::{Failure, Tally};
+use crate::report::tally::{Failure, Tally};
+use crate::session::places::clear;
 use crate::texts::{self, play_text};
 use crate::words::{self, play_words};
 use bx_case_files::{Case, CaseFile, Test, read_cases};
@@ -85,7 +85,7 @@ fn sweeps(file: &CaseFile) -> &'static [&'static str] {
         Some(case) => match &case.test {
             Test::Words(_) => &words::SWEEPS,
             Test::Reading(_) => &reading::SWEEPS,
-            Test::Commands(_) => &SWEEPS,
+            Test::Commands(_) => &commands::SWEEPS,
             Test::Text(_) => &texts::SWEEPS,
         },
         None => &[],

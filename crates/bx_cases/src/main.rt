@@ -1,26 +1,13 @@
 //! Plays the case files of a folder, in each way that their kind allows.
 #![tactic(auto)]
 
-mod answers;
 mod commands;
 mod files;
-mod fused;
-mod growths;
-mod history;
-mod hunt;
-mod jobs;
-mod judged;
-mod openings;
-mod outcome;
-mod places;
 mod reading;
-mod sessions;
-mod stops;
-mod streams;
-mod sweeps;
-mod tally;
+mod report;
+mod session;
+mod sweep;
 mod texts;
-mod weight;
 mod words;
 
 use std::env;

@@ -1,6 +1,6 @@
 //! Cases of reading.
-use crate::outcome::{Wrong, differs, no_fault, same_bytes, same_fault, same_number};
-use crate::tally::{Failure, at};
+use crate::report::compare::{Wrong, differs, no_fault, same_bytes, same_fault, same_number};
+use crate::report::tally::{Failure, at};
 use bx_case_files::{ReadingCase, Reads};
 use bx_cli::Fault;
 use bx_read::{read_dump, read_plain};

@@ -1,13 +1,18 @@
 //! Cases of texts that are opened.
-use crate::commands::{Standing, again};
-use crate::growths::{found_so, opening_growths};
-use crate::history::{History, Images, history_of};
-use crate::judged::{changed_bytes, fronts};
-use crate::openings::openings;
-use crate::outcome::{Wrong, differs, same_bytes};
-use crate::places::{Files, Memory, Pages, Place};
-use crate::sessions::{Devices, Held, Texts, contents, held_of, in_memory, open};
-use crate::tally::{Failure, at};
+mod damage;
+mod growths;
+
+use crate::report::compare::{Wrong, differs, same_bytes};
+use crate::report::tally::{Failure, at};
+use crate::session::answers::found_so;
+use crate::session::devices::{Devices, Held, Texts, contents, held_of, in_memory};
+use crate::session::open::open;
+use crate::session::places::{Files, Memory, Pages, Place};
+use crate::session::standing::{Standing, again};
+use crate::sweep::images::{History, Images, history_of};
+use crate::sweep::recovery::openings;
+use crate::texts::damage::{changed_bytes, fronts};
+use crate::texts::growths::opening_growths;
 use bx_case_files::TextCase;
 use bx_image::Device;
 use bx_journal::Session;

@@ -1,11 +1,12 @@
 //! Texts that are cut off or changed, opened beside the slow judge.
-use crate::answers::{refused, same_opening};
-use crate::commands::{Standing, again};
-use crate::growths::unchanged;
-use crate::outcome::{Wrong, differs, fault_text, same_bytes, same_text};
-use crate::places::Memory;
-use crate::sessions::{MemSession, Texts, ask_for, close, in_memory, open, opening_of};
-use crate::weight::change_step;
+use crate::report::compare::{Wrong, differs, fault_text, same_bytes, same_text};
+use crate::session::answers::{refused, same_opening};
+use crate::session::ask::ask_for;
+use crate::session::devices::{Texts, in_memory, unchanged};
+use crate::session::open::{MemSession, close, open, opening_of};
+use crate::session::places::Memory;
+use crate::session::standing::{Standing, again};
+use crate::sweep::weight::change_step;
 use bx_case_files::{Ask, Opening};
 use bx_cli::Fault;
 use bx_journal::SessionFault;

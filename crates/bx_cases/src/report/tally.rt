@@ -1,5 +1,5 @@
 //! What is counted and told.
-use crate::outcome::Wrong;
+use crate::report::compare::Wrong;
 use bx_case_files::Case;
 use std::alloc::{AllocError, Global};
 

@@ -1,5 +1,5 @@
 //! The fields of jobs, as a case file names them.
-use crate::outcome::{Wrong, differs, same_text};
+use crate::report::compare::{Wrong, differs, same_text};
 use bx_cli::{DdJob, HexdumpJob, Job, OdJob, RevertJob, StringsJob, Texts, XxdJob, XxdLook};
 use bx_dd::{Letters, Plan, Shape};
 use bx_dump::od::{Address, Kind, NumForm, Size};

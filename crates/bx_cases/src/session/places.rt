@@ -1,6 +1,6 @@
 //! Where devices stand: in memory, in pages, in files.
-use crate::outcome::Wrong;
-use crate::sessions::{Devices, MemDevices, Texts, in_memory};
+use crate::report::compare::Wrong;
+use crate::session::devices::{Devices, MemDevices, Texts, in_memory};
 use bx_image::{Device, FileImage, MemImage, NoMemory, PagedImage, SystemFile};
 use bx_store::{FileText, MemText};
 use std::alloc::Global;

@@ -1,13 +1,13 @@
 //! What was left is opened, stands for the images that are expected, and is stopped while it is opened.
-use crate::answers::{refused, same_opening};
-use crate::commands::{Standing, again, replied};
-use crate::fused::{OPENING_KINDS, fused};
-use crate::history::Images;
-use crate::outcome::{Wrong, same_bytes};
-use crate::places::Memory;
-use crate::sessions::{
-    Fused, Held, MemSession, Texts, ask_for, found_again, held_fused, in_fused, in_memory, open,
-};
+use crate::report::compare::{Wrong, same_bytes};
+use crate::session::answers::{refused, replied, same_opening};
+use crate::session::ask::ask_for;
+use crate::session::devices::{Held, Texts, in_memory};
+use crate::session::fuse::{Fused, OPENING_KINDS, fuse_at, held_fused, in_fused};
+use crate::session::open::{MemSession, found_again, open};
+use crate::session::places::Memory;
+use crate::session::standing::{Standing, again};
+use crate::sweep::images::Images;
 use bx_case_files::{Answer, Ask, Opening};
 use bx_cli::Fault;
 use std::alloc::Global;
@@ -132,7 +132,7 @@ fn stop_kind(
 ) -> Result<u32, Wrong> {
     let mut stops = 0u32;
     for pass in 0..MOST_CALLS {
-        match stopped_opening(alloc, texts, expected, fused(kind, pass))? {
+        match stopped_opening(alloc, texts, expected, fuse_at(kind, pass))? {
             Some(left) => list.push(left)?,
             None => break,
         }

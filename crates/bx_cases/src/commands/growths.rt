@@ -1,17 +1,20 @@
-//! Cases with each growth refused in turn.
-use crate::answers::{refused, same_opening, same_refusal, same_reply};
-use crate::commands::{Standing, begun, play_row, replied};
-use crate::hunt::{Hunt, MOST_TRIES};
-use crate::outcome::{Wrong, differs, same_bytes};
-use crate::places::Memory;
-use crate::sessions::{MemDevices, MemSession, Opened, Texts, ask_for, close, in_memory, open};
-use crate::tally::{Failure, at};
-use crate::weight::is_swept;
+//! Cases of commands with each growth refused in turn.
+use crate::commands::rows::{begun, play_row};
+use crate::report::compare::{Wrong, same_bytes};
+use crate::report::tally::{Failure, at};
+use crate::session::answers::{refused, replied, same_reply};
+use crate::session::ask::ask_for;
+use crate::session::devices::{MemDevices, Texts, in_memory, unchanged};
+use crate::session::open::{MemSession, close, open};
+use crate::session::places::Memory;
+use crate::session::standing::Standing;
+use crate::sweep::hunt::{Hunt, MOST_TRIES};
+use crate::sweep::weight::is_swept;
 use bumpalo::Bump;
-use bx_case_files::{Ask, CommandsCase, Found, Opening, Row, TextCase};
+use bx_case_files::{Ask, CommandsCase, Row};
 use bx_cli::{Fault, Reply};
 use bx_image::MemImage;
-use bx_ration::{arena, squeeze, used};
+use bx_ration::{arena, used};
 use bx_store::MemText;
 use std::alloc::{Allocator, Global};
 
@@ -81,9 +84,6 @@ fn squeezed_once(
     let bump = arena(alloc)?;
     squeezed(alloc, &bump, texts, row, bytes)
 }
-
-/// What opening devices in an arena came to.
-type OpenedIn<'a> = Opened<MemImage<&'a Bump>, MemText<&'a Bump>, &'a Bump>;
 
 /// A session in an arena that has room.
 fn opened_in<'a>(
@@ -164,17 +164,6 @@ fn same_image<A: Allocator>(
     )
 }
 
-/// Devices hold what they held.
-pub fn unchanged<A: Allocator>(
-    alloc: Global,
-    texts: Texts<'_>,
-    devices: &MemDevices<A>,
-) -> Result<(), Wrong> {
-    same_bytes(alloc, "image", texts.image, devices.image.as_slice())?;
-    same_bytes(alloc, "journal", texts.journal, devices.journal.as_slice())?;
-    same_bytes(alloc, "redo text", texts.redo, devices.redo.as_slice())
-}
-
 /// The command with room enough.
 fn with_room<'a>(alloc: Global, bump: &'a Bump, texts: Texts<'_>, row: &Row) -> Result<(), Wrong> {
     let mut session = opened_in(alloc, bump, texts)?;
@@ -182,101 +171,4 @@ fn with_room<'a>(alloc: Global, bump: &'a Bump, texts: Texts<'_>, row: &Row) -> 
     replied(alloc, &row.answer, reply)?;
     let devices = close(session);
     same_image(alloc, row, &devices)
-}
-
-/// Refuses each growth of an opening in turn. Tells how many they were.
-pub fn opening_growths(alloc: Global, case: &TextCase, texts: Texts<'_>) -> Result<u32, Wrong> {
-    let Some(taken) = opening_once(alloc, case, texts, 0)? else {
-        return Ok(0);
-    };
-    let mut hunt = Hunt::new(taken);
-    for _ in 0..MOST_TRIES {
-        let bytes = hunt.bytes();
-        let taken = opening_once(alloc, case, texts, bytes)?;
-        if !hunt.goes_on(bytes, taken) {
-            return Ok(hunt.growths);
-        }
-    }
-    Err(Wrong::NoMemory)
-}
-
-/// Opening with so many bytes, in an arena of its own.
-fn opening_once(
-    alloc: Global,
-    case: &TextCase,
-    texts: Texts<'_>,
-    bytes: usize,
-) -> Result<Option<usize>, Wrong> {
-    let bump = arena(alloc)?;
-    squeezed_opening(alloc, &bump, case, texts, bytes)
-}
-
-/// Opening with so many bytes, and where that is too little again with enough. Tells how many it had taken when it was
-/// refused, if it was.
-fn squeezed_opening<'a>(
-    alloc: Global,
-    bump: &'a Bump,
-    case: &TextCase,
-    texts: Texts<'_>,
-    bytes: usize,
-) -> Result<Option<usize>, Wrong> {
-    let (opened, taken) = opened_with(bump, texts, bytes)?;
-    match opened {
-        Ok((_, found)) => {
-            found_so(alloc, &case.found, Ok(found))?;
-            Ok(None)
-        }
-        Err((devices, fault)) => {
-            unchanged(alloc, texts, &devices)?;
-            if fault != Fault::NoMemory {
-                found_so(alloc, &case.found, Err(fault))?;
-                return Ok(None);
-            }
-            opens_so(alloc, bump, case, devices)?;
-            Ok(Some(taken))
-        }
-    }
-}
-
-/// What an opening with so many bytes came to, and how many were taken. Behind it there is room.
-fn opened_with<'a>(
-    bump: &'a Bump,
-    texts: Texts<'_>,
-    bytes: usize,
-) -> Result<(OpenedIn<'a>, usize), Wrong> {
-    let devices = in_memory(bump, texts)?;
-    squeeze(bump, bytes)?;
-    let opened = open(bump, devices);
-    let taken = used(bump, bytes);
-    bump.set_allocation_limit(None);
-    Ok((opened, taken))
-}
-
-/// Opening answers what the case tells.
-fn opens_so<'a>(
-    alloc: Global,
-    bump: &'a Bump,
-    case: &TextCase,
-    devices: MemDevices<&'a Bump>,
-) -> Result<(), Wrong> {
-    match open(bump, devices) {
-        Ok((_, found)) => found_so(alloc, &case.found, Ok(found)),
-        Err((_, fault)) => found_so(alloc, &case.found, Err(fault)),
-    }
-}
-
-/// Opening found this, where the case tells an opening or a fault.
-fn same_found(alloc: Global, wanted: &Found, found: Opening) -> Result<(), Wrong> {
-    match wanted {
-        Found::Opened(wanted) => same_opening(alloc, *wanted, found),
-        Found::Refused(text) => Err(differs(alloc, "opening", text.as_str(), "no fault")),
-    }
-}
-
-/// Opening answered what the case tells.
-pub fn found_so(alloc: Global, wanted: &Found, found: Result<Opening, Fault>) -> Result<(), Wrong> {
-    match found {
-        Ok(found) => same_found(alloc, wanted, found),
-        Err(fault) => same_refusal(alloc, wanted, fault),
-    }
 }

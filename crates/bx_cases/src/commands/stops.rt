@@ -1,16 +1,19 @@
 //! Cases on devices that fail at each of their calls: what is left is opened again, and stands for images that it may.
-use crate::answers::refused;
-use crate::commands::{begun, first_texts};
-use crate::fused::{KINDS, fused};
-use crate::history::{Follower, History, Images, history_of};
-use crate::openings::{MOST_CALLS, openings, recovered, stands_for};
-use crate::outcome::{Wrong, differs};
-use crate::places::Memory;
-use crate::sessions::{
-    Fused, FusedDevices, FusedSession, Held, ask_for, close, held_fused, in_fused, open,
+use crate::commands::follower::Follower;
+use crate::commands::rows::{begun, first_texts};
+use crate::report::compare::{Wrong, differs};
+use crate::report::tally::{Failure, at};
+use crate::session::answers::refused;
+use crate::session::ask::ask_for;
+use crate::session::devices::Held;
+use crate::session::fuse::{
+    Fused, FusedDevices, FusedSession, KINDS, fuse_at, held_fused, in_fused,
 };
-use crate::tally::{Failure, at};
-use crate::weight::{opening_step, stop_step};
+use crate::session::open::{close, open};
+use crate::session::places::Memory;
+use crate::sweep::images::{History, Images, history_of};
+use crate::sweep::recovery::{MOST_CALLS, openings, recovered, stands_for};
+use crate::sweep::weight::{opening_step, stop_step};
 use bx_case_files::{Ask, CommandsCase, Row};
 use bx_cli::Fault;
 use std::alloc::Global;
@@ -139,7 +142,7 @@ fn stop_kind(
     let mut stops = 0u32;
     for turn in 0..MOST_CALLS {
         let pass = place_of(kind, step, turn);
-        match one_stop(alloc, case, first, fused(kind, pass), with_openings, seen) {
+        match one_stop(alloc, case, first, fuse_at(kind, pass), with_openings, seen) {
             Ok(0) => break,
             Ok(more) => stops = stops.saturating_add(more),
             Err(wrong) => return Err(at(call_of(kind, pass), wrong)),

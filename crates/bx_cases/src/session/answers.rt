@@ -1,5 +1,5 @@
 //! What commands and openings answer, beside what a case tells.
-use crate::outcome::{Wrong, differs, fault_text, same_text};
+use crate::report::compare::{Wrong, differs, fault_text, same_text};
 use bx_case_files::{Answer, Found, Opening, Records};
 use bx_cli::{Fault, Reply};
 use bx_dd::Counts;
@@ -113,4 +113,28 @@ pub fn same_reply(alloc: Global, wanted: &Answer, reply: Reply) -> Result<(), Wr
 pub fn same_reply_text(alloc: Global, wanted: &str, reply: Reply) -> Result<(), Wrong> {
     let found = reply_text(alloc, reply)?;
     same_text(alloc, "reply", wanted, found.as_str())
+}
+
+/// There is a reply, and it is this one.
+pub fn replied(alloc: Global, wanted: &Answer, reply: Option<Reply>) -> Result<(), Wrong> {
+    match reply {
+        Some(reply) => same_reply(alloc, wanted, reply),
+        None => Err(Wrong::NoMemory),
+    }
+}
+
+/// Opening found this, where the case tells an opening or a fault.
+fn same_found(alloc: Global, wanted: &Found, found: Opening) -> Result<(), Wrong> {
+    match wanted {
+        Found::Opened(wanted) => same_opening(alloc, *wanted, found),
+        Found::Refused(text) => Err(differs(alloc, "opening", text.as_str(), "no fault")),
+    }
+}
+
+/// Opening answered what the case tells.
+pub fn found_so(alloc: Global, wanted: &Found, found: Result<Opening, Fault>) -> Result<(), Wrong> {
+    match found {
+        Ok(found) => same_found(alloc, wanted, found),
+        Err(fault) => same_refusal(alloc, wanted, fault),
+    }
 }

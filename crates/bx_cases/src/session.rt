@@ -1,0 +1,11 @@
+//! Sessions: the one place that knows how many devices they have, how these are made, and how they are opened.
+pub(crate) mod answers;
+pub(crate) mod ask;
+pub(crate) mod devices;
+pub(crate) mod fuse;
+pub(crate) mod open;
+pub(crate) mod places;
+pub(crate) mod standing;
+
+/// No play comes near so many failed calls.
+pub const MANY: u64 = 100_000;

@@ -1,0 +1,163 @@
+//! What a case asks a session for: commands, changes that no command makes, the log.
+ghost use Rattle.std.specs.Prelude.{IfOk, IfSome};
+ghost use Rattle.bx_cli.specs.Command.{IsNear};
+
+use crate::report::compare::{Wrong, differs, fault_text};
+use crate::session::MANY;
+use bumpalo::Bump;
+use bx_case_files::Ask;
+use bx_cli::{Command, Fault, Reply, log_text, run_all};
+use bx_image::{Change, Device};
+use bx_journal::{Session, SessionFault};
+use bx_ration::squeeze;
+use bx_store::TextStore;
+use bx_text::{Bytes, Piece, Pieces, Words};
+use std::alloc::{Allocator, Global};
+
+/// The furthest place that a command names.
+const MOST_PLACE: u64 = 1 << 62;
+
+fn bytes_of<A: Allocator>(alloc: A, bytes: &[u8]) -> Result<Bytes<A>, Wrong> {
+    Ok(Bytes::from_vec(bytes.to_vec(alloc)?))
+}
+
+fn words_of<A: Allocator + Clone>(alloc: A, words: &Words) -> Result<Words<A>, Wrong> {
+    let mut copy = Words::new(alloc);
+    for i in 0..words.len() {
+        copy.push(words.get(i).unwrap_or(""))?;
+    }
+    Ok(copy)
+}
+
+/// The change that a case tells.
+fn change_of<A: Allocator + Clone>(
+    alloc: A,
+    base: Option<u64>,
+    writes: &[bx_case_files::Write],
+) -> Result<Change<A>, Wrong> {
+    let mut list = Vec::new(alloc.clone()?);
+    for write in writes {
+        let bytes = bytes_of(alloc.clone()?, write.bytes.as_slice())?;
+        list.push(Piece {
+            at: write.at,
+            bytes,
+        })?;
+    }
+    let writes = Pieces::from_vec(list);
+    Ok(Change { base, writes })
+}
+
+/// The command that a case tells, in memory of `alloc`; none where it is no command.
+fn command_of<A: Allocator + Clone>(alloc: A, ask: &Ask) -> Result<Option<Command<&[u8], A>>, Wrong>
+    ensures { IfOk result (λ o. IfSome o IsNear) }
+{
+    match ask {
+        Ask::Revert { dump, shift } => {
+            let text = bytes_of(alloc, dump.as_slice())?;
+            let offset = (*shift).min(MOST_PLACE);
+            Ok(Some(Command::Revert { text, offset }))
+        }
+        Ask::Plain { digits, at } => {
+            let text = bytes_of(alloc, digits.as_slice())?;
+            let at = (*at).min(MOST_PLACE);
+            Ok(Some(Command::RevertPlain { text, at }))
+        }
+        Ask::Dd { operands, input } => {
+            let operands = words_of(alloc, operands)?;
+            let input = input.as_slice();
+            Ok(Some(Command::Dd { operands, input }))
+        }
+        Ask::Undo(k) => Ok(Some(Command::Undo { k: *k })),
+        Ask::Redo(j) => Ok(Some(Command::Redo { j: *j })),
+        Ask::Change { .. } | Ask::Open => Ok(None),
+    }
+}
+
+/// The arena that memory is taken from, and how many bytes it hands out from here on.
+pub type Limit<'a> = Option<(&'a Bump, usize)>;
+
+/// From here on memory is short, where it is to be.
+fn limit_to(limit: Limit<'_>) -> Result<(), Wrong> {
+    if let Some((bump, bytes)) = limit {
+        squeeze(bump, bytes)?;
+    }
+    Ok(())
+}
+
+/// Asks for what a case tells, with memory that gets short once it is asked for. None where even the room for a reply was refused.
+pub fn ask_for<D: Device, T: TextStore, A: Allocator + Clone>(
+    alloc: A,
+    session: &mut Session<D, T, A>,
+    ask: &Ask,
+    limit: Limit<'_>,
+) -> Result<Option<Reply>, Wrong> {
+    if let Ask::Change { base, writes } = ask {
+        let change = change_of(alloc, *base, writes.as_slice())?;
+        limit_to(limit)?;
+        return perform(session, &change);
+    }
+    match command_of(alloc.clone()?, ask)? {
+        Some(command) => run_one(alloc, session, command, limit),
+        None => Err(Wrong::Unknown),
+    }
+}
+
+/// Makes a change that no command makes.
+fn perform<D: Device, T: TextStore, A: Allocator + Clone>(
+    session: &mut Session<D, T, A>,
+    change: &Change<A>,
+) -> Result<Option<Reply>, Wrong> {
+    if session.faults() > MANY {
+        return Err(Wrong::Unknown);
+    }
+    match session.perform(change) {
+        Ok(number) => Ok(Some(Reply::Changed { number })),
+        Err(fault) => Ok(Some(Reply::Refused(Fault::from(fault)))),
+    }
+}
+
+/// Runs one command.
+fn run_one<D: Device, T: TextStore, A: Allocator + Clone>(
+    alloc: A,
+    session: &mut Session<D, T, A>,
+    command: Command<&[u8], A>,
+    limit: Limit<'_>,
+) -> Result<Option<Reply>, Wrong>
+    requires { IsNear command }
+{
+    let mut list = Vec::new(alloc.clone()?);
+    list.push(command)?;
+    limit_to(limit)?;
+    if session.faults() > MANY {
+        return Err(Wrong::Unknown);
+    }
+    match run_all(alloc, session, list.as_mut_slice()) {
+        Ok(replies) => Ok(replies.first().copied()),
+        Err(_) => Ok(None),
+    }
+}
+
+/// The log of a session, as a text.
+pub fn log_of<D: Device, T: TextStore>(
+    alloc: Global,
+    session: &mut Session<D, T>,
+) -> Result<Vec<u8>, Wrong> {
+    if session.faults() > MANY {
+        return Err(Wrong::Unknown);
+    }
+    match session.log() {
+        Ok(rows) => match log_text(alloc, rows.as_slice()) {
+            Ok(text) => Ok(text.into_bytes()),
+            Err(_) => Err(Wrong::NoMemory),
+        },
+        Err(fault) => Err(unwanted(alloc, "log", fault)),
+    }
+}
+
+/// A fault where none should be.
+fn unwanted(alloc: Global, what: &'static str, fault: SessionFault) -> Wrong {
+    match fault_text(alloc, Fault::from(fault)) {
+        Ok(text) => differs(alloc, what, "no fault", text.as_str()),
+        Err(_) => Wrong::NoMemory,
+    }
+}

@@ -1,0 +1,112 @@
+//! The devices of a session, and what they hold.
+use crate::report::compare::{Wrong, same_bytes};
+use crate::session::MANY;
+use bx_image::{Device, MemImage};
+use bx_store::{MemText, TextStore};
+use std::alloc::{Allocator, Global};
+
+/// The devices of a session: an image, its journal's text, and the text of what was undone.
+#[derive(Drop)]
+pub struct Devices<D, T> {
+    pub image: D,
+    pub journal: T,
+    pub redo: T,
+}
+
+/// What devices hold.
+#[derive(Clone, Copy)]
+pub struct Texts<'a> {
+    pub image: &'a [u8],
+    pub journal: &'a [u8],
+    /// The text of what was taken back.
+    pub redo: &'a [u8],
+}
+
+/// What devices held.
+#[derive(Drop)]
+pub struct Held {
+    pub image: Vec<u8>,
+    pub journal: Vec<u8>,
+    pub redo: Vec<u8>,
+}
+
+impl Held {
+    pub fn texts(&self) -> Texts<'_> {
+        Texts {
+            image: self.image.as_slice(),
+            journal: self.journal.as_slice(),
+            redo: self.redo.as_slice(),
+        }
+    }
+}
+
+/// Devices in memory.
+pub type MemDevices<A = Global> = Devices<MemImage<A>, MemText<A>>;
+
+/// Devices in memory of `alloc` that hold this.
+pub fn in_memory<A: Allocator + Clone>(alloc: A, texts: Texts<'_>) -> Result<MemDevices<A>, Wrong> {
+    let image = MemImage::from_vec(texts.image.to_vec(alloc.clone()?)?);
+    let journal = MemText::from_vec(texts.journal.to_vec(alloc.clone()?)?);
+    let redo = MemText::from_vec(texts.redo.to_vec(alloc)?);
+    Ok(Devices {
+        image,
+        journal,
+        redo,
+    })
+}
+
+/// What devices in memory hold.
+pub fn held_of<A: Allocator>(alloc: Global, devices: &MemDevices<A>) -> Result<Held, Wrong> {
+    Ok(Held {
+        image: devices.image.as_slice().to_vec(alloc)?,
+        journal: devices.journal.as_slice().to_vec(alloc)?,
+        redo: devices.redo.as_slice().to_vec(alloc)?,
+    })
+}
+
+/// Devices hold what they held.
+pub fn unchanged<A: Allocator>(
+    alloc: Global,
+    texts: Texts<'_>,
+    devices: &MemDevices<A>,
+) -> Result<(), Wrong> {
+    same_bytes(alloc, "image", texts.image, devices.image.as_slice())?;
+    same_bytes(alloc, "journal", texts.journal, devices.journal.as_slice())?;
+    same_bytes(alloc, "redo text", texts.redo, devices.redo.as_slice())
+}
+
+/// What devices of any kind hold.
+pub fn contents<D: Device, T: TextStore>(
+    alloc: Global,
+    devices: &mut Devices<D, T>,
+) -> Result<Held, Wrong> {
+    Ok(Held {
+        image: image_bytes(alloc, &mut devices.image)?,
+        journal: text_bytes(alloc, &mut devices.journal)?,
+        redo: text_bytes(alloc, &mut devices.redo)?,
+    })
+}
+
+fn image_bytes<D: Device>(alloc: Global, image: &mut D) -> Result<Vec<u8>, Wrong> {
+    if image.faults() > MANY {
+        return Err(Wrong::Unknown);
+    }
+    let Ok(len) = image.len() else {
+        return Err(Wrong::Unknown);
+    };
+    let mut bytes = vec![in alloc; 0; len as usize]?;
+    match image.read_at(0, bytes.as_mut_slice()) {
+        Ok(()) => Ok(bytes),
+        Err(_) => Err(Wrong::Unknown),
+    }
+}
+
+fn text_bytes<T: TextStore>(alloc: Global, text: &mut T) -> Result<Vec<u8>, Wrong> {
+    if text.faults() > MANY {
+        return Err(Wrong::Unknown);
+    }
+    match text.read_all(alloc) {
+        Ok(bytes) => Ok(bytes),
+        Err(_) => Err(Wrong::Unknown),
+    }
+}

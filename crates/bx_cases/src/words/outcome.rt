@@ -1,0 +1,164 @@
+//! What a run came to, beside what its case tells.
+use crate::report::compare::{
+    Wrong, differs, fault_text, front_of, no_fault, same_bytes, same_fault, same_faults,
+    same_number, status_of,
+};
+use crate::words::run::{Ran, run_freely};
+use crate::words::streams::Act;
+use bx_case_files::{Records, Refusal, WordsCase};
+use bx_cli::{Done, Fault, Job};
+use bx_dd::{Counts, report};
+use std::alloc::{AllocError, Global};
+use std::fmt::Write;
+
+/// A fault is the one that the case tells, and so is its status.
+fn same_refusal(alloc: Global, wanted: &Refusal, fault: Fault) -> Result<(), Wrong> {
+    same_fault(alloc, wanted.text.as_str(), fault)?;
+    let found = status_of(fault) as u64;
+    same_number(alloc, "status", wanted.status as u64, found)
+}
+
+/// A fault, where the case tells it or none should be.
+pub fn refused(alloc: Global, wanted: &Option<Refusal>, fault: Fault) -> Result<(), Wrong> {
+    match wanted {
+        Some(refusal) => same_refusal(alloc, refusal, fault),
+        None => same_fault(alloc, "no fault", fault),
+    }
+}
+
+/// No fault, where the case tells none.
+pub fn allowed(alloc: Global, wanted: &Option<Refusal>) -> Result<(), Wrong> {
+    match wanted {
+        Some(refusal) => Err(no_fault(alloc, refusal.text.as_str())),
+        None => Ok(()),
+    }
+}
+
+fn push_blocks(text: &mut String, whole: u64, part: u64, way: &str) -> Result<(), AllocError> {
+    write!(text, "{whole}+{part} records {way}\n")
+}
+
+fn push_cut(text: &mut String, cut: u64) -> Result<(), AllocError> {
+    match cut {
+        0 => Ok(()),
+        1 => text.push_str("1 truncated record\n"),
+        _ => write!(text, "{cut} truncated records\n"),
+    }
+}
+
+/// The report of dd's counts, as POSIX has it.
+fn push_report(text: &mut String, records: Records) -> Result<(), AllocError> {
+    push_blocks(text, records.whole_in, records.part_in, "in")?;
+    push_blocks(text, records.whole_out, records.part_out, "out")?;
+    push_cut(text, records.cut)
+}
+
+/// What dd counted is what the case tells, and so is its report.
+fn same_counts(alloc: Global, wanted: Records, counts: Counts) -> Result<(), Wrong> {
+    let mut text = String::new(alloc);
+    push_report(&mut text, wanted)?;
+    same_report(alloc, text.as_bytes(), counts)
+}
+
+fn same_report(alloc: Global, wanted: &[u8], counts: Counts) -> Result<(), Wrong> {
+    match report(alloc, &counts) {
+        Ok(found) => same_bytes(alloc, "report", wanted, found.as_slice()),
+        Err(_) => Err(Wrong::NoMemory),
+    }
+}
+
+/// What was counted is what the case tells, where it tells it.
+fn counted(alloc: Global, case: &WordsCase, done: Done) -> Result<(), Wrong> {
+    match (done, case.count, case.records) {
+        (Done::Dumped(found), Some(wanted), _) => same_number(alloc, "count", wanted, found),
+        (Done::Copied(counts), _, Some(wanted)) => same_counts(alloc, wanted, counts),
+        _ => Ok(()),
+    }
+}
+
+/// What a run came to that nothing stopped.
+pub fn right(
+    alloc: Global,
+    case: &WordsCase,
+    done: Result<Done, Fault>,
+    output: &[u8],
+) -> Result<(), Wrong> {
+    same_bytes(alloc, "output", case.output.as_slice(), output)?;
+    match done {
+        Err(fault) => refused(alloc, &case.fault, fault),
+        Ok(done) => {
+            allowed(alloc, &case.fault)?;
+            counted(alloc, case, done)
+        }
+    }
+}
+
+/// What a run came to that was stopped: some front of the output was written.
+fn stopped(
+    alloc: Global,
+    case: &WordsCase,
+    done: Result<Done, Fault>,
+    wanted: Fault,
+    output: &[u8],
+) -> Result<(), Wrong> {
+    front_of(alloc, "output", case.output.as_slice(), output)?;
+    match done {
+        Err(fault) => same_faults(alloc, wanted, fault),
+        Ok(_) => {
+            let wanted = fault_text(alloc, wanted)?;
+            Err(no_fault(alloc, wanted.as_str()))
+        }
+    }
+}
+
+/// What a run came to at one of whose calls something happened.
+pub fn turned_right(
+    alloc: Global,
+    case: &WordsCase,
+    job: &Job,
+    input: &[u8],
+    act: Act,
+    reads: bool,
+    ran: &Ran,
+) -> Result<(), Wrong> {
+    let output = ran.output.as_slice();
+    match act {
+        Act::Interrupt | Act::Half => right(alloc, case, ran.done, output),
+        Act::Nothing if reads => {
+            let (front, _) = input.split_at(ran.given.min(input.len()));
+            ended(alloc, job, front, ran.done, output)
+        }
+        Act::Fail if reads => stopped(alloc, case, ran.done, Fault::ReadFailed, output),
+        Act::Fail | Act::Nothing => {
+            let written = output.len() as u64;
+            stopped(
+                alloc,
+                case,
+                ran.done,
+                Fault::WriteFailed { written },
+                output,
+            )
+        }
+    }
+}
+
+/// What a run came to whose input ended early: what comes of that front of the input.
+fn ended(
+    alloc: Global,
+    job: &Job,
+    front: &[u8],
+    done: Result<Done, Fault>,
+    output: &[u8],
+) -> Result<(), Wrong> {
+    let wanted = run_freely(alloc, job, front, usize::MAX);
+    same_bytes(alloc, "output of a front", wanted.output.as_slice(), output)?;
+    if wanted.done == done {
+        return Ok(());
+    }
+    Err(differs(
+        alloc,
+        "answer of a front",
+        "that of the front alone",
+        "another",
+    ))
+}
