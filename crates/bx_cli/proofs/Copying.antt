@@ -9,7 +9,8 @@ use Rattle.bx_dd.specs.Operands.{fault_of}
 use Rattle.bx_dd.specs.Parsing.{IsPlanOf}
 use Rattle.bx_dd.specs.Transfer.{HasStopped}
 use Rattle.bx_dd.proofs.TransferLemmas.{stopped_memory}
-use Rattle.bx_cli.specs.Copy.{CopiesBy, Makes, StopsCopy}
+use Rattle.bx_cli.specs.Copy.{Makes, StopsCopy}
+use Rattle.bx_cli.specs.inner.Copy.{CopiesBy}
 use Rattle.bx_cli.specs.declared.changes.DdChange.{DdChange}
 
 -- want of memory before anything was read

@@ -1,5 +1,5 @@
 -- What refused commands leave.
-use Rattle.std.proofs.Common.{◌≡◌, ◌∙◌, ◌⊎◌, inl, inr, ℕ, List, Option, None, Some, refl, subst}
+use Rattle.std.proofs.Common.{◌≡◌, ◌≢◌, ◌∙◌, ◌⊎◌, inl, inr, ℕ, List, Option, None, Some, refl, sym, subst}
 use Rattle.bx_dd.specs.declared.stream.counts.Counts.{Counts}
 use Rattle.bx_journal.specs.Calls.{AfterFault}
 use Rattle.bx_journal.specs.Session.{IsRedoSame, IsSame}
@@ -8,24 +8,99 @@ use Rattle.bx_journal.specs.declared.session.fault.SessionFault.{SessionFault}
 use Rattle.bx_journal.specs.declared.session.fault.SessionFault.TheVariants.{NoMemory, TooLarge, DeviceFailed, Damaged, TooFew, JournalFull, Interrupted, Broken, LengthDiffers, NothingToRedo, RedoDamaged}
 use Rattle.bx_cli.specs.declared.command.Reply.{Reply}
 use Rattle.bx_cli.specs.declared.command.Reply.TheVariants.{Changed, Copied, Undone, Redone, Refused}
-use Rattle.bx_cli.specs.Fault.{of_session}
+use Rattle.bx_read.specs.declared.fault.ReadFault.{ReadFault}
+use Rattle.bx_read.specs.declared.fault.ReadFault.TheVariants as read
+use Rattle.bx_dd.specs.declared.fault.DdFault.{DdFault}
+use Rattle.bx_dd.specs.declared.fault.DdFault.TheVariants as dd
+use Rattle.bx_cli.specs.declared.fault.Fault.{Fault}
+use Rattle.bx_cli.specs.declared.fault.Fault.TheVariants as fault
+use Rattle.bx_cli.specs.Fault.{of_dd, of_read, of_session}
 use Rattle.bx_cli.specs.Refusal.{IsOwnFault, IsOwnRefusal, IsWholeRefusal}
+use Rattle.bx_cli.specs.inner.Refusal.{IsListedFault}
 use Rattle.bx_cli.specs.Run.{Unfailed, made_reply}
 use Rattle.bx_cli.proofs.Steps.{true_is_not_false}
 
+-- no fault of the session's is a listed one
+session_not_listed : (e : SessionFault) → IsListedFault (of_session e) → ⊥
+session_not_listed NoMemory own = own
+session_not_listed TooLarge own = own
+session_not_listed DeviceFailed own = own
+session_not_listed (Damaged line) own = own
+session_not_listed (TooFew have) own = own
+session_not_listed JournalFull own = own
+session_not_listed Interrupted own = own
+session_not_listed Broken own = own
+session_not_listed (LengthDiffers expected) own = own
+session_not_listed (NothingToRedo have) own = own
+session_not_listed (RedoDamaged line) own = own
+
+-- what a text or dd may answer is listed, but for two faults
+listed_read : (f : ReadFault) → of_read f ≢ fault.NoMemory → IsListedFault (of_read f)
+listed_read read.NoMemory some = absurd (some refl)
+listed_read (read.BadAddress line) some = tt
+listed_read (read.MissingColon line) some = tt
+listed_read (read.BadPair line) some = tt
+listed_read (read.NoData line) some = tt
+listed_read (read.TooWide line) some = tt
+listed_read (read.AddressTooLarge line) some = tt
+listed_read (read.OddDigits line) some = tt
+
+listed_dd : (f : DdFault) → of_dd f ≢ fault.NoMemory → of_dd f ≢ fault.SeekWithoutOutput → IsListedFault (of_dd f)
+listed_dd dd.NoMemory some other = absurd (some refl)
+listed_dd dd.SeekWithoutOutput some other = absurd (other refl)
+listed_dd dd.ReadFailed some other = tt
+listed_dd dd.InputTooLong some other = tt
+listed_dd (dd.UnknownOperand at) some other = tt
+listed_dd (dd.BadNumber at) some other = tt
+listed_dd (dd.NumberTooLarge at) some other = tt
+listed_dd (dd.ZeroSize at) some other = tt
+listed_dd dd.Conflict some other = tt
+listed_dd dd.MissingCbs some other = tt
+listed_dd (dd.Repeated at) some other = tt
+
+-- a fault of the command's own is a listed one
+listed_of : (e : Fault) → IsOwnFault e → IsListedFault e
+listed_of e (some, other, inl (f, is)) = subst IsListedFault (sym is) (listed_read f (λ none. some (is ∙ none)))
+listed_of e (some, other, inr (f, is)) = subst IsListedFault (sym is) (listed_dd f (λ none. some (is ∙ none)) (λ seeks. other (is ∙ seeks)))
+
+-- and each listed one is the command's own
+own_of_listed : (e : Fault) → IsListedFault e → IsOwnFault e
+own_of_listed (fault.BadAddress line) is = (λ e. cc, λ e. cc, inl (read.BadAddress line, refl))
+own_of_listed (fault.MissingColon line) is = (λ e. cc, λ e. cc, inl (read.MissingColon line, refl))
+own_of_listed (fault.BadPair line) is = (λ e. cc, λ e. cc, inl (read.BadPair line, refl))
+own_of_listed (fault.NoData line) is = (λ e. cc, λ e. cc, inl (read.NoData line, refl))
+own_of_listed (fault.TooWide line) is = (λ e. cc, λ e. cc, inl (read.TooWide line, refl))
+own_of_listed (fault.AddressTooLarge line) is = (λ e. cc, λ e. cc, inl (read.AddressTooLarge line, refl))
+own_of_listed (fault.OddDigits line) is = (λ e. cc, λ e. cc, inl (read.OddDigits line, refl))
+own_of_listed fault.ReadFailed is = (λ e. cc, λ e. cc, inr (dd.ReadFailed, refl))
+own_of_listed fault.InputTooLong is = (λ e. cc, λ e. cc, inr (dd.InputTooLong, refl))
+own_of_listed (fault.UnknownOperand at) is = (λ e. cc, λ e. cc, inr (dd.UnknownOperand at, refl))
+own_of_listed (fault.BadNumber at) is = (λ e. cc, λ e. cc, inr (dd.BadNumber at, refl))
+own_of_listed (fault.NumberTooLarge at) is = (λ e. cc, λ e. cc, inr (dd.NumberTooLarge at, refl))
+own_of_listed (fault.ZeroSize at) is = (λ e. cc, λ e. cc, inr (dd.ZeroSize at, refl))
+own_of_listed fault.Conflict is = (λ e. cc, λ e. cc, inr (dd.Conflict, refl))
+own_of_listed fault.MissingCbs is = (λ e. cc, λ e. cc, inr (dd.MissingCbs, refl))
+own_of_listed (fault.Repeated at) is = (λ e. cc, λ e. cc, inr (dd.Repeated at, refl))
+own_of_listed fault.NoMemory is = absurd is
+own_of_listed fault.SeekWithoutOutput is = absurd is
+own_of_listed (fault.WriteFailed k) is = absurd is
+own_of_listed fault.SkipPastEnd is = absurd is
+own_of_listed fault.TooLarge is = absurd is
+own_of_listed fault.DeviceFailed is = absurd is
+own_of_listed (fault.Damaged k) is = absurd is
+own_of_listed (fault.TooFew k) is = absurd is
+own_of_listed fault.JournalFull is = absurd is
+own_of_listed fault.Interrupted is = absurd is
+own_of_listed fault.Broken is = absurd is
+own_of_listed (fault.LengthDiffers k) is = absurd is
+own_of_listed (fault.NothingToRedo k) is = absurd is
+own_of_listed (fault.RedoDamaged k) is = absurd is
+own_of_listed fault.Usage is = absurd is
+own_of_listed fault.OpenFailed is = absurd is
+
 -- no fault of the session's is the command's own
 pub session_not_own : (e : SessionFault) → IsOwnFault (of_session e) → ⊥
-session_not_own NoMemory own = own
-session_not_own TooLarge own = own
-session_not_own DeviceFailed own = own
-session_not_own (Damaged line) own = own
-session_not_own (TooFew have) own = own
-session_not_own JournalFull own = own
-session_not_own Interrupted own = own
-session_not_own Broken own = own
-session_not_own (LengthDiffers expected) own = own
-session_not_own (NothingToRedo have) own = own
-session_not_own (RedoDamaged line) own = own
+session_not_own e own = session_not_listed e (listed_of (of_session e) own)
 
 -- whether a fault is an interruption
 pub is_interrupted : (e : SessionFault) → (e ≡ Interrupted) ⊎ (e ≡ Interrupted → ⊥)

@@ -11,7 +11,8 @@ use Rattle.bx_read.proofs.RowsLemmas.{IsRow, rows_give}
 use Rattle.bx_read.proofs.WrittenLemmas.{reads_back}
 use Rattle.bx_dump.specs.Lines.{in_lines}
 use Rattle.bx_dump.specs.Pages.{part_of}
-use Rattle.bx_dump.specs.Styles.{group_of, xxd_text}
+use Rattle.bx_dump.specs.Styles.{group_of}
+use Rattle.bx_dump.specs.Laws.{xxd_text}
 use Rattle.bx_dump.specs.Xxd.{columns_line}
 use Rattle.bx_dump.specs.declared.xxd.columns.Digits.TheVariants.{Hexadecimal}
 use Rattle.bx_dump.specs.declared.xxd.options.XxdOptions.{XxdOptions}

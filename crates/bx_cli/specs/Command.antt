@@ -1,7 +1,7 @@
 -- The changes that commands ask for.
 use Rattle.std.specs.Prelude.{◌≤◌, ◌^◌, ℕ, ◌+◌, None, List, [], ◌∷◌, map}
 use Rattle.bx_cli.specs.declared.command.Command.{Command}
-use Rattle.bx_cli.specs.declared.command.Command.TheVariants.{Revert, RevertPlain, Dd, Undo, Redo}
+use Rattle.bx_cli.specs.declared.command.Command.TheVariants.{Revert, RevertPlain}
 use Rattle.bx_image.specs.declared.change.Change.{Change}
 
 -- The change without a base that writes each piece, an address and bytes, at its address plus the offset
@@ -16,6 +16,4 @@ plain_change at bytes = record { base = None; writes = record { at = at; bytes =
 abbrev pub IsNear : {R A : Type 0} → Command R A → Type 0
 IsNear (Revert text offset) = offset ≤ 2 ^ 62
 IsNear (RevertPlain text at) = at ≤ 2 ^ 62
-IsNear (Dd operands input) = Unit {0}
-IsNear (Undo k) = Unit {0}
-IsNear (Redo j) = Unit {0}
+IsNear command = Unit {0}

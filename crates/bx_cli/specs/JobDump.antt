@@ -1,38 +1,30 @@
 -- What running a dump that a job asks for does.
-use Rattle.std.specs.Prelude.{◌≡◌, ℕ, Option, None, Some, List}
+use Rattle.std.specs.Prelude.{◌≡◌, ◌⊎◌, ◌<◌, ℕ, Option, None, Some, List}
 use Rattle.bx_text.specs.declared.fault.IoFault.{IoFault}
 use Rattle.bx_dd.specs.declared.operands.plan.Plan.{Plan}
+use Rattle.bx_dd.specs.Streaming.{IsCopy, StopsCopy}
 use Rattle.bx_dump.specs.declared.xxd.options.XxdStyle.{XxdStyle}
-use Rattle.bx_dump.specs.Hexdump.{DumpsHexdump, StopsHexdump}
-use Rattle.bx_dump.specs.OdDump.{DumpsOd, StopsOd}
-use Rattle.bx_dump.specs.Strings.{DumpsStrings, StopsStrings}
-use Rattle.bx_dump.specs.Styles.{DumpsXxd, StopsXxd}
-use Rattle.bx_cli.specs.CopyOut.{CopiesOut, StopsOut}
+use Rattle.bx_dump.specs.Hexdump.{hexdump_of}
+use Rattle.bx_dump.specs.OdDump.{StopsOd, od_of}
+use Rattle.bx_dump.specs.Pages.{WritesAll, WritesFrontOf}
+use Rattle.bx_dump.specs.Strings.{strings_of}
+use Rattle.bx_dump.specs.Styles.{xxd_of}
 use Rattle.bx_cli.specs.Dump.{IsStyleOf}
 use Rattle.bx_cli.specs.Fault.{of_io}
 use Rattle.bx_cli.specs.declared.fault.Fault.{Fault}
-use Rattle.bx_cli.specs.declared.fault.Fault.TheVariants.{Usage}
+use Rattle.bx_cli.specs.declared.fault.Fault.TheVariants.{SeekWithoutOutput, Usage}
 use Rattle.bx_cli.specs.declared.dump.Done.{Done}
 use Rattle.bx_cli.specs.declared.dump.Done.TheVariants.{Dumped, Copied}
-use Rattle.bx_cli.specs.declared.job.XxdJob.{XxdJob}
 use Rattle.bx_cli.specs.declared.job.Job.{Job}
 use Rattle.bx_cli.specs.declared.job.Job.TheVariants.{Od, Xxd, Hexdump, Strings, Dd}
 
--- xxd's text in the style of the job's look
-abbrev pub DumpsLook : XxdJob → Option (List ℕ) → Option (List ℕ) → Option (List ℕ) → Option (List ℕ) → ℕ → Type 0
-DumpsLook job r0 r1 w0 w1 n = (s : XxdStyle) × IsStyleOf job.look job.file s × DumpsXxd s job.options r0 r1 w0 w1 n
-
--- a front of it
-abbrev pub StopsLook : XxdJob → Option (List ℕ) → Option (List ℕ) → Option (List ℕ) → Option (List ℕ) → IoFault → Type 0
-StopsLook job r0 r1 w0 w1 f = (s : XxdStyle) × IsStyleOf job.look job.file s × StopsXxd s job.options r0 r1 w0 w1 f
-
 -- the whole text for the job's options was written, or all that dd makes, of what the reader gave
 abbrev pub DumpsJob : Job → Option (List ℕ) → Option (List ℕ) → Option (List ℕ) → Option (List ℕ) → Done → Type 0
-DumpsJob (Xxd job) r0 r1 w0 w1 (Dumped n) = DumpsLook job r0 r1 w0 w1 n
-DumpsJob (Hexdump job) r0 r1 w0 w1 (Dumped n) = DumpsHexdump job.options r0 r1 w0 w1 n
-DumpsJob (Od job) r0 r1 w0 w1 (Dumped n) = DumpsOd job.options r0 r1 w0 w1 n
-DumpsJob (Strings job) r0 r1 w0 w1 (Dumped n) = DumpsStrings job.options r0 r1 w0 w1 n
-DumpsJob (Dd job) r0 r1 w0 w1 (Copied counts) = (job.plan.output ≡ None) × CopiesOut job.plan r0 r1 w0 w1 counts
+DumpsJob (Xxd job) r0 r1 w0 w1 (Dumped n) = (s : XxdStyle) × IsStyleOf job.look job.file s × WritesAll (xxd_of s job.options) r0 r1 w0 w1 n
+DumpsJob (Hexdump job) r0 r1 w0 w1 (Dumped n) = WritesAll (hexdump_of job.options) r0 r1 w0 w1 n
+DumpsJob (Od job) r0 r1 w0 w1 (Dumped n) = WritesAll (od_of job.options) r0 r1 w0 w1 n
+DumpsJob (Strings job) r0 r1 w0 w1 (Dumped n) = WritesAll (strings_of job.options) r0 r1 w0 w1 n
+DumpsJob (Dd job) r0 r1 w0 w1 (Copied counts) = (job.plan.output ≡ None) × ((job.plan.seek ≡ 0) × IsCopy job.plan r0 r1 w0 w1 counts)
 DumpsJob job r0 r1 w0 w1 done = ⊥
 
 -- a dump's fault among those of all crates, and what it leaves
@@ -43,16 +35,18 @@ Stops Leaves e = (f : IoFault) × (e ≡ of_io f) × Leaves f
 abbrev pub IsNoDump : Option (List ℕ) → Option (List ℕ) → Option (List ℕ) → Option (List ℕ) → Fault → Type 0
 IsNoDump r0 r1 w0 w1 e = (e ≡ Usage) × (r1 ≡ r0) × (w1 ≡ w0)
 
--- dd stops as it does where `of=` names no image
+-- Where `of=` names an image, dd is no dump. Else it stopped since the plan seeks, and nothing was read or written; or a front
+-- was written of what it makes of the input that was read, and no more was read than skip and count ask for.
 abbrev pub StopsDd : {A B : Type 0} → Option B → Plan A → Option (List ℕ) → Option (List ℕ) → Option (List ℕ) → Option (List ℕ) → Fault → Type 0
-StopsDd None plan r0 r1 w0 w1 e = StopsOut plan r0 r1 w0 w1 e
+StopsDd None plan r0 r1 w0 w1 e =
+    ((0 < plan.seek) × (e ≡ SeekWithoutOutput) × (r1 ≡ r0) × (w1 ≡ w0)) ⊎ ((plan.seek ≡ 0) × Stops (StopsCopy plan r0 r1 w0 w1) e)
 StopsDd (Some image) plan r0 r1 w0 w1 e = IsNoDump r0 r1 w0 w1 e
 
 -- what a fault leaves: a front of the text of what was read was written
 abbrev pub StopsJob : Job → Option (List ℕ) → Option (List ℕ) → Option (List ℕ) → Option (List ℕ) → Fault → Type 0
-StopsJob (Xxd job) r0 r1 w0 w1 e = Stops (StopsLook job r0 r1 w0 w1) e
-StopsJob (Hexdump job) r0 r1 w0 w1 e = Stops (StopsHexdump job.options r0 r1 w0 w1) e
+StopsJob (Xxd job) r0 r1 w0 w1 e = Stops (λ f. (s : XxdStyle) × IsStyleOf job.look job.file s × WritesFrontOf (xxd_of s job.options) r0 r1 w0 w1 f) e
+StopsJob (Hexdump job) r0 r1 w0 w1 e = Stops (WritesFrontOf (hexdump_of job.options) r0 r1 w0 w1) e
 StopsJob (Od job) r0 r1 w0 w1 e = Stops (StopsOd job.options r0 r1 w0 w1) e
-StopsJob (Strings job) r0 r1 w0 w1 e = Stops (StopsStrings job.options r0 r1 w0 w1) e
+StopsJob (Strings job) r0 r1 w0 w1 e = Stops (WritesFrontOf (strings_of job.options) r0 r1 w0 w1) e
 StopsJob (Dd job) r0 r1 w0 w1 e = StopsDd job.plan.output job.plan r0 r1 w0 w1 e
 StopsJob job r0 r1 w0 w1 e = IsNoDump r0 r1 w0 w1 e

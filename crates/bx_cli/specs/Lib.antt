@@ -1,6 +1,5 @@
 pub mod Command
 pub mod Copy
-pub mod CopyOut
 pub mod Fault
 pub mod Hint
 pub mod Job

@@ -3,7 +3,7 @@ use Rattle.std.specs.Prelude.{◌≡◌, ◌↔◌, ◌<◌, ◌+◌, ◌-◌, �
 use Rattle.std.specs.List.{range_with_len}
 use Rattle.bx_read.specs.Text.{dump_pieces, lines_of, GivesPieces}
 use Rattle.bx_dump.specs.Pages.{part_of}
-use Rattle.bx_dump.specs.Styles.{xxd_text}
+use Rattle.bx_dump.specs.Laws.{xxd_text}
 use Rattle.bx_dump.specs.declared.xxd.options.XxdOptions.{XxdOptions}
 use Rattle.bx_dump.specs.declared.xxd.options.XxdStyle.TheVariants.{Normal}
 use Rattle.bx_image.specs.Image.{place}

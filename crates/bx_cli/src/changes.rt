@@ -2,7 +2,8 @@
 ghost use Rattle.std.specs.Prelude.{◌≡◌, ◌⊎◌, ◌+◌, ◌^◌, ◌<◌, ◌≤◌, ℕ, List, [], ◌∷◌, map, None, Ok, Err, IfOk, IfErr, All, MatchResult};
 ghost use Rattle.bx_cli.specs.Command.{dump_change, plain_change};
 ghost use Rattle.bx_cli.specs.inner.Command.{moved};
-ghost use Rattle.bx_cli.specs.Copy.{CopiesBy, Makes};
+ghost use Rattle.bx_cli.specs.Copy.{Makes};
+ghost use Rattle.bx_cli.specs.inner.Copy.{CopiesBy};
 ghost use Rattle.bx_dd.specs.Transfer.{HasStopped};
 ghost use Rattle.bx_read.specs.Plain.{plain_answer};
 ghost use Rattle.bx_read.specs.Runs.{joined};

@@ -1,7 +1,8 @@
 //! Dumps and copies to a writer, as jobs ask for them.
 ghost use Rattle.std.specs.Prelude.{◌≡◌, ◌≤◌, ◌^◌, ℕ, IfOk, IfErr, length};
-ghost use Rattle.bx_cli.specs.CopyOut.{CopiesOut, StopsOut};
-ghost use Rattle.bx_cli.specs.JobDump.{DumpsJob, DumpsLook, StopsJob, StopsLook};
+ghost use Rattle.bx_cli.specs.JobDump.{DumpsJob, StopsJob};
+ghost use Rattle.bx_cli.specs.inner.CopyOut.{CopiesOut, StopsOut};
+ghost use Rattle.bx_cli.specs.inner.JobDump.{DumpsLook, StopsLook};
 ghost use Rattle.bx_cli.specs.Dump.{IsStyleOf};
 ghost use Rattle.bx_dump.specs.Styles.{IsCountable};
 

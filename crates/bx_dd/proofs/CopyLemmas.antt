@@ -16,9 +16,8 @@ use Rattle.bx_dd.specs.Counting.{counts_of}
 use Rattle.bx_dd.specs.Plan.{form_of}
 use Rattle.bx_dd.specs.Transfer.{IsReadOut, IsWithin, output_of, selected_by}
 use Rattle.bx_dd.specs.declared.convert.form.Form.{Form}
-use Rattle.bx_dd.specs.declared.convert.form.Shape.TheVariants.{Flat}
 use Rattle.bx_dd.specs.Output.{converted, cut_records, joined, selected, shaped}
-use Rattle.bx_dd.specs.Standing.{HasSizes}
+use Rattle.bx_dd.specs.inner.Standing.{HasSizes}
 use Rattle.bx_dd.specs.Streaming.{IsCopy, IsCopyFault, StopsCopy}
 use Rattle.bx_dd.specs.inner.Streaming.{CopiesRest, Flows, Goes, Stage, StopsFlow, StopsPass, StopsSkip, StopsStage, most_of, unit_of}
 use Rattle.bx_dd.proofs.ConvertLemmas.{joined_none}
@@ -231,15 +230,19 @@ module _ {A : Type 0} (plan : Plan A) (skipped input : List ℕ) (len : length s
 
   pub copied : (r0 r1 r2 w0 w1 : Option (List ℕ)) (counts : Counts) → Consumes r0 r1 skipped → Consumes r1 r2 input → (length input ≡ most_of plan.count plan.ibs) ⊎ IsAtEnd r2 →
       plan.skip * plan.ibs + length input ≤ 2 ^ 40 → Appends w0 w1 (converted (form_of plan) input) → counts ≡ counts_of (form_of plan) input → IsCopy plan r0 r2 w0 w1 counts
-  copied r0 r1 r2 w0 w1 counts skips reads ends small put counted = record {
-    input = skipped ++ input;
-    consumed = Consumes-trans r0 r1 r2 skipped input skips reads;
-    all = read_out r2 plan.count ends (omega arith);
-    within = asked plan.count few;
-    few = omega (arith, length-append skipped input, len);
-    appended = subst (λ (l : List ℕ). Appends w0 w1 (converted (form_of plan) l)) (sym selects) put;
-    counted = counted ∙ ap (counts_of (form_of plan)) (sym selects);
-  }
+  copied r0 r1 r2 w0 w1 counts skips reads ends small put counted = (
+    converted (form_of plan) input,
+    put,
+    record {
+      input = skipped ++ input;
+      consumed = Consumes-trans r0 r1 r2 skipped input skips reads;
+      all = read_out r2 plan.count ends (omega arith);
+      within = asked plan.count few;
+      few = omega (arith, length-append skipped input, len);
+      made = ap (converted (form_of plan)) (sym selects);
+      counted = counted ∙ ap (counts_of (form_of plan)) (sym selects);
+    },
+  )
 
   pub stopped : (r0 r1 r2 w0 w1 : Option (List ℕ)) (e : IoFault) (before written : ℕ) → before ≡ plan.skip * plan.ibs → Consumes r0 r1 skipped → Consumes r1 r2 input →
       written ≤ length (converted (form_of plan) input) → Appends w0 w1 (take written (converted (form_of plan) input)) →
@@ -274,15 +277,19 @@ module _ {A : Type 0} (plan : Plan A) (input : List ℕ) (few : length input ≤
 
   pub copied_none : (r0 r1 w : Option (List ℕ)) (counts : Counts) → HasSizes (form_of plan) → Consumes r0 r1 input → IsAtEnd r1 → length input ≤ 2 ^ 40 → counts ≡ counts_of (form_of plan) [] →
       IsCopy plan r0 r1 w w counts
-  copied_none r0 r1 w counts sizes reads end small counted = record {
-    input = input;
-    consumed = reads;
-    all = read_short r1 plan.count end;
-    within = asked_skip plan.ibs plan.skip (length input) plan.count few;
-    few = small;
-    appended = subst (λ (l : List ℕ). Appends w w l) (sym (ap (converted (form_of plan)) (nothing plan.count) ∙ converted_none (form_of plan) sizes)) (Appends-nil w);
-    counted = counted ∙ ap (counts_of (form_of plan)) (sym (nothing plan.count));
-  }
+  copied_none r0 r1 w counts sizes reads end small counted = (
+    [],
+    Appends-nil w,
+    record {
+      input = input;
+      consumed = reads;
+      all = read_short r1 plan.count end;
+      within = asked_skip plan.ibs plan.skip (length input) plan.count few;
+      few = small;
+      made = sym (ap (converted (form_of plan)) (nothing plan.count) ∙ converted_none (form_of plan) sizes);
+      counted = counted ∙ ap (counts_of (form_of plan)) (sym (nothing plan.count));
+    },
+  )
 
 skip_fault : (e : IoFault) (wanted n size : ℕ) → IsReadCause e wanted (2 ^ 40) n → IsCopyFault e n 0 size
 skip_fault ReadFailed wanted n size p = p.1

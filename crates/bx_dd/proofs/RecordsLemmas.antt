@@ -12,7 +12,8 @@ use Rattle.std.proofs.Math.Nat.{mod-le, div-add-mod, mul-add-mod_self_left, mod-
 use Rattle.bx_text.proofs.PiecesLemmas.{in_pieces-none, in_pieces-append, in_pieces-one}
 use Rattle.bx_dd.specs.declared.convert.form.Shape.{Shape}
 use Rattle.bx_dd.specs.declared.convert.form.Shape.TheVariants.{Flat, Block, Unblock}
-use Rattle.bx_dd.specs.Output.{padded, fitted, records, shaped, cut_records, unfinished, held_count, line_of, goes_on, is_space}
+use Rattle.bx_dd.specs.Output.{padded, fitted, records, shaped, cut_records, unfinished, line_of}
+use Rattle.bx_dd.specs.inner.Output.{goes_on, is_space}
 use Rattle.bx_dd.specs.Standing.{Stands, finished, rest_of}
 use Rattle.bx_dd.specs.inner.Standing.{last_of}
 
@@ -358,15 +359,18 @@ module _ (size : ℕ) (z written kept : List ℕ) (was_cut : Bool) (count : ℕ)
         cut = stands.cut;
       }
 
--- how much is kept
-pub held_is : (shape : Shape) (size : ℕ) (z written kept : List ℕ) (was_cut : Bool) (count : ℕ) → (shape ≢ Flat → 0 < size) → Stands shape size z written kept was_cut count →
-    length kept ≡ held_count shape size z
+-- the record that may go on is there
+unfinished_fits : (shape : Shape) (size : ℕ) (z : List ℕ) → unfinished shape size z ≤ length z
 unfolding unfinished
-held_is Flat size z written kept was_cut count some stands =
-    ap length stands.held ∙ ap (λ l. length (take size l)) (rest-none Flat size z (unfolded_flat size z)) ∙ ap length (take_nil size)
-held_is Block size z written kept was_cut count some stands =
-    ap length stands.held ∙ length-take size (rest_of Block size z) ∙ ap (min size) (length-rest Block size z (unfinished-fits size z))
-held_is Unblock size z written kept was_cut count some stands = kept_len size z written kept was_cut count (some (λ e. cc)) stands
+unfinished_fits Flat size z = omega arith
+unfinished_fits Block size z = suffix_len-le-length goes_on z
+unfinished_fits Unblock size z = mod-le (length z) size
+
+-- how much is kept
+pub held_is : (shape : Shape) (size : ℕ) (z written kept : List ℕ) (was_cut : Bool) (count : ℕ) → Stands shape size z written kept was_cut count →
+    length kept ≡ min size (unfinished shape size z)
+held_is shape size z written kept was_cut count stands =
+    ap length stands.held ∙ length-take size (rest_of shape size z) ∙ ap (min size) (length-rest shape size z (unfinished_fits shape size z))
 
 empty_list : (xs : List ℕ) → length xs ≡ 0 → xs ≡ []
 empty_list [] e = refl

@@ -5,7 +5,7 @@ use Rattle.bx_dd.specs.declared.convert.form.Form.{Form}
 use Rattle.bx_dd.specs.declared.convert.form.Letters.TheVariants.{Keep, Upper}
 use Rattle.bx_dd.specs.declared.convert.form.Shape.TheVariants.{Flat, Block, Unblock}
 use Rattle.bx_dd.specs.Output.{selected, converted, cut_records, joined, block_of, swapped, padded, records, fitted, line_of, shaped, unfinished}
-use Rattle.bx_dd.specs.Counting.{parts_in}
+use Rattle.bx_dd.specs.inner.Counting.{parts_in}
 use Rattle.bx_dd.specs.Standing.{rest_of}
 
 swab_odd_block : converted (record { ibs = 3; obs = 512; cbs = 0; swab = true; sync = false; letters = Keep; shape = Flat }) (codes "ABCDEF") ≡ codes "BACEDF"

@@ -6,10 +6,6 @@ use Rattle.std.specs.Result.{result_ok}
 use Rattle.std.specs.Str.{bytes_eq}
 use Rattle.bx_dd.specs.declared.fault.DdFault.{DdFault}
 use Rattle.bx_dd.specs.declared.fault.DdFault.TheVariants.{UnknownOperand, BadNumber, NumberTooLarge, ZeroSize, Repeated, Conflict, MissingCbs}
-use Rattle.bx_dd.specs.declared.convert.form.Letters.{Letters}
-use Rattle.bx_dd.specs.declared.convert.form.Letters.TheVariants.{Keep, Upper, Lower}
-use Rattle.bx_dd.specs.declared.convert.form.Shape.{Shape}
-use Rattle.bx_dd.specs.declared.convert.form.Shape.TheVariants.{Flat, Block, Unblock}
 use Rattle.bx_text.specs.declared.number.size.SizeFault.{SizeFault}
 use Rattle.bx_text.specs.declared.number.size.SizeFault.TheVariants.{Bad, TooLarge}
 use Rattle.bx_dd.specs.declared.operands.Kind.{Kind}
@@ -18,21 +14,17 @@ use Rattle.bx_dd.specs.Number.{number_of}
 
 -- ---- one operand: the name in front of the first `=`, and the value behind it
 
--- the byte `=`
-abbrev pub is_equals : ℕ → Bool
-is_equals b = b == 61
-
 -- a word with a `=`
 abbrev pub is_operand : List ℕ → Bool
-is_operand word = nat_lt (position_or_len is_equals word) (length word)
+is_operand word = nat_lt (position_or_len (λ b. b == 61) word) (length word)
 
 -- what stands before the first `=`
 abbrev pub name_of : List ℕ → List ℕ
-name_of word = before_first is_equals word
+name_of word = before_first (λ b. b == 61) word
 
 -- what stands behind it
 abbrev pub value_of : List ℕ → List ℕ
-value_of word = after_first is_equals word
+value_of word = after_first (λ b. b == 61) word
 
 -- what the value of an operand of this name is
 abbrev pub kind_of : List ℕ → Option Kind
@@ -55,23 +47,18 @@ is_conversion part =
 
 -- ---- faults, each with the operand's place from 1
 
--- the fault of a number
-abbrev pub number_fault : ℕ → Result ℕ SizeFault → Option DdFault
-number_fault at (Ok n) = None
-number_fault at (Err Bad) = Some (BadNumber at)
-number_fault at (Err TooLarge) = Some (NumberTooLarge at)
+-- the fault of a number: of one that is read, what the check finds
+abbrev pub checked : ℕ → (ℕ → Option DdFault) → Result ℕ SizeFault → Option DdFault
+checked at check (Ok n) = check n
+checked at check (Err Bad) = Some (BadNumber at)
+checked at check (Err TooLarge) = Some (NumberTooLarge at)
 
--- the fault of a size, which is 1 to `most`
-abbrev pub size_fault : ℕ → ℕ → Result ℕ SizeFault → Option DdFault
-size_fault at most (Ok n) = if nat_lt most n then Some (NumberTooLarge at) else if n == 0 then Some (ZeroSize at) else None
-size_fault at most (Err Bad) = Some (BadNumber at)
-size_fault at most (Err TooLarge) = Some (NumberTooLarge at)
-
--- the fault of a value
+-- the fault of a value; a size is 1 to `most`
 abbrev pub value_fault : ℕ → Kind → List ℕ → Option DdFault
 value_fault at File value = if length value == 0 then Some (UnknownOperand at) else None
-value_fault at (Size most) value = size_fault at most (number_of value)
-value_fault at Number value = number_fault at (number_of value)
+value_fault at (Size most) value =
+    checked at (λ n. if nat_lt most n then Some (NumberTooLarge at) else if n == 0 then Some (ZeroSize at) else None) (number_of value)
+value_fault at Number value = checked at (λ n. None) (number_of value)
 value_fault at Conversions value = if list_all is_conversion (parts_of value) then None else Some (UnknownOperand at)
 
 -- whether the word is an operand of this name
@@ -112,51 +99,27 @@ number_given name words = option_and_then (λ value. result_ok (number_of value)
 abbrev pub number_or : ℕ → List ℕ → List (List ℕ) → ℕ
 number_or other name words = unwrap_or (number_given name words) other
 
--- `bs` supersedes both block sizes
+-- the size of the blocks of this name: `bs` supersedes it
 abbrev pub block_size : List ℕ → List (List ℕ) → ℕ
 block_size name words = number_or (number_or 512 name words) (codes "bs") words
-
--- the size of an input block
-abbrev pub ibs_of : List (List ℕ) → ℕ
-ibs_of words = block_size (codes "ibs") words
-
--- the size of an output block
-abbrev pub obs_of : List (List ℕ) → ℕ
-obs_of words = block_size (codes "obs") words
 
 -- whether `conv` has this word
 abbrev pub converts : List ℕ → List (List ℕ) → Bool
 converts part words = list_any (λ p. bytes_eq p part) (parts_of (unwrap_or (given (codes "conv") words) []))
 
--- what becomes of letters
-abbrev pub letters_of : List (List ℕ) → Letters
-letters_of words = if converts (codes "ucase") words then Upper else if converts (codes "lcase") words then Lower else Keep
-
--- what becomes of lines and records
-abbrev pub shape_of : List (List ℕ) → Shape
-shape_of words = if converts (codes "block") words then Block else if converts (codes "unblock") words then Unblock else Flat
-
--- the place of the operand of this name, from 1
-abbrev pub place_of : List ℕ → List (List ℕ) → ℕ
-place_of name words = position_or_len (is_named name) words + 1
-
 -- ---- faults of operands that each are sound
 
--- conversions that exclude each other
-abbrev pub is_conflict : List (List ℕ) → Bool
-is_conflict words = (converts (codes "lcase") words && converts (codes "ucase") words) || (converts (codes "block") words && converts (codes "unblock") words)
-
--- records are asked for, and no size of them is given
-abbrev pub is_cbs_missing : List (List ℕ) → Bool
-is_cbs_missing words = (converts (codes "block") words || converts (codes "unblock") words) && not (is_given (codes "cbs") words)
-
--- a fault of the operands together: conflict, no size of records, and skip or seek past 2^48 bytes, in this order
+-- A fault of the operands together: conversions that exclude each other, records that are asked for without a size of them,
+-- and skip or seek past 2^48 bytes, in this order.
 abbrev pub later_fault : List (List ℕ) → Option DdFault
 later_fault words =
-    if is_conflict words then Some Conflict else
-    if is_cbs_missing words then Some MissingCbs else
-    if nat_lt (2 ^ 48) (number_or 0 (codes "skip") words * ibs_of words) then Some (NumberTooLarge (place_of (codes "skip") words)) else
-    if nat_lt (2 ^ 48) (number_or 0 (codes "seek") words * obs_of words) then Some (NumberTooLarge (place_of (codes "seek") words)) else None
+    if (converts (codes "lcase") words && converts (codes "ucase") words) || (converts (codes "block") words && converts (codes "unblock") words)
+    then Some Conflict else
+    if (converts (codes "block") words || converts (codes "unblock") words) && not (is_given (codes "cbs") words) then Some MissingCbs else
+    if nat_lt (2 ^ 48) (number_or 0 (codes "skip") words * block_size (codes "ibs") words)
+    then Some (NumberTooLarge (position_or_len (is_named (codes "skip")) words + 1)) else
+    if nat_lt (2 ^ 48) (number_or 0 (codes "seek") words * block_size (codes "obs") words)
+    then Some (NumberTooLarge (position_or_len (is_named (codes "seek")) words + 1)) else None
 
 -- the fault of dd's operands
 abbrev pub fault_of : List (List ℕ) → Option DdFault

@@ -1,5 +1,5 @@
 -- What dd makes of an input.
-use Rattle.std.specs.Prelude.{ℕ, ◌-◌, ◌*◌, ◌%◌, Bool, not, ◌==◌, nat_lt, if◌then◌else◌, List, [], ◌∷◌, ◌++◌, length, take, drop, map, replicate, min, count_by, Option, None, Some}
+use Rattle.std.specs.Prelude.{ℕ, ◌-◌, ◌*◌, ◌%◌, not, ◌==◌, nat_lt, if◌then◌else◌, List, [], ◌∷◌, ◌++◌, length, take, drop, map, replicate, count_by, Option, None, Some}
 use Rattle.std.specs.Char.{to_ascii_uppercase, to_ascii_lowercase}
 use Rattle.std.specs.List.{flat_map, onto_first, suffix_len}
 use Rattle.bx_text.specs.InPieces.{in_pieces}
@@ -54,13 +54,9 @@ records (b ∷ bytes) = if b == 10 then [] ∷ records bytes else onto_first b (
 unfoldable pub fitted : ℕ → List ℕ → List ℕ
 fitted n line = take n (padded 32 n line)
 
--- the byte that records are filled up with
-abbrev pub is_space : ℕ → Bool
-is_space b = b == 32
-
 -- a line for a record: without the spaces at its end
 unfoldable pub line_of : List ℕ → List ℕ
-line_of piece = take (length piece - suffix_len is_space piece) piece ++ 10 ∷ []
+line_of piece = take (length piece - suffix_len (λ b. b == 32) piece) piece ++ 10 ∷ []
 
 -- records of one size for lines, or lines for records of one size
 unfoldable pub shaped : Shape → ℕ → List ℕ → List ℕ
@@ -77,18 +73,8 @@ cut_records shape size bytes = 0
 abbrev pub converted : Form → List ℕ → List ℕ
 converted form input = shaped form.shape form.cbs (joined form input)
 
--- any byte but a newline
-abbrev pub goes_on : ℕ → Bool
-goes_on b = not (b == 10)
-
 -- how many bytes at the end are a record that may go on
 unfoldable pub unfinished : Shape → ℕ → List ℕ → ℕ
 unfinished Flat size bytes = 0
-unfinished Block size bytes = suffix_len goes_on bytes
+unfinished Block size bytes = suffix_len (λ b. not (b == 10)) bytes
 unfinished Unblock size bytes = length bytes % size
-
--- how many bytes of the record that may go on are kept: no more than are written
-abbrev pub held_count : Shape → ℕ → List ℕ → ℕ
-held_count Flat size bytes = 0
-held_count Block size bytes = min size (suffix_len goes_on bytes)
-held_count Unblock size bytes = length bytes % size

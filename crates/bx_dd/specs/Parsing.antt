@@ -1,14 +1,16 @@
 -- The plan that operands ask for.
-use Rattle.std.specs.Prelude.{◌≡◌, List, ℕ, codes}
+use Rattle.std.specs.Prelude.{◌≡◌, if◌then◌else◌, List, ℕ, codes}
+use Rattle.bx_dd.specs.declared.convert.form.Letters.TheVariants.{Keep, Upper, Lower}
+use Rattle.bx_dd.specs.declared.convert.form.Shape.TheVariants.{Flat, Block, Unblock}
 use Rattle.bx_dd.specs.declared.operands.plan.Plan.{Plan}
-use Rattle.bx_dd.specs.Operands.{given, number_given, number_or, ibs_of, obs_of, converts, letters_of, shape_of}
+use Rattle.bx_dd.specs.Operands.{given, number_given, number_or, block_size, converts}
 
 -- the operands are accepted, and this is what they ask for
 pub record IsPlanOf {A : Type 0} (words : List (List ℕ)) (plan : Plan A) : Type 0 where
   pub input : plan.input ≡ given (codes "if") words
   pub output : plan.output ≡ given (codes "of") words
-  pub ibs : plan.ibs ≡ ibs_of words
-  pub obs : plan.obs ≡ obs_of words
+  pub ibs : plan.ibs ≡ block_size (codes "ibs") words
+  pub obs : plan.obs ≡ block_size (codes "obs") words
   pub cbs : plan.cbs ≡ number_or 0 (codes "cbs") words
   pub skip : plan.skip ≡ number_or 0 (codes "skip") words
   pub seek : plan.seek ≡ number_or 0 (codes "seek") words
@@ -16,5 +18,5 @@ pub record IsPlanOf {A : Type 0} (words : List (List ℕ)) (plan : Plan A) : Typ
   pub swab : plan.swab ≡ converts (codes "swab") words
   pub sync : plan.sync ≡ converts (codes "sync") words
   pub notrunc : plan.notrunc ≡ converts (codes "notrunc") words
-  pub letters : plan.letters ≡ letters_of words
-  pub shape : plan.shape ≡ shape_of words
+  pub letters : plan.letters ≡ (if converts (codes "ucase") words then Upper else if converts (codes "lcase") words then Lower else Keep)
+  pub shape : plan.shape ≡ (if converts (codes "block") words then Block else if converts (codes "unblock") words then Unblock else Flat)

@@ -1,22 +1,16 @@
 -- What a copy to a writer reads and writes, and where it stands in between.
 -- ---- a whole copy
-use Rattle.std.specs.Prelude.{◌≡◌, ℕ, ◌+◌, ◌-◌, ◌^◌, ◌<◌, ◌≤◌, List, length, take, Option}
+use Rattle.std.specs.Prelude.{◌≡◌, ℕ, ◌+◌, ◌^◌, ◌<◌, ◌≤◌, List, length, take, Option}
 use Rattle.std.specs.Io.KnownBytes.{Appends, Consumes}
 use Rattle.bx_text.specs.declared.fault.IoFault.{IoFault}
 use Rattle.bx_text.specs.declared.fault.IoFault.TheVariants.{NoMemory, ReadFailed, WriteFailed, InputTooLong, SkipPastEnd}
 use Rattle.bx_dd.specs.declared.stream.counts.Counts.{Counts}
 use Rattle.bx_dd.specs.declared.operands.plan.Plan.{Plan}
-use Rattle.bx_dd.specs.Transfer.{IsReadOut, IsWithin, counts_by, output_of}
+use Rattle.bx_dd.specs.Transfer.{Copies, IsWithin, output_of}
 
--- Some input was read, up to its end or that of skip and count, and all that the plan makes of it was written and counted.
-pub record IsCopy {A : Type 0} (plan : Plan A) (r0 r1 w0 w1 : Option (List ℕ)) (counts : Counts) : Type 0 where
-  pub input : List ℕ
-  pub consumed : Consumes r0 r1 input
-  pub all : IsReadOut r1 plan.ibs plan.skip plan.count input
-  pub within : IsWithin plan.ibs plan.skip plan.count input
-  pub few : length input ≤ 2 ^ 40
-  pub appended : Appends w0 w1 (output_of plan input)
-  pub counted : counts ≡ counts_by plan input
+-- All that the plan makes of the input that was read was written and counted.
+abbrev pub IsCopy : {A : Type 0} → Plan A → Option (List ℕ) → Option (List ℕ) → Option (List ℕ) → Option (List ℕ) → Counts → Type 0
+IsCopy plan r0 r1 w0 w1 counts = (bytes : List ℕ) × Appends w0 w1 bytes × Copies plan r0 r1 bytes counts
 
 -- Why a copy stopped that had read and written so many bytes, of an output of `size` bytes. Memory is wanted before anything
 -- is read, a write fails only before the output is whole, and an input is too long with one byte past 2^40.

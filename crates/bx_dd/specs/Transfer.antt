@@ -2,7 +2,6 @@
 use Rattle.std.specs.Prelude.{◌≡◌, ℕ, ◌+◌, ◌*◌, ◌^◌, ◌≤◌, List, length, Option, None, Some, IfSome, ◌⊎◌}
 use Rattle.std.specs.Io.KnownBytes.{Consumes, IsAtEnd}
 use Rattle.bx_dd.specs.declared.stream.counts.Counts.{Counts}
-use Rattle.bx_dd.specs.declared.stream.counts.Transfer.{Transfer}
 use Rattle.bx_dd.specs.declared.fault.DdFault.{DdFault}
 use Rattle.bx_dd.specs.declared.fault.DdFault.TheVariants.{NoMemory, ReadFailed, InputTooLong}
 use Rattle.bx_dd.specs.declared.operands.plan.Plan.{Plan}
@@ -18,10 +17,6 @@ selected_by plan input = selected plan.ibs plan.skip plan.count input
 abbrev pub output_of : {A : Type 0} → Plan A → List ℕ → List ℕ
 output_of plan input = converted (form_of plan) (selected_by plan input)
 
--- of an input, what a plan counts
-abbrev pub counts_by : {A : Type 0} → Plan A → List ℕ → Counts
-counts_by plan input = counts_of (form_of plan) (selected_by plan input)
-
 -- the input's end was reached, or that of skip and count
 abbrev pub IsReadOut : Option (List ℕ) → ℕ → ℕ → Option ℕ → List ℕ → Type 0
 IsReadOut new ibs skip None input = IsAtEnd new
@@ -31,15 +26,15 @@ IsReadOut new ibs skip (Some count) input = (length input ≡ (skip + count) * i
 abbrev pub IsWithin : ℕ → ℕ → Option ℕ → List ℕ → Type 0
 IsWithin ibs skip count input = IfSome count (λ n. length input ≤ (skip + n) * ibs)
 
--- some input was read, and this was made of it
-pub record IsTransfer {A P : Type 0} (plan : Plan P) (old new : Option (List ℕ)) (t : Transfer A) : Type 0 where
+-- Some input was read, up to its end or that of skip and count, and these bytes and counts are what the plan makes of it.
+pub record Copies {A : Type 0} (plan : Plan A) (old new : Option (List ℕ)) (bytes : List ℕ) (counts : Counts) : Type 0 where
   pub input : List ℕ
   pub consumed : Consumes old new input
   pub all : IsReadOut new plan.ibs plan.skip plan.count input
   pub within : IsWithin plan.ibs plan.skip plan.count input
   pub few : length input ≤ 2 ^ 40
-  pub bytes : t.bytes ≡ output_of plan input
-  pub counts : t.counts ≡ counts_by plan input
+  pub made : bytes ≡ output_of plan input
+  pub counted : counts ≡ counts_of (form_of plan) (selected_by plan input)
 
 -- why a transfer stopped after n bytes where there was room for `room` of them: too long is one byte more
 abbrev pub IsStopCause : DdFault → ℕ → ℕ → Type 0

@@ -3,3 +3,6 @@ pub mod Paged
 pub mod Standing
 pub mod Streaming
 pub mod Transfer
+pub mod Operands
+pub mod Output
+pub mod Counting

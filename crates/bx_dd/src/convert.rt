@@ -1,10 +1,11 @@
 //! Blocks converted one by one.
-ghost use Rattle.std.specs.Prelude.{◌≡◌, ◌≢◌, ℕ, ◌+◌, ◌-◌, ◌*◌, ◌%◌, ◌^◌, ◌<◌, ◌≤◌, List, [], ◌++◌, length, take, vec_capacity, IfOk, OnOk, IsOkUnless};
+ghost use Rattle.std.specs.Prelude.{◌≡◌, ◌≢◌, ℕ, ◌+◌, ◌-◌, ◌*◌, ◌%◌, ◌^◌, ◌<◌, ◌≤◌, List, [], ◌++◌, length, min, take, vec_capacity, IfOk, OnOk, IsOkUnless};
 ghost use Rattle.bx_dd.specs.Counting.{counts_of};
-ghost use Rattle.bx_dd.specs.Output.{block_of, converted, held_count, joined, shaped};
+ghost use Rattle.bx_dd.specs.Output.{block_of, converted, joined, unfinished};
 ghost use Rattle.bx_dd.specs.Plan.{form_of};
-ghost use Rattle.bx_dd.specs.Standing.{IsAfter, HasSizes, Stands, finished};
-ghost use Rattle.bx_dd.specs.inner.Standing.{last_of};
+ghost use Rattle.bx_dd.specs.Standing.{IsAfter};
+ghost use Rattle.bx_dd.specs.inner.Paged.{Takes, TakesWithin};
+ghost use Rattle.bx_dd.specs.inner.Standing.{last_of, HasSizes};
 ghost use Rattle.bx_dd.specs.declared.convert.form.Shape.TheVariants.{Flat, Unblock};
 
 mod block;
@@ -42,7 +43,7 @@ impl<A: Allocator> Model for Convert<A> {
 
     ghost use Rattle.bx_dd.specs.declared.convert.form.Shape.TheVariants.{Flat, Unblock};
     ghost use Rattle.std.specs.Prelude.{length, vec_capacity, ◌<◌, ◌≤◌, ◌≡◌, ◌≢◌, ◌+◌, ◌%◌, ◌^◌};
-    ghost use Rattle.bx_dd.specs.Standing.{HasSizes};
+    ghost use Rattle.bx_dd.specs.inner.Standing.{HasSizes};
 
     ghost view = { λ c. record { form = c.form; taken = c.taken; out = c.out.items; held = c.held.items; over = c.over; cut = c.cut } };
 
@@ -143,7 +144,8 @@ impl<A: Allocator> Convert<A> {
     /// How many bytes of the record that may go on are kept.
     pub fn held(&self) -> u64
         ensures held { result ≡ length self.now.held }
-        ensures kept { (input : List ℕ) → IsAfter input self.now → result ≡ held_count self.now.form.shape self.now.form.cbs (joined self.now.form input) }
+        ensures kept { (x : List ℕ) → IsAfter x self.now →
+            let form = self.now.form in result ≡ min form.cbs (unfinished form.shape form.cbs (joined form x)) }
     {
         self.held.len() as u64
     }
@@ -151,8 +153,6 @@ impl<A: Allocator> Convert<A> {
     /// What the records that are finished give.
     pub fn out(&self) -> &[u8]
         ensures out { result.now ≡ self.now.out }
-        ensures written { (input : List ℕ) → IsAfter input self.now →
-            let form = self.now.form in result.now ≡ shaped form.shape form.cbs (finished form.shape form.cbs (joined form input)) }
     {
         self.out.as_slice()
     }
@@ -183,12 +183,10 @@ fn take_block<A: Allocator>(
     requires space { form.shape ≢ Flat → form.cbs ≤ vec_capacity held.old }
     requires part { form.shape ≡ Unblock → length held.old.items < form.cbs }
     requires few { tail.cut + 16777216 < 2 ^ 64 }
-    ensures within { IfOk result (λ t. (length held.new.items ≤ form.cbs) × (t.cut ≤ tail.cut + form.ibs)
-        × (length b.now ≡ form.ibs → t.cut ≤ tail.cut + length b.now)) }
+    ensures within { IfOk result (TakesWithin form held.new.items tail (length b.now)) }
     ensures part { IfOk result (λ t. form.shape ≡ Unblock → length held.new.items < form.cbs) }
     ensures space { vec_capacity held.old ≤ vec_capacity held.new }
-    ensures next { (z : List ℕ) → Stands form.shape form.cbs z out.old.items held.old.items tail.over tail.cut →
-        IfOk result (λ t. Stands form.shape form.cbs (z ++ block_of form b.now) out.new.items held.new.items t.over t.cut) }
+    ensures next { Takes form out.old.items out.new.items held.old.items held.new.items tail (block_of form b.now) result }
 {
     let ready = ready_block(alloc, b, form)?;
     let next = put_ready(alloc, out, held, tail, ready.as_slice(), form)?;
@@ -212,8 +210,7 @@ fn put_ready<A: Allocator>(
     ensures within { IfOk result (λ t. (length held.new.items ≤ form.cbs) × (t.cut ≤ tail.cut + length ready.now)) }
     ensures part { IfOk result (λ t. form.shape ≡ Unblock → length held.new.items < form.cbs) }
     ensures space { vec_capacity held.old ≤ vec_capacity held.new }
-    ensures next { (z : List ℕ) → Stands form.shape form.cbs z out.old.items held.old.items tail.over tail.cut →
-        IfOk result (λ t. Stands form.shape form.cbs (z ++ ready.now) out.new.items held.new.items t.over t.cut) }
+    ensures next { Takes form out.old.items out.new.items held.old.items held.new.items tail ready.now result }
 {
     let mut page = Page::direct(alloc, out.len() as u64);
     let next = match push_shaped(

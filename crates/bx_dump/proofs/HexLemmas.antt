@@ -10,7 +10,7 @@ use Rattle.std.proofs.lemmas.List.{length-map, get_or-map, ext_get_or}
 use lib.Lanes.{zip2, Each1, pick_l, sel_l, top}
 use Rattle.bx_text.specs.Dump.{pair_of, shown_byte}
 use Rattle.bx_dump.specs.inner.Cells.{piece_at}
-use Rattle.bx_dump.specs.Hexdump.{canon_columns}
+use Rattle.bx_dump.specs.inner.Hexdump.{canon_columns}
 use Rattle.bx_dump.proofs.LaneLemmas.{less, under, is_inside, inside_is}
 
 -- the upper and the lower half of each lane

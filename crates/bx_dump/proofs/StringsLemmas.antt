@@ -8,13 +8,14 @@ use Rattle.bx_text.proofs.RangeLemmas.{flat_map_along}
 use Rattle.std.specs.Prelude.{Option, None}
 use Rattle.std.proofs.lemmas.List.{take-append-le}
 use Rattle.bx_text.specs.declared.fault.IoFault.{IoFault}
-use Rattle.bx_dump.specs.Pages.{WritesFrontOf}
+use Rattle.bx_dump.specs.Pages.{WritesFrontBut}
 use Rattle.bx_dump.specs.inner.Dumped.{DumpsFrontBut}
 use Rattle.bx_dump.proofs.DumpLemmas.{cause_longer, keeps_along, front_whole}
 use Rattle.bx_dump.proofs.ScanLemmas.{both}
 use Rattle.bx_dump.specs.declared.od.options.Address.{Address}
 use Rattle.bx_text.specs.Ascii.{is_printable}
-use Rattle.bx_dump.specs.Strings.{place_text, is_run_start, line_at, runs_text, strings_text}
+use Rattle.bx_dump.specs.Strings.{place_text, is_run_start, line_at, strings_text}
+use Rattle.bx_dump.specs.inner.Strings.{runs_text}
 use Rattle.bx_dump.specs.inner.Scan.{scan_text, scan_run, grown_text, end_text}
 
 -- what a run that stands right before x leaves to be written
@@ -172,7 +173,7 @@ end_few least run = go (nat_le least (length run)) refl
 
 -- a front of what is known is a front of the whole
 pub front_known : (least : ℕ) (o : Address) (r0 r1 w0 w1 : Option (List ℕ)) (fault : IoFault) → 0 < least →
-    DumpsFrontBut 0 (scan_text least o 0 []) r0 r1 w0 w1 fault → WritesFrontOf (strings_text least o) 0 None r0 r1 w0 w1 fault
+    DumpsFrontBut 0 (scan_text least o 0 []) r0 r1 w0 w1 fault → WritesFrontBut (2 ^ 7) (strings_text least o) 0 None 0 0 r0 r1 w0 w1 fault
 front_known least o r0 r1 w0 w1 fault some d =
     let text = scan_text least o 0 [] d.0 in
     let tail = end_text least (scan_run [] d.0) in

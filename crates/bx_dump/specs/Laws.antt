@@ -3,7 +3,10 @@ use Rattle.std.specs.Prelude.{◌≡◌, ℕ, ◌+◌, ◌-◌, ◌*◌, ◌/◌
 use Rattle.std.specs.List.{flat_map, range_with_len}
 use Rattle.bx_dump.specs.Od.{value_of}
 use Rattle.bx_dump.specs.Rows.{items}
-use Rattle.bx_dump.specs.Styles.{include_items}
+use Rattle.bx_dump.specs.Styles.{include_items, styled}
+use Rattle.bx_dump.specs.Pages.{part_of}
+use Rattle.bx_dump.specs.declared.xxd.options.XxdStyle.{XxdStyle}
+use Rattle.bx_dump.specs.declared.xxd.options.XxdOptions.{XxdOptions}
 
 -- The value of bytes is the sum of each byte times 256 to the power of its place.
 abbrev pub ValueIsSum : Type 0
@@ -22,3 +25,7 @@ array_line cols bytes k =
 abbrev pub ItemsAreLines : Type 0
 ItemsAreLines = (cols : ℕ) (bytes : List ℕ) → 0 < cols →
     include_items cols bytes ≡ flat_map (array_line cols bytes) (range_with_len 0 (line_count cols (length bytes)))
+
+-- xxd's text of an input
+abbrev pub xxd_text : XxdStyle → XxdOptions → List ℕ → List ℕ
+xxd_text style o input = styled style o (part_of o.seek o.limit input)

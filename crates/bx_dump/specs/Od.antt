@@ -18,37 +18,27 @@ abbrev pub value_of : List ℕ → ℕ
 value_of [] = 0
 value_of (b ∷ bs) = b + 256 * value_of bs
 
--- how many bytes a value of this size has
-abbrev pub size_of : Size → ℕ
-size_of One = 1
-size_of Two = 2
-size_of Four = 4
-size_of Eight = 8
-
--- one, two, four and eight bytes, in this order
+-- of four numbers, that for values of one, two, four or eight bytes
 abbrev pub by_size : Size → ℕ → ℕ → ℕ → ℕ → ℕ
 by_size One a b c d = a
 by_size Two a b c d = b
 by_size Four a b c d = c
 by_size Eight a b c d = d
 
+-- how many bytes a value of this size has
+abbrev pub size_of : Size → ℕ
+size_of size = by_size size 1 2 4 8
+
 -- a value in two's complement, as text
 abbrev pub signed_text : ℕ → ℕ → List ℕ
 signed_text size v = if nat_lt v (2 ^ (8 * size - 1)) then digits 10 false v else 45 ∷ digits 10 false (2 ^ (8 * size) - v)
 
--- how wide the field of a value is
-abbrev pub number_width : NumForm → Size → ℕ
-number_width form.Hexadecimal size = by_size size 2 4 8 16
-number_width form.Octal size = by_size size 3 6 11 22
-number_width form.Unsigned size = by_size size 3 5 10 20
-number_width form.Signed size = by_size size 4 6 11 20
-
 -- a value, filled up to its width
 abbrev pub number_text : NumForm → Size → ℕ → List ℕ
-number_text form.Hexadecimal size v = left_filled 48 (number_width form.Hexadecimal size) (digits 16 false v)
-number_text form.Octal size v = left_filled 48 (number_width form.Octal size) (digits 8 false v)
-number_text form.Unsigned size v = left_filled 32 (number_width form.Unsigned size) (digits 10 false v)
-number_text form.Signed size v = left_filled 32 (number_width form.Signed size) (signed_text (size_of size) v)
+number_text form.Hexadecimal size v = left_filled 48 (by_size size 2 4 8 16) (digits 16 false v)
+number_text form.Octal size v = left_filled 48 (by_size size 3 6 11 22) (digits 8 false v)
+number_text form.Unsigned size v = left_filled 32 (by_size size 3 5 10 20) (digits 10 false v)
+number_text form.Signed size v = left_filled 32 (by_size size 4 6 11 20) (signed_text (size_of size) v)
 
 -- a byte as a character: by its name where it has one, itself where it prints, else in octal
 abbrev pub char_text : ℕ → List ℕ
@@ -61,11 +51,6 @@ char_text b =
 abbrev pub width_of : Kind → ℕ
 width_of Chars = 1
 width_of (Number form size) = size_of size
-
--- how wide its field is
-abbrev pub field_width : Kind → ℕ
-field_width Chars = 3
-field_width (Number form size) = number_width form size
 
 -- the field for the bytes of one value
 abbrev pub field_text : Kind → List ℕ → List ℕ

@@ -4,7 +4,7 @@ use Rattle.std.specs.Io.KnownBytes.{Consumes}
 use Rattle.bx_text.specs.declared.fault.IoFault.{IoFault}
 use Rattle.bx_text.specs.declared.fault.IoFault.TheVariants.{WriteFailed, SkipPastEnd}
 use Rattle.bx_dump.specs.Od.{od_text}
-use Rattle.bx_dump.specs.Pages.{WritesAll, WritesFrontOf, Skips, part_of}
+use Rattle.bx_dump.specs.Pages.{Dump, WritesFrontOf, Skips}
 use Rattle.bx_dump.specs.declared.od.options.OdOptions.{OdOptions}
 
 -- at least so many bytes were read
@@ -16,15 +16,10 @@ abbrev pub FailsBehind : ℕ → Option (List ℕ) → Option (List ℕ) → Opt
 FailsBehind count r0 r1 w0 w1 (WriteFailed written) = Reaches count r0 r1
 FailsBehind count r0 r1 w0 w1 fault = (w1 ≡ w0) ⊎ Reaches count r0 r1
 
--- the text of the bytes that the options ask for
-abbrev pub od_part : OdOptions → List ℕ → List ℕ
-od_part o input = od_text o.address o.kind o.all o.skip (part_of o.skip o.limit input)
-
--- it was written, for n bytes
-abbrev pub DumpsOd : OdOptions → Option (List ℕ) → Option (List ℕ) → Option (List ℕ) → Option (List ℕ) → ℕ → Type 0
-DumpsOd o r0 r1 w0 w1 n = WritesAll (od_part o) o.skip o.limit r0 r1 w0 w1 n
+-- the dump that the options ask for
+abbrev pub od_of : OdOptions → Dump
+od_of o = record { text = od_text o.address o.kind o.all o.skip; skip = o.skip; limit = o.limit }
 
 -- the input ended among the bytes to skip and nothing was written, or a front of the text was written
 abbrev pub StopsOd : OdOptions → Option (List ℕ) → Option (List ℕ) → Option (List ℕ) → Option (List ℕ) → IoFault → Type 0
-StopsOd o r0 r1 w0 w1 fault =
-    (fault ≡ SkipPastEnd) × Skips false o.skip r0 r1 × (w1 ≡ w0) ⊎ WritesFrontOf (od_part o) o.skip o.limit r0 r1 w0 w1 fault
+StopsOd o r0 r1 w0 w1 fault = (fault ≡ SkipPastEnd) × Skips false o.skip r0 r1 × (w1 ≡ w0) ⊎ WritesFrontOf (od_of o) r0 r1 w0 w1 fault

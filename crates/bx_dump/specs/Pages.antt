@@ -4,6 +4,12 @@ use Rattle.std.specs.Io.KnownBytes.{Appends, Consumes, IsAtEnd}
 use Rattle.bx_text.specs.declared.fault.IoFault.{IoFault}
 use Rattle.bx_dump.specs.Dumped.{IsDumpFault, KeepsUp}
 
+-- A dump: the text that it makes of bytes, the place from which it is asked for those of an input, and how many at most.
+pub record Dump : Type 0 where
+  pub text : List ℕ → List ℕ
+  pub skip : ℕ
+  pub limit : Option ℕ
+
 -- at most so many of the bytes
 abbrev pub capped : Option ℕ → List ℕ → List ℕ
 capped None bytes = bytes
@@ -28,9 +34,9 @@ pub record WritesPart (text : List ℕ → List ℕ) (skip : ℕ) (limit : Optio
   pub appended : Appends w0 w1 (text input)
   pub long : length (text input) ≡ written
 
--- the whole text was written, of n bytes of the part
-abbrev pub WritesAll : (List ℕ → List ℕ) → ℕ → Option ℕ → Option (List ℕ) → Option (List ℕ) → Option (List ℕ) → Option (List ℕ) → ℕ → Type 0
-WritesAll text skip limit r0 r1 w0 w1 n = (written : ℕ) × WritesPart text skip limit r0 r1 w0 w1 n written
+-- the whole text of the part was written, which has n bytes
+abbrev pub WritesAll : Dump → Option (List ℕ) → Option (List ℕ) → Option (List ℕ) → Option (List ℕ) → ℕ → Type 0
+WritesAll d r0 r1 w0 w1 n = (written : ℕ) × WritesPart (λ input. d.text (part_of d.skip d.limit input)) d.skip d.limit r0 r1 w0 w1 n written
 
 -- Some input was read after `from` bytes, no more of it than skip and limit ask for, and a front of its text was written
 -- after `before` bytes, which the fault counts too; reading is no more than a block ahead.
@@ -44,9 +50,9 @@ pub record WritesFrontBut (slack : ℕ) (text : List ℕ → List ℕ) (skip : �
   pub cause : IsDumpFault fault (from + length input) (before + written) (before + length (text input))
   pub ahead : KeepsUp slack text input written fault
 
--- The same before any other byte, where what a text ends with has no more than 2^7 bytes.
-abbrev pub WritesFrontOf : (List ℕ → List ℕ) → ℕ → Option ℕ → Option (List ℕ) → Option (List ℕ) → Option (List ℕ) → Option (List ℕ) → IoFault → Type 0
-WritesFrontOf text skip limit r0 r1 w0 w1 fault = WritesFrontBut (2 ^ 7) text skip limit 0 0 r0 r1 w0 w1 fault
+-- A front of the text of the part was written, before any other byte. What a text ends with has no more than 2^7 bytes.
+abbrev pub WritesFrontOf : Dump → Option (List ℕ) → Option (List ℕ) → Option (List ℕ) → Option (List ℕ) → IoFault → Type 0
+WritesFrontOf d r0 r1 w0 w1 fault = WritesFrontBut (2 ^ 7) (λ input. d.text (part_of d.skip d.limit input)) d.skip d.limit 0 0 r0 r1 w0 w1 fault
 
 -- Bytes were skipped: all that were asked for, or fewer up to the input's end.
 pub record Skips (all : Bool) (count : ℕ) (r0 r1 : Option (List ℕ)) : Type 0 where

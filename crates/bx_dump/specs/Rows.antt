@@ -11,14 +11,10 @@ plain_line upper at bytes = flat_map (pair_of upper) bytes ++ codes "\n"
 abbrev pub item : ℕ → List ℕ
 item b = codes "0x" ++ pair_of false b
 
--- an item that follows another on its line
-abbrev pub next_item : ℕ → List ℕ
-next_item b = codes ", " ++ item b
-
--- items on a line
+-- items on a line, a comma between two
 abbrev pub items : List ℕ → List ℕ
 items [] = []
-items (b ∷ bs) = item b ++ flat_map next_item bs
+items (b ∷ bs) = item b ++ flat_map (λ c. codes ", " ++ item c) bs
 
 -- A line of items and what stands in front of it: a comma and a newline end the line before, which the first line has not.
 abbrev pub include_line : ℕ → List ℕ → List ℕ

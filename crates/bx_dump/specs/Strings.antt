@@ -1,10 +1,9 @@
 -- The printable runs of an input, and the text of strings (POSIX strings).
-use Rattle.std.specs.Prelude.{ℕ, zero, suc, ◌+◌, Bool, false, ◌&&◌, not, nat_le, if◌then◌else◌, List, [], ◌++◌, length, take, drop, slice_index, codes, Option, None}
+use Rattle.std.specs.Prelude.{ℕ, zero, suc, ◌+◌, Bool, false, ◌&&◌, not, nat_le, if◌then◌else◌, List, [], ◌++◌, length, take, drop, slice_index, codes, None}
 use Rattle.std.specs.List.{flat_map, range_with_len, prefix_len}
 use Rattle.std.specs.Fmt.{digits}
 use Rattle.bx_text.specs.Ascii.{is_printable}
-use Rattle.bx_text.specs.declared.fault.IoFault.{IoFault}
-use Rattle.bx_dump.specs.Pages.{WritesAll, WritesFrontOf}
+use Rattle.bx_dump.specs.Pages.{Dump}
 use Rattle.bx_dump.specs.declared.strings.options.StringsOptions.{StringsOptions}
 use Rattle.bx_dump.specs.declared.od.options.Address.{Address}
 use Rattle.bx_dump.specs.declared.od.options.Address.TheVariants.{Octal, Decimal, Hexadecimal, Without}
@@ -30,18 +29,10 @@ abbrev pub line_at : ℕ → Address → Bool → ℕ → List ℕ → ℕ → L
 line_at least offsets before first x a =
     if is_run_start before x a && nat_le least (length (run_at x a)) then place_text offsets (first + a) ++ (run_at x a ++ codes "\n") else []
 
--- the lines of the runs that begin in bytes which stand from place `first` on
-abbrev pub runs_text : ℕ → Address → Bool → ℕ → List ℕ → List ℕ
-runs_text least offsets before first x = flat_map (line_at least offsets before first x) (range_with_len 0 (length x))
-
 -- all maximal runs of at least so many printable bytes, by rising place, each on a line
 abbrev pub strings_text : ℕ → Address → List ℕ → List ℕ
-strings_text least offsets x = runs_text least offsets false 0 x
+strings_text least offsets x = flat_map (line_at least offsets false 0 x) (range_with_len 0 (length x))
 
--- all the input was read, of n bytes, and the text of its runs written
-abbrev pub DumpsStrings : StringsOptions → Option (List ℕ) → Option (List ℕ) → Option (List ℕ) → Option (List ℕ) → ℕ → Type 0
-DumpsStrings o r0 r1 w0 w1 n = WritesAll (strings_text o.least o.offsets) 0 None r0 r1 w0 w1 n
-
--- some input was read, and a front of its text written
-abbrev pub StopsStrings : StringsOptions → Option (List ℕ) → Option (List ℕ) → Option (List ℕ) → Option (List ℕ) → IoFault → Type 0
-StopsStrings o r0 r1 w0 w1 fault = WritesFrontOf (strings_text o.least o.offsets) 0 None r0 r1 w0 w1 fault
+-- the dump that the options ask for
+abbrev pub strings_of : StringsOptions → Dump
+strings_of o = record { text = strings_text o.least o.offsets; skip = 0; limit = None }

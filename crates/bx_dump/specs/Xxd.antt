@@ -16,19 +16,10 @@ abbrev pub cell_width : Digits → ℕ
 cell_width (Hexadecimal upper) = 2
 cell_width Binary = 8
 
--- where the digits of byte i stand: one space after each group
-abbrev pub columns_place : ℕ → ℕ → ℕ → ℕ
-columns_place width group i = width * i + i / group
-
--- how wide the field is for lines of `cols` bytes
-abbrev pub columns_width : ℕ → ℕ → ℕ → ℕ
-columns_width width cols group = width * cols + (cols + group - 1) / group
-
--- the digits of the bytes, each at its place
-abbrev pub columns : Digits → ℕ → List ℕ → ℕ → List ℕ
-columns digits group bytes width = laid_out (columns_place (cell_width digits) group) (λ i. cell_of digits (slice_index bytes i)) (length bytes) width
-
--- a line: the address, the digits of the bytes, and the bytes as text
+-- A line: the address, the digits of the bytes, one space after each group, in a field for `cols` bytes, and the bytes as text.
 abbrev pub columns_line : Digits → ℕ → ℕ → ℕ → List ℕ → List ℕ
 columns_line digits cols group at bytes =
-    hex_text false 8 at ++ codes ": " ++ columns digits group bytes (columns_width (cell_width digits) cols group) ++ codes " " ++ map shown_byte bytes ++ codes "\n"
+    hex_text false 8 at ++ codes ": "
+    ++ laid_out (λ i. cell_width digits * i + i / group) (λ i. cell_of digits (slice_index bytes i)) (length bytes)
+    (cell_width digits * cols + (cols + group - 1) / group)
+    ++ codes " " ++ map shown_byte bytes ++ codes "\n"

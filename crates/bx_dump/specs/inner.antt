@@ -7,3 +7,10 @@ pub mod Pages
 pub mod Runs
 pub mod Scan
 pub mod XxdDump
+pub mod Hexdump
+pub mod Styles
+pub mod Rows
+pub mod Xxd
+pub mod Strings
+pub mod Od
+pub mod Folded

@@ -4,7 +4,7 @@ ghost use Rattle.std.specs.Fmt.{digit_glyph};
 ghost use Rattle.std.specs.List.{flat_map, range_with_len};
 ghost use Rattle.bx_text.specs.Dump.{pair_of, shown_byte};
 ghost use Rattle.bx_dump.specs.inner.Cells.{piece_at};
-ghost use Rattle.bx_dump.specs.Hexdump.{canon_columns};
+ghost use Rattle.bx_dump.specs.inner.Hexdump.{canon_columns};
 
 use bx_text::put_text;
 use std::simd::prelude::*;

@@ -1,6 +1,8 @@
 //! hexdump -C.
 ghost use Rattle.std.specs.Prelude.{◌≡◌, ℕ, ◌+◌, ◌-◌, ◌*◌, ◌/◌, ◌<◌, ◌≤◌, ◌^◌, length, IfOk, IfErr};
-ghost use Rattle.bx_dump.specs.Hexdump.{canon_columns, canon_place, canon_line, canon_end, DumpsHexdump, StopsHexdump};
+ghost use Rattle.bx_dump.specs.Hexdump.{canon_line, hexdump_of};
+ghost use Rattle.bx_dump.specs.Pages.{WritesAll, WritesFrontOf};
+ghost use Rattle.bx_dump.specs.inner.Hexdump.{canon_columns, canon_end};
 
 mod options;
 
@@ -108,8 +110,8 @@ pub fn hexdump_c<R: Read, W: Write>(
     w: &mut W,
     o: &HexdumpOptions,
 ) -> Result<u64, IoFault>
-    ensures ok { IfOk result (DumpsHexdump o.now (R.remaining r.old) (R.remaining r.new) (W.contents w.old) (W.contents w.new)) }
-    ensures err { IfErr result (StopsHexdump o.now (R.remaining r.old) (R.remaining r.new) (W.contents w.old) (W.contents w.new)) }
+    ensures ok { IfOk result (WritesAll (hexdump_of o.now) (R.remaining r.old) (R.remaining r.new) (W.contents w.old) (W.contents w.new)) }
+    ensures err { IfErr result (WritesFrontOf (hexdump_of o.now) (R.remaining r.old) (R.remaining r.new) (W.contents w.old) (W.contents w.new)) }
 {
     let mut pages = FoldedPages::new(CanonLines, o.all, o.skip);
     let lines = match dump_part(r, w, &mut pages, o.skip, o.limit, 0) {

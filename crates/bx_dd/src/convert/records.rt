@@ -1,9 +1,8 @@
 //! Records of a stream.
 ghost use Rattle.std.specs.Prelude.{◌≡◌, ◌≢◌, ℕ, ◌+◌, ◌-◌, ◌*◌, ◌^◌, ◌<◌, ◌≤◌, List, [], ◌∷◌, ◌++◌, length, take, vec_capacity, Option, IfOk, IfErr, OnOk, Bool, false, slice_index};
 ghost use Rattle.bx_dd.specs.Output.{fitted, line_of};
-ghost use Rattle.bx_dd.specs.Standing.{Stands};
-ghost use Rattle.bx_dd.specs.inner.Standing.{last_of};
-ghost use Rattle.bx_dd.specs.inner.Paged.{FlowsBy, Pushes, PushesPieces, Puts, StopsPieces, StopsPush, StopsPut};
+ghost use Rattle.bx_dd.specs.inner.Standing.{HoldsText, last_of};
+ghost use Rattle.bx_dd.specs.inner.Paged.{EndsRecord, Pushes, PushesPieces, Puts, StopsPieces, StopsPush, StopsPut};
 ghost use Rattle.bx_dd.specs.declared.convert.form.Shape.TheVariants.{Flat, Block, Unblock};
 
 use crate::convert::form::{Form, Shape};
@@ -107,8 +106,7 @@ fn hold<A: Allocator>(held: &mut Vec<u8, A>, over: bool, text: &[u8], size: usiz
     requires space { size ≤ vec_capacity held.old }
     ensures within { length held.new.items ≤ size }
     ensures space { vec_capacity held.old ≤ vec_capacity held.new }
-    ensures next { (z out : List ℕ) (cut : ℕ) → ((k : ℕ) → k < length text.now → slice_index text.now k ≢ 10) →
-        Stands Block size z out held.old.items over cut → Stands Block size (z ++ text.now) out held.new.items result cut }
+    ensures next { HoldsText size held.old.items held.new.items over result text.now }
 {
     let room = size - held.len();
     if text.len() <= room {
@@ -134,8 +132,7 @@ fn end_record<W: Write, A: Allocator, B: Allocator>(
     requires few { cut < 2 ^ 64 - 1 }
     ensures within { IfOk result (λ n. (held.new.items ≡ []) × (n ≤ cut + 1)) }
     ensures space { vec_capacity held.old ≤ vec_capacity held.new }
-    ensures ok { (z : List ℕ) (start : Option (List ℕ)) → FlowsBy Block size start (W.contents w.old) z page.old held.old.items over cut →
-        IfOk result (FlowsBy Block size start (W.contents w.new) (z ++ 10 ∷ []) page.new held.new.items false) }
+    ensures ok { EndsRecord size (W.contents w.old) (W.contents w.new) page.old page.new held.old.items held.new.items over cut result }
     ensures err { StopsPush Block size (W.contents w.old) (W.contents w.new) page.old held.old.items over cut (10 ∷ []) result }
 {
     match push_fitted(page, w, held.as_slice(), size) {

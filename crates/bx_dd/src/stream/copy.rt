@@ -1,15 +1,11 @@
 //! A copy to a writer, written as it is read.
 ghost use Rattle.std.specs.Prelude.{◌≡◌, ◌≢◌, ℕ, ◌+◌, ◌-◌, ◌*◌, ◌^◌, ◌<◌, ◌≤◌, List, [], ◌++◌, length, take, vec_capacity, true, false, Option, IfOk, IfErr, OnOk, if◌then◌else◌};
-ghost use Rattle.std.specs.Io.KnownBytes.{Appends};
-ghost use Rattle.bx_text.specs.Writing.{WritesFront};
 ghost use Rattle.std.specs.Option.{ForSome};
-ghost use Rattle.bx_dd.specs.Counting.{counts_of};
 ghost use Rattle.bx_dd.specs.Plan.{form_of};
-ghost use Rattle.bx_dd.specs.Output.{converted, cut_records, joined};
-ghost use Rattle.bx_dd.specs.Standing.{HasSizes};
+ghost use Rattle.bx_dd.specs.inner.Standing.{HasSizes};
 ghost use Rattle.bx_dd.specs.Streaming.{IsCopy, StopsCopy};
-ghost use Rattle.bx_dd.specs.inner.Paged.{PassesBy, StageBy, StopsStageOf};
-ghost use Rattle.bx_dd.specs.inner.Streaming.{CopiesRest, Goes, StopsPass, Skips, StopsSkip, most_of, unit_of};
+ghost use Rattle.bx_dd.specs.inner.Paged.{CountsAll, Finishes, Flushes, GoesOn, PassesBy, StopsFinish, StopsFlush, StopsStageOf};
+ghost use Rattle.bx_dd.specs.inner.Streaming.{CopiesRest, StopsPass, Skips, StopsSkip, most_of, unit_of};
 ghost use Rattle.bx_dd.specs.declared.convert.form.Shape.TheVariants.{Flat, Unblock};
 
 use crate::convert::form::Form;
@@ -170,9 +166,7 @@ fn copy_rest<R: Read, W: Write, A: Allocator, B: Allocator>(
 fn counts(form: Form, read: u64, written: u64, tail: Tail) -> Counts
     requires sizes { HasSizes form }
     requires few { tail.cut ≤ 2 ^ 42 }
-    ensures counts { (input : List ℕ) → read ≡ length input → written ≡ length (converted form input) →
-        (if tail.over then tail.cut + 1 else tail.cut) ≡ cut_records form.shape form.cbs (joined form input) →
-        result ≡ counts_of form input }
+    ensures counts { CountsAll form read written tail result }
 {
     Counts {
         whole_in: read / form.ibs,
@@ -231,9 +225,7 @@ fn pass<W: Write, A: Allocator, B: Allocator>(
     ensures within { IfOk result (λ t. (length held.new.items ≤ form.cbs) × (t.tail.cut + t.have ≤ tail.cut + got) × (t.have < unit_of form)) }
     ensures part { IfOk result (λ t. form.shape ≡ Unblock → length held.new.items < form.cbs) }
     ensures space { vec_capacity held.old ≤ vec_capacity held.new }
-    ensures ok { (input : List ℕ) (start : Option (List ℕ)) →
-        StageBy form start (W.contents w.old) input (take got buf.old) page.old held.old.items tail →
-        IfOk result (λ t. StageBy form start (W.contents w.new) input (take t.have buf.new) page.new held.new.items t.tail) }
+    ensures ok { GoesOn form (W.contents w.old) (W.contents w.new) (take got buf.old) buf.new page.old page.new held.old.items held.new.items tail result }
     ensures err { StopsStageOf form (W.contents w.old) (W.contents w.new) (take got buf.old) page.old held.old.items tail result }
 {
     let whole = got - got % unit_len(form);
@@ -260,10 +252,8 @@ fn pass<W: Write, A: Allocator, B: Allocator>(
 
 /// Writes what waits, where the input paused.
 fn pause<W: Write, B: Allocator>(page: &mut Page<B>, w: &mut W, paused: bool) -> Result<(), IoFault>
-    ensures ok { (start : Option (List ℕ)) (text : List ℕ) → Goes start (W.contents w.old) page.old.bytes.items page.old.written text →
-        OnOk result (Goes start (W.contents w.new) page.new.bytes.items page.new.written text) }
-    ensures err { (start : Option (List ℕ)) (text : List ℕ) → Goes start (W.contents w.old) page.old.bytes.items page.old.written text →
-        IfErr result (WritesFront 0 start (W.contents w.new) text) }
+    ensures ok { Flushes (W.contents w.old) (W.contents w.new) page.old page.new result }
+    ensures err { StopsFlush (W.contents w.old) (W.contents w.new) page.old result }
 {
     if paused {
         return page.flush(w);
@@ -288,13 +278,8 @@ fn finish<W: Write, A: Allocator, B: Allocator>(
     requires part { form.shape ≡ Unblock → length held.old.items < form.cbs }
     requires cut { turn.tail.cut ≤ 2 ^ 41 }
     ensures cut { IfOk result (λ t. t.cut ≤ 2 ^ 42) }
-    ensures ok { (input : List ℕ) (start : Option (List ℕ)) →
-        StageBy form start (W.contents w.old) input (take turn.have buf.old) page.old held.old.items turn.tail →
-        IfOk result (λ t. Appends start (W.contents w.new) (converted form input) × (page.new.written ≡ length (converted form input))
-        × ((if t.over then t.cut + 1 else t.cut) ≡ cut_records form.shape form.cbs (joined form input))) }
-    ensures err { (input : List ℕ) (start : Option (List ℕ)) →
-        StageBy form start (W.contents w.old) input (take turn.have buf.old) page.old held.old.items turn.tail →
-        IfErr result (WritesFront 0 start (W.contents w.new) (converted form input)) }
+    ensures ok { Finishes form (W.contents w.old) (W.contents w.new) (take turn.have buf.old) page.old page.new held.old.items turn.tail result }
+    ensures err { StopsFinish form (W.contents w.old) (W.contents w.new) (take turn.have buf.old) page.old held.old.items turn.tail result }
 {
     let n = turn_last(buf, turn.have, form);
     let tail = match push_shaped(

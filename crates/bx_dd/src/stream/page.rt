@@ -2,7 +2,6 @@
 ghost use Rattle.std.specs.Prelude.{◌≡◌, ℕ, ◌+◌, ◌^◌, ◌<◌, ◌≤◌, List, [], ◌++◌, length, replicate, vec_capacity, Option, IfOk, IfErr, OnOk};
 ghost use Rattle.std.specs.Io.KnownBytes.{Appends};
 ghost use Rattle.bx_text.specs.Writing.{WritesFront};
-ghost use Rattle.bx_dd.specs.inner.Streaming.{Goes};
 
 use bx_text::{IoFault, emit_after};
 use std::alloc::{Allocator, Global};
@@ -25,6 +24,8 @@ pub struct Page<A: Allocator = Global> {
 }
 
 impl<A: Allocator> Page<A> {
+    ghost use Rattle.bx_dd.specs.inner.Paged.{Flushes, Puts, StopsFlush, StopsPut};
+
     /// A page without room, after so many bytes that went out: what is put goes out at once.
     pub fn direct(alloc: A, written: u64) -> Page<A>
         requires { written ≤ 9223372036854775808 }
@@ -39,10 +40,8 @@ impl<A: Allocator> Page<A> {
 
     /// Puts bytes behind what waits. A page that has no room for them goes out first.
     pub fn put<W: Write>(&mut self, w: &mut W, bytes: &[u8]) -> Result<(), IoFault>
-        ensures ok { (start : Option (List ℕ)) (text : List ℕ) → Goes start (W.contents w.old) self.old.bytes.items self.old.written text →
-            OnOk result (Goes start (W.contents w.new) self.new.bytes.items self.new.written (text ++ bytes.now)) }
-        ensures err { (start : Option (List ℕ)) (text : List ℕ) → Goes start (W.contents w.old) self.old.bytes.items self.old.written text →
-            IfErr result (WritesFront 0 start (W.contents w.new) (text ++ bytes.now)) }
+        ensures ok { Puts (W.contents w.old) (W.contents w.new) self.old self.new bytes.now result }
+        ensures err { StopsPut (W.contents w.old) (W.contents w.new) self.old bytes.now result }
     {
         if self.bytes.len() + bytes.len() < self.bytes.capacity() {
             keep(&mut self.bytes, bytes);
@@ -68,10 +67,8 @@ impl<A: Allocator> Page<A> {
     /// Writes what waits.
     pub fn flush<W: Write>(&mut self, w: &mut W) -> Result<(), IoFault>
         ensures none { OnOk result (self.new.bytes.items ≡ []) }
-        ensures ok { (start : Option (List ℕ)) (text : List ℕ) → Goes start (W.contents w.old) self.old.bytes.items self.old.written text →
-            OnOk result (Goes start (W.contents w.new) self.new.bytes.items self.new.written text) }
-        ensures err { (start : Option (List ℕ)) (text : List ℕ) → Goes start (W.contents w.old) self.old.bytes.items self.old.written text →
-            IfErr result (WritesFront 0 start (W.contents w.new) text) }
+        ensures ok { Flushes (W.contents w.old) (W.contents w.new) self.old self.new result }
+        ensures err { StopsFlush (W.contents w.old) (W.contents w.new) self.old result }
     {
         match send(w, self.written, self.bytes.as_slice()) {
             Ok(written) => {
@@ -85,10 +82,8 @@ impl<A: Allocator> Page<A> {
 
     /// Puts so many spaces.
     pub fn put_spaces<W: Write>(&mut self, w: &mut W, count: usize) -> Result<(), IoFault>
-        ensures ok { (start : Option (List ℕ)) (text : List ℕ) → Goes start (W.contents w.old) self.old.bytes.items self.old.written text →
-            OnOk result (Goes start (W.contents w.new) self.new.bytes.items self.new.written (text ++ replicate count 32)) }
-        ensures err { (start : Option (List ℕ)) (text : List ℕ) → Goes start (W.contents w.old) self.old.bytes.items self.old.written text →
-            IfErr result (WritesFront 0 start (W.contents w.new) (text ++ replicate count 32)) }
+        ensures ok { Puts (W.contents w.old) (W.contents w.new) self.old self.new (replicate count 32) result }
+        ensures err { StopsPut (W.contents w.old) (W.contents w.new) self.old (replicate count 32) result }
     {
         let spaces = [b' '; SPACES];
         let mut done = 0;

@@ -3,8 +3,8 @@ ghost use Rattle.std.specs.Prelude.{◌≡◌, ℕ, ◌+◌, ◌-◌, ◌*◌, �
 ghost use Rattle.std.specs.Io.KnownBytes.{Consumes, IsAtEnd};
 ghost use Rattle.bx_text.specs.Stream.{IsReadCause};
 ghost use Rattle.bx_dd.specs.Standing.{IsAfter};
-ghost use Rattle.bx_dd.specs.Transfer.{HasStopped, IsStopCause, IsTransfer};
-ghost use Rattle.bx_dd.specs.inner.Transfer.{HasRead, ReadsWithin, StopsWithin};
+ghost use Rattle.bx_dd.specs.Transfer.{Copies, HasStopped, IsStopCause, IsWithin};
+ghost use Rattle.bx_dd.specs.inner.Transfer.{ReadsBlocks, StopsWithin, TakesBlocks};
 
 use crate::convert::Convert;
 use crate::fault::DdFault;
@@ -26,9 +26,10 @@ pub fn transfer<R: Read, A: Allocator + Clone, P: Allocator>(
     r: &mut R,
     plan: &Plan<P>,
 ) -> Result<Transfer<A>, DdFault>
-    ensures ok { IfOk result (λ t. IsTransfer plan.now (R.remaining r.old) (R.remaining r.new) t) }
+    ensures ok { IfOk result (λ t. Copies plan.now (R.remaining r.old) (R.remaining r.new) t.bytes t.counts) }
     ensures err { IfErr result (λ e. HasStopped (R.remaining r.old) (R.remaining r.new) (2 ^ 40) e) }
-    ensures within { OnErr result (ReadsWithin plan.now (R.remaining r.old) (R.remaining r.new)) }
+    ensures within { OnErr result ((x : List ℕ) × Consumes (R.remaining r.old) (R.remaining r.new) x
+        × IsWithin plan.now.ibs plan.now.skip plan.now.count x) }
 {
     let mut block = vec![in alloc.clone()?; 0u8; plan.ibs as usize]?;
     let mut meter = Meter::new(LIMIT);
@@ -79,8 +80,7 @@ fn skip_blocks<R: Read>(
 ) -> Result<(), DdFault>
     requires { meter.old.state ≡ State.Open }
     ensures limit { meter.new.limit ≡ meter.old.limit }
-    ensures read { OnOk result ((input : List ℕ) × HasRead (R.remaining r.old) (R.remaining r.new) skip (length block.old) meter.new.state input
-        × (meter.new.taken ≡ meter.old.taken + length input)) }
+    ensures read { OnOk result (ReadsBlocks (R.remaining r.old) (R.remaining r.new) skip (length block.old) meter.old meter.new) }
     ensures stopped { IfErr result (λ e. StopsWithin (skip * length block.old) (R.remaining r.old) (R.remaining r.new) (meter.old.limit - meter.old.taken) e) }
 {
     for _i in 0..skip {
@@ -106,9 +106,7 @@ fn take_blocks<R: Read, A: Allocator>(
     requires ready { (meter.old.state ≡ State.Open) ⊎ ((meter.old.state ≡ State.Ended) × IsAtEnd (R.remaining r.old)) }
     ensures form { IfOk result (λ c. c.form ≡ convert.form) }
     ensures limit { meter.new.limit ≡ meter.old.limit }
-    ensures read { IfOk result (λ c. (input : List ℕ) × IsAfter input c
-        × HasRead (R.remaining r.old) (R.remaining r.new) count (length block.old) meter.new.state input
-        × (meter.new.taken ≡ meter.old.taken + length input)) }
+    ensures read { IfOk result (TakesBlocks (R.remaining r.old) (R.remaining r.new) count (length block.old) meter.old meter.new) }
     ensures none_left { meter.old.state ≡ State.Ended → IfOk result (λ c. (c.taken ≡ 0) × (meter.new.state ≡ State.Ended)) }
     ensures stopped { IfErr result (λ e. StopsWithin (count * length block.old) (R.remaining r.old) (R.remaining r.new) (meter.old.limit - meter.old.taken) e) }
 {

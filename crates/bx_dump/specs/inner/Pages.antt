@@ -1,5 +1,5 @@
 -- What proofs alone need: what a dump of a part of an input reads and writes.
-use Rattle.std.specs.Prelude.{◌≡◌, ℕ, ◌+◌, ◌^◌, ◌≤◌, ◌⊎◌, List, length, Option, None, Some}
+use Rattle.std.specs.Prelude.{◌≡◌, ℕ, ◌+◌, ◌^◌, ◌≤◌, ◌⊎◌, List, length, Option, None, Some, Result, IfOk, IfErr}
 use Rattle.std.specs.Io.KnownBytes.{Appends, Consumes, IsAtEnd}
 use Rattle.bx_text.specs.declared.fault.IoFault.{IoFault}
 use Rattle.bx_text.specs.Stream.{IsReadCause}
@@ -29,6 +29,13 @@ WritesNext text from limit r0 r1 w0 w1 part = WritesRest text from limit r0 r1 w
 abbrev pub StopsNext : (List ℕ → List ℕ) → ℕ → Option ℕ → ℕ → Option (List ℕ) → Option (List ℕ) → Option (List ℕ) → Option (List ℕ) → IoFault → Type 0
 StopsNext text from limit before r0 r1 w0 w1 fault = WritesFrontBut 0 (λ input. text (capped limit input)) 0 limit from before r0 r1 w0 w1 fault
 
+-- the same of what was answered
+abbrev pub WritesOn : (List ℕ → List ℕ) → ℕ → Option ℕ → Option (List ℕ) → Option (List ℕ) → Option (List ℕ) → Option (List ℕ) → Result Part IoFault → Type 0
+WritesOn text from limit r0 r1 w0 w1 outcome = IfOk outcome (WritesNext text from limit r0 r1 w0 w1)
+
+abbrev pub StopsOn : (List ℕ → List ℕ) → ℕ → Option ℕ → ℕ → Option (List ℕ) → Option (List ℕ) → Option (List ℕ) → Option (List ℕ) → Result Part IoFault → Type 0
+StopsOn text from limit before r0 r1 w0 w1 outcome = IfErr outcome (StopsNext text from limit before r0 r1 w0 w1)
+
 -- the text of the part was written
 abbrev pub WritesTextOf : (List ℕ → List ℕ) → ℕ → Option ℕ → Option (List ℕ) → Option (List ℕ) → Option (List ℕ) → Option (List ℕ) → Part → Type 0
 WritesTextOf text skip limit r0 r1 w0 w1 part = WritesPart (λ input. text (part_of skip limit input)) skip limit r0 r1 w0 w1 part.read part.written
@@ -36,6 +43,10 @@ WritesTextOf text skip limit r0 r1 w0 w1 part = WritesPart (λ input. text (part
 -- a front of it was written, after `before` bytes of other texts
 abbrev pub StopsTextOf : ℕ → (List ℕ → List ℕ) → ℕ → Option ℕ → ℕ → Option (List ℕ) → Option (List ℕ) → Option (List ℕ) → Option (List ℕ) → IoFault → Type 0
 StopsTextOf slack text skip limit before r0 r1 w0 w1 fault = WritesFrontBut slack (λ input. text (part_of skip limit input)) skip limit 0 before r0 r1 w0 w1 fault
+
+-- the same of what was answered
+abbrev pub StopsPart : (List ℕ → List ℕ) → ℕ → Option ℕ → ℕ → Option (List ℕ) → Option (List ℕ) → Option (List ℕ) → Option (List ℕ) → Result Part IoFault → Type 0
+StopsPart text skip limit before r0 r1 w0 w1 outcome = IfErr outcome (StopsTextOf 0 text skip limit before r0 r1 w0 w1)
 
 -- Some bytes were read of `wanted` that were asked for, and then no more could be.
 pub record StopsAt (wanted room : ℕ) (r0 r1 : Option (List ℕ)) (fault : IoFault) : Type 0 where

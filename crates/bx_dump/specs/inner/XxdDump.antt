@@ -1,9 +1,11 @@
 -- What proofs alone need: what a dump of xxd leaves, where `text` stands for the bytes of the part that the options ask for.
-use Rattle.std.specs.Prelude.{ℕ, ◌^◌, List, Option}
+use Rattle.std.specs.Prelude.{ℕ, ◌^◌, List, Option, Result, IfErr}
 use Rattle.bx_text.specs.declared.fault.IoFault.{IoFault}
 use Rattle.bx_dump.specs.Lines.{in_lines}
+use Rattle.bx_dump.specs.Styles.{include_items, styled}
 use Rattle.bx_dump.specs.inner.Pages.{WritesTextOf, StopsTextOf}
 use Rattle.bx_dump.specs.declared.driver.pages.Part.{Part}
+use Rattle.bx_dump.specs.declared.xxd.options.XxdStyle.{XxdStyle}
 use Rattle.bx_dump.specs.declared.xxd.options.XxdOptions.{XxdOptions}
 
 -- the text was written
@@ -23,5 +25,17 @@ abbrev pub WritesLines : (ℕ → List ℕ → List ℕ) → ℕ → ℕ → Xxd
 WritesLines line cols at o r0 r1 w0 w1 part = WritesText (in_lines line cols at) o r0 r1 w0 w1 part
 
 -- and where they stop
-abbrev pub StopsLines : (ℕ → List ℕ → List ℕ) → ℕ → ℕ → XxdOptions → ℕ → Option (List ℕ) → Option (List ℕ) → Option (List ℕ) → Option (List ℕ) → IoFault → Type 0
-StopsLines line cols at o before r0 r1 w0 w1 fault = StopsText 0 (in_lines line cols at) o before r0 r1 w0 w1 fault
+abbrev pub StopsLines : (ℕ → List ℕ → List ℕ) → ℕ → ℕ → XxdOptions → ℕ → Option (List ℕ) → Option (List ℕ) → Option (List ℕ) → Option (List ℕ) → Result Part IoFault → Type 0
+StopsLines line cols at o before r0 r1 w0 w1 outcome = IfErr outcome (StopsText 0 (in_lines line cols at) o before r0 r1 w0 w1)
+
+-- where items stop
+abbrev pub StopsItems : XxdOptions → ℕ → Option (List ℕ) → Option (List ℕ) → Option (List ℕ) → Option (List ℕ) → Result Part IoFault → Type 0
+StopsItems o before r0 r1 w0 w1 outcome = IfErr outcome (StopsText (2 ^ 6) (include_items o.cols) o before r0 r1 w0 w1)
+
+-- the text of a style was written
+abbrev pub WritesStyle : XxdStyle → XxdOptions → Option (List ℕ) → Option (List ℕ) → Option (List ℕ) → Option (List ℕ) → Part → Type 0
+WritesStyle style o r0 r1 w0 w1 part = WritesText (styled style o) o r0 r1 w0 w1 part
+
+-- and where it stops
+abbrev pub StopsStyle : XxdStyle → XxdOptions → Option (List ℕ) → Option (List ℕ) → Option (List ℕ) → Option (List ℕ) → IoFault → Type 0
+StopsStyle style o r0 r1 w0 w1 fault = StopsFront (styled style o) o r0 r1 w0 w1 fault

@@ -1,7 +1,8 @@
 //! Dumps of whole inputs, a page at a time.
 ghost use Rattle.std.specs.Prelude.{◌≡◌, ℕ, zero, suc, ◌+◌, ◌*◌, ◌/◌, ◌^◌, ◌<◌, ◌≤◌, Bool, true, false, List, [], ◌++◌, length, take, IsTrue, if◌then◌else◌};
-ghost use Rattle.bx_text.specs.Fold.{line_bytes, line_count, line_text, lines_to, folded, show_at};
+ghost use Rattle.bx_text.specs.Fold.{line_count, folded};
 ghost use Rattle.bx_text.specs.inner.Fold.{IsTaken};
+ghost use Rattle.bx_dump.specs.inner.Folded.{PutsLines, PutsNext, ShowsNext, TakesLines, TakesNext};
 
 use crate::driver::pages::{BLOCK, Pages};
 use bx_text::{Fold, Show};
@@ -23,10 +24,8 @@ pub trait Form {
 /// Says what stands for the next line, where `all` folds none.
 #[inline]
 fn show_next(all: bool, fold: &mut Fold, bytes: &[u8]) -> Show
-    ensures show { (whole : List ℕ) (k : ℕ) → bytes.now ≡ line_bytes whole k → IsTaken all fold.old whole k →
-        result ≡ (if all then Show.Line else show_at whole k) }
-    ensures taken { (whole : List ℕ) (k : ℕ) → bytes.now ≡ line_bytes whole k → IsTaken all fold.old whole k →
-        length bytes.now ≡ 16 → IsTaken all fold.new whole (suc k) }
+    ensures show { ShowsNext all fold.old bytes.now result }
+    ensures taken { TakesNext all fold.old fold.new bytes.now }
 {
     if all {
         return Show::Line;
@@ -51,10 +50,8 @@ fn put_next<F: Form>(
     requires some { 0 < length bytes.now }
     requires fits { length bytes.now ≤ 16 }
     ensures most { result ≤ 128 }
-    ensures text { (whole : List ℕ) (k start : ℕ) → at ≡ start + 16 * k → bytes.now ≡ line_bytes whole k → IsTaken all fold.old whole k →
-        take result page.new ≡ line_text (F.line form.now) all start whole k }
-    ensures taken { (whole : List ℕ) (k : ℕ) → bytes.now ≡ line_bytes whole k → IsTaken all fold.old whole k →
-        length bytes.now ≡ 16 → IsTaken all fold.new whole (suc k) }
+    ensures text { PutsNext (F.line form.now) all fold.old at bytes.now (take result page.new) }
+    ensures taken { TakesNext all fold.old fold.new bytes.now }
 {
     match show_next(all, fold, bytes) {
         Show::Line => form.put(page, at, bytes),
@@ -78,10 +75,8 @@ fn put_lines<F: Form>(
     requires room { 128 * line_count bytes.now ≤ length page.old }
     requires address { at + length bytes.now + 15 < 2 ^ 64 }
     ensures within { result ≤ 128 * line_count bytes.now }
-    ensures text { (input : List ℕ) (n start : ℕ) → length input ≡ 16 * n → at ≡ start + 16 * n → IsTaken all fold.old input n →
-        folded (F.line form.now) all start (input ++ bytes.now) ≡ folded (F.line form.now) all start input ++ take result page.new }
-    ensures taken { (input : List ℕ) (n lines : ℕ) → length input ≡ 16 * n → length bytes.now ≡ 16 * lines → IsTaken all fold.old input n →
-        IsTaken all fold.new (input ++ bytes.now) (n + lines) }
+    ensures text { PutsLines (F.line form.now) all fold.old at bytes.now (take result page.new) }
+    ensures taken { TakesLines all fold.old fold.new bytes.now }
 {
     let mut used = 0;
     let count = (bytes.len() + 15) / 16;

@@ -1,7 +1,7 @@
 //! Dumps of inputs, a page of text at a time.
 ghost use Rattle.std.specs.Prelude.{◌≡◌, ℕ, ◌+◌, ◌-◌, ◌*◌, ◌^◌, ◌<◌, ◌≤◌, true, List, [], ◌++◌, length, take, Option, IfOk, IfErr, IfSome, Some};
 ghost use Rattle.bx_dump.specs.Pages.{Skips};
-ghost use Rattle.bx_dump.specs.inner.Pages.{StopsAt, StopsNext, StopsTextOf, WritesNext, WritesTextOf};
+ghost use Rattle.bx_dump.specs.inner.Pages.{StopsAt, StopsOn, StopsPart, WritesOn, WritesTextOf};
 
 use bx_text::{IoFault, Meter, State, emit_after};
 use std::io::{Read, Write};
@@ -38,8 +38,8 @@ pub trait Pages {
         requires few { done + length bytes.now ≤ 2 ^ 40 }
         requires fits { length bytes.now ≤ block self.old }
         ensures most { result ≤ PAGE }
-        ensures text { (input : List ℕ) → length input ≡ done → Seen self.old input →
-            written self.old (input ++ bytes.now) ≡ written self.old input ++ take result page.new }
+        ensures text { (x : List ℕ) → length x ≡ done → Seen self.old x →
+            written self.old (x ++ bytes.now) ≡ written self.old x ++ take result page.new }
         ensures seen { (input : List ℕ) → length input ≡ done → Seen self.old input →
             length bytes.now ≡ block self.old → Seen self.new (input ++ bytes.now) }
         ensures same { (xs : List ℕ) → written self.new xs ≡ written self.old xs }
@@ -117,10 +117,8 @@ pub fn dump_pages<R: Read, W: Write, P: Pages>(
     requires page { length page.old ≡ PAGE }
     requires seen { P.Seen pages.old [] }
     requires empty { P.written pages.old [] ≡ [] }
-    ensures ok { IfOk result (
-        WritesNext (P.written pages.old) meter.old.taken limit (R.remaining r.old) (R.remaining r.new) (W.contents w.old) (W.contents w.new)) }
-    ensures err { IfErr result (
-        StopsNext (P.written pages.old) meter.old.taken limit before (R.remaining r.old) (R.remaining r.new) (W.contents w.old) (W.contents w.new)) }
+    ensures ok { WritesOn (P.written pages.old) meter.old.taken limit (R.remaining r.old) (R.remaining r.new) (W.contents w.old) (W.contents w.new) result }
+    ensures err { StopsOn (P.written pages.old) meter.old.taken limit before (R.remaining r.old) (R.remaining r.new) (W.contents w.old) (W.contents w.new) result }
     ensures few { IfOk result (λ part. part.written ≤ 2 ^ 60) }
     ensures count { IfOk result (λ part. part.read ≤ 2 ^ 40) }
 {
@@ -162,8 +160,7 @@ pub fn dump_part<R: Read, W: Write, P: Pages>(
     requires empty { P.written pages.old [] ≡ [] }
     ensures ok { IfOk result (
         WritesTextOf (P.written pages.old) from limit (R.remaining r.old) (R.remaining r.new) (W.contents w.old) (W.contents w.new)) }
-    ensures err { IfErr result (
-        StopsTextOf 0 (P.written pages.old) from limit before (R.remaining r.old) (R.remaining r.new) (W.contents w.old) (W.contents w.new)) }
+    ensures err { StopsPart (P.written pages.old) from limit before (R.remaining r.old) (R.remaining r.new) (W.contents w.old) (W.contents w.new) result }
     ensures few { IfOk result (λ part. part.written ≤ 2 ^ 60) }
     ensures count { IfOk result (λ part. part.read ≤ 2 ^ 40) }
 {

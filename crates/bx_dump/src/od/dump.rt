@@ -1,8 +1,8 @@
 //! od's dump.
 ghost use Rattle.std.specs.Prelude.{◌≡◌, ◌+◌, ◌^◌, ◌<◌, ◌≤◌, true, length, IfOk, IfErr, OnOk};
-ghost use Rattle.bx_dump.specs.OdDump.{DumpsOd, FailsBehind, Reaches, StopsOd};
+ghost use Rattle.bx_dump.specs.OdDump.{FailsBehind, Reaches, StopsOd, od_of};
 ghost use Rattle.bx_dump.specs.inner.OdDump.{StopsOdLines, StopsShort, WritesOdLines};
-ghost use Rattle.bx_dump.specs.Pages.{Skips};
+ghost use Rattle.bx_dump.specs.Pages.{Skips, WritesAll};
 
 use crate::driver::folded::FoldedPages;
 use crate::driver::pages::{BLOCK, LIMIT, PAGE, Part, dump_pages, skip};
@@ -61,7 +61,7 @@ fn dump_lines<R: Read, W: Write>(
 /// a front of the text of the bytes that were read was written; `WriteFailed` counts it, and comes only behind the bytes
 /// that are skipped, with at most 2^14 bytes read ahead of it.
 pub fn od<R: Read, W: Write>(r: &mut R, w: &mut W, o: &OdOptions) -> Result<u64, IoFault>
-    ensures ok { IfOk result (DumpsOd o.now (R.remaining r.old) (R.remaining r.new) (W.contents w.old) (W.contents w.new)) }
+    ensures ok { IfOk result (WritesAll (od_of o.now) (R.remaining r.old) (R.remaining r.new) (W.contents w.old) (W.contents w.new)) }
     ensures reached { OnOk result (Reaches o.now.skip (R.remaining r.old) (R.remaining r.new)) }
     ensures behind { IfErr result (FailsBehind o.now.skip (R.remaining r.old) (R.remaining r.new) (W.contents w.old) (W.contents w.new)) }
     ensures err { IfErr result (StopsOd o.now (R.remaining r.old) (R.remaining r.new) (W.contents w.old) (W.contents w.new)) }

@@ -2,7 +2,8 @@
 ghost use Rattle.std.specs.Prelude.{◌≡◌, false, ◌&&◌, nat_le, if◌then◌else◌, ℕ, ◌+◌, ◌-◌, ◌*◌, ◌^◌, ◌<◌, ◌≤◌, List, [], ◌∷◌, ◌++◌, length, take, IfSome, None};
 ghost use Rattle.std.specs.Fmt.{digits};
 ghost use Rattle.bx_text.specs.Field.{left_filled};
-ghost use Rattle.bx_dump.specs.Od.{size_of, number_width, number_text, signed_text, char_text};
+ghost use Rattle.bx_dump.specs.Od.{size_of, number_text, signed_text, char_text};
+ghost use Rattle.bx_dump.specs.inner.Od.{number_width};
 
 use crate::od::byte_tables::{octal_of, signed_of, unsigned_of};
 use crate::od::decimal::{
@@ -36,19 +37,17 @@ fn put_digits(field: &mut [u8], v: u64, base: u64) -> usize
     }
 }
 
-/// Puts `v` in digits at the end of the field and `fill` in front of them, and answers where they begin.
+/// Puts `v` in decimal digits at the end of the field and spaces in front of them, and answers where they begin.
 #[inline(always)]
-fn put_filled(field: &mut [u8], v: u64, base: u64, fill: u8) -> usize
-    requires least { 2 ≤ base }
-    requires most { base ≤ 16 }
+fn put_spaced(field: &mut [u8], v: u64) -> usize
     requires some { 0 < length field.old }
     requires few { length field.old ≤ 22 }
-    requires room { v < base ^ length field.old }
-    ensures first { result + length (digits base false v) ≡ length field.old }
-    ensures text { field.new ≡ left_filled fill (length field.old) (digits base false v) }
+    requires room { v < 10 ^ length field.old }
+    ensures first { result + length (digits 10 false v) ≡ length field.old }
+    ensures text { field.new ≡ left_filled 32 (length field.old) (digits 10 false v) }
 {
-    field.fill(fill);
-    put_digits(field, v, base)
+    field.fill(b' ');
+    put_digits(field, v, 10)
 }
 
 /// Puts `v` in as many digits as the field has, zeros in front.
@@ -92,7 +91,7 @@ fn put_minus(field: &mut [u8], v: u64)
 {
     let (space, rest) = field.split_at_mut(1);
     space.copy_from_slice(b" ");
-    let first = put_filled(rest, v, 10, b' ');
+    let first = put_spaced(rest, v);
     field[first] = b'-';
 }
 
@@ -108,7 +107,7 @@ fn put_small(field: &mut [u8], negative: bool, v: u64)
     if negative {
         put_minus(field, v);
     } else {
-        put_filled(field, v, 10, b' ');
+        put_spaced(field, v);
     }
 }
 
@@ -153,7 +152,7 @@ fn put_few(field: &mut [u8], v: u64)
     requires room { v < 10 ^ length field.old }
     ensures { field.new ≡ left_filled 32 (length field.old) (digits 10 false v) }
 {
-    put_filled(field, v, 10, b' ');
+    put_spaced(field, v);
 }
 
 /// Puts `v` in decimal digits, with spaces in front.

@@ -90,7 +90,8 @@ impl Size {
 }
 
 impl Kind {
-    ghost use Rattle.bx_dump.specs.Od.{width_of, field_width};
+    ghost use Rattle.bx_dump.specs.Od.{width_of};
+    ghost use Rattle.bx_dump.specs.inner.Od.{field_width};
 
     /// The bytes of a value.
     #[inline(always)]

@@ -4,7 +4,8 @@ ghost use Rattle.std.specs.List.{prefix_len};
 ghost use Rattle.bx_dump.specs.inner.Runs.{Keeps, Scans, StopsScan, known_text, waiting};
 ghost use Rattle.bx_dump.specs.inner.Scan.{scan_run, cost_of, end_text, AllPrint, EndsQuiet, IsQuiet};
 ghost use Rattle.bx_text.specs.Ascii.{is_printable};
-ghost use Rattle.bx_dump.specs.Strings.{place_text, DumpsStrings, StopsStrings};
+ghost use Rattle.bx_dump.specs.Pages.{WritesAll, WritesFrontOf};
+ghost use Rattle.bx_dump.specs.Strings.{place_text, strings_of};
 
 use crate::driver::pages::BLOCK;
 use crate::od::options::Address;
@@ -375,8 +376,8 @@ fn scan_pages<R: Read, W: Write>(
 /// The input may have 2^40 bytes. Nothing is allocated or flushed. After a fault a front of the text of the bytes that
 /// were read was written; `WriteFailed` counts it, and at most 2^14 bytes were read ahead of it.
 pub fn strings<R: Read, W: Write>(r: &mut R, w: &mut W, o: &StringsOptions) -> Result<u64, IoFault>
-    ensures ok { IfOk result (DumpsStrings o.now (R.remaining r.old) (R.remaining r.new) (W.contents w.old) (W.contents w.new)) }
-    ensures err { IfErr result (StopsStrings o.now (R.remaining r.old) (R.remaining r.new) (W.contents w.old) (W.contents w.new)) }
+    ensures ok { IfOk result (WritesAll (strings_of o.now) (R.remaining r.old) (R.remaining r.new) (W.contents w.old) (W.contents w.new)) }
+    ensures err { IfErr result (WritesFrontOf (strings_of o.now) (R.remaining r.old) (R.remaining r.new) (W.contents w.old) (W.contents w.new)) }
 {
     let mut runs = Runs::new(o);
     let len = block_len(o.offsets);

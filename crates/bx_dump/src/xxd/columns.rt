@@ -2,7 +2,8 @@
 ghost use Rattle.std.specs.Prelude.{◌≡◌, ℕ, ◌+◌, ◌-◌, ◌*◌, ◌/◌, ◌^◌, ◌<◌, ◌≤◌, List, length, take};
 ghost use Rattle.std.specs.List.{flat_map};
 ghost use Rattle.bx_dump.specs.Lines.{in_lines};
-ghost use Rattle.bx_dump.specs.Xxd.{cell_of, cell_width, columns_width, columns_line};
+ghost use Rattle.bx_dump.specs.Xxd.{cell_of, cell_width, columns_line};
+ghost use Rattle.bx_dump.specs.inner.Xxd.{columns_width, lines_of};
 
 use crate::xxd::cells::{put_at, put_bits, put_body, put_pairs};
 use crate::xxd::lines::{LineForm, Put};
@@ -130,8 +131,7 @@ fn put_full(
     requires long { length cells.now ≡ cell_width form.now.digits * length bytes.now }
     ensures inside { form.now.cols * result.lines ≤ length bytes.now }
     ensures most { result.used ≤ (form.now.field + form.now.cols + 26) * result.lines }
-    ensures text { take result.used text.new ≡
-        in_lines (columns_line form.now.digits form.now.cols form.now.group) form.now.cols at (take (form.now.cols * result.lines) bytes.now) }
+    ensures text { take result.used text.new ≡ lines_of form.now.digits form.now.cols form.now.group at bytes.now result.lines }
 {
     let lines = bytes.len() / cols;
     let size = field + cols + 12;

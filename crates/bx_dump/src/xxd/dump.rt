@@ -1,7 +1,9 @@
 //! xxd's dump.
 ghost use Rattle.std.specs.Prelude.{◌≡◌, ◌+◌, ◌*◌, ◌^◌, ◌<◌, ◌≤◌, length, IfOk, IfErr};
-ghost use Rattle.bx_dump.specs.Styles.{columns_text, group_of, include_items, named_text, plain_text, styled, DumpsXxd, IsCountable, StopsXxd};
-ghost use Rattle.bx_dump.specs.inner.XxdDump.{StopsFront, StopsLines, StopsText, WritesLines, WritesText};
+ghost use Rattle.bx_dump.specs.Pages.{WritesAll, WritesFrontOf};
+ghost use Rattle.bx_dump.specs.Styles.{columns_text, group_of, include_items, named_text, xxd_of, IsCountable};
+ghost use Rattle.bx_dump.specs.inner.Styles.{plain_text};
+ghost use Rattle.bx_dump.specs.inner.XxdDump.{StopsFront, StopsItems, StopsLines, StopsStyle, WritesLines, WritesStyle, WritesText};
 
 use crate::driver::pages::{Part, dump_part};
 use crate::xxd::columns::{Columns, Digits};
@@ -25,8 +27,7 @@ pub fn dump_lines<R: Read, W: Write, F: LineForm + Drop>(
     requires before { before ≤ 2 ^ 63 }
     ensures ok { IfOk result (
         WritesLines (F.line form) (F.cols form) start o.now (R.remaining r.old) (R.remaining r.new) (W.contents w.old) (W.contents w.new)) }
-    ensures err { IfErr result (
-        StopsLines (F.line form) (F.cols form) start o.now before (R.remaining r.old) (R.remaining r.new) (W.contents w.old) (W.contents w.new)) }
+    ensures err { StopsLines (F.line form) (F.cols form) start o.now before (R.remaining r.old) (R.remaining r.new) (W.contents w.old) (W.contents w.new) result }
     ensures few { IfOk result (λ part. part.written ≤ 2 ^ 60) }
 {
     let mut lines = Lines::new(form, start);
@@ -78,8 +79,7 @@ fn dump_items<R: Read, W: Write>(
 ) -> Result<Part, IoFault>
     requires before { before ≤ 2 ^ 62 + 64 }
     ensures ok { IfOk result (WritesText (include_items o.now.cols) o.now (R.remaining r.old) (R.remaining r.new) (W.contents w.old) (W.contents w.new)) }
-    ensures err { IfErr result (
-        StopsText (2 ^ 6) (include_items o.now.cols) o.now before (R.remaining r.old) (R.remaining r.new) (W.contents w.old) (W.contents w.new)) }
+    ensures err { StopsItems o.now before (R.remaining r.old) (R.remaining r.new) (W.contents w.old) (W.contents w.new) result }
     ensures few { IfOk result (λ part. part.written ≤ 2 ^ 60 + 1) }
 {
     let lines = match dump_lines(r, w, Items::new(o.cols as usize), 0, o, before) {
@@ -136,10 +136,8 @@ fn dump_include<R: Read, W: Write>(
     name: Option<&str>,
 ) -> Result<Part, IoFault>
     requires name { IsCountable (XxdStyle.Include name) }
-    ensures ok { IfOk result (
-        WritesText (styled (XxdStyle.Include name.entry) o.now) o.now (R.remaining r.old) (R.remaining r.new) (W.contents w.old) (W.contents w.new)) }
-    ensures err { IfErr result (
-        StopsFront (styled (XxdStyle.Include name.entry) o.now) o.now (R.remaining r.old) (R.remaining r.new) (W.contents w.old) (W.contents w.new)) }
+    ensures ok { IfOk result (WritesStyle (XxdStyle.Include name.entry) o.now (R.remaining r.old) (R.remaining r.new) (W.contents w.old) (W.contents w.new)) }
+    ensures err { IfErr result (StopsStyle (XxdStyle.Include name.entry) o.now (R.remaining r.old) (R.remaining r.new) (W.contents w.old) (W.contents w.new)) }
 {
     match name {
         None => dump_items(r, w, o, 0),
@@ -155,8 +153,8 @@ fn dump_styled<R: Read, W: Write>(
     o: &XxdOptions,
 ) -> Result<Part, IoFault>
     requires name { IsCountable style }
-    ensures ok { IfOk result (WritesText (styled style.entry o.now) o.now (R.remaining r.old) (R.remaining r.new) (W.contents w.old) (W.contents w.new)) }
-    ensures err { IfErr result (StopsFront (styled style.entry o.now) o.now (R.remaining r.old) (R.remaining r.new) (W.contents w.old) (W.contents w.new)) }
+    ensures ok { IfOk result (WritesStyle style.entry o.now (R.remaining r.old) (R.remaining r.new) (W.contents w.old) (W.contents w.new)) }
+    ensures err { IfErr result (StopsStyle style.entry o.now (R.remaining r.old) (R.remaining r.new) (W.contents w.old) (W.contents w.new)) }
 {
     match style {
         XxdStyle::Normal => dump_columns(r, w, Digits::Hexadecimal { upper: o.upper }, o),
@@ -179,8 +177,8 @@ pub fn xxd<R: Read, W: Write>(
     o: &XxdOptions,
 ) -> Result<u64, IoFault>
     requires name { IsCountable style }
-    ensures ok { IfOk result (DumpsXxd style.entry o.now (R.remaining r.old) (R.remaining r.new) (W.contents w.old) (W.contents w.new)) }
-    ensures err { IfErr result (StopsXxd style.entry o.now (R.remaining r.old) (R.remaining r.new) (W.contents w.old) (W.contents w.new)) }
+    ensures ok { IfOk result (WritesAll (xxd_of style.entry o.now) (R.remaining r.old) (R.remaining r.new) (W.contents w.old) (W.contents w.new)) }
+    ensures err { IfErr result (WritesFrontOf (xxd_of style.entry o.now) (R.remaining r.old) (R.remaining r.new) (W.contents w.old) (W.contents w.new)) }
 {
     match dump_styled(r, w, style, o) {
         Ok(part) => Ok(part.read),

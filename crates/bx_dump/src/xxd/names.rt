@@ -2,7 +2,8 @@
 ghost use Rattle.std.specs.Prelude.{◌≡◌, ◌+◌, ◌^◌, ◌<◌, ◌≤◌, ◌++◌, false, map, length, codes};
 ghost use Rattle.std.specs.Fmt.{digits};
 ghost use Rattle.bx_dump.specs.inner.Emitting.{Emits};
-ghost use Rattle.bx_dump.specs.Styles.{c_name, name_byte, name_front, include_head, include_tail};
+ghost use Rattle.bx_dump.specs.Styles.{c_name, name_front};
+ghost use Rattle.bx_dump.specs.inner.Styles.{name_byte, include_head, include_tail};
 
 use bx_text::{IoFault, ShortText, dec_field, emit_after};
 use std::io::Write;
@@ -12,9 +13,10 @@ use std::io::Write;
 fn name_char(byte: u8) -> u8
     ensures { result ≡ name_byte byte }
 {
-    match byte {
-        b'0'..=b'9' | b'A'..=b'Z' | b'a'..=b'z' => byte,
-        _ => b'_',
+    if byte.is_ascii_alphanumeric() {
+        byte
+    } else {
+        b'_'
     }
 }
 

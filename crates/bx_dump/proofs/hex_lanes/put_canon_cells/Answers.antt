@@ -1,7 +1,7 @@
 use Rattle.std.proofs.Common.{◌≡◌, ◌++◌, length, replicate, arith, ap, sym, ◌∙◌}
 use Rattle.std.proofs.lemmas.Simd.{put_chunk_whole}
 use lib.Lanes.{pick_l}
-use Rattle.bx_dump.specs.Hexdump.{canon_columns}
+use Rattle.bx_dump.specs.inner.Hexdump.{canon_columns}
 use Rattle.bx_dump.proofs.HexLemmas.{canon_front, canon_middle, canon_cells, canon_are}
 use Rattle.bx_dump.proofs.hex_lanes.put_canon_cells.Goals as goal
 

@@ -92,8 +92,8 @@ returns-clause-ok g c =
       all = read_out_both old mid new plan.ibs plan.skip turns c.skip_blocks.new.meter.state c.take_blocks.new.meter.state first.0 second.0 skips takes none plan.count is plan.some_ibs some;
       within = within_both old mid new plan.ibs plan.skip turns c.skip_blocks.new.meter.state c.take_blocks.new.meter.state first.0 second.0 skips takes none plan.count is;
       few = few;
-      bytes = bytes ∙ ap (λ f. converted f second.0) form ∙ ap (converted (form_of plan)) (sym selects);
-      counts = counts ∙ ap (λ f. counts_of f second.0) form ∙ ap (counts_of (form_of plan)) (sym selects);
+      made = bytes ∙ ap (λ f. converted f second.0) form ∙ ap (converted (form_of plan)) (sym selects);
+      counted = counts ∙ ap (λ f. counts_of f second.0) form ∙ ap (counts_of (form_of plan)) (sym selects);
     })
     (c.finish.ensures.bytes second.0 second.1) (c.finish.ensures.counts second.0 second.1)
 

@@ -1,5 +1,5 @@
 use Rattle.std.proofs.Common.{◌≡◌, ◌+◌, ◌-◌, map, take, drop, arith, refl, ap, ◌∙◌}
-use Rattle.bx_dump.specs.Styles.{name_byte}
+use Rattle.bx_dump.specs.inner.Styles.{name_byte}
 use Rattle.bx_dump.proofs.NamesLemmas.{mapped_more, mapped_stops}
 use Rattle.std.proofs.lemmas.List.{length-append}
 use Rattle.bx_text.proofs.KnownLemmas.{Appends-trans}

@@ -1,6 +1,6 @@
 use Rattle.std.proofs.Common.{◌≡◌, ◌-◌, ◌≤◌, length, map, take}
 use Rattle.std.specs.Io.KnownBytes.{Appends}
-use Rattle.bx_dump.specs.Styles.{name_byte}
+use Rattle.bx_dump.specs.inner.Styles.{name_byte}
 use Rattle.bx_dump.proofs.xxd.names.emit_mapped.Given as goal
 
 -- what stands for the bytes so far

@@ -1,5 +1,5 @@
 use Rattle.std.proofs.Common.{◌≡◌, map, take}
-use Rattle.bx_dump.specs.Styles.{name_byte}
+use Rattle.bx_dump.specs.inner.Styles.{name_byte}
 use Rattle.bx_dump.proofs.xxd.names.put_name.Given as goal
 
 -- what stands for the bytes so far

@@ -1,4 +1,4 @@
--- What dd does without an image: its output goes to a writer.
+-- What proofs alone need: what dd does without an image, its output going to a writer.
 use Rattle.std.specs.Prelude.{◌≡◌, ◌⊎◌, ◌<◌, ℕ, Option, List}
 use Rattle.bx_text.specs.declared.fault.IoFault.{IoFault}
 use Rattle.bx_dd.specs.declared.stream.counts.Counts.{Counts}

@@ -1,0 +1,20 @@
+-- What proofs alone need: how wide the fields of od are.
+use Rattle.std.specs.Prelude.{ℕ}
+use Rattle.bx_dump.specs.declared.od.options.NumForm.{NumForm}
+use Rattle.bx_dump.specs.declared.od.options.NumForm.TheVariants as form
+use Rattle.bx_dump.specs.declared.od.options.Size.{Size}
+use Rattle.bx_dump.specs.declared.od.options.Kind.{Kind}
+use Rattle.bx_dump.specs.declared.od.options.Kind.TheVariants.{Chars, Number}
+use Rattle.bx_dump.specs.Od.{by_size}
+
+-- how wide the field of a value is
+abbrev pub number_width : NumForm → Size → ℕ
+number_width form.Hexadecimal size = by_size size 2 4 8 16
+number_width form.Octal size = by_size size 3 6 11 22
+number_width form.Unsigned size = by_size size 3 5 10 20
+number_width form.Signed size = by_size size 4 6 11 20
+
+-- how wide its field is
+abbrev pub field_width : Kind → ℕ
+field_width Chars = 3
+field_width (Number form size) = number_width form size

@@ -1,0 +1,24 @@
+-- What proofs alone need: the parts of a declaration, and lines of plain digits.
+use Rattle.std.specs.Prelude.{ℕ, false, if◌then◌else◌, List, [], ◌++◌, codes}
+use Rattle.std.specs.Char.{is_ascii_alphanumeric}
+use Rattle.std.specs.Fmt.{digits}
+use Rattle.bx_dump.specs.Lines.{in_lines}
+use Rattle.bx_dump.specs.Rows.{plain_line}
+use Rattle.bx_dump.specs.declared.xxd.options.XxdOptions.{XxdOptions}
+use Rattle.bx_dump.specs.Styles.{c_name}
+
+-- what stands for a byte of a name
+abbrev pub name_byte : ℕ → ℕ
+name_byte b = if is_ascii_alphanumeric b then b else 95
+
+-- what a declaration begins with
+abbrev pub include_head : List ℕ → List ℕ
+include_head name = codes "unsigned char " ++ c_name name ++ codes "[] = {\n"
+
+-- the end of the array, and its length under the name
+abbrev pub include_tail : List ℕ → ℕ → List ℕ
+include_tail name n = codes "};\nunsigned int " ++ c_name name ++ codes "_len = " ++ (digits 10 false n ++ codes ";\n")
+
+-- lines of plain digits
+abbrev pub plain_text : XxdOptions → List ℕ → List ℕ
+plain_text o bytes = in_lines (plain_line o.upper) o.cols 0 bytes
