@@ -7,9 +7,8 @@ use Rattle.std.proofs.lemmas.Bool.Decides.{nat_tests}
 use Rattle.std.proofs.lemmas.List.Sums.{sum_by-cons}
 use Rattle.std.proofs.Math.Nat.{pow-suc, pow-zero, mul-le-mul_left, div-eq_of_lt, le-div_iff_mul-le}
 use Rattle.bx_dump.specs.Od.{value_of}
-use Rattle.bx_dump.specs.Rows.{include_line, items}
-use Rattle.bx_dump.specs.Styles.{include_items}
-use Rattle.bx_dump.specs.Laws.{ValueIsSum, ItemsAreLines, line_count, array_line}
+use Rattle.bx_dump.specs.Rows.{include_line, item, items, next_item}
+use Rattle.bx_dump.specs.Laws.{ValueIsSum, ItemsAreBytes, ItemsAreLines, item_at, line_count}
 
 sums : (x y s t : ℕ) → x ≡ 256 * y → s ≡ 256 * t → x + s ≡ 256 * (y + t)
 sums x y s t p q = omega arith
@@ -47,6 +46,25 @@ value_is_sum (b ∷ bs) =
     let first : b * 256 ^ 0 ≡ b = omega (arith, pow-zero 256) in
     total b (value_of bs) (b * 256 ^ 0) (sum_by f (range_with_len 1 (length bs))) (sum_by h (range_with_len 0 (length bs))) first (scaled f h 1 0 (length bs) each) (value_is_sum bs)
     ∙ sym (sum_by-cons f 0 (range_with_len 1 (length bs)))
+
+-- the items behind the first, by their places
+later_items : (x bs : List ℕ) (a : ℕ) → 0 < a → ((k : ℕ) → slice_index x (a + k) ≡ slice_index bs k) →
+    flat_map next_item bs ≡ flat_map (item_at x) (range_with_len a (length bs))
+later_items x [] a pos same = refl
+later_items x (b ∷ bs) a pos same =
+    let e : (a == 0) ≡ false = ne_eqb a 0 (λ z. absurd (omega arith)) in
+    let d : a + 0 ≡ a = omega arith in
+    let byte : slice_index x a ≡ b = ap (slice_index x) (sym d) ∙ same 0 in
+    let first : item_at x a ≡ next_item b = rw e rw byte refl in
+    let rest = later_items x bs (a + 1) (omega arith) (λ k.
+    let e : a + 1 + k ≡ a + suc k = omega arith in
+    ap (slice_index x) e ∙ same (suc k)) in
+    ap (λ t. next_item b ++ t) rest ∙ ap (λ t. t ++ flat_map (item_at x) (range_with_len (a + 1) (length bs))) (sym first)
+
+pub items_are_bytes : ItemsAreBytes
+items_are_bytes [] = refl
+items_are_bytes (b ∷ bs) =
+    ap (λ t. item b ++ t) (later_items (b ∷ bs) bs 1 (omega arith) (λ k. let e : 1 + k ≡ suc k = omega arith in ap (slice_index (b ∷ bs)) e))
 
 -- what stands between a line and what comes before it
 abbrev between : ℕ → ℕ → List ℕ

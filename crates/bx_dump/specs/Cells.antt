@@ -1,5 +1,5 @@
 -- The digits of bytes, and how they stand in groups.
-use Rattle.std.specs.Prelude.{ℕ, ◌+◌, ◌-◌, ◌/◌, ◌%◌, List, [], ◌∷◌}
+use Rattle.std.specs.Prelude.{ℕ, ◌+◌, ◌/◌, ◌%◌, List, [], ◌∷◌}
 
 -- a byte as eight binary digits, the highest bit first
 abbrev pub bits_of : ℕ → List ℕ

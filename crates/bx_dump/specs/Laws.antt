@@ -1,6 +1,7 @@
 -- What the definitions say, in other words.
-use Rattle.std.specs.Prelude.{◌≡◌, ℕ, ◌+◌, ◌-◌, ◌*◌, ◌/◌, ◌^◌, ◌<◌, nat_lt, if◌then◌else◌, List, ◌++◌, length, take, drop, slice_index, sum_by, codes}
+use Rattle.std.specs.Prelude.{◌≡◌, ℕ, ◌+◌, ◌-◌, ◌*◌, ◌/◌, ◌^◌, ◌<◌, ◌==◌, nat_lt, false, if◌then◌else◌, List, ◌++◌, length, take, drop, slice_index, sum_by, codes}
 use Rattle.std.specs.List.{flat_map, range_with_len}
+use Rattle.bx_text.specs.Dump.{pair_of}
 use Rattle.bx_dump.specs.Od.{value_of}
 use Rattle.bx_dump.specs.Rows.{items}
 use Rattle.bx_dump.specs.Styles.{include_items, styled}
@@ -11,6 +12,14 @@ use Rattle.bx_dump.specs.declared.xxd.options.XxdOptions.{XxdOptions}
 -- The value of bytes is the sum of each byte times 256 to the power of its place.
 abbrev pub ValueIsSum : Type 0
 ValueIsSum = (bytes : List ℕ) → value_of bytes ≡ sum_by (λ i. slice_index bytes i * 256 ^ i) (range_with_len 0 (length bytes))
+
+-- item i of a line: a comma and a space stand in front of each but the first
+abbrev pub item_at : List ℕ → ℕ → List ℕ
+item_at bytes i = (if i == 0 then codes "0x" else codes ", 0x") ++ pair_of false (slice_index bytes i)
+
+-- The items of a line are those of its bytes, in order.
+abbrev pub ItemsAreBytes : Type 0
+ItemsAreBytes = (bytes : List ℕ) → items bytes ≡ flat_map (item_at bytes) (range_with_len 0 (length bytes))
 
 -- how many lines the items of n bytes have
 abbrev pub line_count : ℕ → ℕ → ℕ

@@ -1,7 +1,7 @@
 //! What the definitions say, in other words.
 ghost use Rattle.std.specs.Prelude.{ℕ, ◌<◌, List};
 ghost use Rattle.bx_dump.specs.declared.od.options.Address.{Address};
-ghost use Rattle.bx_dump.specs.Laws.{ItemsAreLines, ValueIsSum};
+ghost use Rattle.bx_dump.specs.Laws.{ItemsAreBytes, ItemsAreLines, ValueIsSum};
 ghost use Rattle.bx_dump.specs.Runs.{ShowsRuns};
 
 /// Says that the text of `strings` shows the maximal printable runs that are long enough, each of them and no others, by
@@ -13,6 +13,11 @@ pub fn shows_maximal_runs()
 /// Says that the value `od` shows for bytes is the sum of each byte times 256 to the power of its place.
 pub fn value_is_sum()
     ensures { ValueIsSum }
+{}
+
+/// Says that item i of a line of a C array is byte i of the line, in two digits behind `0x`.
+pub fn items_are_bytes()
+    ensures { ItemsAreBytes }
 {}
 
 /// Says that the items of a C array stand on lines of two spaces and `cols` items, of which each but the last ends in a comma.
