@@ -86,7 +86,7 @@ found_unclean H text j i h clean = unfinished_apart i.text j i.read i.unfinished
 -- so many changes fit in a journal
 pub found_few : {A : Type 0} → (H : Type 0) (text x : List ℕ) (stack : List (List ℕ)) (j : JournalRead A) → IsUnfinishedIn H text j → H → Recovers text x stack → changes_of stack ≤ 65535
 found_few H text x stack j i h rec =
-    omega (arith, counted_of text i.text x stack j i.read (i.is h) rec, marked_few i.text j.entries.items j.stage j.whole i.read.places.marked)
+    omega (arith, counted_of text i.text x stack j i.read (i.is h) rec, marked_few i.text [] j.entries.items j.stage j.whole i.read.places.marked)
 
 told_holds : (told : Option ℕ) (x : List ℕ) → ((n : ℕ) → told ≡ Some n → (length x ≡ n → ⊥) → ⊥) → HasToldLength told x
 told_holds None x apart = tt

@@ -1,4 +1,4 @@
-use Rattle.std.proofs.Common.{◌≡◌, ℕ, suc, List, refl, ap, sym, ◌∙◌, subst, arith}
+use Rattle.std.proofs.Common.{◌≡◌, ℕ, suc, List, [], refl, ap, sym, ◌∙◌, subst, arith}
 use Rattle.bx_entries.specs.Text.{Reading}
 use Rattle.bx_journal.specs.Stack.{Recovers, image_at, HaveLengths}
 use Rattle.bx_journal.specs.Calls.{Differs}
@@ -52,7 +52,7 @@ returns-in-Ok-clause-opened g c dh th r reads =
 pub returns-in-Ok-clause-sum : goal.returns-in-Ok-clause-sum
 returns-in-Ok-clause-sum g c =
     let j = c.args.journal in
-    omega (arith, c.in-Ok.ensures.changes, c.in-Ok.ensures.unclean.1, marked_few c.requires.read.text j.entries.items j.stage j.whole c.requires.read.read.places.marked)
+    omega (arith, c.in-Ok.ensures.changes, c.in-Ok.ensures.unclean.1, marked_few c.requires.read.text [] j.entries.items j.stage j.whole c.requires.read.read.places.marked)
 
 pub returns-in-Ok-clause-differs : goal.returns-in-Ok-clause-differs
 returns-in-Ok-clause-differs g c dh th r n reads differs =
