@@ -34,18 +34,34 @@ const MOST_CALLS: u32 = 100_000;
 
 /// Plays a case in one way. Tells how often.
 pub fn play_words(alloc: Global, case: &WordsCase, sweep: usize) -> Result<u32, Failure> {
+    if sweep > 0 && case.input.is_none() {
+        return Ok(0);
+    }
+    match plan(alloc, case) {
+        Ok(Some(job)) => play_job(alloc, case, &job, sweep),
+        Ok(None) => Ok(if sweep == 0 { 1 } else { 0 }),
+        Err(wrong) => Err(at(0, wrong)),
+    }
+}
+
+/// Plays a case whose words ask for this job.
+fn play_job(alloc: Global, case: &WordsCase, job: &Job, sweep: usize) -> Result<u32, Failure> {
+    let input = match &case.input {
+        Some(input) => input.as_slice(),
+        None => b"",
+    };
     match sweep {
-        0 => planned(alloc, case),
-        1 => whole(alloc, case, usize::MAX),
-        2 => whole(alloc, case, 1),
-        3 => each_read(alloc, case, Act::Interrupt),
-        4 => each_read(alloc, case, Act::Fail),
-        5 => each_read(alloc, case, Act::Half),
-        6 => each_read(alloc, case, Act::Nothing),
-        7 => each_write(alloc, case, Act::Interrupt),
-        8 => each_write(alloc, case, Act::Fail),
-        9 => each_write(alloc, case, Act::Nothing),
-        _ => each_write(alloc, case, Act::Half),
+        0 => planned(alloc, case, job),
+        1 => whole(alloc, case, job, input, usize::MAX),
+        2 => whole(alloc, case, job, input, 1),
+        3 => calls(alloc, case, job, input, Act::Interrupt, true),
+        4 => calls(alloc, case, job, input, Act::Fail, true),
+        5 => calls(alloc, case, job, input, Act::Half, true),
+        6 => calls(alloc, case, job, input, Act::Nothing, true),
+        7 => calls(alloc, case, job, input, Act::Interrupt, false),
+        8 => calls(alloc, case, job, input, Act::Fail, false),
+        9 => calls(alloc, case, job, input, Act::Nothing, false),
+        _ => calls(alloc, case, job, input, Act::Half, false),
     }
 }
 
@@ -60,18 +76,11 @@ fn plan(alloc: Global, case: &WordsCase) -> Result<Option<Job>, Wrong> {
     }
 }
 
-/// Plans the words alone.
-fn planned(alloc: Global, case: &WordsCase) -> Result<u32, Failure> {
-    match plan_right(alloc, case) {
+/// The words were planned as the case tells.
+fn planned(alloc: Global, case: &WordsCase, job: &Job) -> Result<u32, Failure> {
+    match job_right(alloc, case, job) {
         Ok(()) => Ok(1),
         Err(wrong) => Err(at(0, wrong)),
-    }
-}
-
-fn plan_right(alloc: Global, case: &WordsCase) -> Result<(), Wrong> {
-    match plan(alloc, case)? {
-        Some(job) => job_right(alloc, case, &job),
-        None => Ok(()),
     }
 }
 
@@ -86,47 +95,21 @@ fn job_right(alloc: Global, case: &WordsCase, job: &Job) -> Result<(), Wrong> {
 }
 
 /// Runs the job with nothing in its way.
-fn whole(alloc: Global, case: &WordsCase, each: usize) -> Result<u32, Failure> {
-    let Some(input) = &case.input else {
-        return Ok(0);
-    };
-    match whole_right(alloc, case, input.as_slice(), each) {
-        Ok(count) => Ok(count),
+fn whole(
+    alloc: Global,
+    case: &WordsCase,
+    job: &Job,
+    input: &[u8],
+    each: usize,
+) -> Result<u32, Failure> {
+    let ran = run_freely(alloc, job, input, each);
+    match right(alloc, case, ran.done, ran.output.as_slice()) {
+        Ok(()) => Ok(1),
         Err(wrong) => Err(at(0, wrong)),
     }
 }
 
-fn whole_right(alloc: Global, case: &WordsCase, input: &[u8], each: usize) -> Result<u32, Wrong> {
-    let Some(job) = plan(alloc, case)? else {
-        return Ok(0);
-    };
-    let ran = run_freely(alloc, &job, input, each);
-    right(alloc, case, ran.done, ran.output.as_slice())?;
-    Ok(1)
-}
-
-/// Something happens at each read in turn.
-fn each_read(alloc: Global, case: &WordsCase, act: Act) -> Result<u32, Failure> {
-    each_call(alloc, case, act, true)
-}
-
-/// Something happens at each write in turn.
-fn each_write(alloc: Global, case: &WordsCase, act: Act) -> Result<u32, Failure> {
-    each_call(alloc, case, act, false)
-}
-
-fn each_call(alloc: Global, case: &WordsCase, act: Act, reads: bool) -> Result<u32, Failure> {
-    let Some(input) = &case.input else {
-        return Ok(0);
-    };
-    match plan(alloc, case) {
-        Ok(Some(job)) => calls(alloc, case, &job, input.as_slice(), act, reads),
-        Ok(None) => Ok(0),
-        Err(wrong) => Err(at(0, wrong)),
-    }
-}
-
-/// Something happens at each call of a job in turn. Tells how many there are.
+/// Something happens at each read, or at each write, in turn. Tells how many there are.
 fn calls(
     alloc: Global,
     case: &WordsCase,

@@ -60,6 +60,14 @@ fn reads_dump(rt: &impl Abort, bump: &Bump, bytes: usize) -> Result<Refused, All
     }
 }
 
+fn is_pushed<'a>(words: &mut Words<&'a Bump>, text: &str) -> bool {
+    words.push(text).is_ok()
+}
+
+fn has_count<'a>(words: &Words<&'a Bump>, count: usize) -> bool {
+    words.len() == count && words.get(count).is_none()
+}
+
 /// Pushes a word. Where that is refused the words stay, and with more memory the same call goes through.
 fn push_one<'a>(
     rt: &impl Abort,
@@ -69,13 +77,13 @@ fn push_one<'a>(
     bytes: usize,
 ) -> Refused {
     let count = words.len();
-    if words.push(text).is_ok() {
+    if is_pushed(words, text) {
         return None;
     }
     let taken = used(bump, bytes);
-    assert!(rt; words.len() == count && words.get(count).is_none());
+    assert!(rt; has_count(words, count));
     bump.set_allocation_limit(None);
-    assert!(rt; words.push(text).is_ok());
+    assert!(rt; is_pushed(words, text));
     Some(taken)
 }
 
@@ -94,8 +102,12 @@ fn pushes(rt: &impl Abort, bump: &Bump, bytes: usize) -> Result<Refused, AllocEr
     Ok(refused)
 }
 
-/// Makes room for what a change overwrites.
-fn makes_room<'a>(
+/// Makes room for what the writes overwrite.
+fn makes_room(rt: &impl Abort, bump: &Bump, bytes: usize) -> Result<Refused, AllocError> {
+    makes_room_for(rt, bump, &change(bump, Some(9), &WRITES)?, bytes)
+}
+
+fn makes_room_for<'a>(
     rt: &impl Abort,
     bump: &'a Bump,
     change: &Change<&'a Bump>,
@@ -111,11 +123,24 @@ fn makes_room<'a>(
     }
 }
 
+/// A session in memory of an arena.
+type ArenaSession<'a> = Session<MemImage<&'a Bump>, MemText<&'a Bump>, &'a Bump>;
+
+fn rows_of<'a>(session: &mut ArenaSession<'a>) -> Result<usize, SessionFault> {
+    if session.faults() > 0 {
+        return Err(SessionFault::DeviceFailed);
+    }
+    match session.log() {
+        Ok(rows) => Ok(rows.len()),
+        Err(fault) => Err(fault),
+    }
+}
+
 /// Lists the one change of a session; where that is refused, again with more memory.
 fn lists_one<'a>(
     rt: &impl Abort,
     bump: &'a Bump,
-    session: &mut Session<MemImage<&'a Bump>, MemText<&'a Bump>, &'a Bump>,
+    session: &mut ArenaSession<'a>,
     bytes: usize,
 ) -> Refused {
     assert!(rt; squeeze(bump, bytes).is_ok());
@@ -130,38 +155,35 @@ fn lists_one<'a>(
     Some(taken)
 }
 
-fn rows_of<'a>(
-    session: &mut Session<MemImage<&'a Bump>, MemText<&'a Bump>, &'a Bump>,
-) -> Result<usize, SessionFault> {
-    if session.faults() > 0 {
-        return Err(SessionFault::DeviceFailed);
+/// The session that has one change to list.
+fn listed<'a>(bump: &'a Bump) -> Result<ArenaSession<'a>, Fail> {
+    match open(bump, held(bump, (CHANGED, PATCHED, UNDONE))?) {
+        Ok((session, _)) => Ok(session),
+        Err(_) => Err(SessionFault::NoMemory.into()),
     }
-    match session.log() {
-        Ok(rows) => Ok(rows.len()),
-        Err(fault) => Err(fault),
-    }
+}
+
+/// The session's image and texts are those that it was opened with.
+fn assert_same<'a>(rt: &impl Abort, session: ArenaSession<'a>) {
+    let (image, text, redo_text) = session.close();
+    assert_bytes(rt, image.as_slice(), CHANGED);
+    assert_bytes(rt, text.as_slice(), PATCHED);
+    assert_bytes(rt, redo_text.as_slice(), UNDONE);
 }
 
 /// A session that lists its one change. What is refused changes nothing.
 fn lists<'a>(rt: &impl Abort, bump: &'a Bump, bytes: usize) -> Result<Refused, Fail> {
-    match open(bump, held(bump, (CHANGED, PATCHED, UNDONE))?) {
-        Ok((mut session, _)) => {
-            let refused = lists_one(rt, bump, &mut session, bytes);
-            let (image, text, redo_text) = session.close();
-            assert_bytes(rt, image.as_slice(), CHANGED);
-            assert_bytes(rt, text.as_slice(), PATCHED);
-            assert_bytes(rt, redo_text.as_slice(), UNDONE);
-            Ok(refused)
-        }
-        Err(_) => Err(SessionFault::NoMemory.into()),
-    }
+    let mut session = listed(bump)?;
+    let refused = lists_one(rt, bump, &mut session, bytes);
+    assert_same(rt, session);
+    Ok(refused)
 }
 
 fn make(rt: &impl Abort, bump: &Bump, call: Call, bytes: usize) -> Result<Refused, Fail> {
     match call {
         Call::ReadDump => Ok(reads_dump(rt, bump, bytes)?),
         Call::Push => Ok(pushes(rt, bump, bytes)?),
-        Call::Room => Ok(makes_room(rt, bump, &change(bump, Some(9), &WRITES)?, bytes)?),
+        Call::Room => Ok(makes_room(rt, bump, bytes)?),
         Call::Log => lists(rt, bump, bytes),
     }
 }

@@ -1,9 +1,9 @@
 //! dd block by block, and readers that give little or fail.
 ghost use Rattle.std.specs.Prelude.{◌≡◌, ◌<◌, IfOk};
 
-use crate::expected::{assert_bytes, assert_number, words};
+use crate::expected::{assert_bytes, assert_number, run_line, words};
 use crate::sessions::{MemSession, bytes_of, open, run, trio};
-use bx_cli::{Command, Fault, Reply, plan_words, run_dump};
+use bx_cli::{Command, Fault, Reply};
 use bx_dd::{Convert, Counts, DdFault, Transfer, parse};
 use std::alloc::Global;
 use std::io;
@@ -106,8 +106,7 @@ fn held_after_each_block(rt: HostRuntime) -> Result<(), Fail> {
 }
 
 /// How many bytes dd takes of a hundred that a reader gives five at a time, until it fails.
-fn taken_by_fives(alloc: Global, line: &str, fails_after: usize) -> Result<usize, Fault> {
-    let job = plan_words(alloc, &words(alloc, line)?)?;
+fn taken_by_fives(alloc: Global, line: &str, fails_after: usize) -> usize {
     let bytes = [b'x'; 100];
     let mut from = Trickle {
         rest: &bytes,
@@ -116,18 +115,17 @@ fn taken_by_fives(alloc: Global, line: &str, fails_after: usize) -> Result<usize
         fails_after,
     };
     let mut to = Vec::new(alloc);
-    let _ = run_dump(alloc, &job, &mut from, &mut to);
-    Ok(bytes.len().saturating_sub(from.rest.len()))
+    let _ = run_line(alloc, line, &mut from, &mut to);
+    bytes.len().saturating_sub(from.rest.len())
 }
 
 // Nothing past skip and count is asked for.
 #[test]
-fn dd_reads_no_more(rt: HostRuntime) -> Result<(), Fail> {
+fn dd_reads_no_more(rt: HostRuntime) {
     for fails_after in [1, 22, 48, 200] {
-        let taken = taken_by_fives(rt.alloc(), "dd bs=7 skip=3 count=4", fails_after)?;
+        let taken = taken_by_fives(rt.alloc(), "dd bs=7 skip=3 count=4", fails_after);
         assert!(rt; taken == fails_after.min(49));
     }
-    Ok(())
 }
 
 /// Runs dd on an image.

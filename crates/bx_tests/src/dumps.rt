@@ -1,6 +1,6 @@
 //! Dumps: flushes, runs of text however their bytes are split, and counts of every length.
-use crate::expected::{assert_bytes, words};
-use bx_cli::{Done, Fault, plan_words, run_dump};
+use crate::expected::{assert_bytes, run_line};
+use bx_cli::{Done, Fault};
 use std::alloc::Global;
 use std::io::{self, ErrorKind, Read, Write};
 use std::process::Abort;
@@ -30,24 +30,22 @@ impl Write for Counting {
 }
 
 /// What a dump of these bytes to a writer of so much room answers, and how often it flushes.
-fn flushes_of(alloc: Global, line: &str, room: usize) -> Result<(Result<Done, Fault>, u32), Fault> {
-    let job = plan_words(alloc, &words(alloc, line)?)?;
+fn flushes_of(alloc: Global, line: &str, room: usize) -> (Result<Done, Fault>, u32) {
     let mut from = b"printable, and then not\n".as_slice();
     let mut to = Counting { room, flushes: 0 };
-    let done = run_dump(alloc, &job, &mut from, &mut to);
-    Ok((done, to.flushes))
+    let done = run_line(alloc, line, &mut from, &mut to);
+    (done, to.flushes)
 }
 
 #[test]
-fn no_dump_flushes(rt: HostRuntime) -> Result<(), Fail> {
+fn no_dump_flushes(rt: HostRuntime) {
     for line in ["xxd", "od -c", "hexdump -C", "strings"] {
-        let (done, flushes) = flushes_of(rt.alloc(), line, 4096)?;
+        let (done, flushes) = flushes_of(rt.alloc(), line, 4096);
         assert!(rt; done == Ok(Done::Dumped(24)) && flushes == 0);
-        let (done, flushes) = flushes_of(rt.alloc(), line, 9)?;
+        let (done, flushes) = flushes_of(rt.alloc(), line, 9);
         let full = Fault::WriteFailed { written: 9 };
         assert!(rt; done == Err(full) && flushes == 0);
     }
-    Ok(())
 }
 
 /// A reader that gives so many bytes, then so many, and then the rest.
@@ -74,9 +72,8 @@ impl Read for Pieces<'_> {
 
 /// What a dump of all that a reader gives answers and writes.
 fn dumped(alloc: Global, line: &str, from: &mut impl Read) -> Result<(Done, Vec<u8>), Fault> {
-    let job = plan_words(alloc, &words(alloc, line)?)?;
     let mut to = Vec::new(alloc);
-    let done = run_dump(alloc, &job, from, &mut to)?;
+    let done = run_line(alloc, line, from, &mut to)?;
     Ok((done, to))
 }
 

@@ -1,6 +1,8 @@
-//! What is compared again and again, and the words of a line.
+//! What is compared again and again; the words of a line, and the job that they ask for.
+use bx_cli::{Done, Fault, Job, plan_words, run_dump};
 use bx_text::{NoMemory, Words};
-use std::alloc::Allocator;
+use std::alloc::{Allocator, Global};
+use std::io::{Read, Write};
 use std::process::Abort;
 
 pub fn assert_bytes(rt: &impl Abort, found: &[u8], wanted: &[u8]) {
@@ -18,4 +20,29 @@ pub fn words<A: Allocator + Clone>(alloc: A, line: &str) -> Result<Words<A>, NoM
         words.push(word)?;
     }
     Ok(words)
+}
+
+/// The job that the words of a line ask for.
+pub fn job_of(alloc: Global, line: &str) -> Result<Job, Fault> {
+    plan_words(alloc, &words(alloc, line)?)
+}
+
+/// Runs a job that dumps or copies.
+pub fn run_job<R: Read, W: Write, A: Allocator + Clone>(
+    alloc: A,
+    job: &Job,
+    from: &mut R,
+    to: &mut W,
+) -> Result<Done, Fault> {
+    run_dump(alloc, job, from, to)
+}
+
+/// Runs the job that the words of a line ask for.
+pub fn run_line<R: Read, W: Write>(
+    alloc: Global,
+    line: &str,
+    from: &mut R,
+    to: &mut W,
+) -> Result<Done, Fault> {
+    run_job(alloc, &job_of(alloc, line)?, from, to)
 }

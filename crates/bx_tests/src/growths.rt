@@ -2,10 +2,10 @@
 ghost use Rattle.std.specs.Prelude.{IfOk};
 ghost use Rattle.bx_cli.specs.Command.{IsNear};
 
-use crate::expected::words;
+use crate::expected::{job_of, run_job, words};
 use crate::sessions::{MemSession, open, run, trio};
 use bumpalo::Bump;
-use bx_cli::{Command, Done, Fault, Job, Reply, log_text, plan_words, run_dump};
+use bx_cli::{Command, Done, Fault, Job, Reply, log_text};
 use bx_dd::{Counts, report};
 use bx_journal::LogRow;
 use bx_ration::{ALIGN, arena, squeeze, used};
@@ -65,7 +65,7 @@ enum Call {
 fn copy(rt: &impl Abort, alloc: Global, bump: &Bump, job: &Job) -> Result<(), Fault> {
     let mut from = READ;
     let mut to = Vec::new(alloc);
-    match run_dump(bump, job, &mut from, &mut to) {
+    match run_job(bump, job, &mut from, &mut to) {
         Ok(done) => {
             assert!(rt; done == Done::Copied(COUNTED));
             assert!(rt; to.as_slice() == WRITTEN);
@@ -78,17 +78,25 @@ fn copy(rt: &impl Abort, alloc: Global, bump: &Bump, job: &Job) -> Result<(), Fa
     }
 }
 
+fn has_lines<'a>(bump: &'a Bump, rows: &[LogRow], lines: &str) -> Result<bool, Fault> {
+    Ok(log_text(bump, rows)?.as_str() == lines)
+}
+
 /// Lists changes in memory of the arena.
 fn list(rt: &impl Abort, bump: &Bump) -> Result<(), Fault> {
-    let text = log_text(bump, &ROWS)?;
-    assert!(rt; text.as_str() == LINES);
+    let right = has_lines(bump, &ROWS, LINES)?;
+    assert!(rt; right);
     Ok(())
+}
+
+fn has_report<'a>(bump: &'a Bump, counts: &Counts, wanted: &[u8]) -> Result<bool, Fault> {
+    Ok(report(bump, counts)?.as_slice() == wanted)
 }
 
 /// Reports what was counted, in memory of the arena.
 fn tell(rt: &impl Abort, bump: &Bump) -> Result<(), Fault> {
-    let text = report(bump, &COUNTED)?;
-    assert!(rt; text.as_slice() == REPORT);
+    let right = has_report(bump, &COUNTED, REPORT)?;
+    assert!(rt; right);
     Ok(())
 }
 
@@ -177,7 +185,7 @@ fn sweep(rt: &impl Abort, alloc: Global, job: &Job, call: Call) -> Result<u32, F
 #[test]
 fn growths_of_outputs(rt: HostRuntime) -> Result<(), Fail> {
     let alloc = rt.alloc();
-    let job = plan_words(alloc, &words(alloc, COPY)?)?;
+    let job = job_of(alloc, COPY)?;
     for (call, least) in [(Call::Copy, 3), (Call::List, 1), (Call::Report, 1)] {
         assert!(rt; sweep(&rt, alloc, &job, call)? >= least);
     }

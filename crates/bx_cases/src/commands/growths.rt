@@ -3,7 +3,7 @@ use crate::commands::rows::{begun, play_row};
 use crate::report::compare::{Wrong, same_bytes};
 use crate::report::tally::{Failure, at};
 use crate::session::answers::{refused, replied, same_reply};
-use crate::session::ask::ask_for;
+use crate::session::ask::{Limit, ask_for};
 use crate::session::devices::{MemDevices, Texts, in_memory, unchanged};
 use crate::session::open::{MemSession, close, open};
 use crate::session::places::Memory;
@@ -101,29 +101,22 @@ fn opened_in<'a>(
 #[derive(Drop)]
 struct Asked<'a> {
     reply: Option<Reply>,
-    /// How many bytes were taken.
-    taken: usize,
     devices: MemDevices<&'a Bump>,
 }
 
-/// One command with so many bytes. Behind it there is room.
+/// One command, with memory that may be short. Behind it there is room.
 fn asked_with<'a>(
     alloc: Global,
     bump: &'a Bump,
     texts: Texts<'_>,
     row: &Row,
-    bytes: usize,
+    limit: Limit<'a>,
 ) -> Result<Asked<'a>, Wrong> {
     let mut session = opened_in(alloc, bump, texts)?;
-    let reply = ask_for(bump, &mut session, &row.ask, Some((bump, bytes)))?;
-    let taken = used(bump, bytes);
+    let reply = ask_for(bump, &mut session, &row.ask, limit)?;
     bump.set_allocation_limit(None);
     let devices = close(session);
-    Ok(Asked {
-        reply,
-        taken,
-        devices,
-    })
+    Ok(Asked { reply, devices })
 }
 
 /// One command with so many bytes, and where that is too little again with enough. Tells how many it had taken when it was
@@ -135,12 +128,13 @@ fn squeezed<'a>(
     row: &Row,
     bytes: usize,
 ) -> Result<Option<usize>, Wrong> {
-    let asked = asked_with(alloc, bump, texts, row, bytes)?;
+    let asked = asked_with(alloc, bump, texts, row, Some((bump, bytes)))?;
+    let taken = used(bump, bytes);
     match asked.reply {
         None | Some(Reply::Refused(Fault::NoMemory)) => {
             unchanged(alloc, texts, &asked.devices)?;
             with_room(alloc, bump, texts, row)?;
-            Ok(Some(asked.taken))
+            Ok(Some(taken))
         }
         Some(reply) => {
             same_reply(alloc, &row.answer, reply)?;
@@ -166,9 +160,7 @@ fn same_image<A: Allocator>(
 
 /// The command with room enough.
 fn with_room<'a>(alloc: Global, bump: &'a Bump, texts: Texts<'_>, row: &Row) -> Result<(), Wrong> {
-    let mut session = opened_in(alloc, bump, texts)?;
-    let reply = ask_for(bump, &mut session, &row.ask, None)?;
-    replied(alloc, &row.answer, reply)?;
-    let devices = close(session);
-    same_image(alloc, row, &devices)
+    let asked = asked_with(alloc, bump, texts, row, None)?;
+    replied(alloc, &row.answer, asked.reply)?;
+    same_image(alloc, row, &asked.devices)
 }

@@ -120,14 +120,18 @@ pub fn front_of(
     unlike(alloc, what, whole, found)
 }
 
-/// Bytes that differ, from a little before the first difference on.
-fn unlike(alloc: Global, what: &'static str, wanted: &[u8], found: &[u8]) -> Result<(), Wrong> {
-    let shared = wanted
+/// How many bytes two texts share.
+fn shared(wanted: &[u8], found: &[u8]) -> usize {
+    wanted
         .iter()
         .zip(found.iter())
         .position(|(a, b)| *a != *b)
-        .unwrap_or(wanted.len().min(found.len()));
-    let from = shared.saturating_sub(40);
+        .unwrap_or(wanted.len().min(found.len()))
+}
+
+/// Bytes that differ, from a little before the first difference on.
+fn unlike(alloc: Global, what: &'static str, wanted: &[u8], found: &[u8]) -> Result<(), Wrong> {
+    let from = shared(wanted, found).saturating_sub(40);
     let wanted = shown(alloc, from, wanted)?;
     let found = shown(alloc, from, found)?;
     Err(differs(alloc, what, wanted.as_str(), found.as_str()))

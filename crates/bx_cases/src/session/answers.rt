@@ -109,6 +109,12 @@ pub fn same_reply(alloc: Global, wanted: &Answer, reply: Reply) -> Result<(), Wr
     same_reply_text(alloc, wanted.as_str(), reply)
 }
 
+/// These replies are the same.
+fn same_replies(alloc: Global, wanted: Reply, found: Reply) -> Result<(), Wrong> {
+    let wanted = reply_text(alloc, wanted)?;
+    same_reply_text(alloc, wanted.as_str(), found)
+}
+
 /// The reply to a command has this text.
 pub fn same_reply_text(alloc: Global, wanted: &str, reply: Reply) -> Result<(), Wrong> {
     let found = reply_text(alloc, reply)?;
@@ -119,6 +125,14 @@ pub fn same_reply_text(alloc: Global, wanted: &str, reply: Reply) -> Result<(), 
 pub fn replied(alloc: Global, wanted: &Answer, reply: Option<Reply>) -> Result<(), Wrong> {
     match reply {
         Some(reply) => same_reply(alloc, wanted, reply),
+        None => Err(Wrong::NoMemory),
+    }
+}
+
+/// There is a reply, and it is the same.
+pub fn replied_so(alloc: Global, wanted: Reply, found: Option<Reply>) -> Result<(), Wrong> {
+    match found {
+        Some(found) => same_replies(alloc, wanted, found),
         None => Err(Wrong::NoMemory),
     }
 }

@@ -91,15 +91,54 @@ pub fn ask_for<D: Device, T: TextStore, A: Allocator + Clone>(
     ask: &Ask,
     limit: Limit<'_>,
 ) -> Result<Option<Reply>, Wrong> {
-    if let Ask::Change { base, writes } = ask {
-        let change = change_of(alloc, *base, writes.as_slice())?;
-        limit_to(limit)?;
-        return perform(session, &change);
+    match ask {
+        Ask::Change { base, writes } => {
+            ask_change(alloc, session, *base, writes.as_slice(), limit)
+        }
+        _ => ask_command(alloc, session, ask, limit),
     }
+}
+
+fn ask_command<D: Device, T: TextStore, A: Allocator + Clone>(
+    alloc: A,
+    session: &mut Session<D, T, A>,
+    ask: &Ask,
+    limit: Limit<'_>,
+) -> Result<Option<Reply>, Wrong> {
     match command_of(alloc.clone()?, ask)? {
         Some(command) => run_one(alloc, session, command, limit),
         None => Err(Wrong::Unknown),
     }
+}
+
+fn ask_change<D: Device, T: TextStore, A: Allocator + Clone>(
+    alloc: A,
+    session: &mut Session<D, T, A>,
+    base: Option<u64>,
+    writes: &[bx_case_files::Write],
+    limit: Limit<'_>,
+) -> Result<Option<Reply>, Wrong> {
+    let change = change_of(alloc, base, writes)?;
+    limit_to(limit)?;
+    perform(session, &change)
+}
+
+/// Takes changes back.
+pub fn undo<D: Device, T: TextStore, A: Allocator + Clone>(
+    alloc: A,
+    session: &mut Session<D, T, A>,
+    k: u32,
+) -> Result<Option<Reply>, Wrong> {
+    run_one(alloc, session, Command::Undo { k }, None)
+}
+
+/// Makes undone changes again.
+pub fn redo<D: Device, T: TextStore, A: Allocator + Clone>(
+    alloc: A,
+    session: &mut Session<D, T, A>,
+    j: u32,
+) -> Result<Option<Reply>, Wrong> {
+    run_one(alloc, session, Command::Redo { j }, None)
 }
 
 /// Makes a change that no command makes.

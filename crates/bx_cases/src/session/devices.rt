@@ -43,15 +43,20 @@ impl Held {
 /// Devices in memory.
 pub type MemDevices<A = Global> = Devices<MemImage<A>, MemText<A>>;
 
+fn mem_image<A: Allocator + Clone>(alloc: &A, bytes: &[u8]) -> Result<MemImage<A>, Wrong> {
+    Ok(MemImage::from_vec(bytes.to_vec(alloc.clone()?)?))
+}
+
+fn mem_text<A: Allocator + Clone>(alloc: &A, bytes: &[u8]) -> Result<MemText<A>, Wrong> {
+    Ok(MemText::from_vec(bytes.to_vec(alloc.clone()?)?))
+}
+
 /// Devices in memory of `alloc` that hold this.
 pub fn in_memory<A: Allocator + Clone>(alloc: A, texts: Texts<'_>) -> Result<MemDevices<A>, Wrong> {
-    let image = MemImage::from_vec(texts.image.to_vec(alloc.clone()?)?);
-    let journal = MemText::from_vec(texts.journal.to_vec(alloc.clone()?)?);
-    let redo = MemText::from_vec(texts.redo.to_vec(alloc)?);
     Ok(Devices {
-        image,
-        journal,
-        redo,
+        image: mem_image(&alloc, texts.image)?,
+        journal: mem_text(&alloc, texts.journal)?,
+        redo: mem_text(&alloc, texts.redo)?,
     })
 }
 

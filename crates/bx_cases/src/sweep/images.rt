@@ -1,10 +1,10 @@
 //! The images of a session in a plain list.
 use crate::report::compare::Wrong;
-use crate::session::ask::ask_for;
+use crate::session::ask::{redo, undo};
 use crate::session::open::MemSession;
 use crate::session::places::Memory;
 use crate::session::standing::{Standing, again};
-use bx_case_files::{Ask, Opening};
+use bx_case_files::Opening;
 use bx_image::MemImage;
 use bx_store::MemText;
 use std::alloc::{AllocError, Global};
@@ -85,7 +85,7 @@ fn all_redone(
     let Standing { session, .. } = standing;
     let mut session = session;
     let undone = session.undone();
-    let _ = ask_for(alloc, &mut session, &Ask::Redo(undone), None)?;
+    let _ = redo(alloc, &mut session, undone)?;
     again(alloc, &Memory, session)
 }
 
@@ -109,7 +109,7 @@ fn step_back(
     images: &mut Vec<Vec<u8>>,
 ) -> Result<MemSession, Wrong> {
     let mut session = session;
-    let _ = ask_for(alloc, &mut session, &Ask::Undo(1), None)?;
+    let _ = undo(alloc, &mut session, 1)?;
     let Standing { session, held } = again(alloc, &Memory, session)?;
     images.push(held.image)?;
     Ok(session)

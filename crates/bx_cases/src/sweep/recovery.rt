@@ -1,31 +1,41 @@
 //! What was left is opened, stands for the images that are expected, and is stopped while it is opened.
 use crate::report::compare::{Wrong, same_bytes};
-use crate::session::answers::{refused, replied, same_opening};
-use crate::session::ask::ask_for;
+use crate::session::answers::{refused, replied_so, same_opening};
+use crate::session::ask::{redo, undo};
 use crate::session::devices::{Held, Texts, in_memory};
 use crate::session::fuse::{Fused, OPENING_KINDS, fuse_at, held_fused, in_fused};
 use crate::session::open::{MemSession, found_again, open};
 use crate::session::places::Memory;
 use crate::session::standing::{Standing, again};
 use crate::sweep::images::Images;
-use bx_case_files::{Answer, Ask, Opening};
-use bx_cli::Fault;
+use bx_case_files::Opening;
+use bx_cli::{Fault, Reply};
 use std::alloc::Global;
 
 /// No play makes so many calls, and none leaves so much that is opened.
 pub const MOST_CALLS: u64 = 10_000;
 
-/// Asks for an undo or redo, which is answered so.
-fn moved(alloc: Global, session: &mut MemSession, ask: &Ask, wanted: &Answer) -> Result<(), Wrong> {
-    let reply = ask_for(alloc, session, ask, None)?;
-    replied(alloc, wanted, reply)
+/// Makes the change again that was undone last.
+fn redone(alloc: Global, session: MemSession) -> Result<MemSession, Wrong> {
+    let mut session = session;
+    let changes = session.changes().saturating_add(1);
+    let reply = redo(alloc, &mut session, 1)?;
+    replied_so(alloc, Reply::Redone { changes }, reply)?;
+    Ok(session)
+}
+
+/// Takes the newest change back.
+fn undone(alloc: Global, session: MemSession) -> Result<MemSession, Wrong> {
+    let mut session = session;
+    let left = session.changes().saturating_sub(1);
+    let reply = undo(alloc, &mut session, 1)?;
+    replied_so(alloc, Reply::Undone { left }, reply)?;
+    Ok(session)
 }
 
 /// Makes the change again that was undone last. It leaves this image.
 fn step_on(alloc: Global, session: MemSession, image: &[u8]) -> Result<MemSession, Wrong> {
-    let mut session = session;
-    let changes = session.changes().saturating_add(1);
-    moved(alloc, &mut session, &Ask::Redo(1), &Answer::Redone(changes))?;
+    let session = redone(alloc, session)?;
     let Standing { session, held } = again(alloc, &Memory, session)?;
     same_bytes(alloc, "image made again", image, held.image.as_slice())?;
     Ok(session)
@@ -34,16 +44,12 @@ fn step_on(alloc: Global, session: MemSession, image: &[u8]) -> Result<MemSessio
 /// Takes the newest change back, where there is one. The image before is this one.
 fn step_back(alloc: Global, session: MemSession, image: &[u8]) -> Result<MemSession, Wrong> {
     let Standing { session, held } = again(alloc, &Memory, session)?;
-    let mut session = session;
     same_bytes(alloc, "image of the stack", image, held.image.as_slice())?;
-    let changes = session.changes();
-    if changes == 0 {
+    if session.changes() == 0 {
         same_bytes(alloc, "journal of no change", b"", held.journal.as_slice())?;
         return Ok(session);
     }
-    let left = changes.saturating_sub(1);
-    moved(alloc, &mut session, &Ask::Undo(1), &Answer::Undone(left))?;
-    Ok(session)
+    undone(alloc, session)
 }
 
 /// Makes all changes again that were undone, one by one.

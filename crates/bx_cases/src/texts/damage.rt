@@ -1,24 +1,28 @@
 //! Texts that are cut off or changed, opened beside the slow judge.
-use crate::report::compare::{Wrong, differs, fault_text, same_bytes, same_text};
+use crate::report::compare::{Wrong, differs, same_bytes, same_faults};
 use crate::session::answers::{refused, same_opening};
-use crate::session::ask::ask_for;
-use crate::session::devices::{Texts, in_memory, unchanged};
+use crate::session::ask::undo;
+use crate::session::devices::{Held, MemDevices, Texts, in_memory, unchanged};
 use crate::session::open::{MemSession, close, open, opening_of};
 use crate::session::places::Memory;
 use crate::session::standing::{Standing, again};
 use crate::sweep::weight::change_step;
-use bx_case_files::{Ask, Opening};
+use bx_case_files::Opening;
 use bx_cli::Fault;
-use bx_journal::SessionFault;
 use bx_scripts::judge::{Finding, Verdict, judge};
 use std::alloc::Global;
 
-/// Undoing all leaves this image, and no text.
-fn unwinds(alloc: Global, session: MemSession, first: &[u8]) -> Result<(), Wrong> {
+/// Undoes all, and closes the session.
+fn unwound(alloc: Global, session: MemSession) -> Result<MemDevices, Wrong> {
     let mut session = session;
     let changes = session.changes();
-    let _ = ask_for(alloc, &mut session, &Ask::Undo(changes), None)?;
-    let devices = close(session);
+    let _ = undo(alloc, &mut session, changes)?;
+    Ok(close(session))
+}
+
+/// Undoing all leaves this image, and no text.
+fn unwinds(alloc: Global, session: MemSession, first: &[u8]) -> Result<(), Wrong> {
+    let devices = unwound(alloc, session)?;
     same_bytes(alloc, "first image", first, devices.image.as_slice())?;
     same_bytes(
         alloc,
@@ -26,6 +30,20 @@ fn unwinds(alloc: Global, session: MemSession, first: &[u8]) -> Result<(), Wrong
         b"",
         devices.journal.as_slice(),
     )
+}
+
+/// This is left: the image, and so much of the texts.
+fn same_left(alloc: Global, texts: Texts<'_>, wanted: &Finding, held: &Held) -> Result<(), Wrong> {
+    same_bytes(
+        alloc,
+        "image",
+        wanted.image.as_slice(),
+        held.image.as_slice(),
+    )?;
+    let (journal, _) = texts.journal.split_at(wanted.kept.min(texts.journal.len()));
+    same_bytes(alloc, "journal", journal, held.journal.as_slice())?;
+    let (redo, _) = texts.redo.split_at(wanted.kept_redo.min(texts.redo.len()));
+    same_bytes(alloc, "redo text", redo, held.redo.as_slice())
 }
 
 /// What is left agrees with what the judge said.
@@ -38,27 +56,19 @@ fn agrees(
 ) -> Result<(), Wrong> {
     same_opening(alloc, opening_of(wanted.recovered), found)?;
     let Standing { session, held } = again(alloc, &Memory, session)?;
-    same_bytes(
-        alloc,
-        "image",
-        wanted.image.as_slice(),
-        held.image.as_slice(),
-    )?;
-    let (journal, _) = texts.journal.split_at(wanted.kept.min(texts.journal.len()));
-    same_bytes(alloc, "journal", journal, held.journal.as_slice())?;
-    let (redo, _) = texts.redo.split_at(wanted.kept_redo.min(texts.redo.len()));
-    same_bytes(alloc, "redo text", redo, held.redo.as_slice())?;
+    same_left(alloc, texts, wanted, &held)?;
     match &wanted.first {
         Some(first) => unwinds(alloc, session, first.as_slice()),
         None => Ok(()),
     }
 }
 
-/// Opening is refused as the judge said.
-fn same_refusal(alloc: Global, wanted: SessionFault, found: Fault) -> Result<(), Wrong> {
-    let wanted = fault_text(alloc, Fault::from(wanted))?;
-    let found = fault_text(alloc, found)?;
-    same_text(alloc, "fault", wanted.as_str(), found.as_str())
+/// A refusal is the one that the judge said.
+fn refused_so(alloc: Global, verdict: &Verdict, found: Fault) -> Result<(), Wrong> {
+    match verdict {
+        Err(wanted) => same_faults(alloc, Fault::from(*wanted), found),
+        Ok(_) => Err(refused(alloc, found)),
+    }
 }
 
 /// The judge makes no image of so many bytes. What calls for one isn't opened.
@@ -71,23 +81,38 @@ fn is_long(verdict: &Verdict) -> bool {
     }
 }
 
+/// Opening found this, and so the judge answered.
+fn found_so(
+    alloc: Global,
+    session: MemSession,
+    found: Opening,
+    texts: Texts<'_>,
+    verdict: &Verdict,
+) -> Result<(), Wrong> {
+    match verdict {
+        Ok(wanted) => agrees(alloc, session, found, texts, wanted),
+        Err(_) => Err(differs(alloc, "opening", "a refusal", "no fault")),
+    }
+}
+
+/// Opening answers this.
+fn opens_so(alloc: Global, texts: Texts<'_>, verdict: &Verdict) -> Result<(), Wrong> {
+    match open(alloc, in_memory(alloc, texts)?) {
+        Ok((session, found)) => found_so(alloc, session, found, texts, verdict),
+        Err((devices, fault)) => {
+            unchanged(alloc, texts, &devices)?;
+            refused_so(alloc, verdict, fault)
+        }
+    }
+}
+
 /// Opening answers what the judge answers; where it refuses, nothing changes.
 fn judged(alloc: Global, texts: Texts<'_>) -> Result<(), Wrong> {
     let verdict = judge(alloc, texts.image, texts.journal, texts.redo)?;
     if is_long(&verdict) {
         return Ok(());
     }
-    match (open(alloc, in_memory(alloc, texts)?), verdict) {
-        (Ok((session, found)), Ok(wanted)) => agrees(alloc, session, found, texts, &wanted),
-        (Ok(_), Err(_)) => Err(differs(alloc, "opening", "a refusal", "no fault")),
-        (Err((devices, fault)), verdict) => {
-            unchanged(alloc, texts, &devices)?;
-            match verdict {
-                Err(wanted) => same_refusal(alloc, wanted, fault),
-                Ok(_) => Err(refused(alloc, fault)),
-            }
-        }
-    }
+    opens_so(alloc, texts, &verdict)
 }
 
 /// The text that is cut off or changed: the journal's, or that of what was undone where there is any.

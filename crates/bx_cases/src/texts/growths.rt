@@ -5,7 +5,7 @@ use crate::session::devices::{MemDevices, Texts, in_memory, unchanged};
 use crate::session::open::{Opened, open};
 use crate::sweep::hunt::{Hunt, MOST_TRIES};
 use bumpalo::Bump;
-use bx_case_files::TextCase;
+use bx_case_files::{Opening, TextCase};
 use bx_cli::Fault;
 use bx_image::MemImage;
 use bx_ration::{arena, squeeze, used};
@@ -53,20 +53,26 @@ fn squeezed_opening<'a>(
 ) -> Result<Option<usize>, Wrong> {
     let (opened, taken) = opened_with(bump, texts, bytes)?;
     match opened {
-        Ok((_, found)) => {
-            found_so(alloc, &case.found, Ok(found))?;
-            Ok(None)
-        }
+        Ok((_, found)) => answered(alloc, case, Ok(found)),
         Err((devices, fault)) => {
             unchanged(alloc, texts, &devices)?;
             if fault != Fault::NoMemory {
-                found_so(alloc, &case.found, Err(fault))?;
-                return Ok(None);
+                return answered(alloc, case, Err(fault));
             }
             opens_so(alloc, bump, case, devices)?;
             Ok(Some(taken))
         }
     }
+}
+
+/// Opening answered what the case tells, with no growth refused.
+fn answered(
+    alloc: Global,
+    case: &TextCase,
+    found: Result<Opening, Fault>,
+) -> Result<Option<usize>, Wrong> {
+    found_so(alloc, &case.found, found)?;
+    Ok(None)
 }
 
 /// What an opening with so many bytes came to, and how many were taken. Behind it there is room.
