@@ -55,6 +55,8 @@ pub enum Ask {
     Whole,
     UndoTwo,
     RedoTwo,
+    /// The rows of the log: how many there are.
+    Log,
 }
 
 /// So many saved bytes make an entry of more than 256 KiB.
@@ -110,6 +112,10 @@ fn asked<D: Device, T: TextStore>(
         Ask::Nothing => Ok(0),
         Ask::UndoTwo => session.undo(2),
         Ask::RedoTwo => session.redo(2),
+        Ask::Log => match session.log() {
+            Ok(rows) => Ok(rows.len().min(u32::MAX as usize) as u32),
+            Err(fault) => Err(fault),
+        },
         _ => match change_of(alloc, ask) {
             Ok(change) => session.perform(&change),
             Err(_) => Err(SessionFault::NoMemory),

@@ -1,10 +1,11 @@
 //! Texts that are counted in windows: of any size, and of a journal that is longer than two.
 use crate::journal::reads::{
-    Held, NO_STEP, NONE, PATCHED, REFUSED, UNDONE_TWO, assert_refused, found, held, left_by, open,
+    Ask, Held, NO_STEP, NONE, PATCHED, REFUSED, UNDONE_TWO, assert_refused, found, held, left_by,
+    open,
 };
 use bumpalo::Bump;
 use bx_entries::{count_lines, counted_by, no_entries};
-use bx_journal::How;
+use bx_journal::{How, SessionFault};
 use bx_ration::ration;
 use std::alloc::{AllocError, Global};
 use std::process::Abort;
@@ -93,6 +94,22 @@ fn each_window_fails(rt: HostRuntime) -> Result<(), Fail> {
     }
     let opened = found(How::Clean, 1, 0);
     let _left = left_by(alloc, &rt, start, (NONE, 4, NONE), opened, NO_STEP)?;
+    Ok(())
+}
+
+// A log reads them once more; each is refused.
+#[test]
+fn each_window_of_a_log_fails(rt: HostRuntime) -> Result<(), Fail> {
+    let alloc = rt.alloc();
+    let (image, journal) = (vec![in alloc; b'y'; LEN]?, long_journal(alloc)?);
+    let start: Held<'_> = (image.as_slice(), journal.as_slice(), b"");
+    let opened = found(How::Clean, 1, 0);
+    let refused = (Ask::Log, Err(SessionFault::DeviceFailed));
+    for pass in 4..8 {
+        assert_refused(alloc, &rt, start, (NONE, pass, NONE), opened, refused)?;
+    }
+    let listed = (Ask::Log, Ok(1));
+    let _left = left_by(alloc, &rt, start, (NONE, 8, NONE), opened, listed)?;
     Ok(())
 }
 
