@@ -46,8 +46,8 @@ pub stops_parse : (P : Type 0) (words : List (List ℕ)) (old : Option (List ℕ
 stops_parse P words old e refused accepted = (stops_operands P (fault_of words) old e refused accepted, none_asked words old)
 
 -- want of memory before the operands are read
-pub makes_at_once : {A : Type 0} (words : List (List ℕ)) (old : Option (List ℕ)) (e : DdFault) → e ≡ NoMemory → Makes {A = A} words old old (Err e)
-makes_at_once words old e is = (stops_at_once (fault_of words) old e is, none_asked words old)
+pub makes_at_once : (A : Type 0) (words : List (List ℕ)) (old : Option (List ℕ)) (e : DdFault) → e ≡ NoMemory → Makes {A = A} words old old (Err e)
+makes_at_once A words old e is = (stops_at_once (fault_of words) old e is, none_asked words old)
 
 -- the operands were accepted
 pub none_of : {P : Type 0} (fault : Option DdFault) (plan : P) → IfSome fault (λ f. let r : Result P DdFault = Ok plan in r ≡ Err f) → fault ≡ None

@@ -14,4 +14,4 @@ returns g c =
 pub returns-in_err-clone : goal.returns-in_err-clone
 returns-in_err-clone g c =
     let p = err_from_is_err_and c.from_residual.result c.from_residual.ensures.1 in
-    rw p.1 (makes_at_once c.args.operands.now (g.R.Read.remaining c.args.input.now) p.0 p.2)
+    rw p.1 (makes_at_once _ c.args.operands.now (g.R.Read.remaining c.args.input.now) p.0 p.2)
