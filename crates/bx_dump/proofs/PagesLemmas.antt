@@ -10,8 +10,8 @@ use Rattle.bx_text.specs.Writing.{WritesFront}
 use Rattle.bx_text.proofs.KnownLemmas.{Appends-trans, Consumes-trans, Appends-nil, Consumes-nil}
 use Rattle.bx_dump.specs.Dumped.{IsDumpFault, KeepsUp}
 use Rattle.bx_dump.proofs.DumpLemmas.{cause_longer, keeps_read, keeps_along, keeps_whole}
-use Rattle.bx_dump.specs.Pages.{WritesPart, WritesFrontBut, Skips, part_of, capped, IsEndOf}
-use Rattle.bx_dump.specs.inner.Pages.{WritesRest, StopsAt, IsLast}
+use Rattle.bx_dump.specs.Pages.{WritesPart, WritesFrontBut, part_of, capped, IsEndOf}
+use Rattle.bx_dump.specs.inner.Pages.{WritesRest, Skips, StopsAt, IsLast}
 
 -- more bytes were read before the fault
 cause_after : (fault : IoFault) (less wanted taken n : ℕ) → taken ≤ 2 ^ 40 → taken + less ≤ wanted → IsReadCause fault less (2 ^ 40 - taken) n →

@@ -57,14 +57,6 @@ abbrev pub field_text : Kind → List ℕ → List ℕ
 field_text Chars bytes = left_filled 32 3 (char_text (value_of bytes))
 field_text (Number form size) bytes = number_text form size (value_of bytes)
 
--- a space and the field, wherever it stands
-abbrev pub value_text : Kind → ℕ → List ℕ → List ℕ
-value_text kind at bytes = 32 ∷ field_text kind bytes
-
--- the values of some bytes
-abbrev pub values_text : Kind → List ℕ → List ℕ
-values_text kind bytes = in_lines (value_text kind) (width_of kind) 0 bytes
-
 -- an address in 7 octal, 7 decimal or 6 hexadecimal digits, or more where it needs them
 abbrev pub address_text : Address → ℕ → List ℕ
 address_text Octal at = left_filled 48 7 (digits 8 false at)
@@ -74,7 +66,7 @@ address_text Without at = []
 
 -- a line: the address, and a space and a field for each value
 abbrev pub od_line : Address → Kind → ℕ → List ℕ → List ℕ
-od_line address kind at bytes = address_text address at ++ values_text kind bytes ++ codes "\n"
+od_line address kind at bytes = address_text address at ++ in_lines (λ place value. 32 ∷ field_text kind value) (width_of kind) 0 bytes ++ codes "\n"
 
 -- the address behind the last byte, on a line of its own
 abbrev pub od_end : Address → ℕ → List ℕ

@@ -1,5 +1,5 @@
 -- What a dump of a part of an input reads and writes.
-use Rattle.std.specs.Prelude.{◌≡◌, ℕ, ◌+◌, ◌^◌, ◌<◌, ◌≤◌, ◌⊎◌, Bool, true, false, List, length, take, drop, Option, None, Some, IfSome}
+use Rattle.std.specs.Prelude.{◌≡◌, ℕ, ◌+◌, ◌^◌, ◌<◌, ◌≤◌, ◌⊎◌, List, length, take, drop, Option, None, Some, IfSome}
 use Rattle.std.specs.Io.KnownBytes.{Appends, Consumes, IsAtEnd}
 use Rattle.bx_text.specs.declared.fault.IoFault.{IoFault}
 use Rattle.bx_dump.specs.Dumped.{IsDumpFault, KeepsUp}
@@ -53,11 +53,3 @@ pub record WritesFrontBut (slack : ℕ) (text : List ℕ → List ℕ) (skip : �
 -- A front of the text of the part was written, before any other byte. What a text ends with has no more than 2^7 bytes.
 abbrev pub WritesFrontOf : Dump → Option (List ℕ) → Option (List ℕ) → Option (List ℕ) → Option (List ℕ) → IoFault → Type 0
 WritesFrontOf d r0 r1 w0 w1 fault = WritesFrontBut (2 ^ 7) (λ input. d.text (part_of d.skip d.limit input)) d.skip d.limit 0 0 r0 r1 w0 w1 fault
-
--- Bytes were skipped: all that were asked for, or fewer up to the input's end.
-pub record Skips (all : Bool) (count : ℕ) (r0 r1 : Option (List ℕ)) : Type 0 where
-  pub input : List ℕ
-  pub consumed : Consumes r0 r1 input
-  pub few : length input ≤ 2 ^ 40
-  pub whole : all ≡ true → length input ≡ count
-  pub short : all ≡ false → (length input < count) × IsAtEnd r1

@@ -2,12 +2,11 @@
 use Rattle.std.specs.Prelude.{ℕ, zero, suc, ◌+◌, ◌^◌, ◌≤◌, false, if◌then◌else◌, List, [], ◌∷◌, ◌++◌, map, length, codes, None, Some}
 use Rattle.std.specs.Char.{is_ascii_alphanumeric, is_ascii_digit}
 use Rattle.std.specs.Fmt.{digits}
+use Rattle.bx_text.specs.Dump.{dump_line}
 use Rattle.bx_dump.specs.Lines.{in_lines}
 use Rattle.bx_dump.specs.Pages.{Dump}
 use Rattle.bx_dump.specs.Rows.{plain_line, include_line}
-use Rattle.bx_dump.specs.Xxd.{columns_line}
-use Rattle.bx_dump.specs.declared.xxd.columns.Digits.{Digits}
-use Rattle.bx_dump.specs.declared.xxd.columns.Digits.TheVariants.{Hexadecimal, Binary}
+use Rattle.bx_dump.specs.Xxd.{bits_line}
 use Rattle.bx_dump.specs.declared.xxd.options.XxdStyle.{XxdStyle}
 use Rattle.bx_dump.specs.declared.xxd.options.XxdStyle.TheVariants.{Normal, Plain, Bits, Include}
 use Rattle.bx_dump.specs.declared.xxd.options.XxdOptions.{XxdOptions}
@@ -37,14 +36,10 @@ abbrev pub group_of : ℕ → ℕ → ℕ
 group_of cols zero = cols
 group_of cols (suc g) = suc g
 
--- lines with columns of digits, the first at the address where the part begins
-abbrev pub columns_text : Digits → XxdOptions → List ℕ → List ℕ
-columns_text digits o bytes = in_lines (columns_line digits o.cols (group_of o.cols o.group)) o.cols (o.seek + o.shift) bytes
-
--- the text of the bytes of a part
+-- the text of the bytes of a part; the address of a line begins where the part does
 abbrev pub styled : XxdStyle → XxdOptions → List ℕ → List ℕ
-styled Normal o bytes = columns_text (Hexadecimal o.upper) o bytes
-styled Bits o bytes = columns_text Binary o bytes
+styled Normal o bytes = in_lines (dump_line o.upper o.cols (group_of o.cols o.group)) o.cols (o.seek + o.shift) bytes
+styled Bits o bytes = in_lines (bits_line o.cols (group_of o.cols o.group)) o.cols (o.seek + o.shift) bytes
 styled Plain o bytes = in_lines (plain_line o.upper) o.cols 0 bytes
 styled (Include None) o bytes = include_items o.cols bytes
 styled (Include (Some name)) o bytes = named_text name.now o.cols bytes

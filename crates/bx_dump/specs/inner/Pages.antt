@@ -1,5 +1,5 @@
 -- What proofs alone need: what a dump of a part of an input reads and writes.
-use Rattle.std.specs.Prelude.{◌≡◌, ℕ, ◌+◌, ◌^◌, ◌≤◌, ◌⊎◌, List, length, Option, None, Some, Result, IfOk, IfErr}
+use Rattle.std.specs.Prelude.{◌≡◌, ℕ, ◌+◌, ◌^◌, ◌<◌, ◌≤◌, ◌⊎◌, Bool, true, false, List, length, Option, None, Some, Result, IfOk, IfErr}
 use Rattle.std.specs.Io.KnownBytes.{Appends, Consumes, IsAtEnd}
 use Rattle.bx_text.specs.declared.fault.IoFault.{IoFault}
 use Rattle.bx_text.specs.Stream.{IsReadCause}
@@ -53,3 +53,11 @@ pub record StopsAt (wanted room : ℕ) (r0 r1 : Option (List ℕ)) (fault : IoFa
   pub input : List ℕ
   pub consumed : Consumes r0 r1 input
   pub cause : IsReadCause fault wanted room (length input)
+
+-- Bytes were skipped: all that were asked for, or fewer up to the input's end.
+pub record Skips (all : Bool) (count : ℕ) (r0 r1 : Option (List ℕ)) : Type 0 where
+  pub input : List ℕ
+  pub consumed : Consumes r0 r1 input
+  pub few : length input ≤ 2 ^ 40
+  pub whole : all ≡ true → length input ≡ count
+  pub short : all ≡ false → (length input < count) × IsAtEnd r1

@@ -8,7 +8,8 @@ use Rattle.bx_text.specs.declared.fault.IoFault.{IoFault}
 use Rattle.bx_text.specs.declared.fault.IoFault.TheVariants.{NoMemory, ReadFailed, WriteFailed, InputTooLong, SkipPastEnd}
 use Rattle.bx_dump.specs.OdDump.{FailsBehind, Reaches}
 use Rattle.bx_dump.specs.inner.OdDump.{StopsShort}
-use Rattle.bx_dump.specs.Pages.{Skips, part_of}
+use Rattle.bx_dump.specs.Pages.{part_of}
+use Rattle.bx_dump.specs.inner.Pages.{Skips}
 use Rattle.bx_dump.proofs.EndLemmas.{od_end_few}
 use Rattle.bx_dump.proofs.PagesLemmas.{part_whole, part_then, stop_then, front_then, front_behind}
 use Rattle.bx_dump.proofs.od.dump.od.Goals as goal
