@@ -4,7 +4,8 @@ use Rattle.std.specs.List.{All, range_with_len}
 use Rattle.std.proofs.lemmas.List.{length-map, length-take, length-drop, get_or-map}
 use Rattle.std.proofs.lemmas.List.Elements.{All-take, All-drop}
 use Rattle.std.proofs.lemmas.List.FromFn.{length-range_with_len, get_or-range_with_len}
-use Rattle.bx_read.specs.Text.{lines_of, GivesPieces}
+use Rattle.bx_read.specs.Text.{lines_of}
+use Rattle.bx_read.specs.Grammar.{GivesPieces}
 use Rattle.bx_read.specs.Laws.{wide_line_text}
 use Rattle.bx_read.proofs.DumpLemmas.{only, one_list}
 use Rattle.bx_read.proofs.RowsLemmas.{IsRow, rows_give}

@@ -1,6 +1,6 @@
 use Rattle.std.proofs.Common.{◌≡◌, ◌+◌, ◌*◌, ◌++◌, take, drop}
 use Rattle.std.specs.Option.{option_map}
-use Rattle.bx_read.specs.Plain.{plain_bytes}
+use Rattle.bx_read.specs.inner.Plain.{plain_bytes}
 use Rattle.bx_read.proofs.plain.put_run.Given as goal
 
 -- the bytes so far and those of the rest are all
