@@ -25,10 +25,6 @@ by_size Two a b c d = b
 by_size Four a b c d = c
 by_size Eight a b c d = d
 
--- how many bytes a value of this size has
-abbrev pub size_of : Size → ℕ
-size_of size = by_size size 1 2 4 8
-
 -- a value in two's complement, as text
 abbrev pub signed_text : ℕ → ℕ → List ℕ
 signed_text size v = if nat_lt v (2 ^ (8 * size - 1)) then digits 10 false v else 45 ∷ digits 10 false (2 ^ (8 * size) - v)
@@ -38,7 +34,7 @@ abbrev pub number_text : NumForm → Size → ℕ → List ℕ
 number_text form.Hexadecimal size v = left_filled 48 (by_size size 2 4 8 16) (digits 16 false v)
 number_text form.Octal size v = left_filled 48 (by_size size 3 6 11 22) (digits 8 false v)
 number_text form.Unsigned size v = left_filled 32 (by_size size 3 5 10 20) (digits 10 false v)
-number_text form.Signed size v = left_filled 32 (by_size size 4 6 11 20) (signed_text (size_of size) v)
+number_text form.Signed size v = left_filled 32 (by_size size 4 6 11 20) (signed_text (by_size size 1 2 4 8) v)
 
 -- a byte as a character: by its name where it has one, itself where it prints, else in octal
 abbrev pub char_text : ℕ → List ℕ
@@ -50,7 +46,7 @@ char_text b =
 -- how many bytes a value has
 abbrev pub width_of : Kind → ℕ
 width_of Chars = 1
-width_of (Number form size) = size_of size
+width_of (Number form size) = by_size size 1 2 4 8
 
 -- the field for the bytes of one value
 abbrev pub field_text : Kind → List ℕ → List ℕ

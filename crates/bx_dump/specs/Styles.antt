@@ -1,5 +1,5 @@
 -- The text of xxd in each style.
-use Rattle.std.specs.Prelude.{ℕ, zero, suc, ◌+◌, ◌^◌, ◌≤◌, false, if◌then◌else◌, List, [], ◌∷◌, ◌++◌, map, length, codes, None, Some}
+use Rattle.std.specs.Prelude.{ℕ, ◌+◌, ◌^◌, ◌≤◌, ◌==◌, false, if◌then◌else◌, List, [], ◌∷◌, ◌++◌, map, length, slice_index, codes, None, Some}
 use Rattle.std.specs.Char.{is_ascii_alphanumeric, is_ascii_digit}
 use Rattle.std.specs.Fmt.{digits}
 use Rattle.bx_text.specs.Dump.{dump_line}
@@ -11,14 +11,9 @@ use Rattle.bx_dump.specs.declared.xxd.options.XxdStyle.{XxdStyle}
 use Rattle.bx_dump.specs.declared.xxd.options.XxdStyle.TheVariants.{Normal, Plain, Bits, Include}
 use Rattle.bx_dump.specs.declared.xxd.options.XxdOptions.{XxdOptions}
 
--- what stands in front of a name
-abbrev pub name_front : List ℕ → List ℕ
-name_front [] = []
-name_front (b ∷ bs) = if is_ascii_digit b then codes "__" else []
-
--- a name as C has it, with `_` for what is no letter and no digit
+-- a name as C has it: with `_` for what is no letter and no digit, and with two in front where it begins with a digit
 abbrev pub c_name : List ℕ → List ℕ
-c_name name = name_front name ++ map (λ b. if is_ascii_alphanumeric b then b else 95) name
+c_name name = (if is_ascii_digit (slice_index name 0) then codes "__" else []) ++ map (λ b. if is_ascii_alphanumeric b then b else 95) name
 
 -- all items: lines with a comma between two, and a newline at the end
 abbrev pub include_items : ℕ → List ℕ → List ℕ
@@ -33,8 +28,7 @@ named_text name cols bytes =
 
 -- bytes a group, where 0 stands for all of a line
 abbrev pub group_of : ℕ → ℕ → ℕ
-group_of cols zero = cols
-group_of cols (suc g) = suc g
+group_of cols group = if group == 0 then cols else group
 
 -- the text of the bytes of a part; the address of a line begins where the part does
 abbrev pub styled : XxdStyle → XxdOptions → List ℕ → List ℕ

@@ -8,6 +8,10 @@ use Rattle.bx_dump.specs.declared.od.options.Kind.{Kind}
 use Rattle.bx_dump.specs.declared.od.options.Kind.TheVariants.{Chars, Number}
 use Rattle.bx_dump.specs.Od.{by_size, field_text, width_of}
 
+-- how many bytes a value of this size has
+abbrev pub size_of : Size → ℕ
+size_of size = by_size size 1 2 4 8
+
 -- how wide the field of a value is
 abbrev pub number_width : NumForm → Size → ℕ
 number_width form.Hexadecimal size = by_size size 2 4 8 16

@@ -1,6 +1,6 @@
 -- What proofs alone need: the parts of a declaration, and lines of plain digits.
-use Rattle.std.specs.Prelude.{ℕ, ◌+◌, false, if◌then◌else◌, List, [], ◌++◌, codes}
-use Rattle.std.specs.Char.{is_ascii_alphanumeric}
+use Rattle.std.specs.Prelude.{ℕ, ◌+◌, false, if◌then◌else◌, List, [], ◌++◌, slice_index, codes}
+use Rattle.std.specs.Char.{is_ascii_alphanumeric, is_ascii_digit}
 use Rattle.std.specs.Fmt.{digits}
 use Rattle.bx_dump.specs.Lines.{in_lines}
 use Rattle.bx_dump.specs.Rows.{plain_line}
@@ -8,6 +8,10 @@ use Rattle.bx_dump.specs.declared.xxd.options.XxdOptions.{XxdOptions}
 use Rattle.bx_dump.specs.Styles.{c_name, group_of}
 use Rattle.bx_dump.specs.declared.xxd.columns.Digits.{Digits}
 use Rattle.bx_dump.specs.inner.Xxd.{columns_line}
+
+-- what stands in front of a name
+abbrev pub name_front : List ℕ → List ℕ
+name_front name = if is_ascii_digit (slice_index name 0) then codes "__" else []
 
 -- what stands for a byte of a name
 abbrev pub name_byte : ℕ → ℕ
