@@ -35,10 +35,6 @@ kind_of name =
     if bytes_eq name (codes "skip") || bytes_eq name (codes "seek") || bytes_eq name (codes "count") then Some Number else
     if bytes_eq name (codes "conv") then Some Conversions else None
 
--- the words of `conv`
-abbrev pub parts_of : List ℕ → List (List ℕ)
-parts_of value = slice_split (λ b. b == 44) value
-
 -- the names of conversions
 abbrev pub is_conversion : List ℕ → Bool
 is_conversion part =
@@ -59,7 +55,7 @@ value_fault at File value = if length value == 0 then Some (UnknownOperand at) e
 value_fault at (Size most) value =
     checked at (λ n. if nat_lt most n then Some (NumberTooLarge at) else if n == 0 then Some (ZeroSize at) else None) (number_of value)
 value_fault at Number value = checked at (λ n. None) (number_of value)
-value_fault at Conversions value = if list_all is_conversion (parts_of value) then None else Some (UnknownOperand at)
+value_fault at Conversions value = if list_all is_conversion (slice_split (λ b. b == 44) value) then None else Some (UnknownOperand at)
 
 -- whether the word is an operand of this name
 abbrev pub is_named : List ℕ → List ℕ → Bool
@@ -105,7 +101,7 @@ block_size name words = number_or (number_or 512 name words) (codes "bs") words
 
 -- whether `conv` has this word
 abbrev pub converts : List ℕ → List (List ℕ) → Bool
-converts part words = list_any (λ p. bytes_eq p part) (parts_of (unwrap_or (given (codes "conv") words) []))
+converts part words = list_any (λ p. bytes_eq p part) (slice_split (λ b. b == 44) (unwrap_or (given (codes "conv") words) []))
 
 -- ---- faults of operands that each are sound
 

@@ -9,11 +9,6 @@ use Rattle.bx_dd.specs.declared.convert.form.Letters.TheVariants.{Keep, Upper, L
 use Rattle.bx_dd.specs.declared.convert.form.Shape.{Shape}
 use Rattle.bx_dd.specs.declared.convert.form.Shape.TheVariants.{Flat, Block, Unblock}
 
--- what follows `skip` blocks, at most `count` blocks of it
-abbrev pub selected : ℕ → ℕ → Option ℕ → List ℕ → List ℕ
-selected ibs skip None input = drop (skip * ibs) input
-selected ibs skip (Some count) input = take (count * ibs) (drop (skip * ibs) input)
-
 -- the byte that fills up a short block
 abbrev pub filler : Shape → ℕ
 filler Flat = 0
