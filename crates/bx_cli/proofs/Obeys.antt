@@ -24,8 +24,9 @@ use Rattle.bx_cli.specs.declared.fault.Fault.{Fault}
 use Rattle.bx_cli.specs.Fault.{of_dd, of_read, of_session}
 use Rattle.bx_cli.specs.Obeys.{Obeys}
 use Rattle.bx_cli.specs.Refusal.{IsOwnFault, IsWholeRefusal}
-use Rattle.bx_cli.specs.Run.{changed, made_reply, redone, undone, is_failure, Unfailed, ChangeStep, UndoesStep, RedoesStep, ReadStep, DdStep}
-use Rattle.bx_cli.specs.Standing.{CountsBy, HoldsAt, PerformFrom, RedoFrom, Shows, Standing, UndoFrom}
+use Rattle.bx_cli.specs.Run.{answered, made_reply, is_failure, Unfailed, ChangeStep, ReadStep, DdStep}
+use Rattle.bx_cli.specs.inner.Run.{UndoesStep, RedoesStep}
+use Rattle.bx_cli.specs.Standing.{CallFrom, CountsBy, HoldsAt, PerformUp, RedoUp, Shows, Standing, UndoUp}
 use Rattle.bx_cli.proofs.Refusals.{IsNoRefusal, after_same, is_interrupted, made_no_refusal, no_failure, no_own, no_whole, redo_same_here, same_here, session_not_own, unfailed_whole, whole_goes_on}
 use Rattle.bx_cli.proofs.Stays.{holds_same, ready_shows, shows_same}
 use Rattle.bx_cli.proofs.Steps.{refusal, perform_stays, redo_stays, undo_stays, counts_least, counts_rise}
@@ -275,7 +276,7 @@ module _ {D T : Type 0} (hd : D → Type 0) (ht : T → Type 0) (image : D → L
       → Obeys hd ht image text fd ft old new reply (λ before. ChangeStep before c counts)
   perform_obeys old new c counts n reply is accepted makes sound undone =
       let next : Images → Images = λ images. change_to (effect c (top images.stack)) images in
-      call_accepted (changed counts) (λ before r after. PerformFrom before c r after) next old new n reply is
+      call_accepted (answered (made_reply counts)) (CallFrom (PerformUp c)) next old new n reply is
       (subst IsNoRefusal (sym is) (made_no_refusal counts n)) accepted
       (λ images device store redo shows.
       let made = makes device store images.stack shows.0 in
@@ -292,7 +293,7 @@ module _ {D T : Type 0} (hd : D → Type 0) (ht : T → Type 0) (image : D → L
       → HasUndone image text new (undone_by k s.stack s.undone))
       → Obeys hd ht image text fd ft old new (Undone left) (λ before. UndoesStep before k)
   undo_obeys old new k left accepted makes sound keeps =
-      call_accepted undone (λ before r after. UndoFrom before k r after) (undo_of k) old new left (Undone left) refl tt accepted
+      call_accepted (answered Undone) (CallFrom (UndoUp k)) (undo_of k) old new left (Undone left) refl tt accepted
       (λ images device store redo shows.
       let made = makes device store images.stack shows.0 in
       ((made.1, keeps device store redo images shows.0 shows.1), (undo_of k images, refl, made.0, refl)))
@@ -307,7 +308,7 @@ module _ {D T : Type 0} (hd : D → Type 0) (ht : T → Type 0) (image : D → L
       → IsReady image text new (redo_of j s).stack × HasUndone image text new (redo_of j s).undone)
       → Obeys hd ht image text fd ft old new (Redone n) (λ before. RedoesStep before j)
   redo_obeys old new j n accepted makes sound =
-      call_accepted redone (λ before r after. RedoFrom before j r after) (redo_of j) old new n (Redone n) refl tt accepted
+      call_accepted (answered Redone) (CallFrom (RedoUp j)) (redo_of j) old new n (Redone n) refl tt accepted
       (λ images device store redo shows.
       let made = makes device store redo images shows.0 shows.1 in
       ((made.1, made.2), (redo_of j images, refl, made.0)))
@@ -324,8 +325,8 @@ module _ {D T : Type 0} (hd : D → Type 0) (ht : T → Type 0) (image : D → L
       → Obeys hd ht image text fd ft old new (Refused f) (λ before. ChangeStep before c counts)
   unperformed_obeys old new c counts e f is refused failures full large kind finds =
       let Made : Images → Images = λ s. change_to (effect c (top s.stack)) s in
-      let Found : Images → Type 0 = λ s. (found : Images) × SessionFinds image text new found × PerformFrom (Standing.Up s) c (Err Interrupted) (Standing.Down found) in
-      call_refused (changed counts) (λ before r after. PerformFrom before c r after) (λ s. FindsEither image text new s (Made s)) old new e f is refl refused failures
+      let Found : Images → Type 0 = λ s. (found : Images) × SessionFinds image text new found × PerformUp c s (Err Interrupted) (Standing.Down found) in
+      call_refused (answered (made_reply counts)) (CallFrom (PerformUp c)) (λ s. FindsEither image text new s (Made s)) old new e f is refl refused failures
       (λ images device store redo shows whole. perform_stays hd image text old c e refused.broken full large kind device images shows whole)
       finds
       (λ images either. elim either as (λ _. Found images) [
@@ -344,7 +345,7 @@ module _ {D T : Type 0} (hd : D → Type 0) (ht : T → Type 0) (image : D → L
       → AfterFault e ((i : ℕ) × (i ≤ k) × SessionFinds image text new (undo_of i s)) (Unit {0}))
       → Obeys hd ht image text fd ft old new (Refused f) (λ before. UndoesStep before k)
   kept_obeys old new k e f is refused failures few kind undamaged finds =
-      call_refused undone (λ before r after. UndoFrom before k r after) (λ s. (i : ℕ) × (i ≤ k) × SessionFinds image text new (undo_of i s)) old new e f is refl refused failures
+      call_refused (answered Undone) (CallFrom (UndoUp k)) (λ s. (i : ℕ) × (i ≤ k) × SessionFinds image text new (undo_of i s)) old new e f is refl refused failures
       (λ images device store redo shows whole. undo_stays ht image text old k e refused.broken few kind undamaged store images shows whole)
       finds
       (λ images left. (undo_of left.0 images, left.2, (left.0, left.1, refl)))
@@ -360,7 +361,7 @@ module _ {D T : Type 0} (hd : D → Type 0) (ht : T → Type 0) (image : D → L
       → AfterFault e ((i : ℕ) × (i ≤ j) × SessionFinds image text new (redo_of i s)) (Unit {0}))
       → Obeys hd ht image text fd ft old new (Refused f) (λ before. RedoesStep before j)
   unredone_obeys old new j e f is refused failures nothing kind undamaged finds =
-      call_refused redone (λ before r after. RedoFrom before j r after) (λ s. (i : ℕ) × (i ≤ j) × SessionFinds image text new (redo_of i s)) old new e f is refl refused failures
+      call_refused (answered Redone) (CallFrom (RedoUp j)) (λ s. (i : ℕ) × (i ≤ j) × SessionFinds image text new (redo_of i s)) old new e f is refl refused failures
       (λ images device store redo shows whole. redo_stays ht image text old j e refused.broken nothing kind undamaged redo images shows whole)
       finds
       (λ images left. (redo_of left.0 images, left.2, (left.0, left.1, refl)))

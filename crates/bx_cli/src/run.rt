@@ -6,7 +6,8 @@ ghost use Rattle.bx_cli.specs.Obeys.{Obeys};
 ghost use Rattle.bx_cli.specs.Standing.{CountsBy, CountsOn, HoldsAt, Shows, Standing};
 ghost use Rattle.bx_cli.specs.Command.{IsNear};
 ghost use Rattle.bx_cli.specs.Refusal.{IsOwnRefusal, IsWholeRefusal};
-ghost use Rattle.bx_cli.specs.Run.{is_failure, made_reply, ChangeStep, UndoesStep, RedoesStep, ReadStep, DdStep, DumpStep, PlainStep, CommandRun, StackRun, StandsThen, Unfailed};
+ghost use Rattle.bx_cli.specs.Run.{is_failure, made_reply, ChangeStep, ReadStep, DdStep, CommandRun, StackRun, StandsThen, Unfailed};
+ghost use Rattle.bx_cli.specs.inner.Run.{UndoesStep, RedoesStep, DumpStep, PlainStep};
 ghost use Rattle.bx_cli.specs.SessionRun.{SessionRun, SessionStep};
 
 use crate::changes::{DdChange, change_of_dd, change_of_dump, change_of_plain};
