@@ -38,8 +38,7 @@ IsNoDump r0 r1 w0 w1 e = (e ≡ Usage) × (r1 ≡ r0) × (w1 ≡ w0)
 -- Where `of=` names an image, dd is no dump. Else it stopped since the plan seeks, and nothing was read or written; or a front
 -- was written of what it makes of the input that was read, and no more was read than skip and count ask for.
 abbrev pub StopsDd : {A B : Type 0} → Option B → Plan A → Option (List ℕ) → Option (List ℕ) → Option (List ℕ) → Option (List ℕ) → Fault → Type 0
-StopsDd None plan r0 r1 w0 w1 e =
-    ((0 < plan.seek) × (e ≡ SeekWithoutOutput) × (r1 ≡ r0) × (w1 ≡ w0)) ⊎ ((plan.seek ≡ 0) × Stops (StopsCopy plan r0 r1 w0 w1) e)
+StopsDd None plan r0 r1 w0 w1 e = ((0 < plan.seek) × (e ≡ SeekWithoutOutput) × (r1 ≡ r0) × (w1 ≡ w0)) ⊎ ((plan.seek ≡ 0) × Stops (StopsCopy plan r0 r1 w0 w1) e)
 StopsDd (Some image) plan r0 r1 w0 w1 e = IsNoDump r0 r1 w0 w1 e
 
 -- what a fault leaves: a front of the text of what was read was written

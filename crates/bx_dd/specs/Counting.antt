@@ -17,7 +17,6 @@ counts_of form input = record {
 
 -- dd's report; it tells how many records were cut, if any were
 abbrev pub report_text : Counts → List ℕ
-report_text c =
-    decimal c.whole_in ++ codes "+" ++ decimal c.part_in ++ codes " records in\n"
+report_text c = decimal c.whole_in ++ codes "+" ++ decimal c.part_in ++ codes " records in\n"
     ++ decimal c.whole_out ++ codes "+" ++ decimal c.part_out ++ codes " records out\n"
     ++ (if c.cut == 0 then [] else if c.cut == 1 then codes "1 truncated record\n" else decimal c.cut ++ codes " truncated records\n")

@@ -28,8 +28,7 @@ value_of word = after_first (λ b. b == 61) word
 
 -- what the value of an operand of this name is
 abbrev pub kind_of : List ℕ → Option Kind
-kind_of name =
-    if bytes_eq name (codes "if") || bytes_eq name (codes "of") then Some File else
+kind_of name = if bytes_eq name (codes "if") || bytes_eq name (codes "of") then Some File else
     if bytes_eq name (codes "ibs") || bytes_eq name (codes "bs") || bytes_eq name (codes "cbs") then Some (Size 16777216) else
     if bytes_eq name (codes "obs") then Some (Size 1099511627775) else
     if bytes_eq name (codes "skip") || bytes_eq name (codes "seek") || bytes_eq name (codes "count") then Some Number else
@@ -37,8 +36,7 @@ kind_of name =
 
 -- the names of conversions
 abbrev pub is_conversion : List ℕ → Bool
-is_conversion part =
-    bytes_eq part (codes "block") || bytes_eq part (codes "unblock") || bytes_eq part (codes "lcase") || bytes_eq part (codes "ucase")
+is_conversion part = bytes_eq part (codes "block") || bytes_eq part (codes "unblock") || bytes_eq part (codes "lcase") || bytes_eq part (codes "ucase")
     || bytes_eq part (codes "swab") || bytes_eq part (codes "sync") || bytes_eq part (codes "notrunc")
 
 -- ---- faults, each with the operand's place from 1
@@ -72,8 +70,7 @@ kind_fault at (Some kind) before value = if before then Some (Repeated at) else 
 
 -- the fault of a word behind others
 abbrev pub operand_fault : List (List ℕ) → List ℕ → Option DdFault
-operand_fault before word =
-    if is_operand word then kind_fault (length before + 1) (kind_of (name_of word)) (is_given (name_of word) before) (value_of word)
+operand_fault before word = if is_operand word then kind_fault (length before + 1) (kind_of (name_of word)) (is_given (name_of word) before) (value_of word)
     else Some (UnknownOperand (length before + 1))
 
 -- the fault of the first faulty word

@@ -32,8 +32,7 @@ cased Lower b = to_ascii_lowercase b
 
 -- one block: padded, then swapped, then in one case
 unfoldable pub block_of : Form → List ℕ → List ℕ
-block_of form block =
-    let full = if form.sync then padded (filler form.shape) form.ibs block else block in
+block_of form block = let full = if form.sync then padded (filler form.shape) form.ibs block else block in
     map (cased form.letters) (if form.swab then swapped full else full)
 
 -- the blocks, joined

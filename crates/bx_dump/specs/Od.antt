@@ -38,8 +38,7 @@ number_text form.Signed size v = left_filled 32 (by_size size 4 6 11 20) (signed
 
 -- a byte as a character: by its name where it has one, itself where it prints, else in octal
 abbrev pub char_text : ℕ → List ℕ
-char_text b =
-    if b == 0 then codes "\\0" else if b == 7 then codes "\\a" else if b == 8 then codes "\\b" else if b == 9 then codes "\\t" else
+char_text b = if b == 0 then codes "\\0" else if b == 7 then codes "\\a" else if b == 8 then codes "\\b" else if b == 9 then codes "\\t" else
     if b == 10 then codes "\\n" else if b == 11 then codes "\\v" else if b == 12 then codes "\\f" else if b == 13 then codes "\\r" else
     if nat_le 32 b && nat_le b 126 then b ∷ [] else left_filled 48 3 (digits 8 false b)
 

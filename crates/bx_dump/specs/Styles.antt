@@ -22,8 +22,7 @@ include_items cols (b ∷ bs) = in_lines include_line cols 0 (b ∷ bs) ++ codes
 
 -- a whole declaration: its head, the items, the end of the array, and its length under the name
 abbrev pub named_text : List ℕ → ℕ → List ℕ → List ℕ
-named_text name cols bytes =
-    (codes "unsigned char " ++ c_name name ++ codes "[] = {\n") ++ include_items cols bytes
+named_text name cols bytes = (codes "unsigned char " ++ c_name name ++ codes "[] = {\n") ++ include_items cols bytes
     ++ (codes "};\nunsigned int " ++ c_name name ++ codes "_len = " ++ (digits 10 false (length bytes) ++ codes ";\n"))
 
 -- bytes a group, where 0 stands for all of a line

@@ -21,8 +21,7 @@ PiecesAreFew = (text : List ℕ) (pieces : List (ℕ × List ℕ)) → GivesPiec
 
 -- xxd's default line without its newline
 abbrev pub line_text : ℕ → List ℕ → List ℕ
-line_text at bytes =
-    hex_text false 8 at ++ codes ": " ++ laid_out (λ i. 2 * i + i / 2) (λ i. pair_of false (slice_index bytes i)) (length bytes) 40
+line_text at bytes = hex_text false 8 at ++ codes ": " ++ laid_out (λ i. 2 * i + i / 2) (λ i. pair_of false (slice_index bytes i)) (length bytes) 40
     ++ codes " " ++ map shown_byte bytes
 
 -- a line for some columns and groups without its newline

@@ -13,8 +13,7 @@ is_space c = c == 32 || (nat_le 9 c && nat_le c 13)
 abbrev pub hex_bytes : List ℕ → Option (List ℕ)
 hex_bytes [] = Some []
 hex_bytes (c ∷ []) = None
-hex_bytes (high ∷ low ∷ rest) =
-    if is_hex high && is_hex low then option_map (λ bytes. pair_value high low ∷ bytes) (hex_bytes rest) else None
+hex_bytes (high ∷ low ∷ rest) = if is_hex high && is_hex low then option_map (λ bytes. pair_value high low ∷ bytes) (hex_bytes rest) else None
 
 -- the line of the first byte that is neither a digit nor white space, where the text begins on line n
 abbrev pub bad_line : ℕ → List ℕ → Option ℕ

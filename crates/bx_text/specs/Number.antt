@@ -15,15 +15,13 @@ digit_count base text = prefix_len (λ c. is_digit c base) text
 
 -- the number that 1 to 16 hexadecimal digits write
 abbrev pub hex_number : List ℕ → Option ℕ
-hex_number text =
-    if nat_lt 0 (length text) && nat_le (length text) 16 && (digit_count 16 text == length text) then Some (digits_value 16 text) else None
+hex_number text = if nat_lt 0 (length text) && nat_le (length text) 16 && (digit_count 16 text == length text) then Some (digits_value 16 text) else None
 
 -- what a suffix multiplies by in each style; b, k, m, and K, M, G
 abbrev pub unit_of : SizeStyle → ℕ → Option ℕ
 unit_of Count c = if c == 98 then Some 512 else if c == 107 then Some 1024 else if c == 109 then Some (1024 * 1024) else None
 unit_of Bare c = None
-unit_of Product c =
-    if c == 98 then Some 512 else if c == 107 || c == 75 then Some 1024 else if c == 77 then Some (1024 * 1024) else
+unit_of Product c = if c == 98 then Some 512 else if c == 107 || c == 75 then Some 1024 else if c == 77 then Some (1024 * 1024) else
     if c == 71 then Some (1024 * 1024 * 1024) else None
 
 -- the same of what follows the digits: nothing, or one suffix
