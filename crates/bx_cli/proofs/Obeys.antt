@@ -23,7 +23,8 @@ use Rattle.bx_cli.specs.declared.command.Reply.TheVariants.{Refused, Undone, Red
 use Rattle.bx_cli.specs.declared.fault.Fault.{Fault}
 use Rattle.bx_cli.specs.Fault.{of_dd, of_read, of_session}
 use Rattle.bx_cli.specs.Obeys.{Obeys}
-use Rattle.bx_cli.specs.Refusal.{IsOwnFault, IsWholeRefusal}
+use Rattle.bx_cli.specs.Refusal.{IsWholeRefusal}
+use Rattle.bx_cli.specs.inner.Refusal.{IsOwnFault}
 use Rattle.bx_cli.specs.Run.{answered, made_reply, is_failure, Unfailed, ChangeStep, ReadStep, DdStep}
 use Rattle.bx_cli.specs.inner.Run.{UndoesStep, RedoesStep}
 use Rattle.bx_cli.specs.Standing.{CallFrom, CountsBy, HoldsAt, PerformUp, RedoUp, Shows, Standing, UndoUp}

@@ -11,15 +11,13 @@ use Rattle.bx_cli.specs.declared.command.Command.{Command}
 use Rattle.bx_cli.specs.declared.command.Command.TheVariants.{Revert, RevertPlain, Dd, Undo, Redo}
 use Rattle.bx_cli.specs.declared.command.Reply.{Reply}
 use Rattle.bx_cli.specs.declared.command.Reply.TheVariants.{Changed, Copied, Undone, Redone, Refused}
-use Rattle.bx_read.specs.declared.fault.ReadFault.TheVariants.{NoMemory as ReadNoMemory}
-use Rattle.bx_cli.specs.declared.fault.Fault.TheVariants.{DeviceFailed, Interrupted}
+use Rattle.bx_cli.specs.declared.fault.Fault.TheVariants.{NoMemory, DeviceFailed, Interrupted}
 use Rattle.bx_journal.specs.Images.{Images}
-use Rattle.bx_journal.specs.SessionView.{SessionView}
 use Rattle.bx_cli.specs.declared.changes.DdChange.{DdChange}
 use Rattle.bx_cli.specs.Command.{dump_change, plain_change}
 use Rattle.bx_cli.specs.Copy.{Makes}
 use Rattle.bx_cli.specs.Fault.{of_dd, of_read, of_session}
-use Rattle.bx_cli.specs.Standing.{Standing, CallFrom, PerformUp, RedoUp, Shows, UndoUp}
+use Rattle.bx_cli.specs.Standing.{Standing, CallFrom, PerformUp, RedoUp, UndoUp}
 
 -- the reply to a change that was made; dd's tells its counts too
 abbrev pub made_reply : Option Counts → ℕ → Reply
@@ -39,14 +37,10 @@ CallStep made Call before reply after = (r : Result ℕ SessionFault) × (reply 
 abbrev pub ChangeStep : {A : Type 0} → Standing → Change A → Option Counts → Reply → Standing → Type 0
 ChangeStep before c counts reply after = CallStep (made_reply counts) (PerformUp c) before reply after
 
--- nothing is done for this fault of the command's own
-abbrev pub RefusesStep : Standing → ReadFault → Reply → Standing → Type 0
-RefusesStep before e reply after = (reply ≡ Refused (of_read e)) × (after ≡ before)
-
 -- A text that asks for a change, by what it reads as: a fault comes first
 abbrev pub ReadStep : {A B : Type 0} → Standing → (B → Change A) → Result B ReadFault → Reply → Standing → Type 0
 ReadStep before change (Ok read) reply after = ChangeStep before (change read) None reply after
-ReadStep before change (Err e) reply after = RefusesStep before e reply after
+ReadStep before change (Err e) reply after = (reply ≡ Refused (of_read e)) × (after ≡ before)
 
 -- dd, by what its operands make of its input: a fault comes first
 abbrev pub DdStep : {A : Type 0} → Standing → Result (DdChange A) DdFault → Reply → Standing → Type 0
@@ -55,7 +49,7 @@ DdStep before (Err e) reply after = (reply ≡ Refused (of_dd e)) × (after ≡ 
 
 -- A text that asks for a change. Want of memory may take the place of reading it.
 abbrev pub TextStep : {A B : Type 0} → Standing → (B → Change A) → Result B ReadFault → Reply → Standing → Type 0
-TextStep before change read reply after = RefusesStep before ReadNoMemory reply after ⊎ ReadStep before change read reply after
+TextStep before change read reply after = ((reply ≡ Refused NoMemory) × (after ≡ before)) ⊎ ReadStep before change read reply after
 
 -- One command, where `remaining` is what a reader gives. Want of memory may take the place of reading its text.
 abbrev pub CommandStep : {R A : Type 0} → (R → Option (List ℕ)) → Standing → Command R A → Reply → Standing → Type 0
@@ -93,7 +87,3 @@ StackStep remaining before c reply after = CommandStep remaining (Standing.Up be
 -- a list of commands from images to images: one reply each, in order; it goes on after a refusal
 abbrev pub StackRun : {R A : Type 0} → (R → Option (List ℕ)) → Images → List (Command R A) → List Reply → Images → Type 0
 StackRun remaining before list replies after = Chain (StackStep remaining) before list replies after
-
--- the session's devices stand for images to which the step leads
-abbrev pub StandsThen : {D T : Type 0} → (D → List ℕ) → (T → List ℕ) → SessionView D T → (Images → Type 0) → Type 0
-StandsThen image text s Step = (top : Images) × Shows image text s top × Step top

@@ -1,6 +1,6 @@
 -- How numbers are read.
 use Rattle.std.specs.Prelude.{ℕ, ◌*◌, ◌^◌, ◌-◌, ◌==◌, ◌&&◌, ◌||◌, nat_lt, nat_le, if◌then◌else◌, List, [], ◌∷◌, length, take, drop, Option, None, Some, Result, Ok, Err}
-use Rattle.std.specs.Option.{option_map, option_and_then}
+use Rattle.std.specs.Option.{option_map, option_map_or, option_and_then}
 use Rattle.std.specs.Char.{is_digit}
 use Rattle.std.specs.List.{prefix_len, slice_split}
 use Rattle.std.specs.Str.Parse.{digits_value}
@@ -64,11 +64,6 @@ abbrev pub greatest : SizeStyle → ℕ
 greatest Product = 2 ^ 40 - 1
 greatest style = 2 ^ 62
 
--- the number, if it isn't too large
-abbrev pub within : ℕ → Option ℕ → Result ℕ SizeFault
-within most None = Err Bad
-within most (Some n) = if nat_le n most then Ok n else Err TooLarge
-
--- What is read of a text in a style.
+-- What is read of a text in a style: the number, if it isn't too large.
 abbrev pub read_size : SizeStyle → List ℕ → Result ℕ SizeFault
-read_size style text = within (greatest style) (size_value style text)
+read_size style text = option_map_or (λ n. if nat_le n (greatest style) then Ok n else Err TooLarge) (size_value style text) (Err Bad)

@@ -1,12 +1,18 @@
 -- The steps of single calls.
-use Rattle.std.specs.Prelude.{ℕ, List}
+use Rattle.std.specs.Prelude.{◌≡◌, ℕ, List}
+use Rattle.bx_read.specs.declared.fault.ReadFault.{ReadFault}
 use Rattle.bx_read.specs.Plain.{plain_answer}
 use Rattle.bx_read.specs.Text.{dump_pieces}
 use Rattle.bx_cli.specs.declared.command.Reply.{Reply}
-use Rattle.bx_cli.specs.declared.command.Reply.TheVariants.{Undone, Redone}
+use Rattle.bx_cli.specs.declared.command.Reply.TheVariants.{Undone, Redone, Refused}
 use Rattle.bx_cli.specs.Command.{dump_change, plain_change}
+use Rattle.bx_cli.specs.Fault.{of_read}
 use Rattle.bx_cli.specs.Run.{CallStep, TextStep}
 use Rattle.bx_cli.specs.Standing.{Standing, RedoUp, UndoUp}
+
+-- nothing is done for this fault of the command's own
+abbrev pub RefusesStep : Standing → ReadFault → Reply → Standing → Type 0
+RefusesStep before e reply after = (reply ≡ Refused (of_read e)) × (after ≡ before)
 
 -- an undo, and the reply to it
 abbrev pub UndoesStep : Standing → ℕ → Reply → Standing → Type 0
