@@ -18,7 +18,6 @@ use Rattle.bx_read.specs.Text.{ReadLine, is_skipped, answer_then, answers, piece
 use Rattle.bx_read.specs.inner.Text.{IsPiece, with_front}
 use Rattle.bx_text.specs.declared.owned.pieces.Piece.{Piece}
 use Rattle.bx_read.specs.declared.fault.ReadFault.{ReadFault}
-use Rattle.bx_read.specs.declared.fault.ReadFault.TheVariants.{NoMemory}
 use Rattle.bx_read.proofs.GrammarLemmas.{read_line-found, read_line-only, and_true, guard_some, unmap}
 use Rattle.bx_read.proofs.LinesLemmas.{answers_read, answers_skip}
 

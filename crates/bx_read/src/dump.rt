@@ -1,5 +1,5 @@
 //! Whole dumps.
-ghost use Rattle.std.specs.Prelude.{◌≡◌, ◌⊎◌, ◌*◌, ◌^◌, ◌<◌, ◌≤◌, ◌∷◌, ℕ, List, Result, length, map, Some, Ok, Err, MatchResult, IfOk, All, sum_by};
+ghost use Rattle.std.specs.Prelude.{◌≡◌, ◌⊎◌, ◌*◌, ◌^◌, ◌<◌, ◌≤◌, ◌∷◌, ℕ, List, Result, length, Some, Ok, Err, MatchResult, IfOk, All, sum_by};
 ghost use Rattle.bx_read.specs.Text.{ReadLine, lines_of, dump_pieces, contents};
 ghost use Rattle.bx_read.specs.Lines.{coming};
 ghost use Rattle.bx_read.specs.inner.Next.{IsNextPiece};
