@@ -150,18 +150,13 @@ module _ {D T : Type 0} (hd : D → Type 0) (ht : T → Type 0) (image : D → L
       → IsReady image text new (next images).stack)
       → (before : Standing) → HoldsAt hd ht image text old before → (after : Standing) × HoldsAt hd ht image text new after × From before (Ok n) after
   accepted_step From next old new n accepted shows sound (Standing.Up images) h =
-      let shown = shows images h.device h.store h.redo_text (ready_shows image text old images h.stands) in (
+      let shown = shows images h.0 h.1 h.2 (ready_shows image text old images h.3) in (
         Standing.Up (next images),
-        record {
-          device = accepted.device_honesty.1 h.device;
-          store = accepted.store_honesty.1 h.store;
-          redo_text = accepted.redo_honesty.1 h.redo_text;
-          stands = (sound images h.device h.store h.redo_text h.stands.0 h.stands.1, shown.0.1);
-        },
+        (accepted.device_honesty.1 h.0, accepted.store_honesty.1 h.1, accepted.redo_honesty.1 h.2, (sound images h.0 h.1 h.2 h.3.0 h.3.1, shown.0.1)),
         shown.1,
       )
   accepted_step From next old new n accepted shows sound (Standing.Down images) h =
-      let bad : Ok n ≡ Err Broken = accepted.broken.0 h.stands.0 in absurd (cc)
+      let bad : Ok n ≡ Err Broken = accepted.broken.0 h.3.0 in absurd (cc)
 
   -- a call that was accepted
   call_accepted : (told : Result ℕ SessionFault → Reply) (From : Standing → Result ℕ SessionFault → Standing → Type 0) (next : Images → Images)
@@ -203,30 +198,25 @@ module _ {D T : Type 0} (hd : D → Type 0) (ht : T → Type 0) (image : D → L
       elim (is_interrupted e) as (λ _. Goal) [
         | inl stopped ↦
             let After : SessionFault → Type 0 = λ f. AfterFault f (Left images) (Unit {0}) in
-            let found = stops images (subst After stopped (finds h.device h.store h.redo_text images h.stands.0 h.stands.1)) in
+            let found = stops images (subst After stopped (finds h.0 h.1 h.2 images h.3.0 h.3.1)) in
             let Step : SessionFault → Type 0 = λ f. From (Standing.Up images) (Err f) (Standing.Down found.0) in (
               Standing.Down found.0,
-              record {
-                device = refused.device_honesty.1 h.device;
-                store = refused.store_honesty.1 h.store;
-                redo_text = refused.redo_honesty.1 h.redo_text;
-                stands = ((refused.breaks (ap refusal stopped)).0, found.1);
-              },
+              (refused.device_honesty.1 h.0, refused.store_honesty.1 h.1, refused.redo_honesty.1 h.2, ((refused.breaks (ap refusal stopped)).0, found.1)),
               subst Step (sym stopped) found.2,
             )
         | inr whole ↦
-            let same = after_same (IsSame image text old new) e (refused.same h.device h.store) whole in
-            let redo_same = after_same (IsRedoSame text old new) e (refused.redo_same h.redo_text) whole in (
+            let same = after_same (IsSame image text old new) e (refused.same h.0 h.1) whole in
+            let redo_same = after_same (IsRedoSame text old new) e (refused.redo_same h.2) whole in (
               Standing.Up images,
               holds_same hd ht image text old new (Standing.Up images) refused.device_honesty refused.store_honesty refused.redo_honesty same redo_same h,
-              stays images h.device h.store h.redo_text (ready_shows image text old images h.stands) whole,
+              stays images h.0 h.1 h.2 (ready_shows image text old images h.3) whole,
             )
       ]
   refused_step From Left old new e refused stays finds stops down (Standing.Down images) h =
-      let is : refusal e ≡ Err Broken = refused.broken.0 h.stands.0 in
+      let is : refusal e ≡ Err Broken = refused.broken.0 h.3.0 in
       let whole : e ≡ Interrupted → ⊥ = λ stopped. cc in
-      let same = after_same (IsSame image text old new) e (refused.same h.device h.store) whole in
-      let redo_same = after_same (IsRedoSame text old new) e (refused.redo_same h.redo_text) whole in
+      let same = after_same (IsSame image text old new) e (refused.same h.0 h.1) whole in
+      let redo_same = after_same (IsRedoSame text old new) e (refused.redo_same h.2) whole in
       let Step : Result ℕ SessionFault → Type 0 = λ r. From (Standing.Down images) r (Standing.Down images) in (
         Standing.Down images,
         holds_same hd ht image text old new (Standing.Down images) refused.device_honesty refused.store_honesty refused.redo_honesty same redo_same h,

@@ -123,5 +123,5 @@ pub stands_at_top : {D T R A : Type 0} (remaining : R → Option (List ℕ)) (hd
 stands_at_top remaining hd ht image text new start list replies run unfailed =
     let ends = unfailed_runs remaining start run.0 list replies run.2 unfailed in
     let Holds : Standing → Type 0 = λ s. HoldsAt hd ht image text new s in
-    let stands = (subst Holds ends.1 run.1).stands in
+    let stands = (subst Holds ends.1 run.1).3 in
     (ends.0, stands.0, stands.1, ends.2)

@@ -25,12 +25,9 @@ StandsAt image text s (Up images) = IsReady image text s images.stack × HasUndo
 StandsAt image text s (Down images) = (s.is_broken ≡ true) × SessionFinds image text s images
 
 -- the three devices are honest, and the session stands there
-pub record HoldsAt {D T : Type 0} (device_honest : D → Type 0) (text_honest : T → Type 0) (image : D → List ℕ) (text : T → List ℕ)
-    (s : SessionView D T) (standing : Standing) : Type 0 where
-  pub device : device_honest s.device
-  pub store : text_honest s.store
-  pub redo_text : text_honest s.redo_text
-  pub stands : StandsAt image text s standing
+abbrev pub HoldsAt : {D T : Type 0} → (D → Type 0) → (T → Type 0) → (D → List ℕ) → (T → List ℕ) → SessionView D T → Standing → Type 0
+HoldsAt device_honest text_honest image text s standing =
+    device_honest s.device × text_honest s.store × text_honest s.redo_text × StandsAt image text s standing
 
 -- A call of a session, from where it stands: `Call` says what it makes of images, and a stopped session refuses it
 abbrev pub CallFrom : (Images → Result ℕ SessionFault → Standing → Type 0) → Standing → Result ℕ SessionFault → Standing → Type 0
