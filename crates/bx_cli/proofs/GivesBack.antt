@@ -12,12 +12,12 @@ use Rattle.bx_cli.specs.declared.command.Command.TheVariants.{Revert, RevertPlai
 use Rattle.bx_cli.specs.declared.command.Reply.{Reply}
 use Rattle.bx_cli.specs.declared.command.Reply.TheVariants.{Undone, Redone, Refused}
 use Rattle.bx_cli.specs.declared.fault.Fault.{Fault}
-use Rattle.bx_cli.specs.Standing.{Standing, PerformFrom, RedoFrom, UndoFrom}
+use Rattle.bx_cli.specs.Standing.{Standing, PerformUp, RedoUp, UndoUp}
 use Rattle.bx_dd.specs.declared.stream.counts.Counts.{Counts}
 use Rattle.bx_dd.specs.declared.fault.DdFault.{DdFault}
 use Rattle.bx_cli.specs.declared.changes.DdChange.{DdChange}
 use Rattle.bx_cli.specs.Fault.{of_dd, of_read}
-use Rattle.bx_cli.specs.Run.{changed, redone, undone, ChangeStep, ReadStep, DdStep, CommandStep, StackStep, StackRun}
+use Rattle.bx_cli.specs.Run.{answered, made_reply, ChangeStep, ReadStep, DdStep, CommandStep, StackStep, StackRun}
 use Rattle.bx_cli.specs.Command.{dump_change, plain_change}
 use Rattle.bx_read.specs.Plain.{plain_answer}
 use Rattle.bx_read.specs.Text.{dump_pieces}
@@ -37,7 +37,7 @@ not_refused : (reply : Reply) (e : Fault) → IsMade reply → reply ≡ Refused
 not_refused reply e made refused = subst IsMade refused made
 
 change_adds : {A : Type 0} (old new : Images) (c : Change A) (counts : Option Counts) (r : Result ℕ SessionFault)
-    → IsMade (changed counts r) → PerformFrom (Standing.Up old) c r (Standing.Up new) → OneMore old new
+    → IsMade (answered (made_reply counts) r) → PerformUp c old r (Standing.Up new) → OneMore old new
 change_adds old new c counts (Ok n) made p = (_, ap (λ s. (images_of s).stack) p.1 ∙ p.2.3)
 change_adds old new c counts (Err e) made p = absurd made
 
@@ -55,11 +55,11 @@ dd_step_adds : {A : Type 0} (old new : Images) (r : Result (DdChange A) DdFault)
 dd_step_adds old new (Ok made_of) reply made step = change_step_adds old new made_of.change (Some made_of.counts) reply made step
 dd_step_adds old new (Err e) reply made step = absurd (not_refused reply (of_dd e) made step.0)
 
-redo_not_made : (r : Result ℕ SessionFault) → IsMade (redone r) → ⊥
+redo_not_made : (r : Result ℕ SessionFault) → IsMade (answered Redone r) → ⊥
 redo_not_made (Ok n) made = made
 redo_not_made (Err e) made = made
 
-undo_not_made : (r : Result ℕ SessionFault) → IsMade (undone r) → ⊥
+undo_not_made : (r : Result ℕ SessionFault) → IsMade (answered Undone r) → ⊥
 undo_not_made (Ok n) made = made
 undo_not_made (Err e) made = made
 
@@ -112,7 +112,7 @@ IsUndone (Undone left) = Unit {0}
 IsUndone p = ⊥
 
 undo_takes_off : (k left : ℕ) (start new after : Images) (r : Result ℕ SessionFault)
-    → Undone left ≡ undone r → UndoFrom (Standing.Up new) k r (Standing.Up after) → Adds k start new
+    → Undone left ≡ answered Undone r → UndoUp k new r (Standing.Up after) → Adds k start new
     → (after.stack ≡ start.stack) × (left ≡ changes_of start.stack)
 undo_takes_off k left start new after (Ok n) told p adds =
     let same : left ≡ n = ap left_of told in
@@ -186,8 +186,8 @@ IsRedone (Redone n) = Unit {0}
 IsRedone p = ⊥
 
 redo_puts_back : (k left changes : ℕ) (start now after : Images) (r s : Result ℕ SessionFault)
-    → Undone left ≡ undone r → UndoFrom (Standing.Up start) k r (Standing.Up now)
-    → Redone changes ≡ redone s → RedoFrom (Standing.Up now) k s (Standing.Up after)
+    → Undone left ≡ answered Undone r → UndoUp k start r (Standing.Up now)
+    → Redone changes ≡ answered Redone s → RedoUp k now s (Standing.Up after)
     → (after ≡ start) × (changes ≡ changes_of start.stack)
 redo_puts_back k left changes start now after (Ok n) (Ok m) undo_told p redo_told q =
     let now_is : now ≡ undo_of k start = ap images_of p.1 ∙ p.3 in

@@ -19,7 +19,8 @@ use Rattle.bx_journal.specs.declared.session.fault.SessionFault.{SessionFault}
 use Rattle.bx_journal.specs.declared.session.fault.SessionFault.TheVariants.{NoMemory, TooLarge, DeviceFailed, Damaged, TooFew, JournalFull, Interrupted, Broken, LengthDiffers, NothingToRedo, RedoDamaged}
 use Rattle.bx_cli.specs.declared.command.Reply.{Reply}
 use Rattle.bx_cli.specs.Command.{dump_change}
-use Rattle.bx_cli.specs.Run.{ChangeStep, ReadStep, DumpStep}
+use Rattle.bx_cli.specs.Run.{ChangeStep, ReadStep}
+use Rattle.bx_cli.specs.inner.Run.{DumpStep}
 use Rattle.bx_cli.specs.Standing.{Standing, PerformUp}
 use Rattle.bx_cli.proofs.Stands.{read_step}
 
@@ -47,7 +48,7 @@ module _ (A : Type 0) (offset : ℕ) where
   dump_joined pieces = joined_is_same A (dump_change offset (joined pieces)) (dump_change offset pieces) refl (runs_joined pieces)
 
 -- a step by a change is one by the same change
-perform_same : {A : Type 0} (c d : Change A) (old : Images) (r : Result ℕ SessionFault) (after : Standing) → IsSameChange c d → PerformUp old c r after → PerformUp old d r after
+perform_same : {A : Type 0} (c d : Change A) (old : Images) (r : Result ℕ SessionFault) (after : Standing) → IsSameChange c d → PerformUp c old r after → PerformUp d old r after
 perform_same c d old (Ok n) after same (new, is, (room, fit, number, stack), undone) =
     (new, is, (room, (same.same_fit (length (top old.stack)) MAX_LEN).0 fit, number, stack ∙ ap (λ x. x ∷ old.stack) (same.same_effect (top old.stack))), undone)
 perform_same c d old (Err DeviceFailed) after same step = step

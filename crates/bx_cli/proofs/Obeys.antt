@@ -23,9 +23,11 @@ use Rattle.bx_cli.specs.declared.command.Reply.TheVariants.{Refused, Undone, Red
 use Rattle.bx_cli.specs.declared.fault.Fault.{Fault}
 use Rattle.bx_cli.specs.Fault.{of_dd, of_read, of_session}
 use Rattle.bx_cli.specs.Obeys.{Obeys}
-use Rattle.bx_cli.specs.Refusal.{IsOwnFault, IsWholeRefusal}
-use Rattle.bx_cli.specs.Run.{changed, made_reply, redone, undone, is_failure, Unfailed, ChangeStep, UndoesStep, RedoesStep, ReadStep, DdStep}
-use Rattle.bx_cli.specs.Standing.{CountsBy, HoldsAt, PerformFrom, RedoFrom, Shows, Standing, UndoFrom}
+use Rattle.bx_cli.specs.Refusal.{IsWholeRefusal}
+use Rattle.bx_cli.specs.inner.Refusal.{IsOwnFault}
+use Rattle.bx_cli.specs.Run.{answered, made_reply, is_failure, Unfailed, ChangeStep, ReadStep, DdStep}
+use Rattle.bx_cli.specs.inner.Run.{UndoesStep, RedoesStep}
+use Rattle.bx_cli.specs.Standing.{CallFrom, CountsBy, HoldsAt, PerformUp, RedoUp, Shows, Standing, UndoUp}
 use Rattle.bx_cli.proofs.Refusals.{IsNoRefusal, after_same, is_interrupted, made_no_refusal, no_failure, no_own, no_whole, redo_same_here, same_here, session_not_own, unfailed_whole, whole_goes_on}
 use Rattle.bx_cli.proofs.Stays.{holds_same, ready_shows, shows_same}
 use Rattle.bx_cli.proofs.Steps.{refusal, perform_stays, redo_stays, undo_stays, counts_least, counts_rise}
@@ -148,18 +150,13 @@ module _ {D T : Type 0} (hd : D → Type 0) (ht : T → Type 0) (image : D → L
       → IsReady image text new (next images).stack)
       → (before : Standing) → HoldsAt hd ht image text old before → (after : Standing) × HoldsAt hd ht image text new after × From before (Ok n) after
   accepted_step From next old new n accepted shows sound (Standing.Up images) h =
-      let shown = shows images h.device h.store h.redo_text (ready_shows image text old images h.stands) in (
+      let shown = shows images h.0 h.1 h.2 (ready_shows image text old images h.3) in (
         Standing.Up (next images),
-        record {
-          device = accepted.device_honesty.1 h.device;
-          store = accepted.store_honesty.1 h.store;
-          redo_text = accepted.redo_honesty.1 h.redo_text;
-          stands = (sound images h.device h.store h.redo_text h.stands.0 h.stands.1, shown.0.1);
-        },
+        (accepted.device_honesty.1 h.0, accepted.store_honesty.1 h.1, accepted.redo_honesty.1 h.2, (sound images h.0 h.1 h.2 h.3.0 h.3.1, shown.0.1)),
         shown.1,
       )
   accepted_step From next old new n accepted shows sound (Standing.Down images) h =
-      let bad : Ok n ≡ Err Broken = accepted.broken.0 h.stands.0 in absurd (cc)
+      let bad : Ok n ≡ Err Broken = accepted.broken.0 h.3.0 in absurd (cc)
 
   -- a call that was accepted
   call_accepted : (told : Result ℕ SessionFault → Reply) (From : Standing → Result ℕ SessionFault → Standing → Type 0) (next : Images → Images)
@@ -201,30 +198,25 @@ module _ {D T : Type 0} (hd : D → Type 0) (ht : T → Type 0) (image : D → L
       elim (is_interrupted e) as (λ _. Goal) [
         | inl stopped ↦
             let After : SessionFault → Type 0 = λ f. AfterFault f (Left images) (Unit {0}) in
-            let found = stops images (subst After stopped (finds h.device h.store h.redo_text images h.stands.0 h.stands.1)) in
+            let found = stops images (subst After stopped (finds h.0 h.1 h.2 images h.3.0 h.3.1)) in
             let Step : SessionFault → Type 0 = λ f. From (Standing.Up images) (Err f) (Standing.Down found.0) in (
               Standing.Down found.0,
-              record {
-                device = refused.device_honesty.1 h.device;
-                store = refused.store_honesty.1 h.store;
-                redo_text = refused.redo_honesty.1 h.redo_text;
-                stands = ((refused.breaks (ap refusal stopped)).0, found.1);
-              },
+              (refused.device_honesty.1 h.0, refused.store_honesty.1 h.1, refused.redo_honesty.1 h.2, ((refused.breaks (ap refusal stopped)).0, found.1)),
               subst Step (sym stopped) found.2,
             )
         | inr whole ↦
-            let same = after_same (IsSame image text old new) e (refused.same h.device h.store) whole in
-            let redo_same = after_same (IsRedoSame text old new) e (refused.redo_same h.redo_text) whole in (
+            let same = after_same (IsSame image text old new) e (refused.same h.0 h.1) whole in
+            let redo_same = after_same (IsRedoSame text old new) e (refused.redo_same h.2) whole in (
               Standing.Up images,
               holds_same hd ht image text old new (Standing.Up images) refused.device_honesty refused.store_honesty refused.redo_honesty same redo_same h,
-              stays images h.device h.store h.redo_text (ready_shows image text old images h.stands) whole,
+              stays images h.0 h.1 h.2 (ready_shows image text old images h.3) whole,
             )
       ]
   refused_step From Left old new e refused stays finds stops down (Standing.Down images) h =
-      let is : refusal e ≡ Err Broken = refused.broken.0 h.stands.0 in
+      let is : refusal e ≡ Err Broken = refused.broken.0 h.3.0 in
       let whole : e ≡ Interrupted → ⊥ = λ stopped. cc in
-      let same = after_same (IsSame image text old new) e (refused.same h.device h.store) whole in
-      let redo_same = after_same (IsRedoSame text old new) e (refused.redo_same h.redo_text) whole in
+      let same = after_same (IsSame image text old new) e (refused.same h.0 h.1) whole in
+      let redo_same = after_same (IsRedoSame text old new) e (refused.redo_same h.2) whole in
       let Step : Result ℕ SessionFault → Type 0 = λ r. From (Standing.Down images) r (Standing.Down images) in (
         Standing.Down images,
         holds_same hd ht image text old new (Standing.Down images) refused.device_honesty refused.store_honesty refused.redo_honesty same redo_same h,
@@ -275,7 +267,7 @@ module _ {D T : Type 0} (hd : D → Type 0) (ht : T → Type 0) (image : D → L
       → Obeys hd ht image text fd ft old new reply (λ before. ChangeStep before c counts)
   perform_obeys old new c counts n reply is accepted makes sound undone =
       let next : Images → Images = λ images. change_to (effect c (top images.stack)) images in
-      call_accepted (changed counts) (λ before r after. PerformFrom before c r after) next old new n reply is
+      call_accepted (answered (made_reply counts)) (CallFrom (PerformUp c)) next old new n reply is
       (subst IsNoRefusal (sym is) (made_no_refusal counts n)) accepted
       (λ images device store redo shows.
       let made = makes device store images.stack shows.0 in
@@ -292,7 +284,7 @@ module _ {D T : Type 0} (hd : D → Type 0) (ht : T → Type 0) (image : D → L
       → HasUndone image text new (undone_by k s.stack s.undone))
       → Obeys hd ht image text fd ft old new (Undone left) (λ before. UndoesStep before k)
   undo_obeys old new k left accepted makes sound keeps =
-      call_accepted undone (λ before r after. UndoFrom before k r after) (undo_of k) old new left (Undone left) refl tt accepted
+      call_accepted (answered Undone) (CallFrom (UndoUp k)) (undo_of k) old new left (Undone left) refl tt accepted
       (λ images device store redo shows.
       let made = makes device store images.stack shows.0 in
       ((made.1, keeps device store redo images shows.0 shows.1), (undo_of k images, refl, made.0, refl)))
@@ -307,7 +299,7 @@ module _ {D T : Type 0} (hd : D → Type 0) (ht : T → Type 0) (image : D → L
       → IsReady image text new (redo_of j s).stack × HasUndone image text new (redo_of j s).undone)
       → Obeys hd ht image text fd ft old new (Redone n) (λ before. RedoesStep before j)
   redo_obeys old new j n accepted makes sound =
-      call_accepted redone (λ before r after. RedoFrom before j r after) (redo_of j) old new n (Redone n) refl tt accepted
+      call_accepted (answered Redone) (CallFrom (RedoUp j)) (redo_of j) old new n (Redone n) refl tt accepted
       (λ images device store redo shows.
       let made = makes device store redo images shows.0 shows.1 in
       ((made.1, made.2), (redo_of j images, refl, made.0)))
@@ -324,8 +316,8 @@ module _ {D T : Type 0} (hd : D → Type 0) (ht : T → Type 0) (image : D → L
       → Obeys hd ht image text fd ft old new (Refused f) (λ before. ChangeStep before c counts)
   unperformed_obeys old new c counts e f is refused failures full large kind finds =
       let Made : Images → Images = λ s. change_to (effect c (top s.stack)) s in
-      let Found : Images → Type 0 = λ s. (found : Images) × SessionFinds image text new found × PerformFrom (Standing.Up s) c (Err Interrupted) (Standing.Down found) in
-      call_refused (changed counts) (λ before r after. PerformFrom before c r after) (λ s. FindsEither image text new s (Made s)) old new e f is refl refused failures
+      let Found : Images → Type 0 = λ s. (found : Images) × SessionFinds image text new found × PerformUp c s (Err Interrupted) (Standing.Down found) in
+      call_refused (answered (made_reply counts)) (CallFrom (PerformUp c)) (λ s. FindsEither image text new s (Made s)) old new e f is refl refused failures
       (λ images device store redo shows whole. perform_stays hd image text old c e refused.broken full large kind device images shows whole)
       finds
       (λ images either. elim either as (λ _. Found images) [
@@ -344,7 +336,7 @@ module _ {D T : Type 0} (hd : D → Type 0) (ht : T → Type 0) (image : D → L
       → AfterFault e ((i : ℕ) × (i ≤ k) × SessionFinds image text new (undo_of i s)) (Unit {0}))
       → Obeys hd ht image text fd ft old new (Refused f) (λ before. UndoesStep before k)
   kept_obeys old new k e f is refused failures few kind undamaged finds =
-      call_refused undone (λ before r after. UndoFrom before k r after) (λ s. (i : ℕ) × (i ≤ k) × SessionFinds image text new (undo_of i s)) old new e f is refl refused failures
+      call_refused (answered Undone) (CallFrom (UndoUp k)) (λ s. (i : ℕ) × (i ≤ k) × SessionFinds image text new (undo_of i s)) old new e f is refl refused failures
       (λ images device store redo shows whole. undo_stays ht image text old k e refused.broken few kind undamaged store images shows whole)
       finds
       (λ images left. (undo_of left.0 images, left.2, (left.0, left.1, refl)))
@@ -360,7 +352,7 @@ module _ {D T : Type 0} (hd : D → Type 0) (ht : T → Type 0) (image : D → L
       → AfterFault e ((i : ℕ) × (i ≤ j) × SessionFinds image text new (redo_of i s)) (Unit {0}))
       → Obeys hd ht image text fd ft old new (Refused f) (λ before. RedoesStep before j)
   unredone_obeys old new j e f is refused failures nothing kind undamaged finds =
-      call_refused redone (λ before r after. RedoFrom before j r after) (λ s. (i : ℕ) × (i ≤ j) × SessionFinds image text new (redo_of i s)) old new e f is refl refused failures
+      call_refused (answered Redone) (CallFrom (RedoUp j)) (λ s. (i : ℕ) × (i ≤ j) × SessionFinds image text new (redo_of i s)) old new e f is refl refused failures
       (λ images device store redo shows whole. redo_stays ht image text old j e refused.broken nothing kind undamaged redo images shows whole)
       finds
       (λ images left. (redo_of left.0 images, left.2, (left.0, left.1, refl)))

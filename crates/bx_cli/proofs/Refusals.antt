@@ -15,8 +15,8 @@ use Rattle.bx_dd.specs.declared.fault.DdFault.TheVariants as dd
 use Rattle.bx_cli.specs.declared.fault.Fault.{Fault}
 use Rattle.bx_cli.specs.declared.fault.Fault.TheVariants as fault
 use Rattle.bx_cli.specs.Fault.{of_dd, of_read, of_session}
-use Rattle.bx_cli.specs.Refusal.{IsOwnFault, IsOwnRefusal, IsWholeRefusal}
-use Rattle.bx_cli.specs.inner.Refusal.{IsListedFault}
+use Rattle.bx_cli.specs.Refusal.{IsOwnRefusal, IsWholeRefusal}
+use Rattle.bx_cli.specs.inner.Refusal.{IsOwnFault, IsListedFault}
 use Rattle.bx_cli.specs.Run.{Unfailed, made_reply}
 use Rattle.bx_cli.proofs.Steps.{true_is_not_false}
 

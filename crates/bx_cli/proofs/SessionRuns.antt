@@ -103,30 +103,28 @@ module _ {D T : Type 0} (fd : D → ℕ) (ft : T → ℕ) where
 
   -- the counts of some commands, and of one more
   pub counts_none : (s : SessionView D T) → CountsOn fd ft s s 0
-  counts_none s = record { device_least = omega arith; store_least = omega arith; redo_least = omega arith; most = omega arith }
+  counts_none s = (0, omega arith, record { device_least = omega arith; store_least = omega arith; redo_least = omega arith; rise = omega arith })
 
   pub counts_more : (first now next : SessionView D T) (i : ℕ) (reply : Reply) → CountsOn fd ft first now i → CountsBy fd ft now next (weight reply)
       → CountsOn fd ft first next (i + 1)
-  counts_more first now next i reply on by =
-      let small = bit (is_failure reply) in
-      record {
-        device_least = let a = on.device_least in let b = by.device_least in omega arith;
-        store_least = let a = on.store_least in let b = by.store_least in omega arith;
-        redo_least = let a = on.redo_least in let b = by.redo_least in omega arith;
-        most = let a = on.most in let b = by.rise in omega arith;
-      }
+  counts_more first now next i reply (failed, few, on) by =
+      let small = bit (is_failure reply) in (
+        failed + weight reply,
+        omega arith,
+        record {
+          device_least = let a = on.device_least in let b = by.device_least in omega arith;
+          store_least = let a = on.store_least in let b = by.store_least in omega arith;
+          redo_least = let a = on.redo_least in let b = by.redo_least in omega arith;
+          rise = let a = on.rise in let b = by.rise in omega arith;
+        },
+      )
     where
       bit : (b : Bool) → cond b (suc 0) 0 ≤ suc 0
       bit true = omega arith
       bit false = omega arith
 
   pub counts_all : (first now : SessionView D T) (i n : ℕ) → i ≤ n → CountsOn fd ft first now i → CountsOn fd ft first now n
-  counts_all first now i n within on = record {
-    device_least = on.device_least;
-    store_least = on.store_least;
-    redo_least = on.redo_least;
-    most = let most = on.most in omega arith;
-  }
+  counts_all first now i n within (failed, few, on) = (failed, omega arith, on)
 
 module _ {D T R A : Type 0} (hd : D → Type 0) (ht : T → Type 0) (image : D → List ℕ) (text : T → List ℕ) (fd : D → ℕ) (ft : T → ℕ) (remaining : R → Option (List ℕ)) where
   -- whatever is left of it, a command obeys its step

@@ -63,15 +63,7 @@ pub holds_same : {D T : Type 0} (hd : D → Type 0) (ht : T → Type 0) (image :
     → (hd new.device ↔ hd old.device) → (ht new.store ↔ ht old.store) → (ht new.redo_text ↔ ht old.redo_text)
     → IsSame image text old new → IsRedoSame text old new
     → HoldsAt hd ht image text old standing → HoldsAt hd ht image text new standing
-holds_same hd ht image text old new (Standing.Up images) device store redo same redo_same h = record {
-  device = device.1 h.device;
-  store = store.1 h.store;
-  redo_text = redo.1 h.redo_text;
-  stands = (ready_same image text old new images.stack same h.stands.0, undone_same image text old new images.undone same redo_same h.stands.1);
-}
-holds_same hd ht image text old new (Standing.Down images) device store redo same redo_same h = record {
-  device = device.1 h.device;
-  store = store.1 h.store;
-  redo_text = redo.1 h.redo_text;
-  stands = (same.broken ∙ h.stands.0, finds_same image text old new images same redo_same h.stands.1);
-}
+holds_same hd ht image text old new (Standing.Up images) device store redo same redo_same h =
+    (device.1 h.0, store.1 h.1, redo.1 h.2, (ready_same image text old new images.stack same h.3.0, undone_same image text old new images.undone same redo_same h.3.1))
+holds_same hd ht image text old new (Standing.Down images) device store redo same redo_same h =
+    (device.1 h.0, store.1 h.1, redo.1 h.2, (same.broken ∙ h.3.0, finds_same image text old new images same redo_same h.3.1))

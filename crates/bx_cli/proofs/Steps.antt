@@ -54,7 +54,7 @@ pub perform_stays : {D T A : Type 0} (hd : D → Type 0) (image : D → List ℕ
     → (IsErrOf (refusal e) JournalFull ↔ ((old.is_broken ≡ false) × (65535 ≤ old.count)))
     → (hd old.device → IsErrOf (refusal e) TooLarge → Fits c (length (image old.device)) MAX_LEN → ⊥)
     → PerformFault e
-    → hd old.device → (images : Images) → Shows image text old images → (e ≡ Interrupted → ⊥) → PerformUp images c (Err e) (Standing.Up images)
+    → hd old.device → (images : Images) → Shows image text old images → (e ≡ Interrupted → ⊥) → PerformUp c images (Err e) (Standing.Up images)
 perform_stays hd image text old c NoMemory broken full large kind device images shows whole = (refl, refl)
 perform_stays hd image text old c TooLarge broken full large kind device images shows whole =
     let changes = changes_standing image text old images.stack shows.0 in
@@ -83,7 +83,7 @@ pub undo_stays : {D T : Type 0} (ht : T → Type 0) (image : D → List ℕ) (te
     → (((old.is_broken ≡ false) × (old.count < k)) ↔ IsErrOf (refusal e) (TooFew old.count))
     → UndoFault old.count e
     → (ht old.store → HasCount (text old.store) old.count → (line : ℕ) → e ≡ Damaged line → ⊥)
-    → ht old.store → (images : Images) → Shows image text old images → (e ≡ Interrupted → ⊥) → UndoUp images k (Err e) (Standing.Up images)
+    → ht old.store → (images : Images) → Shows image text old images → (e ≡ Interrupted → ⊥) → UndoUp k images (Err e) (Standing.Up images)
 undo_stays ht image text old k NoMemory broken few kind undamaged store images shows whole = (refl, refl)
 undo_stays ht image text old k (TooFew have) broken few kind undamaged store images shows whole =
     let changes = changes_standing image text old images.stack shows.0 in
@@ -109,7 +109,7 @@ pub redo_stays : {D T : Type 0} (ht : T → Type 0) (image : D → List ℕ) (te
     → (((old.is_broken ≡ false) × (old.undone < j)) ↔ IsErrOf (refusal e) (NothingToRedo old.undone))
     → RedoFault old.undone e
     → (ht old.redo_text → HasCount (text old.redo_text) old.undone → (line : ℕ) → e ≡ RedoDamaged line → ⊥)
-    → ht old.redo_text → (images : Images) → Shows image text old images → (e ≡ Interrupted → ⊥) → RedoUp images j (Err e) (Standing.Up images)
+    → ht old.redo_text → (images : Images) → Shows image text old images → (e ≡ Interrupted → ⊥) → RedoUp j images (Err e) (Standing.Up images)
 redo_stays ht image text old j NoMemory broken nothing kind undamaged redo images shows whole = (refl, refl)
 redo_stays ht image text old j (NothingToRedo have) broken nothing kind undamaged redo images shows whole =
     let counted = shows.1.counted in

@@ -7,14 +7,15 @@ use Rattle.bx_journal.specs.declared.session.fault.SessionFault.TheVariants.{NoM
 use Rattle.bx_cli.specs.declared.command.Command.{Command}
 use Rattle.bx_cli.specs.declared.command.Command.TheVariants.{Revert, RevertPlain, Dd, Undo, Redo}
 use Rattle.bx_cli.specs.declared.command.Reply.{Reply}
+use Rattle.bx_cli.specs.declared.command.Reply.TheVariants.{Undone, Redone}
 use Rattle.bx_journal.specs.Images.{Images}
 use Rattle.bx_journal.specs.SessionView.{SessionView}
 use Rattle.bx_journal.specs.Session.{HasUndone, IsReady}
-use Rattle.bx_cli.specs.Standing.{Standing, HoldsAt, PerformFrom, RedoFrom, UndoFrom}
+use Rattle.bx_cli.specs.Standing.{Standing, HoldsAt, PerformUp, RedoUp, UndoUp}
 use Rattle.bx_dd.specs.declared.stream.counts.Counts.{Counts}
 use Rattle.bx_dd.specs.declared.fault.DdFault.{DdFault}
 use Rattle.bx_cli.specs.declared.changes.DdChange.{DdChange}
-use Rattle.bx_cli.specs.Run.{changed, redone, undone, ChangeStep, ReadStep, DdStep, CommandStep, CommandRun, StackRun, Unfailed}
+use Rattle.bx_cli.specs.Run.{answered, made_reply, ChangeStep, ReadStep, DdStep, CommandStep, CommandRun, StackRun, Unfailed}
 use Rattle.bx_cli.specs.Command.{dump_change, plain_change}
 use Rattle.bx_read.specs.Plain.{plain_answer}
 use Rattle.bx_read.specs.Text.{dump_pieces}
@@ -27,7 +28,7 @@ IsUp s = (top : Images) × (s ≡ Standing.Up top)
 told : (reply other : Reply) → reply ≡ other → Unfailed reply → Unfailed other
 told reply other e h = subst Unfailed e h
 
-perform_up : {A : Type 0} (old : Images) (c : Change A) (counts : Option Counts) (r : Result ℕ SessionFault) (after : Standing) → Unfailed (changed counts r) → PerformFrom (Standing.Up old) c r after → IsUp after
+perform_up : {A : Type 0} (old : Images) (c : Change A) (counts : Option Counts) (r : Result ℕ SessionFault) (after : Standing) → Unfailed (answered (made_reply counts) r) → PerformUp c old r after → IsUp after
 perform_up old c counts (Ok n) after unfailed p = (p.0, p.1)
 perform_up old c counts (Err NoMemory) after unfailed p = (old, p.0)
 perform_up old c counts (Err TooLarge) after unfailed p = (old, p.0)
@@ -41,7 +42,7 @@ perform_up old c counts (Err (LengthDiffers expected)) after unfailed p = (old, 
 perform_up old c counts (Err (NothingToRedo have)) after unfailed p = (old, p.0)
 perform_up old c counts (Err (RedoDamaged line)) after unfailed p = (old, p.0)
 
-undo_up : (old : Images) (k : ℕ) (r : Result ℕ SessionFault) (after : Standing) → Unfailed (undone r) → UndoFrom (Standing.Up old) k r after → IsUp after
+undo_up : (old : Images) (k : ℕ) (r : Result ℕ SessionFault) (after : Standing) → Unfailed (answered Undone r) → UndoUp k old r after → IsUp after
 undo_up old k (Ok left) after unfailed p = (p.0, p.1)
 undo_up old k (Err NoMemory) after unfailed p = (old, p.0)
 undo_up old k (Err TooLarge) after unfailed p = (old, p.0)
@@ -55,7 +56,7 @@ undo_up old k (Err (LengthDiffers expected)) after unfailed p = (old, p.0)
 undo_up old k (Err (NothingToRedo have)) after unfailed p = (old, p.0)
 undo_up old k (Err (RedoDamaged line)) after unfailed p = (old, p.0)
 
-redo_up : (old : Images) (j : ℕ) (r : Result ℕ SessionFault) (after : Standing) → Unfailed (redone r) → RedoFrom (Standing.Up old) j r after → IsUp after
+redo_up : (old : Images) (j : ℕ) (r : Result ℕ SessionFault) (after : Standing) → Unfailed (answered Redone r) → RedoUp j old r after → IsUp after
 redo_up old j (Ok n) after unfailed p = (p.0, p.1)
 redo_up old j (Err NoMemory) after unfailed p = (old, p.0)
 redo_up old j (Err TooLarge) after unfailed p = (old, p.0)
@@ -70,7 +71,7 @@ redo_up old j (Err (NothingToRedo have)) after unfailed p = (old, p.0)
 redo_up old j (Err (RedoDamaged line)) after unfailed p = (old, p.0)
 
 change_up : {A : Type 0} (old : Images) (c : Change A) (counts : Option Counts) (reply : Reply) (after : Standing) → Unfailed reply → ChangeStep (Standing.Up old) c counts reply after → IsUp after
-change_up old c counts reply after unfailed step = perform_up old c counts step.0 after (told reply (changed counts step.0) step.1 unfailed) step.2
+change_up old c counts reply after unfailed step = perform_up old c counts step.0 after (told reply (answered (made_reply counts) step.0) step.1 unfailed) step.2
 
 read_up : {A B : Type 0} (old : Images) (change : B → Change A) (r : Result B ReadFault) (reply : Reply) (after : Standing)
     → Unfailed reply → ReadStep (Standing.Up old) change r reply after → IsUp after
@@ -92,8 +93,8 @@ step_up {A = A} remaining old (RevertPlain text at) reply after unfailed step = 
   | inr read ↦ read_up old (plain_change {A = A} at) (plain_answer text) reply after unfailed read
 ]
 step_up remaining old (Dd operands input) reply after unfailed step = dd_up old step.1.0 reply after unfailed step.1.1.1
-step_up remaining old (Undo k) reply after unfailed step = undo_up old k step.0 after (told reply (undone step.0) step.1 unfailed) step.2
-step_up remaining old (Redo j) reply after unfailed step = redo_up old j step.0 after (told reply (redone step.0) step.1 unfailed) step.2
+step_up remaining old (Undo k) reply after unfailed step = undo_up old k step.0 after (told reply (answered Undone step.0) step.1 unfailed) step.2
+step_up remaining old (Redo j) reply after unfailed step = redo_up old j step.0 after (told reply (answered Redone step.0) step.1 unfailed) step.2
 
 pub all_tail : {X : Type 0} (P : X → Type 0) (x : X) (xs : List X) → All P (x ∷ xs) → All P xs
 all_tail P x xs all k d within = all (suc k) d (omega arith)
@@ -122,5 +123,5 @@ pub stands_at_top : {D T R A : Type 0} (remaining : R → Option (List ℕ)) (hd
 stands_at_top remaining hd ht image text new start list replies run unfailed =
     let ends = unfailed_runs remaining start run.0 list replies run.2 unfailed in
     let Holds : Standing → Type 0 = λ s. HoldsAt hd ht image text new s in
-    let stands = (subst Holds ends.1 run.1).stands in
+    let stands = (subst Holds ends.1 run.1).3 in
     (ends.0, stands.0, stands.1, ends.2)

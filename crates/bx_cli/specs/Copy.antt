@@ -17,7 +17,6 @@ StopsCopy None old left e = HasStopped old left (2 ^ 40) e
 
 -- What dd's operands make of what a reader gives, which then has `left`: the change of what their plan copies, and its counts.
 abbrev pub Makes : {A : Type 0} → List (List ℕ) → Option (List ℕ) → Option (List ℕ) → Result (DdChange A) DdFault → Type 0
-Makes {A = A} words old left (Ok made) =
-    (fault_of words ≡ None) × ((plan : Plan A) × IsPlanOf words plan
+Makes {A = A} words old left (Ok made) = (fault_of words ≡ None) × ((plan : Plan A) × IsPlanOf words plan
     × ((bytes : List ℕ) × Copies plan old left bytes made.counts × (made.change ≡ change_of plan bytes)))
 Makes words old left (Err e) = StopsCopy (fault_of words) old left e

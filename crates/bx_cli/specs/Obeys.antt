@@ -5,7 +5,7 @@ use Rattle.bx_journal.specs.Session.{IsRedoSame, IsSame}
 use Rattle.bx_journal.specs.SessionView.{SessionView}
 use Rattle.bx_cli.specs.declared.command.Reply.{Reply}
 use Rattle.bx_cli.specs.Refusal.{IsOwnRefusal, IsWholeRefusal}
-use Rattle.bx_cli.specs.Run.{is_failure, StandsThen, Unfailed}
+use Rattle.bx_cli.specs.Run.{is_failure, Unfailed}
 use Rattle.bx_cli.specs.Standing.{CountsBy, HoldsAt, Shows, Standing}
 
 -- The session and the reply behind a command are as the step says, from where the session stood: on any devices, up to a
@@ -16,7 +16,7 @@ pub record Obeys {D T : Type 0} (device_honest : D → Type 0) (text_honest : T 
   pub step : (before : Standing) → HoldsAt device_honest text_honest image text old before
       → (after : Standing) × HoldsAt device_honest text_honest image text new after × Step before reply after
   pub stands : device_honest old.device → text_honest old.store → text_honest old.redo_text → (images : Images) → Shows image text old images → Unfailed reply
-      → StandsThen image text new (λ top. Step (Standing.Up images) reply (Standing.Up top))
+      → (top : Images) × Shows image text new top × Step (Standing.Up images) reply (Standing.Up top)
   pub device_honesty : device_honest new.device ↔ device_honest old.device
   pub store_honesty : text_honest new.store ↔ text_honest old.store
   pub redo_honesty : text_honest new.redo_text ↔ text_honest old.redo_text

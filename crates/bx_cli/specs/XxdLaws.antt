@@ -1,7 +1,8 @@
 -- Laws of the text of xxd: what the grammar of dumps reads in it, and what a revert of it makes of an image.
 use Rattle.std.specs.Prelude.{◌≡◌, ◌↔◌, ◌<◌, ◌+◌, ◌-◌, ◌*◌, ◌/◌, ◌^◌, ℕ, List, length, map, take, drop, All, Ok}
 use Rattle.std.specs.List.{range_with_len}
-use Rattle.bx_read.specs.Text.{dump_pieces, lines_of, GivesPieces}
+use Rattle.bx_read.specs.Text.{dump_pieces, lines_of}
+use Rattle.bx_read.specs.Grammar.{GivesPieces}
 use Rattle.bx_dump.specs.Pages.{part_of}
 use Rattle.bx_dump.specs.Laws.{xxd_text}
 use Rattle.bx_dump.specs.declared.xxd.options.XxdOptions.{XxdOptions}

@@ -4,3 +4,4 @@ pub mod Copy
 pub mod CopyOut
 pub mod JobDump
 pub mod Refusal
+pub mod Run

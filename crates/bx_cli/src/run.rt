@@ -6,7 +6,8 @@ ghost use Rattle.bx_cli.specs.Obeys.{Obeys};
 ghost use Rattle.bx_cli.specs.Standing.{CountsBy, CountsOn, HoldsAt, Shows, Standing};
 ghost use Rattle.bx_cli.specs.Command.{IsNear};
 ghost use Rattle.bx_cli.specs.Refusal.{IsOwnRefusal, IsWholeRefusal};
-ghost use Rattle.bx_cli.specs.Run.{is_failure, made_reply, ChangeStep, UndoesStep, RedoesStep, ReadStep, DdStep, DumpStep, PlainStep, CommandRun, StackRun, StandsThen, Unfailed};
+ghost use Rattle.bx_cli.specs.Run.{is_failure, made_reply, ChangeStep, ReadStep, DdStep, CommandRun, StackRun, Unfailed};
+ghost use Rattle.bx_cli.specs.inner.Run.{UndoesStep, RedoesStep, DumpStep, PlainStep};
 ghost use Rattle.bx_cli.specs.SessionRun.{SessionRun, SessionStep};
 
 use crate::changes::{DdChange, change_of_dd, change_of_dump, change_of_plain};
@@ -184,7 +185,7 @@ pub fn run_all<D: Device, T: TextStore, R: Read, A: Allocator + Clone>(
     // first devices stand for to those that the final ones stand for.
     ensures headline { D.honest session.old.device → T.honest session.old.store → T.honest session.old.redo_text → (start : Images)
         → Shows D.image T.text session.old start → IsUnfailed D.failures T.failures session.old session.new
-        → IfOk result (λ replies. StandsThen D.image T.text session.new (λ top. StackRun R.remaining start list.old replies.items top)) }
+        → IfOk result (λ replies. (top : Images) × Shows D.image T.text session.new top × StackRun R.remaining start list.old replies.items top) }
 
     // From a sound journal it leaves a sound one.
     ensures sound { D.honest session.old.device → T.honest session.old.store → T.honest session.old.redo_text → (start : Images)

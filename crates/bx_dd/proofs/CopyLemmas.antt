@@ -15,9 +15,10 @@ use Rattle.bx_dd.specs.declared.stream.counts.Counts.{Counts}
 use Rattle.bx_dd.specs.declared.operands.plan.Plan.{Plan}
 use Rattle.bx_dd.specs.Counting.{counts_of}
 use Rattle.bx_dd.specs.Plan.{form_of}
-use Rattle.bx_dd.specs.Transfer.{IsReadOut, IsWithin, output_of, selected_by}
+use Rattle.bx_dd.specs.Transfer.{output_of, selected_by}
+use Rattle.bx_dd.specs.inner.Transfer.{IsReadOut, IsWithin, selected}
 use Rattle.bx_dd.specs.declared.convert.form.Form.{Form}
-use Rattle.bx_dd.specs.Output.{converted, cut_records, joined, selected, shaped}
+use Rattle.bx_dd.specs.Output.{converted, cut_records, joined, shaped}
 use Rattle.bx_dd.specs.inner.Standing.{HasSizes}
 use Rattle.bx_dd.specs.Streaming.{IsCopy, IsCopyFault, StopsCopy}
 use Rattle.bx_dd.specs.inner.Streaming.{CopiesRest, Flows, Goes, Stage, StopsFlow, StopsPass, StopsSkip, StopsStage, most_of, unit_of}

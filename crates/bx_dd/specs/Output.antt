@@ -1,5 +1,5 @@
 -- What dd makes of an input.
-use Rattle.std.specs.Prelude.{ℕ, ◌-◌, ◌*◌, ◌%◌, not, ◌==◌, nat_lt, if◌then◌else◌, List, [], ◌∷◌, ◌++◌, length, take, drop, map, replicate, count_by, Option, None, Some}
+use Rattle.std.specs.Prelude.{ℕ, ◌-◌, ◌%◌, not, ◌==◌, nat_lt, if◌then◌else◌, List, [], ◌∷◌, ◌++◌, length, take, map, replicate, count_by}
 use Rattle.std.specs.Char.{to_ascii_uppercase, to_ascii_lowercase}
 use Rattle.std.specs.List.{flat_map, onto_first, suffix_len}
 use Rattle.bx_text.specs.InPieces.{in_pieces}
@@ -8,11 +8,6 @@ use Rattle.bx_dd.specs.declared.convert.form.Letters.{Letters}
 use Rattle.bx_dd.specs.declared.convert.form.Letters.TheVariants.{Keep, Upper, Lower}
 use Rattle.bx_dd.specs.declared.convert.form.Shape.{Shape}
 use Rattle.bx_dd.specs.declared.convert.form.Shape.TheVariants.{Flat, Block, Unblock}
-
--- what follows `skip` blocks, at most `count` blocks of it
-abbrev pub selected : ℕ → ℕ → Option ℕ → List ℕ → List ℕ
-selected ibs skip None input = drop (skip * ibs) input
-selected ibs skip (Some count) input = take (count * ibs) (drop (skip * ibs) input)
 
 -- the byte that fills up a short block
 abbrev pub filler : Shape → ℕ
@@ -37,8 +32,7 @@ cased Lower b = to_ascii_lowercase b
 
 -- one block: padded, then swapped, then in one case
 unfoldable pub block_of : Form → List ℕ → List ℕ
-block_of form block =
-    let full = if form.sync then padded (filler form.shape) form.ibs block else block in
+block_of form block = let full = if form.sync then padded (filler form.shape) form.ibs block else block in
     map (cased form.letters) (if form.swab then swapped full else full)
 
 -- the blocks, joined

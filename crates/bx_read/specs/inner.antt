@@ -1,6 +1,9 @@
 -- What no public contract names.
+pub mod Digits
 pub mod Full
 pub mod Lanes
 pub mod Next
 pub mod NextLine
+pub mod Plain
 pub mod Steps
+pub mod Text

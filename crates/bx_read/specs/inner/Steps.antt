@@ -1,7 +1,7 @@
 -- What a plain text goes on with.
 use Rattle.std.specs.Prelude.{◌≡◌, ◌≤◌, ℕ, ◌+◌, ◌*◌, List, [], ◌∷◌, ◌++◌, length, take, drop, Some, None}
 use Rattle.std.specs.Option.{option_map}
-use Rattle.bx_read.specs.Plain.{plain_bytes}
+use Rattle.bx_read.specs.inner.Plain.{plain_bytes}
 use Rattle.bx_read.specs.declared.plain.Step.{Step}
 use Rattle.bx_read.specs.declared.plain.Step.TheVariants.{End, Fault, Pair}
 

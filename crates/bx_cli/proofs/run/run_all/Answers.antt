@@ -63,7 +63,7 @@ returns-clause-counts g c =
 pub returns-clause-sound : goal.returns-clause-sound
 returns-clause-sound g c = λ device store redo start ready undone same.
     let holds : HoldsAt g.D.Device.honest g.T.TextStore.honest g.D.Device.image g.T.TextStore.text c.args.session.now (Standing.Up start) =
-    record { device = device; store = store; redo_text = redo; stands = (ready, undone) } in
+    (device, store, redo, (ready, undone)) in
     stands_at_top g.R.Read.remaining g.D.Device.honest g.T.TextStore.honest g.D.Device.image g.T.TextStore.text c.loop-command.session start c.args.list.now c.loop-command.replies.items
     (returns-clause-run g c (Standing.Up start) holds) (returns-clause-unfailed g c same)
 
