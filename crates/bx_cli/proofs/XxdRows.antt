@@ -1,5 +1,5 @@
 -- xxd's text, as the grammar of dumps reads it.
-use Rattle.std.proofs.Common.{◌≡◌, ℕ, zero, suc, ◌+◌, ◌-◌, ◌*◌, ◌/◌, ◌^◌, ◌<◌, ◌≤◌, Bool, Some, None, Option, List, length, take, drop, get_or, sym, ap, subst, ◌∙◌, arith}
+use Rattle.std.proofs.Common.{◌≡◌, ℕ, zero, suc, ◌+◌, ◌-◌, ◌*◌, ◌/◌, ◌^◌, ◌<◌, ◌≤◌, Bool, true, false, cond, eqb, Some, None, Option, List, length, take, drop, get_or, sym, ap, subst, ◌∙◌, arith}
 use Rattle.std.specs.List.{All, range_with_len}
 use Rattle.std.proofs.lemmas.List.{length-map, length-take, length-drop, get_or-map}
 use Rattle.std.proofs.lemmas.List.Elements.{All-take, All-drop}
@@ -54,7 +54,11 @@ lines_give upper cols group at bytes pos some few are near =
 
 some_group : (cols group : ℕ) → 0 < cols → 0 < group_of cols group
 some_group cols zero some = some
-some_group cols (suc g) some = omega arith
+some_group cols (suc g) some = either (eqb (suc g) 0)
+  where
+    either : (b : Bool) → 0 < cond b cols (suc g)
+    either true = some
+    either false = omega arith
 
 part_are_bytes : (skip : ℕ) (limit : Option ℕ) (input : List ℕ) → All (λ b. b < 256) input → All (λ b. b < 256) (part_of skip limit input)
 part_are_bytes skip None input are = All-drop (λ b. b < 256) skip input are

@@ -44,19 +44,11 @@ unfoldable pub records : List ℕ → List (List ℕ)
 records [] = []
 records (b ∷ bytes) = if b == 10 then [] ∷ records bytes else onto_first b (records bytes)
 
--- a record in n bytes
-unfoldable pub fitted : ℕ → List ℕ → List ℕ
-fitted n line = take n (padded 32 n line)
-
--- a line for a record: without the spaces at its end
-unfoldable pub line_of : List ℕ → List ℕ
-line_of piece = take (length piece - suffix_len (λ b. b == 32) piece) piece ++ 10 ∷ []
-
--- records of one size for lines, or lines for records of one size
+-- records of one size for lines, which are filled up or cut; or lines for records of one size, without the spaces at their end
 unfoldable pub shaped : Shape → ℕ → List ℕ → List ℕ
 shaped Flat size bytes = bytes
-shaped Block size bytes = flat_map (fitted size) (records bytes)
-shaped Unblock size bytes = in_pieces line_of size bytes
+shaped Block size bytes = flat_map (λ line. take size (padded 32 size line)) (records bytes)
+shaped Unblock size bytes = in_pieces (λ piece. take (length piece - suffix_len (λ b. b == 32) piece) piece ++ 10 ∷ []) size bytes
 
 -- how many records are too long
 unfoldable pub cut_records : Shape → ℕ → List ℕ → ℕ
