@@ -252,6 +252,7 @@ fn pass<W: Write, A: Allocator, B: Allocator>(
 
 /// Writes what waits, where the input paused.
 fn pause<W: Write, B: Allocator>(page: &mut Page<B>, w: &mut W, paused: bool) -> Result<(), IoFault>
+    ensures none { paused ≡ true → OnOk result (page.new.bytes.items ≡ []) }
     ensures ok { Flushes (W.contents w.old) (W.contents w.new) page.old page.new result }
     ensures err { StopsFlush (W.contents w.old) (W.contents w.new) page.old result }
 {
