@@ -5,5 +5,6 @@ pub mod Lanes
 pub mod Next
 pub mod NextLine
 pub mod Plain
+pub mod Rows
 pub mod Steps
 pub mod Text
