@@ -1,6 +1,5 @@
 -- Full lines that go on with a run, one after another.
-use Rattle.std.proofs.Common.{◌≡◌, ℕ, zero, suc, ◌+◌, ◌-◌, ◌≤◌, Some, Result, Ok, List, [], ◌∷◌, ◌++◌, length, drop, refl, arith, sym, ap, subst, ◌∙◌}
-use Rattle.std.specs.Option.{unwrap_or}
+use Rattle.std.proofs.Common.{◌≡◌, ℕ, ◌+◌, ◌-◌, ◌≤◌, Some, Result, Ok, List, ◌∷◌, ◌++◌, length, drop, refl, arith, sym, ap, subst, ◌∙◌}
 use Rattle.std.proofs.lemmas.List.{length-append, length-drop}
 use Rattle.bx_read.specs.Digits.{pairs_of}
 use Rattle.bx_read.specs.inner.Full.{IsFull}
