@@ -1,0 +1,4 @@
+-- What no public contract names.
+pub mod Command
+pub mod Copy
+pub mod Refusal
