@@ -10,9 +10,9 @@ use Rattle.bx_dump.specs.Pages.{WritesAll, WritesFrontOf}
 use Rattle.bx_dump.specs.Strings.{strings_of}
 use Rattle.bx_dump.specs.Styles.{xxd_of}
 use Rattle.bx_cli.specs.Dump.{IsStyleOf}
-use Rattle.bx_cli.specs.Fault.{of_io}
-use Rattle.bx_cli.specs.declared.fault.Fault.{Fault}
-use Rattle.bx_cli.specs.declared.fault.Fault.TheVariants.{SeekWithoutOutput, Usage}
+use Rattle.bx_commands.specs.Fault.{of_io}
+use Rattle.bx_commands.specs.declared.fault.Fault.{Fault}
+use Rattle.bx_commands.specs.declared.fault.Fault.TheVariants.{SeekWithoutOutput, Usage}
 use Rattle.bx_cli.specs.declared.dump.Done.{Done}
 use Rattle.bx_cli.specs.declared.dump.Done.TheVariants.{Dumped, Copied}
 use Rattle.bx_cli.specs.declared.job.Job.{Job}

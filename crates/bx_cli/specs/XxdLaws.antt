@@ -9,7 +9,7 @@ use Rattle.bx_dump.specs.declared.xxd.options.XxdOptions.{XxdOptions}
 use Rattle.bx_dump.specs.declared.xxd.options.XxdStyle.TheVariants.{Normal}
 use Rattle.bx_image.specs.Image.{place}
 use Rattle.bx_image.specs.Change.{effect}
-use Rattle.bx_cli.specs.Command.{dump_change}
+use Rattle.bx_commands.specs.Command.{dump_change}
 
 -- The bytes in chunks of `cols`, the last of them perhaps of fewer, each with its address; the first has address `at`.
 abbrev pub chunks : ℕ → ℕ → List ℕ → List (ℕ × List ℕ)
