@@ -53,20 +53,27 @@ fn spare(goes_on: bool, len: u64, end: u64, left: u64) -> usize {
     (16 * lines).min(len.saturating_sub(end)) as usize
 }
 
-/// Puts bytes behind a run. Where there is no room for them, it is made for so many more too.
-fn put_behind<A: Allocator>(
+/// Makes room for so many bytes behind a run, and where there is none, for so many more too.
+fn make_room<A: Allocator>(
     bytes: &mut Vec<u8, A>,
-    more: &[u8],
+    more: usize,
     spare: usize,
 ) -> Result<(), NoMemory>
+    ensures { bytes.new.items ≡ bytes.old.items }
+{
+    if more <= bytes.capacity() - bytes.len() {
+        return Ok(());
+    }
+    if bytes.reserve_exact(more.saturating_add(spare)).is_err() {
+        return Err(NoMemory);
+    }
+    Ok(())
+}
+
+/// Puts bytes behind a run.
+fn put_behind<A: Allocator>(bytes: &mut Vec<u8, A>, more: &[u8]) -> Result<(), NoMemory>
     ensures { OnOk result (bytes.new.items ≡ bytes.old.items ++ more.now) }
 {
-    if more.len() > bytes.capacity() - bytes.len() {
-        let room = more.len().saturating_add(spare);
-        if bytes.reserve_exact(room).is_err() {
-            return Err(NoMemory);
-        }
-    }
     if bytes.extend_from_slice(more).is_err() {
         return Err(NoMemory);
     }
@@ -94,7 +101,8 @@ fn lengthen<A: Allocator>(
     let has_room = count > 0 && window.len() - (from + ENDED * count) < ENDED;
     let end = at.saturating_add((bytes.len() + size) as u64);
     let (more, _) = window.split_at(size);
-    put_behind(&mut bytes, more, spare(has_room, len, end, left))?;
+    make_room(&mut bytes, size, spare(has_room, len, end, left))?;
+    put_behind(&mut bytes, more)?;
     let gathered = Gathered { count, has_room };
     Ok(Longer { bytes, gathered })
 }
@@ -134,7 +142,8 @@ pub fn trim_last<A: Allocator>(runs: &mut Vec<Piece<A>, A>) -> Result<(), NoMemo
     };
     let Piece { at, bytes } = last;
     let mut bytes = bytes.into_vec();
-    bytes.shrink_to(bytes.len() + SPARE);
+    let room = bytes.len() + SPARE;
+    bytes.shrink_to(room);
     let bytes = Bytes::from_vec(bytes);
     push(runs, Piece { at, bytes })
 }

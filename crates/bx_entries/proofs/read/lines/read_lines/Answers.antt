@@ -19,7 +19,7 @@ loop-i-init g c =
     (left_of_whole text window r.at 0 u.long ∙ ap (λ n. drop n (text ++ window)) start) in
     record {
       read = go;
-      left = subst (λ n. drop n c.go_on_in-first.new.window ≡ drop n window) place now.left;
+      left = subst (λ n. drop n c.go_on_in.new.window ≡ drop n window) place now.left;
       within = omega (arith, now.within);
       same = now.same_length;
     }
@@ -37,7 +37,7 @@ loop-i-preserved g c =
     let rest : List ℕ = c.rest_at.result.now in
     let f = c.in-Some.ensures.found in
     let found : IsFound rest i = record { below = f.0; plain = f.1; is = f.2 } in
-    let line : c.split_at.result.0.now ≡ take i rest = c.split_at.ensures.front ∙ ap (take i) (c.rest_at-2.ensures ∙ sym c.rest_at.ensures) in
+    let line : c.split_at.result.0.now ≡ take i rest = c.split_at.ensures.front ∙ ap (take i) (c.rest_at-in-Some.ensures ∙ sym c.rest_at.ensures) in
     let count = c.in_ok-gone.gone.gathered.count in
     let now = c.in_ok-gone.ensures in
     let left : drop from window ≡ rest = sym (c.rest_at.ensures ∙ inv.left) in
