@@ -1,7 +1,6 @@
 -- Full lines of a window whose bytes are gathered at its beginning.
-use Rattle.std.proofs.Common.{◌≡◌, ℕ, ◌+◌, ◌*◌, ◌≤◌, List, [], ◌++◌, length, take, drop, refl, ap, sym, ◌∙◌, subst, arith, append-nil, append_assoc, length-append, length-take, length-drop}
+use Rattle.std.proofs.Common.{◌≡◌, ℕ, ◌+◌, ◌*◌, ◌≤◌, List, ◌++◌, length, take, drop, refl, ap, sym, ◌∙◌, subst, arith, append-nil, append_assoc, length-append, length-take, length-drop}
 use Rattle.bx_entries.specs.inner.Followed.{IsFullSaved, GoesOnBy, IsGathered, with_last}
-use Rattle.bx_entries.specs.Kept.{Run}
 use Rattle.bx_entries.proofs.FollowLemmas.{none_goes_on, one_goes_on}
 use Rattle.bx_entries.proofs.OverLemmas.{IsPutOver, over_length, over_front, over_behind}
 use Rattle.bx_entries.proofs.ReadLoop.{drop_twice}

@@ -8,7 +8,7 @@ use Rattle.bx_entries.specs.declared.read.types.Front.{Front}
 use Rattle.bx_entries.specs.declared.read.types.StageRead.{StageRead}
 use Rattle.bx_entries.specs.declared.read.types.StageRead.TheVariants.{Between as BetweenRead, Saving as SavingRead, Ending as EndingRead}
 use Rattle.bx_entries.specs.Text.{Entry, Reading, split, start, after_lines}
-use Rattle.bx_entries.specs.inner.Mark.{IsMark, HasMarks}
+use Rattle.bx_entries.specs.inner.Mark.{IsMark}
 use Rattle.bx_entries.specs.inner.Lines.{IsFront, IsReadAt, IsReadUpTo}
 use Rattle.bx_entries.specs.inner.Parsed.{entry_of, entries_onto, reading_onto, AreMarked, IsMarked, IsReadTo, Leads, KeepsMarks}
 use Rattle.bx_entries.proofs.ReadLoop.{IsFound, read_on, drop_twice}

@@ -1,11 +1,10 @@
 -- The last entries of a text, read behind those that were counted.
-use Rattle.std.proofs.Common.{◌≡◌, ◌⊎◌, ℕ, ◌+◌, ◌-◌, ◌<◌, ◌≤◌, ◌^◌, false, List, [], ◌++◌, length, take, drop, ap, sym, ◌∙◌, subst, inl, inr, arith, length-append, length-drop, Option, Some, None, Result, Ok, Err}
+use Rattle.std.proofs.Common.{◌≡◌, ◌⊎◌, ℕ, ◌+◌, ◌-◌, ◌≤◌, false, List, [], ◌++◌, length, take, drop, ap, sym, ◌∙◌, subst, inl, inr, arith, Option, Some, None, Result, Ok, Err}
 use Rattle.std.specs.Prelude.{IfOk, IfErr, IfSome}
-use Rattle.std.proofs.lemmas.List.{take-append-drop, take-append-le, take_all}
-use Rattle.std.proofs.Math.Seq.{drop-append_seam}
+use Rattle.std.proofs.lemmas.List.{take_all}
 use Rattle.bx_entries.specs.declared.read.types.EntryRead.{EntryRead}
 use Rattle.bx_entries.specs.declared.read.types.Front.{Front}
-use Rattle.bx_entries.specs.Text.{Entry, Between, Reads, split, start, after_lines}
+use Rattle.bx_entries.specs.Text.{Entry, Between, split, start, after_lines}
 use Rattle.bx_entries.specs.declared.read.types.StageRead.TheVariants.{Between as BetweenRead}
 use Rattle.bx_entries.specs.declared.read.lines.LinesRead.{LinesRead}
 use Rattle.bx_entries.specs.inner.Lines.{IsFront, IsReadUpTo}

@@ -1,4 +1,4 @@
-use Rattle.std.proofs.Common.{◌≡◌, ◌*◌, ◌++◌, List, ℕ, length, take, drop, ap, sym, ◌∙◌, subst, arith}
+use Rattle.std.proofs.Common.{◌≡◌, ◌*◌, ◌++◌, List, ℕ, take, drop, ap, sym, ◌∙◌, subst, arith}
 use Rattle.bx_entries.specs.inner.Followed.{GoesOnBy, with_last}
 use Rattle.bx_entries.proofs.read.gather.lengthen.Goals as goal
 

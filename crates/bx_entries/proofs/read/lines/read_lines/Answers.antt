@@ -1,4 +1,4 @@
-use Rattle.std.proofs.Common.{◌≡◌, ℕ, ◌+◌, ◌*◌, ◌-◌, ◌≤◌, ◌++◌, List, length, take, drop, Some, ap, sym, ◌∙◌, subst, arith, length-append, length-take, length-drop}
+use Rattle.std.proofs.Common.{◌≡◌, ℕ, ◌+◌, ◌*◌, ◌-◌, ◌++◌, List, take, drop, Some, ap, sym, ◌∙◌, subst, arith, length-append, length-take}
 use Rattle.bx_entries.specs.Text.{Entry}
 use Rattle.bx_entries.specs.inner.Lines.{IsReadAt, IsReadUpTo}
 use Rattle.bx_entries.specs.inner.Parsed.{entries_onto, reading_onto, Leads, KeepsMarks}

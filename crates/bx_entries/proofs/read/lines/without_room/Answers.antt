@@ -1,5 +1,5 @@
 use Rattle.std.proofs.Common.{sym, subst}
-use Rattle.bx_entries.specs.Text.{Between, Saving}
+use Rattle.bx_entries.specs.Text.{Saving}
 use Rattle.bx_entries.specs.inner.Lines.{IsReadAt}
 use Rattle.bx_entries.specs.inner.Mark.{IsMark}
 use Rattle.bx_entries.specs.inner.Parsed.{entries_onto}

@@ -1,4 +1,4 @@
-use Rattle.std.proofs.Common.{◌≡◌, ◌∙◌, List, ℕ, length, ap, sym, refl, subst}
+use Rattle.std.proofs.Common.{◌≡◌, ◌∙◌, List, ℕ, sym, refl, subst}
 use Rattle.std.specs.Prelude.{IfSome}
 use Rattle.bx_entries.specs.declared.read.lines.LinesRead.{LinesRead}
 use Rattle.bx_journal.specs.inner.Undoing.{IsReadBehind}
