@@ -6,6 +6,7 @@ pub mod Front
 pub mod Journal
 pub mod Kept
 pub mod Line
+pub mod Lines
 pub mod Mark
 pub mod Parsed
 pub mod Plain

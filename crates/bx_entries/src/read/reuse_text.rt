@@ -27,7 +27,7 @@ struct Parted<A: Allocator = Global> {
 
 /// Puts bytes over those at a place.
 #[inline(always)]
-fn put_over(text: &mut [u8], at: usize, bytes: &[u8])
+pub fn put_over(text: &mut [u8], at: usize, bytes: &[u8])
     requires { at + length bytes.now ≤ length text.old }
     ensures { text.new ≡ take at text.old ++ bytes.now ++ drop (at + length bytes.now) text.old }
 {
