@@ -78,6 +78,9 @@ pub fn change_with<D: Device, T: TextStore, A: Allocator>(
     ensures image { D.honest device.old → OnOk result (D.image device.new ≡ effect change.now (D.image device.old)) }
     ensures back { D.honest device.old → OnOk result (IsAsGood (kept_of (saved change.now (D.image device.old))) (D.image device.old) (D.image device.new)) }
     ensures redo { T.honest redo_text.old → OnOk result (T.text redo_text.new ≡ take (place_of part) (T.text redo_text.old)) }
+    ensures emptied_first { T.honest redo_text.old → part ≡ RedoCut.All → OnErr result ((device.new ≡ device.old) ⊎ (T.text redo_text.new ≡ [])) }
+    ensures changed_first { D.honest device.old → (begins : ℕ) → part ≡ RedoCut.From begins
+        → OnErr result ((redo_text.new ≡ redo_text.old) ⊎ (D.image device.new ≡ effect change.now (D.image device.old))) }
     ensures device_room { D.room device.old ≤ D.room device.new }
     ensures device_honesty { D.honest device.new ↔ D.honest device.old }
     ensures redo_honesty { T.honest redo_text.new ↔ T.honest redo_text.old }
