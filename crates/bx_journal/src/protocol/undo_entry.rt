@@ -47,6 +47,8 @@ fn change_undone<D: Device, T: TextStore, A: Allocator>(
     ensures phase { D.honest device.old → (v : Form) (text : List ℕ) (stack : List (List ℕ)) → IsOpen v (kept_of kept) text (D.image device.old) stack
         → IsOpen v (kept_of kept) text (D.image device.new) stack }
     ensures again { D.honest device.old → Covers (kept_of kept) (D.image device.old) → IsAsGood (kept_of kept) (D.image device.old) (D.image device.new) }
+    ensures restored_first { D.honest device.old → OnErr result ((redo_text.new ≡ redo_text.old)
+        ⊎ (D.image device.new ≡ restore (kept_of kept) (D.image device.old))) }
     ensures emptied { OnOk result (page.new.items ≡ []) }
     ensures page_kept { vec_capacity page.old ≤ vec_capacity page.new }
     ensures undoes { Undoes D.honest D.image D.room T.honest T.text T.room result device.old redo_text.old device.new redo_text.new number taken.now kept }
