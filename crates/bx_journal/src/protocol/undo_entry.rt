@@ -7,7 +7,7 @@ ghost use Rattle.bx_entries.specs.Kept.{kept_of};
 ghost use Rattle.bx_journal.specs.Opening.{OneMore};
 ghost use Rattle.bx_entries.specs.inner.Parsed.{AllKept};
 ghost use Rattle.bx_journal.specs.Phase.{IsAtRest, RecoversEither};
-ghost use Rattle.bx_journal.specs.inner.Devices.{AreBelow, StepsOn};
+ghost use Rattle.bx_journal.specs.inner.Devices.{AreBelow, ImageIsFirst, StepsOn};
 ghost use Rattle.bx_journal.specs.inner.Phase.{IsOpen};
 ghost use Rattle.bx_journal.specs.Redo.{Finds};
 ghost use Rattle.bx_journal.specs.inner.Redo.{LeavesEither};
@@ -47,8 +47,7 @@ fn change_undone<D: Device, T: TextStore, A: Allocator>(
     ensures phase { D.honest device.old → (v : Form) (text : List ℕ) (stack : List (List ℕ)) → IsOpen v (kept_of kept) text (D.image device.old) stack
         → IsOpen v (kept_of kept) text (D.image device.new) stack }
     ensures again { D.honest device.old → Covers (kept_of kept) (D.image device.old) → IsAsGood (kept_of kept) (D.image device.old) (D.image device.new) }
-    ensures restored_first { D.honest device.old → OnErr result ((redo_text.new ≡ redo_text.old)
-        ⊎ (D.image device.new ≡ restore (kept_of kept) (D.image device.old))) }
+    ensures order { ImageIsFirst D.honest D.image result (restore (kept_of kept)) device.old device.new redo_text.old redo_text.new }
     ensures emptied { OnOk result (page.new.items ≡ []) }
     ensures page_kept { vec_capacity page.old ≤ vec_capacity page.new }
     ensures undoes { Undoes D.honest D.image D.room T.honest T.text T.room result device.old redo_text.old device.new redo_text.new number taken.now kept }
