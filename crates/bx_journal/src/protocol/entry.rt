@@ -4,7 +4,7 @@ ghost use Rattle.bx_entries.specs.Kept.{kept_of};
 ghost use Rattle.bx_image.specs.Change.{effect, saved, AllWithin, IsAsGood};
 ghost use Rattle.bx_image.specs.Device.{GoesOn};
 ghost use Rattle.bx_entries.specs.Entry.{head_text};
-ghost use Rattle.bx_journal.specs.inner.Devices.{AreBelow, StepsOn};
+ghost use Rattle.bx_journal.specs.inner.Devices.{AreBelow, ImageIsFirst, StepsOn};
 ghost use Rattle.bx_journal.specs.inner.Phase.{StaysOpenFor};
 ghost use Rattle.bx_journal.specs.inner.Step.{EndRests, EndStops, HeadOpens, HeadStops};
 ghost use Rattle.bx_journal.specs.Opening.{OneMore};
@@ -69,6 +69,8 @@ pub fn change_with<D: Device, T: TextStore, A: Allocator>(
     ensures image { D.honest device.old → OnOk result (D.image device.new ≡ effect change.now (D.image device.old)) }
     ensures back { D.honest device.old → OnOk result (IsAsGood (kept_of (saved change.now (D.image device.old))) (D.image device.old) (D.image device.new)) }
     ensures redo { T.honest redo_text.old → OnOk result (T.text redo_text.new ≡ take (place_of part) (T.text redo_text.old)) }
+    ensures emptied_first { T.honest redo_text.old → part ≡ RedoCut.All → OnErr result ((device.new ≡ device.old) ⊎ (T.text redo_text.new ≡ [])) }
+    ensures order { (n : ℕ) → part ≡ RedoCut.From n → ImageIsFirst D.honest D.image result (effect change.now) device.old device.new redo_text.old redo_text.new }
     ensures device_room { D.room device.old ≤ D.room device.new }
     ensures device_honesty { D.honest device.new ↔ D.honest device.old }
     ensures redo_honesty { T.honest redo_text.new ↔ T.honest redo_text.old }

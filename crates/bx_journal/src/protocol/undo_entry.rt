@@ -4,7 +4,7 @@ ghost use Rattle.bx_image.specs.Change.{Covers, IsAsGood};
 ghost use Rattle.bx_entries.specs.Kept.{kept_of};
 ghost use Rattle.bx_journal.specs.Opening.{OneMore};
 ghost use Rattle.bx_entries.specs.inner.Parsed.{AllKept};
-ghost use Rattle.bx_journal.specs.inner.Devices.{AreBelow, StepsOn};
+ghost use Rattle.bx_journal.specs.inner.Devices.{AreBelow, ImageIsFirst, StepsOn};
 ghost use Rattle.bx_journal.specs.inner.Entries.{DropsRest, DropsSome, DropsStand, LeavesFront, UndoAll, UndoSome};
 ghost use Rattle.bx_journal.specs.inner.Phase.{RestoresAlike, StaysOpen};
 ghost use Rattle.bx_journal.specs.inner.Takens.{AreReady, AllShaped, entries_len};
@@ -35,6 +35,7 @@ fn change_undone<D: Device, T: TextStore, A: Allocator>(
     requires ready { CanUndo T.honest T.text T.room redo_text.old (D.room device.old) page.old.items (vec_capacity page.old) number taken.now kept }
     ensures phase { D.honest device.old → StaysOpen (kept_of kept) (D.image device.old) (D.image device.new) }
     ensures again { D.honest device.old → Covers (kept_of kept) (D.image device.old) → IsAsGood (kept_of kept) (D.image device.old) (D.image device.new) }
+    ensures order { ImageIsFirst D.honest D.image result (restore (kept_of kept)) device.old device.new redo_text.old redo_text.new }
     ensures emptied { OnOk result (page.new.items ≡ []) }
     ensures page_kept { vec_capacity page.old ≤ vec_capacity page.new }
     ensures undoes { Undoes D.honest D.image D.room T.honest T.text T.room result device.old redo_text.old device.new redo_text.new number taken.now kept }
