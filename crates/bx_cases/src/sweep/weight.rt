@@ -28,7 +28,7 @@ fn row_weight(row: &Row) -> usize {
         _ => 0,
     };
     given
-        .saturating_add(row.image.len())
+        .saturating_add(row.left.image.len())
         .saturating_add(COMMAND)
 }
 

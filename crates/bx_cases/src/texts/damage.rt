@@ -152,21 +152,21 @@ pub fn fronts(alloc: Global, texts: Texts<'_>) -> Result<u32, Wrong> {
 }
 
 /// Opens the text with each byte changed, in all 255 ways or one in so many. Tells how often.
-pub fn changed_bytes(alloc: Global, texts: Texts<'_>) -> Result<u32, Wrong> {
+pub fn changed_bytes(alloc: Global, texts: Texts<'_>, all: bool) -> Result<u32, Wrong> {
+    let len = text_of(texts).len();
+    let step = if all { 1 } else { change_step(len) };
     let mut count = 0u32;
-    for place in 0..text_of(texts).len() {
-        count = count.saturating_add(changed_byte(alloc, texts, place)?);
+    for place in 0..len {
+        count = count.saturating_add(changed_byte(alloc, texts, place, step)?);
     }
     Ok(count)
 }
 
-/// Opens the text with one byte changed. Tells how often.
-fn changed_byte(alloc: Global, texts: Texts<'_>, place: usize) -> Result<u32, Wrong> {
+/// Opens the text with one byte changed, in one of so many ways. Tells how often.
+fn changed_byte(alloc: Global, texts: Texts<'_>, place: usize, step: usize) -> Result<u32, Wrong> {
     let mut count = 0u32;
-    let text = text_of(texts);
-    let step = change_step(text.len());
     let first = place.checked_rem(step).unwrap_or(0);
-    let mut changed = text.to_vec(alloc)?;
+    let mut changed = text_of(texts).to_vec(alloc)?;
     for turn in 1..=255u8 {
         if (turn as usize).checked_rem(step).unwrap_or(0) == first {
             turn_byte(&mut changed, place, turn);

@@ -13,7 +13,7 @@ pub const PATCHED: &[u8] =
     b"change2 00000001 0000000000000008\n00000002: 4344                                     CD\nsave 00000001\ndone2 00000001 0000000000000008\n";
 
 /// The redo text of the same patch, once it is taken back.
-pub const UNDONE: &[u8] =
+const UNDONE: &[u8] =
     b"change2 00000001 0000000000000008\n00000002: 7879                                     xy\nsave 00000001\ndone2 00000001 0000000000000008\n";
 
 /// The journal of one byte at 0, from `A` over `a` to `b`.
