@@ -112,6 +112,23 @@ fn end_head(alloc: Global, second: bool, n: usize) -> Result<String, AllocError>
     }
 }
 
+fn first_line(alloc: Global, second: bool, n: usize, len: u64) -> Result<String, AllocError> {
+    if second {
+        format!(in alloc; "change2 {n:08x} {len:016x}")
+    } else {
+        format!(in alloc; "change {n:08x} {len:08x}")
+    }
+}
+
+/// The least line that ends an entry.
+fn least_end(alloc: Global, second: bool, n: usize) -> Result<String, AllocError> {
+    if second {
+        format!(in alloc; "done2 {n:08x} 0000000000000000")
+    } else {
+        format!(in alloc; "done {n:08x}")
+    }
+}
+
 fn save_line(alloc: Global, n: usize) -> Result<String, AllocError> {
     format!(in alloc; "save {n:08x}")
 }
@@ -310,24 +327,14 @@ impl Reading {
 
     /// Whether a line of this form that begins an entry may go on from this.
     fn may_start(&self, alloc: Global, rest: &[u8], second: bool) -> Result<bool, AllocError> {
-        let mut least = start_head(alloc, second, self.number())?;
-        let len = self.told.unwrap_or(0);
-        let digits = if second {
-            format!(in alloc; "{len:016x}")?
-        } else {
-            format!(in alloc; "{len:08x}")?
-        };
-        least.push_str(digits.as_str())?;
+        let least = first_line(alloc, second, self.number(), self.told.unwrap_or(0))?;
         let line = completed(alloc, rest, least.as_bytes())?;
         Ok(self.started(alloc, line.as_slice(), second)?.is_some())
     }
 
     /// Whether the line that ends the entry may go on from this.
     fn may_end(&self, alloc: Global, rest: &[u8]) -> Result<bool, AllocError> {
-        let mut least = end_head(alloc, self.open.second, self.number())?;
-        if self.open.second {
-            least.push_str("0000000000000000")?;
-        }
+        let least = least_end(alloc, self.open.second, self.number())?;
         let line = completed(alloc, rest, least.as_bytes())?;
         Ok(self.ended(alloc, line.as_slice())?.is_some())
     }

@@ -9,16 +9,11 @@ use bx_cli::{Fault, Texts, plan_words};
 use bx_program::{perform, trio};
 use bx_text::Name;
 use std::alloc::{AllocError, Global};
-use std::fs::{self, File};
+use std::fs;
 use std::os::unix::fs::symlink;
-use std::process::Abort;
-use std::rt::Files;
 use std::test::Fail;
 
-fn outcome<R>(rt: &R, line: &str) -> Result<(), Fault>
-where
-    R: Files<File = File> + Input + Print + Eprint + AllocGlobal,
-{
+fn outcome(rt: &HostRuntime, line: &str) -> Result<(), Fault> {
     let job = plan_words(rt.alloc(), &words(rt.alloc(), line)?)?;
     perform(rt, &job).map_err(|stopped| stopped.fault)
 }
@@ -30,27 +25,18 @@ fn shown(alloc: Global, outcome: Result<(), Fault>) -> Result<String, AllocError
     }
 }
 
-fn ends<R>(rt: &R, line: &str, wanted: &str) -> Result<(), Fail>
-where
-    R: Abort + Files<File = File> + Input + Print + Eprint + AllocGlobal,
-{
+fn ends(rt: &HostRuntime, line: &str, wanted: &str) -> Result<(), Fail> {
     let found = shown(rt.alloc(), outcome(rt, line))?;
     assert!(rt; found.as_str() == wanted, "{line}: {found}");
     Ok(())
 }
 
-fn has_bytes<R>(rt: &R, name: &str, bytes: &[u8]) -> Result<(), Fail>
-where
-    R: Abort + Files<File = File> + AllocGlobal,
-{
+fn has_bytes(rt: &HostRuntime, name: &str, bytes: &[u8]) -> Result<(), Fail> {
     assert!(rt; fs::read(rt, name)?.as_slice() == bytes, "{name}");
     Ok(())
 }
 
-fn has_len<R>(rt: &R, name: &str, len: &str) -> Result<(), Fail>
-where
-    R: Abort + Files<File = File> + AllocGlobal,
-{
+fn has_len(rt: &HostRuntime, name: &str, len: &str) -> Result<(), Fail> {
     let found = fs::metadata(rt, name)?.len();
     assert!(rt;
         format!(in rt.alloc(); "{found}")?.as_str() == len,
@@ -59,14 +45,14 @@ where
     Ok(())
 }
 
-fn are_missing<R: Abort + Files<File = File>>(rt: &R, names: &str) -> Result<(), Fail> {
+fn are_missing(rt: &HostRuntime, names: &str) -> Result<(), Fail> {
     for name in names.split(' ') {
         assert!(rt; fs::metadata(rt, name).is_err(), "{name}");
     }
     Ok(())
 }
 
-fn remove<R: Files<File = File>>(rt: &R, names: &str) -> Result<(), Fail> {
+fn remove(rt: &HostRuntime, names: &str) -> Result<(), Fail> {
     for name in names.split(' ') {
         fs::remove_file(rt, name)?;
     }
@@ -85,7 +71,7 @@ fn told(alloc: Global, text: &str) -> Result<Vec<u8>, AllocError> {
 }
 
 /// A step that makes or takes away a folder or a link, or takes files away.
-fn arrange<R: Files<File = File>>(rt: &R, line: &str) -> Result<(), Fail> {
+fn arrange(rt: &HostRuntime, line: &str) -> Result<(), Fail> {
     let (word, names) = line.split_once(' ').unwrap_or(("", line));
     let (name, new) = names.split_once(' ').unwrap_or((names, ""));
     match word {
@@ -98,10 +84,7 @@ fn arrange<R: Files<File = File>>(rt: &R, line: &str) -> Result<(), Fail> {
 }
 
 /// A step that looks at files, or arranges them.
-fn look<R>(rt: &R, line: &str) -> Result<(), Fail>
-where
-    R: Abort + Files<File = File> + AllocGlobal,
-{
+fn look(rt: &HostRuntime, line: &str) -> Result<(), Fail> {
     if let Some((name, text)) = line.split_once(" = ") {
         return has_bytes(rt, name, told(rt.alloc(), text)?.as_slice());
     }
@@ -115,7 +98,7 @@ where
 }
 
 /// What image, journal and redo text hold, one behind the other.
-fn kept<R: Files<File = File> + AllocGlobal>(rt: &R) -> Result<Vec<u8>, Fail> {
+fn kept(rt: &HostRuntime) -> Result<Vec<u8>, Fail> {
     let mut all = Vec::new(rt.alloc());
     for name in ["one.img", "one.img.bxj", "one.img.bxj.redo"] {
         all.extend_from_slice(fs::read(rt, name)?.as_slice())?;
@@ -124,10 +107,7 @@ fn kept<R: Files<File = File> + AllocGlobal>(rt: &R) -> Result<Vec<u8>, Fail> {
 }
 
 /// The words end so, and image, journal and redo text stay.
-fn stays<R>(rt: &R, line: &str, wanted: &str) -> Result<(), Fail>
-where
-    R: Abort + Files<File = File> + Input + Print + Eprint + AllocGlobal,
-{
+fn stays(rt: &HostRuntime, line: &str, wanted: &str) -> Result<(), Fail> {
     let before = kept(rt)?;
     ends(rt, line, wanted)?;
     let behind = kept(rt)?;
@@ -135,10 +115,7 @@ where
     Ok(())
 }
 
-fn step<R>(rt: &R, line: &str) -> Result<(), Fail>
-where
-    R: Abort + Files<File = File> + Input + Print + Eprint + AllocGlobal,
-{
+fn step(rt: &HostRuntime, line: &str) -> Result<(), Fail> {
     if let Some((words, fault)) = line.split_once(" -> ") {
         return ends(rt, words, fault);
     }
@@ -151,10 +128,7 @@ where
     }
 }
 
-fn play<R>(rt: &R, script: &str) -> Result<(), Fail>
-where
-    R: Abort + Files<File = File> + Input + Print + Eprint + AllocGlobal,
-{
+fn play(rt: &HostRuntime, script: &str) -> Result<(), Fail> {
     for line in script.lines() {
         step(rt, line)?;
     }
@@ -298,30 +272,24 @@ one.dump := 00000001: 7a|";
 const NO_MORE: &str = "rm one.img one.img.bxj one.img.bxj.redo one.dump";
 
 /// Plays a script on these files, and takes them away.
-fn play_on<R>(rt: &R, script: &str) -> Result<(), Fail>
-where
-    R: Abort + Files<File = File> + Input + Print + Eprint + AllocGlobal,
-{
+fn play_on(rt: &HostRuntime, script: &str) -> Result<(), Fail> {
     play(rt, BEGUN)?;
     play(rt, script)?;
     play(rt, NO_MORE)
 }
 
-fn name_of<R: AllocGlobal>(rt: &R, name: &str) -> Result<Name, AllocError> {
+fn name_of(rt: &HostRuntime, name: &str) -> Result<Name, AllocError> {
     Ok(Name::from_string(String::from_str(rt.alloc(), name)?))
 }
 
-fn texts<R: AllocGlobal>(rt: &R) -> Result<Texts, AllocError> {
+fn texts(rt: &HostRuntime) -> Result<Texts, AllocError> {
     let journal = name_of(rt, "one.img.bxj")?;
     let redo = name_of(rt, "one.img.bxj.redo")?;
     Ok(Texts { journal, redo })
 }
 
 // Plays a script while another session holds the files.
-fn play_beside<R>(rt: &R, script: &str) -> Result<(), Fail>
-where
-    R: Abort + Files<File = File> + Input + Print + Eprint + AllocGlobal,
-{
+fn play_beside(rt: &HostRuntime, script: &str) -> Result<(), Fail> {
     let (image, texts) = (name_of(rt, "one.img")?, texts(rt)?);
     let first = trio(rt, &image, &texts, false);
     assert!(rt; first.is_ok());
