@@ -9,9 +9,10 @@ use bx_cli::{Fault, Texts, plan_words};
 use bx_program::{perform, trio};
 use bx_text::Name;
 use std::alloc::{AllocError, Global};
-use std::fs;
 use std::os::unix::fs::symlink;
+use std::process::Abort;
 use std::test::Fail;
+use std::{fs, io};
 
 fn outcome(rt: &HostRuntime, line: &str) -> Result<(), Fault> {
     let job = plan_words(rt.alloc(), &words(rt.alloc(), line)?)?;
@@ -25,38 +26,30 @@ fn shown(alloc: Global, outcome: Result<(), Fault>) -> Result<String, AllocError
     }
 }
 
-fn ends(rt: &HostRuntime, line: &str, wanted: &str) -> Result<(), Fail> {
-    let found = shown(rt.alloc(), outcome(rt, line))?;
-    assert!(rt; found.as_str() == wanted, "{line}: {found}");
-    Ok(())
+// Whether the words end so.
+fn ends(rt: &HostRuntime, line: &str, wanted: &str) -> Result<bool, Fail> {
+    Ok(shown(rt.alloc(), outcome(rt, line))?.as_str() == wanted)
 }
 
-fn has_bytes(rt: &HostRuntime, name: &str, bytes: &[u8]) -> Result<(), Fail> {
-    assert!(rt; fs::read(rt, name)?.as_slice() == bytes, "{name}");
-    Ok(())
+fn has_bytes(rt: &HostRuntime, name: &str, text: &str) -> Result<bool, Fail> {
+    let bytes = told(rt.alloc(), text)?;
+    Ok(fs::read(rt, name)?.as_slice() == bytes.as_slice())
 }
 
-fn has_len(rt: &HostRuntime, name: &str, len: &str) -> Result<(), Fail> {
+fn has_len(rt: &HostRuntime, name: &str, len: &str) -> Result<bool, Fail> {
     let found = fs::metadata(rt, name)?.len();
-    assert!(rt;
-        format!(in rt.alloc(); "{found}")?.as_str() == len,
-        "{name}"
-    );
-    Ok(())
+    Ok(len.parse::<u64>() == Ok(found))
 }
 
-fn are_missing(rt: &HostRuntime, names: &str) -> Result<(), Fail> {
-    for name in names.split(' ') {
-        assert!(rt; fs::metadata(rt, name).is_err(), "{name}");
-    }
-    Ok(())
+fn are_missing(rt: &HostRuntime, names: &str) -> bool {
+    names.split(' ').all(|name| fs::metadata(rt, name).is_err())
 }
 
-fn remove(rt: &HostRuntime, names: &str) -> Result<(), Fail> {
+fn remove(rt: &HostRuntime, names: &str) -> Result<bool, Fail> {
     for name in names.split(' ') {
         fs::remove_file(rt, name)?;
     }
-    Ok(())
+    Ok(true)
 }
 
 /// The bytes that a script tells.
@@ -70,30 +63,38 @@ fn told(alloc: Global, text: &str) -> Result<Vec<u8>, AllocError> {
     Ok(bytes)
 }
 
-/// A step that makes or takes away a folder or a link, or takes files away.
-fn arrange(rt: &HostRuntime, line: &str) -> Result<(), Fail> {
-    let (word, names) = line.split_once(' ').unwrap_or(("", line));
-    let (name, new) = names.split_once(' ').unwrap_or((names, ""));
+/// A step that makes a folder or a link, or takes a folder away.
+fn arrange(rt: &HostRuntime, word: &str, name: &str, new: &str) -> io::Result<()> {
     match word {
+        "dir" => fs::create_dir(rt, name),
+        "rmdir" => fs::remove_dir(rt, name),
+        "hard" => fs::hard_link(rt, name, new),
+        _ => symlink(rt, name, new),
+    }
+}
+
+/// A step that looks for files, or arranges them.
+fn tidy(rt: &HostRuntime, line: &str) -> Result<bool, Fail> {
+    let (word, names) = line.split_once(' ').unwrap_or(("", line));
+    match word {
+        "no" => Ok(are_missing(rt, names)),
         "rm" => remove(rt, names),
-        "dir" => Ok(fs::create_dir(rt, name)?),
-        "rmdir" => Ok(fs::remove_dir(rt, name)?),
-        "hard" => Ok(fs::hard_link(rt, name, new)?),
-        _ => Ok(symlink(rt, name, new)?),
+        _ => {
+            let (name, new) = names.split_once(' ').unwrap_or((names, ""));
+            arrange(rt, word, name, new)?;
+            Ok(true)
+        }
     }
 }
 
 /// A step that looks at files, or arranges them.
-fn look(rt: &HostRuntime, line: &str) -> Result<(), Fail> {
+fn look(rt: &HostRuntime, line: &str) -> Result<bool, Fail> {
     if let Some((name, text)) = line.split_once(" = ") {
-        return has_bytes(rt, name, told(rt.alloc(), text)?.as_slice());
+        return has_bytes(rt, name, text);
     }
-    if let Some((name, len)) = line.split_once(" has ") {
-        return has_len(rt, name, len);
-    }
-    match line.strip_prefix("no ") {
-        Some(names) => are_missing(rt, names),
-        None => arrange(rt, line),
+    match line.split_once(" has ") {
+        Some((name, len)) => has_len(rt, name, len),
+        None => tidy(rt, line),
     }
 }
 
@@ -106,16 +107,21 @@ fn kept(rt: &HostRuntime) -> Result<Vec<u8>, Fail> {
     Ok(all)
 }
 
-/// The words end so, and image, journal and redo text stay.
-fn stays(rt: &HostRuntime, line: &str, wanted: &str) -> Result<(), Fail> {
+/// Whether the words end so, and image, journal and redo text stay.
+fn stays(rt: &HostRuntime, line: &str, wanted: &str) -> Result<bool, Fail> {
     let before = kept(rt)?;
-    ends(rt, line, wanted)?;
-    let behind = kept(rt)?;
-    assert!(rt; behind.as_slice() == before.as_slice(), "{line}");
-    Ok(())
+    let right = ends(rt, line, wanted)?;
+    Ok(right && kept(rt)?.as_slice() == before.as_slice())
 }
 
-fn step(rt: &HostRuntime, line: &str) -> Result<(), Fail> {
+fn write(rt: &HostRuntime, name: &str, text: &str) -> Result<bool, Fail> {
+    let bytes = told(rt.alloc(), text)?;
+    fs::write(rt, name, bytes.as_slice())?;
+    Ok(true)
+}
+
+/// Whether a step goes as the script tells.
+fn step(rt: &HostRuntime, line: &str) -> Result<bool, Fail> {
     if let Some((words, fault)) = line.split_once(" -> ") {
         return ends(rt, words, fault);
     }
@@ -123,14 +129,15 @@ fn step(rt: &HostRuntime, line: &str) -> Result<(), Fail> {
         return stays(rt, words, fault);
     }
     match line.split_once(" := ") {
-        Some((name, text)) => Ok(fs::write(rt, name, told(rt.alloc(), text)?.as_slice())?),
+        Some((name, text)) => write(rt, name, text),
         None => look(rt, line),
     }
 }
 
-fn play(rt: &HostRuntime, script: &str) -> Result<(), Fail> {
+fn play(abort: &impl Abort, rt: &HostRuntime, script: &str) -> Result<(), Fail> {
     for line in script.lines() {
-        step(rt, line)?;
+        let right = step(rt, line)?;
+        assert!(abort; right, "{line}");
     }
     Ok(())
 }
@@ -140,6 +147,7 @@ fn play(rt: &HostRuntime, script: &str) -> Result<(), Fail> {
 #[test]
 fn opens_in_order(rt: HostRuntime) -> Result<(), Fail> {
     play(
+        &rt,
         &rt,
         "\
 xxd missing.file -> cannot open file
@@ -163,6 +171,7 @@ rm order.img order.img.bxj order.img.bxj.redo order.dump",
 #[test]
 fn redo_text_is_made(rt: HostRuntime) -> Result<(), Fail> {
     play(
+        &rt,
         &rt,
         "\
 made.img := ABCD
@@ -197,6 +206,7 @@ rm made.j.redo made.img made.dump made.j",
 fn patch_and_undo(rt: HostRuntime) -> Result<(), Fail> {
     play(
         &rt,
+        &rt,
         "\
 patch.img := ABCDEFGH
 patch.dump := 00000002: 7879|
@@ -227,6 +237,7 @@ rm patch.img patch.img.bxj patch.img.bxj.redo patch.dump",
 fn dd_onto_files(rt: HostRuntime) -> Result<(), Fail> {
     play(
         &rt,
+        &rt,
         "\
 dd if=missing.file of=onto.img -> cannot open file
 no onto.img
@@ -252,6 +263,7 @@ rm onto.img onto.img.bxj onto.img.bxj.redo onto.in",
 fn dd_to_standard_output(rt: HostRuntime) -> Result<(), Fail> {
     play(
         &rt,
+        &rt,
         "\
 dd if=missing.file seek=1 -> cannot open file
 stream.in := xy|
@@ -272,10 +284,10 @@ one.dump := 00000001: 7a|";
 const NO_MORE: &str = "rm one.img one.img.bxj one.img.bxj.redo one.dump";
 
 /// Plays a script on these files, and takes them away.
-fn play_on(rt: &HostRuntime, script: &str) -> Result<(), Fail> {
-    play(rt, BEGUN)?;
-    play(rt, script)?;
-    play(rt, NO_MORE)
+fn play_on(abort: &impl Abort, rt: &HostRuntime, script: &str) -> Result<(), Fail> {
+    play(abort, rt, BEGUN)?;
+    play(abort, rt, script)?;
+    play(abort, rt, NO_MORE)
 }
 
 fn name_of(rt: &HostRuntime, name: &str) -> Result<Name, AllocError> {
@@ -289,18 +301,19 @@ fn texts(rt: &HostRuntime) -> Result<Texts, AllocError> {
 }
 
 // Plays a script while another session holds the files.
-fn play_beside(rt: &HostRuntime, script: &str) -> Result<(), Fail> {
+fn play_beside(abort: &impl Abort, rt: &HostRuntime, script: &str) -> Result<(), Fail> {
     let (image, texts) = (name_of(rt, "one.img")?, texts(rt)?);
     let first = trio(rt, &image, &texts, false);
-    assert!(rt; first.is_ok());
-    play(rt, script)
+    assert!(abort; first.is_ok());
+    play(abort, rt, script)
 }
 
 // What an earlier session holds. The later one is refused, whatever it would do, and recovers nothing.
 #[test]
 fn two_sessions_at_once(rt: HostRuntime) -> Result<(), Fail> {
-    play(&rt, BEGUN)?;
+    play(&rt, &rt, BEGUN)?;
     play_beside(
+        &rt,
         &rt,
         "\
 revert -f one.dump one.img => cannot open file
@@ -313,13 +326,14 @@ revert -f one.dump -J one.img.bxj other.img => cannot open file
 revert -f one.dump -J one.img.bxj.redo other.img => cannot open file
 no other.bxj other.bxj.redo other.img one.img.bxj.redo.redo",
     )?;
-    play(&rt, NO_MORE)
+    play(&rt, &rt, NO_MORE)
 }
 
 // Under whatever names: the image as its own journal is no journal. This image is a journal of a change that was stopped.
 #[test]
 fn one_file_by_two_names(rt: HostRuntime) -> Result<(), Fail> {
     play_on(
+        &rt,
         &rt,
         "\
 one.img := change2 00000001 0000000000000008|00000002: 4344                                     CD|save 00000001|
@@ -344,6 +358,7 @@ rm one.hard one.soft",
 fn only_files_are_changed(rt: HostRuntime) -> Result<(), Fail> {
     play_on(
         &rt,
+        &rt,
         "\
 dir one.dir
 revert -f one.dump one.dir => cannot open file
@@ -367,6 +382,7 @@ rmdir one.dir",
 #[test]
 fn only_files_of_their_own_are_redo_texts(rt: HostRuntime) -> Result<(), Fail> {
     play_on(
+        &rt,
         &rt,
         "\
 dir dir.redo
@@ -394,6 +410,7 @@ rm null.redo hard.redo soft own.redo own",
 #[test]
 fn foreign_redo_texts(rt: HostRuntime) -> Result<(), Fail> {
     play_on(
+        &rt,
         &rt,
         "\
 one.img := AB
@@ -423,6 +440,7 @@ dd if=one.dump of=one.img => redo line 1 is damaged",
 #[test]
 fn image_by_a_link(rt: HostRuntime) -> Result<(), Fail> {
     play_on(
+        &rt,
         &rt,
         "\
 soft one.img link
