@@ -8,6 +8,7 @@ mod streams;
 use crate::report::compare::Wrong;
 use crate::report::tally::{Failure, at};
 use crate::sweep::hunt::each_growth;
+use crate::sweep::weight::is_small;
 use crate::words::growths::RunOf;
 use crate::words::job::same_job;
 use crate::words::outcome::{allowed, refused, right, turned_right};
@@ -114,8 +115,11 @@ fn whole(
     }
 }
 
-/// Refuses each growth of a run in turn. Tells how many there are.
+/// Refuses each growth of a run in turn, where its case is small. Tells how many there are.
 fn refused_growths(alloc: Global, run: &RunOf<'_>) -> Result<u32, Failure> {
+    if !is_small(run.input, run.case.output.as_slice()) {
+        return Ok(0);
+    }
     match each_growth(alloc, run) {
         Ok(growths) => Ok(growths),
         Err(wrong) => Err(at(0, wrong)),
