@@ -42,7 +42,12 @@ fn has_len(rt: &HostRuntime, name: &str, len: &str) -> Result<bool, Fail> {
 }
 
 fn are_missing(rt: &HostRuntime, names: &str) -> bool {
-    names.split(' ').all(|name| fs::metadata(rt, name).is_err())
+    for name in names.split(' ') {
+        if fs::metadata(rt, name).is_ok() {
+            return false;
+        }
+    }
+    true
 }
 
 fn remove(rt: &HostRuntime, names: &str) -> Result<bool, Fail> {
