@@ -20,7 +20,7 @@ enum Kind {
 }
 
 /// The words of lines.
-static KNOWN: [&str; 35] = [
+static KNOWN: [&str; 36] = [
     "kind",
     "case",
     "from",
@@ -51,6 +51,7 @@ static KNOWN: [&str; 35] = [
     "journal-left",
     "redo-left",
     "first",
+    "changes",
     "dump",
     "piece",
     "bytes",
