@@ -1,6 +1,6 @@
 //! Heaps that get all memory back.
 ghost use Rattle.std.specs.Prelude.{IfOk};
-ghost use Rattle.bx_cli.specs.Command.{IsNear};
+ghost use Rattle.bx_commands.specs.Command.{IsNear};
 
 use crate::expected::words;
 use crate::sessions::{MemSession, open, run, trio};

@@ -65,7 +65,6 @@ pub fn change_with<D: Device, T: TextStore, A: Allocator>(
     requires room { length (effect change.now []) ≤ D.room device.old }
     requires within { T.honest redo_text.old → place_of part ≤ length (T.text redo_text.old) }
     ensures phase { D.honest device.old → StaysOpenFor change.now (D.image device.old) (D.image device.new) }
-    ensures emptied_first { T.honest redo_text.old → part ≡ RedoCut.All → OnErr result ((device.new ≡ device.old) ⊎ (T.text redo_text.new ≡ [])) }
     ensures image { D.honest device.old → OnOk result (D.image device.new ≡ effect change.now (D.image device.old)) }
     ensures back { D.honest device.old → OnOk result (IsAsGood (kept_of (saved change.now (D.image device.old))) (D.image device.old) (D.image device.new)) }
     ensures redo { T.honest redo_text.old → OnOk result (T.text redo_text.new ≡ take (place_of part) (T.text redo_text.old)) }
