@@ -5,7 +5,8 @@ use Rattle.std.proofs.lemmas.List.{take-append-le, take_all, take_at, drop_all}
 use Rattle.std.proofs.Math.Seq.{take-append-add, drop-append-add}
 use Rattle.bx_text.specs.declared.fault.IoFault.{IoFault}
 use Rattle.bx_text.specs.declared.fault.IoFault.TheVariants.{NoMemory, ReadFailed, WriteFailed, InputTooLong, SkipPastEnd}
-use Rattle.bx_text.specs.Stream.{StopsIn, IsReadCause}
+use Rattle.bx_text.specs.Stream.{IsReadCause}
+use Rattle.bx_text.specs.inner.Stream.{StopsAfter}
 use Rattle.bx_text.specs.Writing.{WritesFront}
 use Rattle.bx_text.proofs.KnownLemmas.{Appends-trans, Consumes-trans, Appends-nil, Consumes-nil}
 use Rattle.bx_dump.specs.Dumped.{IsDumpFault, KeepsUp}
@@ -61,7 +62,7 @@ asked_at_end None skip n r p = tt
 asked_at_end (Some most) skip n r p = p.0
 
 pub stops_after : (r0 r1 r2 : Option (List ℕ)) (input : List ℕ) (less wanted taken : ℕ) (fault : IoFault) → length input ≡ taken → taken ≤ 2 ^ 40 → taken + less ≤ wanted →
-    Consumes r0 r1 input → StopsIn r1 r2 less (2 ^ 40 - taken) fault → StopsAt wanted (2 ^ 40) r0 r2 fault
+    Consumes r0 r1 input → StopsAfter r1 r2 less (2 ^ 40 - taken) fault → StopsAt wanted (2 ^ 40) r0 r2 fault
 stops_after r0 r1 r2 input less wanted taken fault len few most reads stop =
     let all : length (input ++ stop.0) ≡ taken + length stop.0 = omega (arith, length-append input stop.0) in record {
       input = input ++ stop.0;
@@ -83,7 +84,7 @@ capped_all (Some most) xs within = take_all most xs within
 -- the reader stopped
 pub rest_read_stop : (text : List ℕ → List ℕ) (limit : Option ℕ) (before : ℕ) (r0 r1 r2 w0 w1 : Option (List ℕ)) (input : List ℕ) (from taken less : ℕ) (fault : IoFault) →
     from + length input ≡ taken → taken ≤ 2 ^ 40 → IfSome limit (λ most. length input + less ≤ most) → ((more : List ℕ) → (rest : List ℕ) × (text (input ++ more) ≡ text input ++ rest)) →
-    Consumes r0 r1 input → Appends w0 w1 (text input) → StopsIn r1 r2 less (2 ^ 40 - taken) fault → WritesFrontBut 0 (λ xs. text (capped limit xs)) 0 limit from before r0 r2 w0 w1 fault
+    Consumes r0 r1 input → Appends w0 w1 (text input) → StopsAfter r1 r2 less (2 ^ 40 - taken) fault → WritesFrontBut 0 (λ xs. text (capped limit xs)) 0 limit from before r0 r2 w0 w1 fault
 rest_read_stop text limit before r0 r1 r2 w0 w1 input from taken less fault len few within goes reads writes stop =
     let cut = capped_more limit input stop.0 (within_along limit (length input + less) (length input) (omega arith) within) in
     let more = goes cut.0 in

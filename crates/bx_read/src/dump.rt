@@ -1,8 +1,8 @@
 //! Whole dumps.
-ghost use Rattle.std.specs.Prelude.{◌≡◌, ◌⊎◌, ◌*◌, ◌≤◌, ◌∷◌, ℕ, List, Result, length, map, Some, Ok, Err, MatchResult, IfOk, All};
-ghost use Rattle.bx_read.specs.Text.{ReadLine, lines_of, dump_pieces, contents, total_bytes, IsPiece, GivesPieces};
+ghost use Rattle.std.specs.Prelude.{◌≡◌, ◌⊎◌, ◌*◌, ◌≤◌, Result, length, Some, Ok, Err, MatchResult, IfOk, All};
+ghost use Rattle.bx_read.specs.Text.{lines_of, dump_pieces, contents, total_bytes, IsPiece, GivesPieces};
 ghost use Rattle.bx_read.specs.Lines.{coming};
-ghost use Rattle.bx_read.specs.inner.Next.{IsNextPiece};
+ghost use Rattle.bx_read.specs.inner.Next.{IsNextPiece, IsNextFault};
 ghost use Rattle.bx_read.specs.declared.fault.ReadFault.{ReadFault};
 
 use crate::fault::ReadFault;
@@ -17,8 +17,7 @@ use std::alloc::Allocator;
 pub fn read_dump<A: Allocator + Clone>(alloc: A, text: &[u8]) -> Result<Vec<Piece<A>, A>, ReadFault>
     // What is read is what the grammar gives, and what the grammar gives is read.
     ensures found { IfOk result (λ v. GivesPieces (lines_of text.now) (contents v.items)) }
-    ensures only { (pieces : List (ℕ × List ℕ)) → GivesPieces (lines_of text.now) pieces →
-        MatchResult result (λ v. contents v.items ≡ pieces) (λ e. e ≡ ReadFault.NoMemory) }
+    ensures only { (pieces : _) → GivesPieces (lines_of text.now) pieces → MatchResult result (λ v. contents v.items ≡ pieces) (λ e. e ≡ ReadFault.NoMemory) }
     // Which fault it is.
     ensures exact { MatchResult result (λ v. dump_pieces text.now ≡ Ok (contents v.items)) (λ e. (e ≡ ReadFault.NoMemory) ⊎ (dump_pieces text.now ≡ Err e)) }
     // Each piece has 1 to 256 bytes at an address below 2^62.
@@ -53,8 +52,7 @@ fn next_piece<A: Allocator + Clone>(
     alloc: &A,
     lines: &mut DumpLines<'_>,
 ) -> Result<Option<Piece<A>>, ReadFault>
-    ensures { MatchResult result (IsNextPiece (coming lines.old) (coming lines.new)) (λ e.
-        (e ≡ ReadFault.NoMemory) ⊎ ((later : List (Result ReadLine ReadFault)) × (coming lines.old ≡ Err e ∷ later))) }
+    ensures { MatchResult result (IsNextPiece (coming lines.old) (coming lines.new)) (IsNextFault (coming lines.old)) }
 {
     if let Some(full) = lines.take_full() {
         return Ok(Some(piece(alloc.clone()?, full.at, &full.bytes)?));

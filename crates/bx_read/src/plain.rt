@@ -1,9 +1,8 @@
 //! Plain hexadecimal.
-ghost use Rattle.std.specs.Prelude.{◌≡◌, ◌⊎◌, ℕ, ◌+◌, ◌*◌, ◌/◌, ◌<◌, ◌≤◌, ◌∷◌, ◌++◌, List, length, take, drop, Some, None, Ok, Err, MatchResult, MatchOption, IfOk, IfSome};
-ghost use Rattle.std.specs.Option.{option_map};
+ghost use Rattle.std.specs.Prelude.{◌≡◌, ◌⊎◌, ℕ, ◌+◌, ◌*◌, ◌/◌, ◌<◌, ◌≤◌, List, length, take, Some, None, Ok, Err, MatchResult, MatchOption, IfOk, IfSome};
 ghost use Rattle.std.specs.List.{prefix_len};
 ghost use Rattle.bx_read.specs.Plain.{is_space, plain_bytes, plain_fault, bad_line, digit_line, plain_answer};
-ghost use Rattle.bx_read.specs.inner.Steps.{IsStep};
+ghost use Rattle.bx_read.specs.inner.Steps.{IsStep, PutsPairs};
 
 use crate::digits::{is_digit, is_pair, pair};
 use crate::fault::ReadFault;
@@ -57,8 +56,7 @@ fn decode_plain(text: &[u8], out: &mut [u8]) -> Option<usize>
 fn put_run(text: &[u8], out: &mut [u8], count: usize) -> usize
     requires { count + length text.now / 2 ≤ length out.old }
     ensures within { 2 * result ≤ length text.now }
-    ensures bytes { option_map (λ more. take count out.old ++ more) (plain_bytes text.now) ≡
-        option_map (λ more. take (count + result) out.new ++ more) (plain_bytes (drop (2 * result) text.now)) }
+    ensures bytes { PutsPairs text.now count result out.old out.new }
 {
     let most = text.len() / 2;
     for i in 0..most {

@@ -2,3 +2,4 @@
 pub mod Capped
 pub mod Fold
 pub mod Radix
+pub mod Stream
