@@ -10,4 +10,5 @@ pub mod Mark
 pub mod Parsed
 pub mod Plain
 pub mod Rows
+pub mod TakeLine
 pub mod Tally

@@ -28,3 +28,7 @@ pub record GoesOnBy (len : ℕ) (rest : List ℕ) (old new : List Run) (count : 
 -- the runs, and one more behind them
 abbrev pub with_last : List Run → ℕ → List ℕ → List Run
 with_last front at bytes = front ++ record { at = at; bytes = bytes } ∷ []
+
+-- the same of the bytes of the last run, at this address, whatever runs are in front of it
+abbrev pub RunGoesOnBy : ℕ → List ℕ → ℕ → List ℕ → List ℕ → ℕ → Type 0
+RunGoesOnBy len rest at old new count = (front : List Run) → GoesOnBy len rest (with_last front at old) (with_last front at new) count
