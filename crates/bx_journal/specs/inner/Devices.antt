@@ -1,6 +1,6 @@
 -- The devices of a session together: the image, the journal's text and the redo text.
 use Rattle.std.specs.Prelude.{◌≡◌, ◌↔◌, ◌<◌, ℕ, List, Result, OnOk, OnErr, IfErr}
-use Rattle.bx_journal.specs.Opening.{FaultCounts, OneMoreOfThree}
+use Rattle.bx_journal.specs.Opening.{FaultCounts, OneMoreOfThree, ThreeCounts}
 use Rattle.bx_journal.specs.declared.session.fault.SessionFault.{SessionFault}
 
 -- three counts are below a limit
@@ -21,3 +21,13 @@ pub record LooksAt {D R : Type 0} (honest : D → Type 0) (view : D → List ℕ
   pub honesty : honest new ↔ honest old
   pub no_failure : OnOk result (failures new ≡ failures old)
   pub counts : IfErr result (λ e. FaultCounts e (failures old) 0 (failures new) 0)
+
+-- no call of the three failed
+abbrev pub AreUnfailed : {D T V E : Type 0} → (D → ℕ) → (T → ℕ) → D → T → T → D → T → T → Result V E → Type 0
+AreUnfailed failures text_failures d t u d_new t_new u_new result =
+    OnOk result ((failures d_new ≡ failures d) × (text_failures t_new ≡ text_failures t) × (text_failures u_new ≡ text_failures u))
+
+-- the fault tells whether one of the three counts a failure more
+abbrev pub AreCounted : {D T V : Type 0} → (D → ℕ) → (T → ℕ) → D → T → T → D → T → T → Result V SessionFault → Type 0
+AreCounted failures text_failures d t u d_new t_new u_new result =
+    IfErr result (λ e. ThreeCounts e (failures d) (text_failures t) (text_failures u) (failures d_new) (text_failures t_new) (text_failures u_new))
