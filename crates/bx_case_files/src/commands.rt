@@ -206,10 +206,12 @@ fn next_ask(
 
 /// A command and its answer, if the next lines tell them.
 fn asked(alloc: Global, cursor: &mut Cursor<'_>) -> Result<Option<(Ask, Answer)>, CaseFault> {
-    match next_ask(alloc, cursor)? {
-        Some((ask, Some(opening))) => Ok(Some((ask, Answer::Opened(opening)))),
-        Some((ask, None)) => Ok(Some((ask, answer_of(alloc, cursor)?))),
-        None => Ok(None),
+    let Some((ask, opening)) = next_ask(alloc, cursor)? else {
+        return Ok(None);
+    };
+    match opening {
+        Some(opening) => Ok(Some((ask, Answer::Opened(opening)))),
+        None => Ok(Some((ask, answer_of(alloc, cursor)?))),
     }
 }
 
