@@ -1,5 +1,5 @@
 //! The entry of a change: its head, its end, and both with the change of the image between them, which cuts the redo text.
-ghost use Rattle.std.specs.Prelude.{◌≡◌, ◌↔◌, ◌⊎◌, ◌+◌, ◌<◌, ◌≤◌, [], ◌++◌, length, take, vec_capacity, OnOk, OnErr, is_err};
+ghost use Rattle.std.specs.Prelude.{◌≡◌, ◌↔◌, ◌⊎◌, ◌+◌, ◌<◌, ◌≤◌, [], ◌++◌, ℕ, length, take, vec_capacity, OnOk, OnErr, is_err};
 ghost use Rattle.bx_entries.specs.Kept.{kept_of};
 ghost use Rattle.bx_image.specs.Change.{effect, saved, AllWithin, IsAsGood};
 ghost use Rattle.bx_image.specs.Device.{GoesOn};

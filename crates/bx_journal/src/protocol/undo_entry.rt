@@ -1,6 +1,6 @@
 //! Taking entries back: the newest, or some of them one after another.
 ghost use Rattle.std.specs.Prelude.{◌≡◌, ◌↔◌, ◌+◌, ◌-◌, ◌<◌, ◌≤◌, [], length, take, drop, reverse, nat_le, vec_capacity, if◌then◌else◌, IfOk, OnOk, OnErr};
-ghost use Rattle.bx_image.specs.Change.{Covers, IsAsGood};
+ghost use Rattle.bx_image.specs.Change.{restore, Covers, IsAsGood};
 ghost use Rattle.bx_entries.specs.Kept.{kept_of};
 ghost use Rattle.bx_journal.specs.Opening.{OneMore};
 ghost use Rattle.bx_entries.specs.inner.Parsed.{AllKept};
