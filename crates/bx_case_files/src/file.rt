@@ -20,7 +20,7 @@ enum Kind {
 }
 
 /// The words of lines.
-static KNOWN: [&str; 36] = [
+static KNOWN: [&str; 35] = [
     "kind",
     "case",
     "from",
@@ -51,7 +51,6 @@ static KNOWN: [&str; 36] = [
     "journal-left",
     "redo-left",
     "first",
-    "changes",
     "dump",
     "piece",
     "bytes",

@@ -15,9 +15,9 @@ mod values;
 mod words;
 
 pub use case::{Case, CaseFile, Opening, Records, Test};
-pub use commands::{Answer, Ask, CommandsCase, Left, Row, Write};
+pub use commands::{Answer, Ask, CommandsCase, Row, Write};
 pub use fault::{CaseFault, Trouble};
 pub use file::read_cases;
 pub use reading::{ReadingCase, Reads};
-pub use texts::{Found, Outcome, TextCase};
+pub use texts::{Found, TextCase};
 pub use words::{Refusal, WordsCase};

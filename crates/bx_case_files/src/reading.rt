@@ -1,7 +1,6 @@
 //! Cases of reading.
 use crate::cursor::Cursor;
 use crate::fault::{CaseFault, Trouble};
-use crate::texts::needed_bytes;
 use crate::values::{number, split_space};
 use std::alloc::Global;
 
@@ -25,32 +24,23 @@ pub struct ReadingCase {
     pub reads: Reads,
 }
 
-/// Whether a text is plain hexadecimal, and the text.
-fn read_text(alloc: Global, cursor: &mut Cursor<'_>) -> Result<(bool, Vec<u8>), CaseFault> {
-    if let Some(text) = cursor.bytes(alloc, "dump")? {
-        return Ok((false, text));
-    }
-    match cursor.bytes(alloc, "plain")? {
-        Some(text) => Ok((true, text)),
-        None => Err(cursor.next_trouble(Trouble::MissingLine("dump"))),
-    }
-}
-
-/// What a text gives.
-fn reads_of(alloc: Global, cursor: &mut Cursor<'_>, plain: bool) -> Result<Reads, CaseFault> {
-    if let Some(text) = cursor.text(alloc, "fault")? {
-        return Ok(Reads::Fault(text));
-    }
-    if plain {
-        return Ok(Reads::Bytes(needed_bytes(alloc, cursor, "bytes")?));
-    }
-    Ok(Reads::Pieces(pieces(alloc, cursor)?))
-}
-
 /// The case whose lines follow.
 pub fn reading_case(alloc: Global, cursor: &mut Cursor<'_>) -> Result<ReadingCase, CaseFault> {
-    let (plain, text) = read_text(alloc, cursor)?;
-    let reads = reads_of(alloc, cursor, plain)?;
+    let (plain, text) = match cursor.bytes(alloc, "dump")? {
+        Some(text) => (false, text),
+        None => match cursor.bytes(alloc, "plain")? {
+            Some(text) => (true, text),
+            None => return Err(cursor.next_trouble(Trouble::MissingLine("dump"))),
+        },
+    };
+    let reads = match cursor.text(alloc, "fault")? {
+        Some(text) => Reads::Fault(text),
+        None if plain => match cursor.bytes(alloc, "bytes")? {
+            Some(bytes) => Reads::Bytes(bytes),
+            None => return Err(cursor.next_trouble(Trouble::MissingLine("bytes"))),
+        },
+        None => Reads::Pieces(pieces(alloc, cursor)?),
+    };
     Ok(ReadingCase { plain, text, reads })
 }
 

@@ -1,4 +1,5 @@
 //! What opening is to answer, by a slow reading of the format of journals and redo texts.
+use bx_journal::{How, Recovered, SessionFault};
 use std::alloc::{AllocError, Global};
 
 /// The greatest length of an image.
@@ -56,32 +57,10 @@ struct Reading {
     kept: usize,
 }
 
-/// How a journal's text ends.
-#[derive(Clone, Copy)]
-pub enum Ending {
-    /// Behind a finished entry, or before the first.
-    Clean,
-    /// In an entry of which the image has nothing.
-    Dropped,
-    /// In the entry of this number, which is taken back.
-    Restored { number: u32 },
-}
-
-/// Why opening is refused. Lines are counted from 1.
-#[derive(Clone, Copy)]
-pub enum Refusal {
-    Damaged { line: u64 },
-    LengthDiffers { expected: u64 },
-    RedoDamaged { line: u64 },
-}
-
 /// What opening finds and leaves.
 #[derive(Drop)]
 pub struct Finding {
-    pub ending: Ending,
-    /// How many changes stand, and how many undone ones can be made again.
-    pub changes: u32,
-    pub undone: u32,
+    pub recovered: Recovered,
     pub image: Vec<u8>,
     /// How many bytes of journal and redo text stay.
     pub kept: usize,
@@ -91,7 +70,7 @@ pub struct Finding {
 }
 
 /// What opening answers.
-pub type Verdict = Result<Finding, Refusal>;
+pub type Verdict = Result<Finding, SessionFault>;
 
 fn digit(byte: u8) -> Option<u64> {
     match byte {
@@ -128,23 +107,6 @@ fn start_head(alloc: Global, second: bool, n: usize) -> Result<String, AllocErro
 fn end_head(alloc: Global, second: bool, n: usize) -> Result<String, AllocError> {
     if second {
         format!(in alloc; "done2 {n:08x} ")
-    } else {
-        format!(in alloc; "done {n:08x}")
-    }
-}
-
-fn first_line(alloc: Global, second: bool, n: usize, len: u64) -> Result<String, AllocError> {
-    if second {
-        format!(in alloc; "change2 {n:08x} {len:016x}")
-    } else {
-        format!(in alloc; "change {n:08x} {len:08x}")
-    }
-}
-
-/// The least line that ends an entry.
-fn least_end(alloc: Global, second: bool, n: usize) -> Result<String, AllocError> {
-    if second {
-        format!(in alloc; "done2 {n:08x} 0000000000000000")
     } else {
         format!(in alloc; "done {n:08x}")
     }
@@ -348,14 +310,24 @@ impl Reading {
 
     /// Whether a line of this form that begins an entry may go on from this.
     fn may_start(&self, alloc: Global, rest: &[u8], second: bool) -> Result<bool, AllocError> {
-        let least = first_line(alloc, second, self.number(), self.told.unwrap_or(0))?;
+        let mut least = start_head(alloc, second, self.number())?;
+        let len = self.told.unwrap_or(0);
+        let digits = if second {
+            format!(in alloc; "{len:016x}")?
+        } else {
+            format!(in alloc; "{len:08x}")?
+        };
+        least.push_str(digits.as_str())?;
         let line = completed(alloc, rest, least.as_bytes())?;
         Ok(self.started(alloc, line.as_slice(), second)?.is_some())
     }
 
     /// Whether the line that ends the entry may go on from this.
     fn may_end(&self, alloc: Global, rest: &[u8]) -> Result<bool, AllocError> {
-        let least = least_end(alloc, self.open.second, self.number())?;
+        let mut least = end_head(alloc, self.open.second, self.number())?;
+        if self.open.second {
+            least.push_str("0000000000000000")?;
+        }
         let line = completed(alloc, rest, least.as_bytes())?;
         Ok(self.ended(alloc, line.as_slice())?.is_some())
     }
@@ -427,14 +399,14 @@ fn left_of(
     reading: &Reading,
     image: &[u8],
     rest: &[u8],
-) -> Result<(Ending, Vec<u8>), AllocError> {
+) -> Result<(How, Vec<u8>), AllocError> {
     match reading.stage {
-        Stage::Between if rest.is_empty() => Ok((Ending::Clean, image.to_vec(alloc)?)),
-        Stage::Between | Stage::Saving => Ok((Ending::Dropped, image.to_vec(alloc)?)),
+        Stage::Between if rest.is_empty() => Ok((How::Clean, image.to_vec(alloc)?)),
+        Stage::Between | Stage::Saving => Ok((How::Dropped, image.to_vec(alloc)?)),
         Stage::Ending => {
             let number = reading.number().min(MOST_ENTRIES) as u32;
             Ok((
-                Ending::Restored { number },
+                How::Restored { number },
                 restored(alloc, &reading.open, image)?,
             ))
         }
@@ -510,7 +482,7 @@ fn judge_redo(
     image: &[u8],
     redo: &[u8],
     changes: u32,
-) -> Result<Result<u32, Refusal>, AllocError> {
+) -> Result<Result<u32, SessionFault>, AllocError> {
     let mut reading = Reading::new(alloc);
     let (reads, rest) = read(alloc, &mut reading, redo)?;
     let refused = if reads {
@@ -519,7 +491,7 @@ fn judge_redo(
         Some(reading.line)
     };
     match refused {
-        Some(line) => Ok(Err(Refusal::RedoDamaged { line })),
+        Some(line) => Ok(Err(SessionFault::RedoDamaged { line })),
         None => Ok(Ok(count_of(&reading))),
     }
 }
@@ -532,13 +504,13 @@ fn count_of(reading: &Reading) -> u32 {
 fn found(
     alloc: Global,
     reading: &Reading,
-    ending: Ending,
+    how: How,
     image: Vec<u8>,
     redo: &[u8],
 ) -> Result<Verdict, AllocError> {
     let changes = count_of(reading);
-    let (undone, kept_redo) = match ending {
-        Ending::Clean => match judge_redo(alloc, image.as_slice(), redo, changes)? {
+    let (undone, kept_redo) = match how {
+        How::Clean => match judge_redo(alloc, image.as_slice(), redo, changes)? {
             Ok(undone) => (undone, redo.len()),
             Err(fault) => return Ok(Err(fault)),
         },
@@ -546,9 +518,11 @@ fn found(
     };
     let first = unwound(alloc, reading.finished.as_slice(), image.as_slice())?;
     Ok(Ok(Finding {
-        ending,
-        changes,
-        undone,
+        recovered: Recovered {
+            how,
+            changes,
+            undone,
+        },
         image,
         kept: reading.kept,
         kept_redo,
@@ -566,13 +540,13 @@ pub fn judge(
     let mut reading = Reading::new(alloc);
     let (reads, rest) = read(alloc, &mut reading, journal)?;
     if !reads {
-        return Ok(Err(Refusal::Damaged { line: reading.line }));
+        return Ok(Err(SessionFault::Damaged { line: reading.line }));
     }
-    let (ending, left) = left_of(alloc, &reading, image, rest)?;
+    let (how, left) = left_of(alloc, &reading, image, rest)?;
     match reading.told {
         Some(expected) if expected != left.len() as u64 => {
-            Ok(Err(Refusal::LengthDiffers { expected }))
+            Ok(Err(SessionFault::LengthDiffers { expected }))
         }
-        _ => found(alloc, &reading, ending, left, redo),
+        _ => found(alloc, &reading, how, left, redo),
     }
 }

@@ -6,11 +6,13 @@ mod dd;
 #[cfg(test)]
 mod dumps;
 #[cfg(test)]
+mod each_byte;
+#[cfg(test)]
 mod expected;
 #[cfg(test)]
 mod faults;
 #[cfg(test)]
-mod heaps;
+mod growths;
 #[cfg(test)]
 mod program;
 #[cfg(test)]

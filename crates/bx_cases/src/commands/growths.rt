@@ -3,22 +3,22 @@ use crate::commands::rows::{begun, play_row};
 use crate::report::compare::{Wrong, same_bytes};
 use crate::report::tally::{Failure, at};
 use crate::session::answers::{refused, replied, same_reply};
-use crate::session::ask::{Limit, ask_for, log_of, unwanted};
+use crate::session::ask::{Limit, ask_for};
 use crate::session::devices::{MemDevices, Texts, in_memory, unchanged};
 use crate::session::open::{MemSession, close, open};
 use crate::session::places::Memory;
 use crate::session::standing::Standing;
-use crate::sweep::hunt::{Call, each_growth};
+use crate::sweep::hunt::{Hunt, MOST_TRIES};
 use crate::sweep::weight::is_swept;
 use bumpalo::Bump;
 use bx_case_files::{Ask, CommandsCase, Row};
 use bx_cli::{Fault, Reply};
 use bx_image::MemImage;
-use bx_ration::{squeeze, used};
+use bx_ration::{arena, used};
 use bx_store::MemText;
 use std::alloc::{Allocator, Global};
 
-/// Refuses each growth of each command of a case in turn, and of each log. Tells how many they were.
+/// Refuses each growth of each command of a case in turn. Tells how many they were.
 pub fn play_growths(alloc: Global, case: &CommandsCase) -> Result<u32, Failure> {
     let mut standing = match begun(alloc, &Memory, case) {
         Ok(standing) => standing,
@@ -26,23 +26,17 @@ pub fn play_growths(alloc: Global, case: &CommandsCase) -> Result<u32, Failure> 
     };
     let mut growths = 0u32;
     for (i, row) in case.rows.iter().enumerate() {
-        let swept = is_swept(i, case.rows.len());
-        if swept {
-            let more = row_growths(alloc, standing.held.texts(), row);
-            growths = add(growths, more)?;
+        if is_swept(i, case.rows.len()) {
+            growths = more_growths(alloc, standing.held.texts(), row, growths)?;
         }
         standing = next_row(alloc, standing, row, growths)?;
-        if swept {
-            let more = log_growths(alloc, standing.held.texts(), row);
-            growths = add(growths, more)?;
-        }
     }
     Ok(growths)
 }
 
-/// So many growths, and more.
-fn add(growths: u32, more: Result<u32, Wrong>) -> Result<u32, Failure> {
-    match more {
+/// Refuses each growth of a command in turn. Tells how many they were, with so many before.
+fn more_growths(alloc: Global, texts: Texts<'_>, row: &Row, growths: u32) -> Result<u32, Failure> {
+    match each_growth(alloc, texts, row) {
         Ok(more) => Ok(growths.saturating_add(more)),
         Err(wrong) => Err(at(growths, wrong)),
     }
@@ -62,99 +56,33 @@ fn next_row(
 }
 
 /// Refuses each growth of a command in turn. Tells how many they were.
-fn row_growths(alloc: Global, texts: Texts<'_>, row: &Row) -> Result<u32, Wrong> {
+fn each_growth(alloc: Global, texts: Texts<'_>, row: &Row) -> Result<u32, Wrong> {
     if matches!(&row.ask, Ask::Open) {
         return Ok(0);
     }
-    each_growth(alloc, &Asking { texts, row })
-}
-
-/// A command on what devices hold.
-#[derive(Clone, Copy)]
-struct Asking<'a> {
-    texts: Texts<'a>,
-    row: &'a Row,
-}
-
-impl Call for Asking<'_> {
-    fn squeezed<'a>(
-        &self,
-        alloc: Global,
-        bump: &'a Bump,
-        bytes: usize,
-    ) -> Result<Option<usize>, Wrong> {
-        squeezed(alloc, bump, self.texts, self.row, bytes)
+    let Some(taken) = squeezed_once(alloc, texts, row, 0)? else {
+        return Ok(0);
+    };
+    let mut hunt = Hunt::new(taken);
+    for _ in 0..MOST_TRIES {
+        let bytes = hunt.bytes();
+        let taken = squeezed_once(alloc, texts, row, bytes)?;
+        if !hunt.goes_on(bytes, taken) {
+            return Ok(hunt.growths);
+        }
     }
+    Err(Wrong::NoMemory)
 }
 
-/// The log of what devices hold.
-#[derive(Clone, Copy)]
-struct Listing<'a> {
-    texts: Texts<'a>,
-    log: &'a [u8],
-}
-
-impl Call for Listing<'_> {
-    fn squeezed<'a>(
-        &self,
-        alloc: Global,
-        bump: &'a Bump,
-        bytes: usize,
-    ) -> Result<Option<usize>, Wrong> {
-        let session = opened_in(alloc, bump, self.texts)?;
-        listed(alloc, bump, session, self, bytes)
-    }
-}
-
-/// Lists the changes of a session with so many bytes, and where that is too little again with enough.
-fn listed<'a>(
+/// One command with so many bytes, in an arena of its own.
+fn squeezed_once(
     alloc: Global,
-    bump: &'a Bump,
-    session: MemSession<&'a Bump>,
-    listing: &Listing<'_>,
+    texts: Texts<'_>,
+    row: &Row,
     bytes: usize,
 ) -> Result<Option<usize>, Wrong> {
-    let mut session = session;
-    squeeze(bump, bytes)?;
-    let has_room = lists(alloc, bump, &mut session, listing.log)?;
-    let taken = used(bump, bytes);
-    bump.set_allocation_limit(None);
-    if has_room {
-        return Ok(None);
-    }
-    if !lists(alloc, bump, &mut session, listing.log)? {
-        return Err(Wrong::NoMemory);
-    }
-    unchanged(alloc, listing.texts, &close(session))?;
-    Ok(Some(taken))
-}
-
-/// Whether there was memory for the log, which is this one.
-fn lists<'a>(
-    alloc: Global,
-    bump: &'a Bump,
-    session: &mut MemSession<&'a Bump>,
-    log: &[u8],
-) -> Result<bool, Wrong> {
-    match log_of(bump, session) {
-        Ok(found) => {
-            same_bytes(alloc, "log", log, found.as_slice())?;
-            Ok(true)
-        }
-        Err(Fault::NoMemory) => Ok(false),
-        Err(fault) => Err(unwanted(alloc, "log", fault)),
-    }
-}
-
-/// Refuses each growth of the log that a row tells in turn. Tells how many they were.
-fn log_growths(alloc: Global, texts: Texts<'_>, row: &Row) -> Result<u32, Wrong> {
-    match &row.left.log {
-        Some(log) => {
-            let log = log.as_slice();
-            each_growth(alloc, &Listing { texts, log })
-        }
-        None => Ok(0),
-    }
+    let bump = arena(alloc)?;
+    squeezed(alloc, &bump, texts, row, bytes)
 }
 
 /// A session in an arena that has room.
@@ -225,7 +153,7 @@ fn same_image<A: Allocator>(
     same_bytes(
         alloc,
         "image",
-        row.left.image.as_slice(),
+        row.image.as_slice(),
         devices.image.as_slice(),
     )
 }

@@ -127,9 +127,8 @@ impl Write for Output {
         self.taken.write(&buf[..count])
     }
 
-    // No dump flushes: one that did would lose what it wrote.
+    // No dump flushes.
     fn flush(&mut self) -> io::Result<()> {
-        self.taken.clear();
         Err(io::Error::from(ErrorKind::Other))
     }
 }
