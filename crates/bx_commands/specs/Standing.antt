@@ -1,11 +1,12 @@
 -- Where a session stands, and what one call of it makes of that. Lists of images have the newest first.
-use Rattle.std.specs.Prelude.{◌≡◌, ◌⊎◌, ◌≤◌, ℕ, ◌+◌, true, Result, Ok, Err, List, []}
+use Rattle.std.specs.Prelude.{◌≡◌, ◌⊎◌, ◌≤◌, ℕ, ◌+◌, true, Result, Ok, Err, List, [], length}
 use Rattle.bx_image.specs.declared.change.Change.{Change}
-use Rattle.bx_image.specs.Change.{effect}
+use Rattle.bx_image.specs.declared.change.TheConstants.{MAX_LEN}
+use Rattle.bx_image.specs.Change.{effect, Fits}
 use Rattle.bx_journal.specs.Images.{Images, change_to, redo_of, undo_of}
 use Rattle.bx_journal.specs.SessionView.{SessionView}
 use Rattle.bx_journal.specs.declared.session.fault.SessionFault.{SessionFault}
-use Rattle.bx_journal.specs.declared.session.fault.SessionFault.TheVariants.{DeviceFailed, JournalFull, Interrupted, Broken}
+use Rattle.bx_journal.specs.declared.session.fault.SessionFault.TheVariants.{NoMemory, DeviceFailed, JournalFull, Interrupted, Broken}
 use Rattle.bx_journal.specs.Machine.{PerformStep, RedoStep, UndoStep, top, changes_of}
 use Rattle.bx_journal.specs.Session.{HasUndone, IsReady, SessionFinds}
 use Rattle.bx_journal.specs.Standing.{IsStanding}
@@ -33,12 +34,13 @@ pub record HoldsAt {D T : Type 0} (device_honest : D → Type 0) (text_honest : 
   pub stands : StandsAt image text s standing
 
 -- A change gives up what was undone. A device that fails before the first write refuses it; one that fails later stops the
--- session, and opening finds the images before or after the change.
+-- session, and opening finds the images before or after the change. Only a change that fits meets want of memory, or is stopped.
 abbrev pub PerformUp : {A : Type 0} → Images → Change A → Result ℕ SessionFault → Standing → Type 0
 PerformUp old c (Ok n) after = (new : Images) × (after ≡ Up new) × PerformStep old.stack c (Ok n) new.stack × (new.undone ≡ [])
 PerformUp old c (Err DeviceFailed) after = after ≡ Up old
 PerformUp old c (Err JournalFull) after = (65535 ≤ changes_of old.stack) × (after ≡ Up old)
-PerformUp old c (Err Interrupted) after = (after ≡ Down old) ⊎ (after ≡ Down (change_to (effect c (top old.stack)) old))
+PerformUp old c (Err NoMemory) after = (after ≡ Up old) × Fits c (length (top old.stack)) MAX_LEN
+PerformUp old c (Err Interrupted) after = ((after ≡ Down old) ⊎ (after ≡ Down (change_to (effect c (top old.stack)) old))) × Fits c (length (top old.stack)) MAX_LEN
 PerformUp old c (Err e) after = (after ≡ Up old) × PerformStep old.stack c (Err e) old.stack
 
 -- A change: a stopped session refuses it
