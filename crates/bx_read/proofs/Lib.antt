@@ -18,3 +18,4 @@ pub mod RowsLemmas
 pub mod PairLaws
 pub mod FaultLemmas
 pub mod RunLemmas
+pub mod GoesOnLemmas

@@ -3,4 +3,5 @@ pub mod Full
 pub mod Lanes
 pub mod Next
 pub mod NextLine
+pub mod Rows
 pub mod Steps

@@ -16,7 +16,7 @@ pub struct FullLine {
 pub const ENDED: usize = 68;
 
 /// The line that the text begins with, if it is one of 8 digits of address and 16 bytes.
-#[inline]
+#[inline(always)]
 pub fn full_line(text: &[u8]) -> Option<FullLine>
     requires { 68 ≤ length text.now }
     ensures { IfSome result (λ l. IsFull text.now l.at l.bytes) }

@@ -10,6 +10,7 @@ pub mod laws;
 mod line;
 mod lines;
 mod plain;
+mod rows;
 mod runs;
 
 pub use dump::read_dump;

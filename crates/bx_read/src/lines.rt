@@ -1,11 +1,13 @@
 //! The lines of a dump, one after another.
-ghost use Rattle.std.specs.Prelude.{◌≡◌, ◌+◌, ◌^◌, ◌<◌, ◌≤◌, ◌∷◌, [], ℕ, List, length, MatchOption, MatchResult, IfSome, IfNone, Some, None, Ok, Err};
+ghost use Rattle.std.specs.Prelude.{◌≡◌, ◌+◌, ◌^◌, ◌<◌, ◌≤◌, ◌∷◌, [], ℕ, List, length, MatchOption, MatchResult, IfOk, IfSome, IfNone, Some, None, Ok, Err};
 ghost use Rattle.bx_read.specs.Text.{lines_of, is_skipped, answers};
 
 use crate::fault::ReadFault;
 use crate::full::{ENDED, FullLine, full_line};
 use crate::line::Line;
+use crate::rows::extend_run;
 use memchr::memchr;
+use std::alloc::Allocator;
 
 /// The lines of a text that hold bytes: empty lines and lines `*` are left out, and after a fault there are none.
 #[derive(Drop)]
@@ -16,8 +18,9 @@ pub struct DumpLines<'a> {
 }
 
 impl<'a> DumpLines<'a> {
-    ghost use Rattle.bx_read.specs.Text.{lines_of, answers};
+    ghost use Rattle.bx_read.specs.Text.{lines_of, answers, gathered, piece_then};
     ghost use Rattle.bx_read.specs.Lines.{coming, line_view};
+    ghost use Rattle.bx_read.specs.inner.NextLine.{joined_of};
     ghost use Rattle.bx_read.specs.Line.{read_line};
     ghost use Rattle.bx_read.specs.Digits.{pairs_of};
 
@@ -64,6 +67,24 @@ impl<'a> DumpLines<'a> {
         self.text = &self.text[ENDED..];
         self.passed += 1;
         Some(line)
+    }
+
+    /// Takes the full lines that go on with a run, and adds their bytes.
+    pub(crate) fn take_row<A: Allocator>(
+        &mut self,
+        at: u64,
+        bytes: &mut Vec<u8, A>,
+    ) -> Result<(), ReadFault>
+        ensures run { MatchResult result
+            (λ _. joined_of (piece_then (at, bytes.old.items) (gathered (coming self.old)))
+            ≡ joined_of (piece_then (at, bytes.new.items) (gathered (coming self.new))))
+            (λ e. e ≡ ReadFault.NoMemory) }
+        ensures fewer { IfOk result (λ _. length (coming self.new) ≤ length (coming self.old)) }
+    {
+        let taken = extend_run(at, bytes, self.text)?;
+        self.text = taken.rest;
+        self.passed += taken.count as u64;
+        Ok(())
     }
 
     /// Reads the line that was taken last. A fault is the end.

@@ -141,18 +141,20 @@ fn grow<'a, A: Allocator>(
         (λ e. (e ≡ ReadFault.NoMemory) ⊎ (gathered (coming lines.old) ≡ Err e)) }
     ensures fewer { IfOk result (λ next. lines_left next (coming lines.new) ≤ length (coming lines.old)) }
 {
+    lines.take_row(at, bytes)?;
     while let Some(line) = next_line(lines)? {
         if !goes_on(at, bytes.len(), line.at()) {
             return Ok(Some(line));
         }
         line.push_to(bytes)?;
+        lines.take_row(at, bytes)?;
     }
     Ok(None)
 }
 
 /// Whether what begins at `next` goes on with so many bytes at `at`.
 #[inline]
-fn goes_on(at: u64, count: usize, next: u64) -> bool
+pub fn goes_on(at: u64, count: usize, next: u64) -> bool
     ensures { result ≡ (next == at + count) }
 {
     next >= at && next - at == count as u64

@@ -25,6 +25,6 @@ loop-line-preserved g c =
     let next = subst (IsNextLine old new) c.in-Some.is c.in_ok-line.ensures in
     let goes = test_is c.goes_on.result true c.at.result c.args.at c.len.result (piece_of line).0 (length run) c.goes_on.ensures c.if-not-goes_on.false c.at.ensures size in
     record {
-      run = c.loop-line.invariant.run ∙ grow_step c.args.at run c.push_to.new.bytes.items old new line next goes c.in_ok-push_to.ensures;
-      fewer = let few = next_left old new (Some line) next in omega (arith, few, c.loop-line.invariant.fewer);
+      run = c.loop-line.invariant.run ∙ grow_step c.args.at run c.push_to.new.bytes.items old new line next goes c.in_ok-push_to.ensures ∙ c.in_ok-take_row-2.ensures.run;
+      fewer = let few = next_left old new (Some line) next in let behind = c.in_ok-take_row-2.ensures.fewer in omega (arith, few, behind, c.loop-line.invariant.fewer);
     }
