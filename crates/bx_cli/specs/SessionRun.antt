@@ -4,21 +4,27 @@ use Rattle.bx_dd.specs.declared.fault.DdFault.{DdFault}
 use Rattle.bx_journal.specs.SessionView.{SessionView}
 use Rattle.bx_cli.specs.declared.changes.DdChange.{DdChange}
 use Rattle.bx_cli.specs.declared.command.Command.{Command}
-use Rattle.bx_cli.specs.declared.command.Command.TheVariants.{Dd}
+use Rattle.bx_cli.specs.declared.command.Command.TheVariants.{Dd, Revert, RevertPlain}
 use Rattle.bx_cli.specs.declared.command.Reply.{Reply}
 use Rattle.bx_cli.specs.Copy.{Makes}
 use Rattle.bx_cli.specs.Obeys.{Obeys}
 use Rattle.bx_cli.specs.Run.{CommandStep, DdStep}
 
--- One command on a session, and what is then left of the command: of dd the input that its operands left, of another all.
--- Session and reply are as the command's step says.
+-- a command without the text that it reads, which is dropped before its change is made; of others all
+abbrev pub without_text : {R A : Type 0} → Command R A → Command R A
+without_text (Revert text offset) = Revert [] offset
+without_text (RevertPlain text at) = RevertPlain [] at
+without_text c = c
+
+-- One command on a session, and what is then left of the command: of dd the input that its operands left, of one that
+-- reads a text all but that text, of another all. Session and reply are as the command's step says.
 abbrev pub SessionStep : {D T R A : Type 0} → (D → Type 0) → (T → Type 0) → (D → List ℕ) → (T → List ℕ) → (D → ℕ) → (T → ℕ) → (R → Option (List ℕ))
     → SessionView D T → Command R A → Command R A → Reply → SessionView D T → Type 0
 SessionStep {A = A} device_honest text_honest image text device_failures text_failures remaining old (Dd operands input) (Dd words left) reply new =
     (words ≡ operands) × ((r : Result (DdChange A) DdFault) × Makes operands (remaining input) (remaining left) r
     × Obeys device_honest text_honest image text device_failures text_failures old new reply (λ before. DdStep before r))
 SessionStep device_honest text_honest image text device_failures text_failures remaining old c left reply new =
-    (left ≡ c) × Obeys device_honest text_honest image text device_failures text_failures old new reply (λ before. CommandStep remaining before c)
+    (left ≡ without_text c) × Obeys device_honest text_honest image text device_failures text_failures old new reply (λ before. CommandStep remaining before c)
 
 -- A list of commands on a session, and what is then left of them: a chain of sessions, with one step for each reply, in
 -- order; it goes on after a refusal

@@ -1,5 +1,5 @@
 //! Lists of commands, run in order on a session.
-ghost use Rattle.std.specs.Prelude.{◌≡◌, ◌↔◌, ◌⊎◌, ◌+◌, ◌^◌, ◌≤◌, ◌<◌, List, ℕ, length, None, Some, IfOk, OnErr, All, count_by};
+ghost use Rattle.std.specs.Prelude.{◌≡◌, ◌↔◌, ◌⊎◌, ◌+◌, ◌^◌, ◌≤◌, ◌<◌, List, ℕ, [], length, None, Some, IfOk, OnErr, All, count_by};
 ghost use Rattle.bx_journal.specs.Images.{Images};
 ghost use Rattle.bx_journal.specs.Session.{HasUndone, IsReady, IsRedoSame, IsSame, IsUnfailed};
 ghost use Rattle.bx_cli.specs.Obeys.{Obeys};
@@ -17,6 +17,7 @@ use bx_journal::Session;
 use bx_read::ReadFault;
 use bx_store::TextStore;
 use bx_text::Bytes;
+use core::mem::replace_with;
 use std::alloc::Allocator;
 use std::io::Read;
 
@@ -111,37 +112,58 @@ fn run_dd<D: Device, T: TextStore, A: Allocator + Clone>(
     }
 }
 
-/// Puts a dump onto the image. The whole text is read first.
+/// Puts a dump onto the image. The whole text is read first, and dropped before the change is made.
 fn run_dump<D: Device, T: TextStore, A: Allocator + Clone>(
     alloc: &A,
     session: &mut Session<D, T, A>,
-    text: &Bytes<A>,
+    text: &mut Bytes<A>,
     offset: u64,
 ) -> Reply
     requires device_countable { D.failures session.old.device < u64.MAX }
     requires store_countable { T.failures session.old.store < u64.MAX }
     requires redo_countable { T.failures session.old.redo_text < u64.MAX }
     requires near { offset ≤ 2 ^ 62 }
-    ensures obeys { Obeys D.honest T.honest D.image T.text D.failures T.failures session.old session.new result (λ s. DumpStep A s text.now offset) }
+    ensures obeys { Obeys D.honest T.honest D.image T.text D.failures T.failures session.old session.new result (λ s. DumpStep A s text.old offset) }
+    ensures left { text.new ≡ [] }
 {
     let change = change_of_dump(alloc, text.as_slice(), offset);
+    drop_text(text);
     run_read(session, change)
 }
 
-/// Puts plain hexadecimal onto the image. The whole text is read first.
+/// Puts plain hexadecimal onto the image. The whole text is read first, and dropped before the change is made.
 fn run_plain<D: Device, T: TextStore, A: Allocator + Clone>(
     alloc: &A,
     session: &mut Session<D, T, A>,
-    text: &Bytes<A>,
+    text: &mut Bytes<A>,
     at: u64,
 ) -> Reply
     requires device_countable { D.failures session.old.device < u64.MAX }
     requires store_countable { T.failures session.old.store < u64.MAX }
     requires redo_countable { T.failures session.old.redo_text < u64.MAX }
-    ensures obeys { Obeys D.honest T.honest D.image T.text D.failures T.failures session.old session.new result (λ s. PlainStep A s text.now at) }
+    ensures obeys { Obeys D.honest T.honest D.image T.text D.failures T.failures session.old session.new result (λ s. PlainStep A s text.old at) }
+    ensures left { text.new ≡ [] }
 {
     let change = change_of_plain(alloc, text.as_slice(), at);
+    drop_text(text);
     run_read(session, change)
+}
+
+/// Gives the memory of a text back that was read, which leaves an empty one.
+fn drop_text<A: Allocator>(text: &mut Bytes<A>)
+    ensures { text.new ≡ [] }
+{
+    replace_with(text, (), emptied);
+}
+
+/// The bytes without any, and without their memory.
+fn emptied<A: Allocator>(bytes: Bytes<A>, _: ()) -> (Bytes<A>, ())
+    ensures { result.0 ≡ [] }
+{
+    let mut items = bytes.into_vec();
+    items.clear();
+    items.shrink_to_fit();
+    (Bytes::from_vec(items), ())
 }
 
 /// Runs one command: a fault of its own comes before the session's.
@@ -169,7 +191,7 @@ fn run_one<D: Device, T: TextStore, R: Read, A: Allocator + Clone>(
 }
 
 /// Runs the commands in order, and goes on after a refusal. Room for all replies is made first: where it is refused, no
-/// command ran.
+/// command ran. The text of a revert is dropped once it is read, so its memory is free before the change is made.
 pub fn run_all<D: Device, T: TextStore, R: Read, A: Allocator + Clone>(
     alloc: A,
     session: &mut Session<D, T, A>,
@@ -200,7 +222,8 @@ pub fn run_all<D: Device, T: TextStore, R: Read, A: Allocator + Clone>(
 
     // Each reply, in any list: a command that is refused for a fault of its own leaves the session as it was, and one that
     // is refused, but by no interruption, leaves image, journal and redo text, byte for byte. What another makes of the
-    // session is its step. Of dd's input as much is read as its operands read, and nothing where they have a fault.
+    // session is its step. Of dd's input as much is read as its operands read, and nothing where they have a fault. The text of
+    // a revert is left empty, whatever became of it.
     ensures each { IfOk result (λ replies. SessionRun (SessionStep D.honest T.honest D.image T.text D.failures T.failures R.remaining)
         session.old list.old list.new replies.items session.new) }
 

@@ -10,4 +10,5 @@ returns g c =
           (λ before after. dump_step c.args.text.now c.args.offset change.result before after c.run_read.result
           (rw c.as_slice.ensures at change.ensures))
           c.run_read.ensures.obeys;
+      left = c.drop_text.ensures;
     }

@@ -12,4 +12,5 @@ returns g c =
           (λ before after. read_step (plain_change c.args.at) (plain_answer c.args.text.now) change.result before after c.run_read.result
           (rw c.as_slice.ensures at change.ensures))
           c.run_read.ensures.obeys;
+      left = c.drop_text.ensures;
     }
