@@ -222,8 +222,8 @@ pub fn run_all<D: Device, T: TextStore, R: Read, A: Allocator + Clone>(
 
     // Each reply, in any list: a command that is refused for a fault of its own leaves the session as it was, and one that
     // is refused, but by no interruption, leaves image, journal and redo text, byte for byte. What another makes of the
-    // session is its step. Of dd's input as much is read as its operands read, and nothing where they have a fault. The text of
-    // a revert is left empty, whatever became of it.
+    // session is its step. Of dd's input as much is read as its operands read, and nothing where they have a fault. The text
+    // of a revert is left empty, whatever became of it.
     ensures each { IfOk result (λ replies. SessionRun (SessionStep D.honest T.honest D.image T.text D.failures T.failures R.remaining)
         session.old list.old list.new replies.items session.new) }
 
