@@ -12,7 +12,7 @@ import pathlib
 import re
 import sys
 
-CRATES = ["bx_text", "bx_read", "bx_image", "bx_store", "bx_dump", "bx_dd", "bx_entries", "bx_journal", "bx_cli"]
+CRATES = ["bx_text", "bx_read", "bx_image", "bx_store", "bx_dump", "bx_dd", "bx_entries", "bx_journal", "bx_commands", "bx_cli"]
 # whose calls no other crate exports: their definitions count where a public contract above names them
 INNER = ["bx_entries"]
 # the page's part of what laws alone name

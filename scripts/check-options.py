@@ -191,7 +191,7 @@ def main():
                 report.same(f"operands in {name}", operands, set(re.findall(r"\b(\w+)=(?=[ ':\\])", text)) & set(OPERANDS))
             for name, text in (("bx.bash", bash), ("_bx", zsh), ("bx.fish", fish)):
                 report.same(f"words of conv in {name}", words, {w for w in WORDS if re.search(rf"\b{w}\b", text)})
-    faults = fault_texts(read("crates/bx_cli/src/fault.rt"))
+    faults = fault_texts(read("crates/bx_commands/src/fault.rt"))
     table = {int(n): text for n, text in re.findall(r"^\| (\d+) \| `(.*?)` \|$", read("docs/FORMATS.md"), re.M)}
     report.same("faults in docs/FORMATS.md", faults, table)
     names = set(re.findall(r"[A-Za-z_]+", sources()))

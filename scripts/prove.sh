@@ -2,7 +2,7 @@
 # Proves what the program stands on, one crate after another, with a line for each. What is proved already takes seconds.
 set -euo pipefail
 cd "$(dirname "$0")/../crates"
-crates=(bx_text bx_read bx_image bx_dump bx_store bx_dd bx_entries bx_journal bx_cli bx_program)
+crates=(bx_text bx_read bx_image bx_dump bx_store bx_dd bx_entries bx_journal bx_commands bx_cli bx_program)
 log=$(mktemp); trap 'rm -f "$log"' EXIT
 left=${#crates[@]}
 for crate in "${crates[@]}"; do

@@ -1,14 +1,2 @@
-pub mod Moves
-pub mod Steps
-pub mod Stays
-pub mod Runs
-pub mod Unfailed
-pub mod GivesBack
-pub mod Stands
-pub mod Joined
-pub mod Refusals
-pub mod Obeys
-pub mod SessionRuns
-pub mod Copying
 pub mod XxdRows
 pub mod XxdReverts

@@ -10,7 +10,7 @@ use Rattle.bx_image.specs.Image.{place}
 use Rattle.bx_image.specs.Change.{effect, placed}
 use Rattle.bx_image.proofs.Edits.{place_none}
 use Rattle.bx_image.proofs.Files.{place_on}
-use Rattle.bx_cli.specs.Command.{dump_change}
+use Rattle.bx_commands.specs.Command.{dump_change}
 use Rattle.bx_cli.specs.XxdLaws.{chunks, dumped_chunks, NormalTextReverts}
 use Rattle.bx_cli.proofs.XxdRows.{text_reads}
 

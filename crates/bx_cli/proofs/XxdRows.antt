@@ -1,10 +1,11 @@
 -- xxd's text, as the grammar of dumps reads it.
-use Rattle.std.proofs.Common.{◌≡◌, ℕ, zero, suc, ◌+◌, ◌-◌, ◌*◌, ◌/◌, ◌^◌, ◌<◌, ◌≤◌, Bool, Some, None, Option, List, length, take, drop, get_or, sym, ap, subst, ◌∙◌, arith}
+use Rattle.std.proofs.Common.{◌≡◌, ℕ, zero, suc, ◌+◌, ◌-◌, ◌*◌, ◌/◌, ◌^◌, ◌<◌, ◌≤◌, Bool, true, false, cond, eqb, Some, None, Option, List, length, take, drop, get_or, sym, ap, subst, ◌∙◌, arith}
 use Rattle.std.specs.List.{All, range_with_len}
 use Rattle.std.proofs.lemmas.List.{length-map, length-take, length-drop, get_or-map}
 use Rattle.std.proofs.lemmas.List.Elements.{All-take, All-drop}
 use Rattle.std.proofs.lemmas.List.FromFn.{length-range_with_len, get_or-range_with_len}
-use Rattle.bx_read.specs.Text.{lines_of, GivesPieces}
+use Rattle.bx_read.specs.Text.{lines_of}
+use Rattle.bx_read.specs.Grammar.{GivesPieces}
 use Rattle.bx_read.specs.Laws.{wide_line_text}
 use Rattle.bx_read.proofs.DumpLemmas.{only, one_list}
 use Rattle.bx_read.proofs.RowsLemmas.{IsRow, rows_give}
@@ -13,8 +14,7 @@ use Rattle.bx_dump.specs.Lines.{in_lines}
 use Rattle.bx_dump.specs.Pages.{part_of}
 use Rattle.bx_dump.specs.Styles.{group_of}
 use Rattle.bx_dump.specs.Laws.{xxd_text}
-use Rattle.bx_dump.specs.Xxd.{columns_line}
-use Rattle.bx_dump.specs.declared.xxd.columns.Digits.TheVariants.{Hexadecimal}
+use Rattle.bx_text.specs.Dump.{dump_line}
 use Rattle.bx_dump.specs.declared.xxd.options.XxdOptions.{XxdOptions}
 use Rattle.bx_dump.specs.declared.xxd.options.XxdStyle.TheVariants.{Normal}
 use Rattle.bx_dump.proofs.LinesLemmas.{line_begin}
@@ -22,7 +22,7 @@ use Rattle.bx_cli.specs.XxdLaws.{chunks, dumped_chunks, IsNormalDump, NormalText
 
 -- a line is a row of the grammar
 row_of : (upper : Bool) (cols group at : ℕ) (bytes : List ℕ) → 0 < group → 0 < length bytes → length bytes ≤ cols → cols ≤ 256 → All (λ b. b < 256) bytes → at < 2 ^ 62 →
-    IsRow (columns_line (Hexadecimal upper) cols group at bytes) at bytes
+    IsRow (dump_line upper cols group at bytes) at bytes
 row_of upper cols group at bytes pos some fits few are small =
     let back = reads_back upper cols group at bytes pos some fits few are small in
     record { line = wide_line_text upper cols group at bytes; hex = back.1.0; spelled = back.0; is = back.1.1; whole = back.3 }
@@ -40,9 +40,9 @@ near_at cols at bytes near k below =
 
 -- the lines of bytes
 pub lines_give : (upper : Bool) (cols group at : ℕ) (bytes : List ℕ) → 0 < group → 0 < cols → cols ≤ 256 → All (λ b. b < 256) bytes → All (λ chunk. chunk.0 < 2 ^ 62) (chunks cols at bytes) →
-    GivesPieces (lines_of (in_lines (columns_line (Hexadecimal upper) cols group) cols at bytes)) (chunks cols at bytes)
+    GivesPieces (lines_of (in_lines (dump_line upper cols group) cols at bytes)) (chunks cols at bytes)
 lines_give upper cols group at bytes pos some few are near =
-    rows_give (λ k. columns_line (Hexadecimal upper) cols group (at + cols * k) (take cols (drop (cols * k) bytes)))
+    rows_give (λ k. dump_line upper cols group (at + cols * k) (take cols (drop (cols * k) bytes)))
     (λ k. (at + cols * k, take cols (drop (cols * k) bytes))) 0 ((length bytes + cols - 1) / cols)
     (λ k above below.
     let inside : k < (length bytes + cols - 1) / cols = omega arith in
@@ -54,7 +54,11 @@ lines_give upper cols group at bytes pos some few are near =
 
 some_group : (cols group : ℕ) → 0 < cols → 0 < group_of cols group
 some_group cols zero some = some
-some_group cols (suc g) some = omega arith
+some_group cols (suc g) some = either (eqb (suc g) 0)
+  where
+    either : (b : Bool) → 0 < cond b cols (suc g)
+    either true = some
+    either false = omega arith
 
 part_are_bytes : (skip : ℕ) (limit : Option ℕ) (input : List ℕ) → All (λ b. b < 256) input → All (λ b. b < 256) (part_of skip limit input)
 part_are_bytes skip None input are = All-drop (λ b. b < 256) skip input are

@@ -1,7 +1,7 @@
 -- The texts of the hints behind faults.
 use Rattle.std.specs.Prelude.{ℕ, List, [], length, ◌++◌, ◌==◌, codes, if◌then◌else◌}
-use Rattle.bx_cli.specs.declared.fault.Fault.{Fault}
-use Rattle.bx_cli.specs.declared.fault.Fault.TheVariants.{InputTooLong, SkipPastEnd, BadAddress, MissingColon, BadPair, NoData, AddressTooLarge, OddDigits, ZeroSize, Conflict, MissingCbs, SeekWithoutOutput, TooLarge, DeviceFailed, Damaged, TooFew, JournalFull, Interrupted, LengthDiffers, NothingToRedo, RedoDamaged}
+use Rattle.bx_commands.specs.declared.fault.Fault.{Fault}
+use Rattle.bx_commands.specs.declared.fault.Fault.TheVariants.{InputTooLong, SkipPastEnd, BadAddress, MissingColon, BadPair, NoData, AddressTooLarge, OddDigits, ZeroSize, Conflict, MissingCbs, SeekWithoutOutput, TooLarge, DeviceFailed, Damaged, TooFew, JournalFull, Interrupted, LengthDiffers, NothingToRedo, RedoDamaged}
 use Rattle.bx_cli.specs.declared.hint.Known.{Known}
 
 -- two parts with a text between them, where neither is empty

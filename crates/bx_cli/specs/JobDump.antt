@@ -10,9 +10,9 @@ use Rattle.bx_dump.specs.Pages.{WritesAll, WritesFrontOf}
 use Rattle.bx_dump.specs.Strings.{strings_of}
 use Rattle.bx_dump.specs.Styles.{xxd_of}
 use Rattle.bx_cli.specs.Dump.{IsStyleOf}
-use Rattle.bx_cli.specs.Fault.{of_io}
-use Rattle.bx_cli.specs.declared.fault.Fault.{Fault}
-use Rattle.bx_cli.specs.declared.fault.Fault.TheVariants.{SeekWithoutOutput, Usage}
+use Rattle.bx_commands.specs.Fault.{of_io}
+use Rattle.bx_commands.specs.declared.fault.Fault.{Fault}
+use Rattle.bx_commands.specs.declared.fault.Fault.TheVariants.{SeekWithoutOutput, Usage}
 use Rattle.bx_cli.specs.declared.dump.Done.{Done}
 use Rattle.bx_cli.specs.declared.dump.Done.TheVariants.{Dumped, Copied}
 use Rattle.bx_cli.specs.declared.job.Job.{Job}
@@ -31,16 +31,11 @@ DumpsJob job r0 r1 w0 w1 done = ⊥
 abbrev pub Stops : (IoFault → Type 0) → Fault → Type 0
 Stops Leaves e = (f : IoFault) × (e ≡ of_io f) × Leaves f
 
--- a job that is no dump reads and writes nothing
-abbrev pub IsNoDump : Option (List ℕ) → Option (List ℕ) → Option (List ℕ) → Option (List ℕ) → Fault → Type 0
-IsNoDump r0 r1 w0 w1 e = (e ≡ Usage) × (r1 ≡ r0) × (w1 ≡ w0)
-
 -- Where `of=` names an image, dd is no dump. Else it stopped since the plan seeks, and nothing was read or written; or a front
 -- was written of what it makes of the input that was read, and no more was read than skip and count ask for.
 abbrev pub StopsDd : {A B : Type 0} → Option B → Plan A → Option (List ℕ) → Option (List ℕ) → Option (List ℕ) → Option (List ℕ) → Fault → Type 0
-StopsDd None plan r0 r1 w0 w1 e =
-    ((0 < plan.seek) × (e ≡ SeekWithoutOutput) × (r1 ≡ r0) × (w1 ≡ w0)) ⊎ ((plan.seek ≡ 0) × Stops (StopsCopy plan r0 r1 w0 w1) e)
-StopsDd (Some image) plan r0 r1 w0 w1 e = IsNoDump r0 r1 w0 w1 e
+StopsDd None plan r0 r1 w0 w1 e = ((0 < plan.seek) × (e ≡ SeekWithoutOutput) × (r1 ≡ r0) × (w1 ≡ w0)) ⊎ ((plan.seek ≡ 0) × Stops (StopsCopy plan r0 r1 w0 w1) e)
+StopsDd (Some image) plan r0 r1 w0 w1 e = (e ≡ Usage) × (r1 ≡ r0) × (w1 ≡ w0)
 
 -- what a fault leaves: a front of the text of what was read was written
 abbrev pub StopsJob : Job → Option (List ℕ) → Option (List ℕ) → Option (List ℕ) → Option (List ℕ) → Fault → Type 0
@@ -49,4 +44,4 @@ StopsJob (Hexdump job) r0 r1 w0 w1 e = Stops (WritesFrontOf (hexdump_of job.opti
 StopsJob (Od job) r0 r1 w0 w1 e = Stops (StopsOd job.options r0 r1 w0 w1) e
 StopsJob (Strings job) r0 r1 w0 w1 e = Stops (WritesFrontOf (strings_of job.options) r0 r1 w0 w1) e
 StopsJob (Dd job) r0 r1 w0 w1 e = StopsDd job.plan.output job.plan r0 r1 w0 w1 e
-StopsJob job r0 r1 w0 w1 e = IsNoDump r0 r1 w0 w1 e
+StopsJob job r0 r1 w0 w1 e = (e ≡ Usage) × (r1 ≡ r0) × (w1 ≡ w0)

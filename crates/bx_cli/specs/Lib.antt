@@ -1,15 +1,6 @@
-pub mod Command
-pub mod Copy
-pub mod Fault
+pub use Rattle.bx_commands.specs.Command
 pub mod Hint
 pub mod Job
-pub mod Standing
-pub mod Run
-pub mod Obeys
-pub mod SessionRun
-pub mod Refusal
-pub mod Laws
-pub mod Listing
 pub mod Dump
 pub mod JobDump
 pub mod XxdLaws

@@ -1,14 +1,15 @@
 -- Laws of the text of xxd: what the grammar of dumps reads in it, and what a revert of it makes of an image.
 use Rattle.std.specs.Prelude.{◌≡◌, ◌↔◌, ◌<◌, ◌+◌, ◌-◌, ◌*◌, ◌/◌, ◌^◌, ℕ, List, length, map, take, drop, All, Ok}
 use Rattle.std.specs.List.{range_with_len}
-use Rattle.bx_read.specs.Text.{dump_pieces, lines_of, GivesPieces}
+use Rattle.bx_read.specs.Text.{dump_pieces, lines_of}
+use Rattle.bx_read.specs.Grammar.{GivesPieces}
 use Rattle.bx_dump.specs.Pages.{part_of}
 use Rattle.bx_dump.specs.Laws.{xxd_text}
 use Rattle.bx_dump.specs.declared.xxd.options.XxdOptions.{XxdOptions}
 use Rattle.bx_dump.specs.declared.xxd.options.XxdStyle.TheVariants.{Normal}
 use Rattle.bx_image.specs.Image.{place}
 use Rattle.bx_image.specs.Change.{effect}
-use Rattle.bx_cli.specs.Command.{dump_change}
+use Rattle.bx_commands.specs.Command.{dump_change}
 
 -- The bytes in chunks of `cols`, the last of them perhaps of fewer, each with its address; the first has address `at`.
 abbrev pub chunks : ℕ → ℕ → List ℕ → List (ℕ × List ℕ)

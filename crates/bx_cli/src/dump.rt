@@ -6,7 +6,8 @@ ghost use Rattle.bx_cli.specs.inner.JobDump.{DumpsLook, StopsLook};
 ghost use Rattle.bx_cli.specs.Dump.{IsStyleOf};
 ghost use Rattle.bx_dump.specs.Styles.{IsCountable};
 
-use crate::{Fault, Job, XxdJob, XxdLook};
+use crate::{Job, XxdJob, XxdLook};
+use bx_commands::Fault;
 use bx_dd::{Counts, Plan, copy_out};
 use bx_dump::hexdump::hexdump_c;
 use bx_dump::od::od;

@@ -2,9 +2,9 @@
 ghost use Rattle.std.specs.Prelude.{◌≡◌, [], OnOk, IfSome, string_bytes};
 ghost use Rattle.bx_cli.specs.Hint.{advice_of, hint_of, joined};
 
-use crate::fault::Fault;
 use crate::options::program;
 use crate::plan::{MOST_LEAST, MOST_STEPS, columns, count_or, kind, number, radix, words_of};
+use bx_commands::Fault;
 use bx_dump::od::Address;
 use bx_text::{SizeStyle, Words};
 use clap::ArgMatches;

@@ -1,9 +1,9 @@
 //! From words to a job.
 ghost use Rattle.std.specs.Prelude.{◌≤◌, ◌^◌, IfOk, IfSome};
 
-use crate::fault::Fault;
 use crate::job::{DdJob, HexdumpJob, Job, OdJob, RevertJob, StringsJob, Texts, XxdJob, XxdLook};
 use crate::options::program;
+use bx_commands::Fault;
 use bx_dd::parse;
 use bx_dump::hexdump::HexdumpOptions;
 use bx_dump::od::{Address, Kind, NumForm, OdOptions, Size};

@@ -6,7 +6,8 @@ use Rattle.std.proofs.lemmas.List.{length-append, take-append-le, take_all, leng
 use Rattle.std.proofs.Common.{drop_of_length-le}
 use Rattle.std.specs.Io.KnownBytes.{Appends, Consumes, IsAtEnd}
 use Rattle.bx_text.proofs.KnownLemmas.{Appends-nil, Consumes-trans}
-use Rattle.bx_text.specs.Stream.{IsReadCause, StopsIn}
+use Rattle.bx_text.specs.Stream.{IsReadCause}
+use Rattle.bx_text.specs.inner.Stream.{StopsAfter}
 use Rattle.bx_text.specs.Writing.{WritesFront}
 use Rattle.bx_text.specs.declared.fault.IoFault.{IoFault}
 use Rattle.bx_text.specs.declared.fault.IoFault.TheVariants.{NoMemory, ReadFailed, WriteFailed, InputTooLong, SkipPastEnd}
@@ -14,9 +15,10 @@ use Rattle.bx_dd.specs.declared.stream.counts.Counts.{Counts}
 use Rattle.bx_dd.specs.declared.operands.plan.Plan.{Plan}
 use Rattle.bx_dd.specs.Counting.{counts_of}
 use Rattle.bx_dd.specs.Plan.{form_of}
-use Rattle.bx_dd.specs.Transfer.{IsReadOut, IsWithin, output_of, selected_by}
+use Rattle.bx_dd.specs.Transfer.{output_of, selected_by}
+use Rattle.bx_dd.specs.inner.Transfer.{IsReadOut, IsWithin, selected}
 use Rattle.bx_dd.specs.declared.convert.form.Form.{Form}
-use Rattle.bx_dd.specs.Output.{converted, cut_records, joined, selected, shaped}
+use Rattle.bx_dd.specs.Output.{converted, cut_records, joined, shaped}
 use Rattle.bx_dd.specs.inner.Standing.{HasSizes}
 use Rattle.bx_dd.specs.Streaming.{IsCopy, IsCopyFault, StopsCopy}
 use Rattle.bx_dd.specs.inner.Streaming.{CopiesRest, Flows, Goes, Stage, StopsFlow, StopsPass, StopsSkip, StopsStage, most_of, unit_of}
@@ -136,7 +138,7 @@ read_within SkipPastEnd wanted room n p = absurd p
 
 -- a read failed
 pub read_stops : (form : Form) (r0 r1 r2 s n : Option (List ℕ)) (input pending waits kept : List ℕ) (k count most before wanted room : ℕ) (was_cut : Bool) (e : IoFault) → HasSizes form →
-    Stage form s n input pending waits k kept was_cut count → Consumes r0 r1 input → StopsIn r1 r2 wanted room e → length input + wanted ≤ most → before + length input + room ≡ 2 ^ 40 →
+    Stage form s n input pending waits k kept was_cut count → Consumes r0 r1 input → StopsAfter r1 r2 wanted room e → length input + wanted ≤ most → before + length input + room ≡ 2 ^ 40 →
     StopsPass form most before r0 r2 s n e
 read_stops form r0 r1 r2 s n input pending waits kept k count most before wanted room was_cut e sizes stage reads stop few all =
     let front = stage_front stage stop.0 sizes in
@@ -181,7 +183,7 @@ skip_cause (WriteFailed m) less wanted taken n le most p = absurd p
 skip_cause SkipPastEnd less wanted taken n le most p = absurd p
 
 pub skip_after : (r0 r1 r2 : Option (List ℕ)) (input : List ℕ) (less wanted taken : ℕ) (fault : IoFault) → length input ≡ taken → taken ≤ 2 ^ 40 → taken + less ≤ wanted →
-    Consumes r0 r1 input → StopsIn r1 r2 less (2 ^ 40 - taken) fault → StopsSkip wanted r0 r2 fault
+    Consumes r0 r1 input → StopsAfter r1 r2 less (2 ^ 40 - taken) fault → StopsSkip wanted r0 r2 fault
 skip_after r0 r1 r2 input less wanted taken fault len few most reads stop =
     let all : length (input ++ stop.0) ≡ taken + length stop.0 = omega (arith, length-append input stop.0) in record {
       input = input ++ stop.0;

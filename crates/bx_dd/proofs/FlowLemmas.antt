@@ -11,9 +11,10 @@ use Rattle.bx_text.specs.Writing.{WritesFront}
 use Rattle.bx_text.proofs.PiecesLemmas.{in_pieces-append}
 use Rattle.bx_dd.specs.declared.convert.form.Shape.{Shape}
 use Rattle.bx_dd.specs.declared.convert.form.Shape.TheVariants.{Flat, Block, Unblock}
-use Rattle.bx_dd.specs.Output.{fitted, line_of, records, shaped, unfinished}
-use Rattle.bx_dd.specs.Standing.{Stands, finished, rest_of}
-use Rattle.bx_dd.specs.inner.Standing.{last_of}
+use Rattle.bx_dd.specs.Output.{records, shaped, unfinished}
+use Rattle.bx_dd.specs.inner.Output.{fitted, line_of}
+use Rattle.bx_dd.specs.Standing.{Stands}
+use Rattle.bx_dd.specs.inner.Standing.{finished, rest_of, last_of}
 use Rattle.bx_dd.specs.inner.Streaming.{Flows, Goes, StopsFlow}
 use Rattle.bx_dd.proofs.RecordsLemmas.{Stands_flat, finished-all, finished-ended, fitted_short, held_piece, parts, piece_taken, records-after}
 use Rattle.bx_dd.proofs.StreamLemmas.{front_more}
@@ -25,7 +26,7 @@ flat_all size z = refl
 -- what is written stays a front of what more bytes give
 pub stands_front : (shape : Shape) (size : ℕ) (z text kept : List ℕ) (was_cut : Bool) (count : ℕ) → (shape ≢ Flat → 0 < size) → Stands shape size z text kept was_cut count →
     (more : List ℕ) → (rest : List ℕ) × (shaped shape size (z ++ more) ≡ text ++ rest)
-unfolding shaped
+unfolding shaped fitted line_of
 stands_front Flat size z text kept was_cut count some stands more =
     (more, ap (λ l. l ++ more) (sym (stands.out ∙ finished-all Flat size z (flat_all size z))))
 stands_front Block size z text kept was_cut count some stands more =

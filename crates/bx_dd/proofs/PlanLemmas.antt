@@ -15,7 +15,8 @@ use Rattle.bx_text.specs.declared.number.size.SizeFault.TheVariants.{Bad, TooLar
 use Rattle.bx_dd.specs.declared.operands.Kind.{Kind}
 use Rattle.bx_dd.specs.declared.operands.Kind.TheVariants.{Size}
 use Rattle.bx_text.specs.declared.number.size.SizeStyle.TheVariants.{Product}
-use Rattle.bx_text.specs.Number.{size_value, within}
+use Rattle.bx_text.specs.Number.{size_value}
+use Rattle.bx_text.specs.inner.Number.{within}
 use Rattle.bx_dd.specs.Number.{number_of}
 use Rattle.bx_dd.specs.Operands.{is_operand, name_of, value_of, kind_of, is_named, is_given, value_fault, kind_fault, operand_fault, first_fault, given, number_given, number_or, converts, later_fault, fault_of}
 use Rattle.bx_dd.specs.inner.Operands.{ibs_of, obs_of, shape_of, is_conflict, is_cbs_missing, size_fault}

@@ -12,10 +12,10 @@ use Rattle.std.proofs.Math.Nat.{mod-le, div-add-mod, mul-add-mod_self_left, mod-
 use Rattle.bx_text.proofs.PiecesLemmas.{in_pieces-none, in_pieces-append, in_pieces-one}
 use Rattle.bx_dd.specs.declared.convert.form.Shape.{Shape}
 use Rattle.bx_dd.specs.declared.convert.form.Shape.TheVariants.{Flat, Block, Unblock}
-use Rattle.bx_dd.specs.Output.{padded, fitted, records, shaped, cut_records, unfinished, line_of}
-use Rattle.bx_dd.specs.inner.Output.{goes_on, is_space}
-use Rattle.bx_dd.specs.Standing.{Stands, finished, rest_of}
-use Rattle.bx_dd.specs.inner.Standing.{last_of}
+use Rattle.bx_dd.specs.Output.{padded, records, shaped, cut_records, unfinished}
+use Rattle.bx_dd.specs.inner.Output.{fitted, line_of, goes_on, is_space}
+use Rattle.bx_dd.specs.Standing.{Stands}
+use Rattle.bx_dd.specs.inner.Standing.{finished, rest_of, last_of}
 
 -- a record that fits
 pub fitted_short : (n : ℕ) (line : List ℕ) → length line ≤ n → fitted n line ≡ line ++ replicate (n - length line) 32
@@ -48,13 +48,11 @@ take-more (suc size) (x ∷ r) t = let e : suc size - length (x ∷ r) ≡ size 
 module _ (shape : Shape) (size : ℕ) (z t : List ℕ) where
   -- bytes that finish nothing
   pub finished-kept : unfinished shape size z ≤ length z → unfinished shape size (z ++ t) ≡ unfinished shape size z + length t → finished shape size (z ++ t) ≡ finished shape size z
-  unfolding finished
   finished-kept fits more =
       let n : length (z ++ t) - unfinished shape size (z ++ t) ≡ length z - unfinished shape size z = omega (arith, length-append z t, more, fits) in
       ap (λ k. take k (z ++ t)) n ∙ take-append-le (length z - unfinished shape size z) z t (omega arith)
 
   pub rest-kept : unfinished shape size z ≤ length z → unfinished shape size (z ++ t) ≡ unfinished shape size z + length t → rest_of shape size (z ++ t) ≡ rest_of shape size z ++ t
-  unfolding rest_of
   rest-kept fits more =
       let n : length (z ++ t) - unfinished shape size (z ++ t) ≡ length z - unfinished shape size z = omega (arith, length-append z t, more, fits) in
       ap (λ k. drop k (z ++ t)) n ∙ drop-append-le (length z - unfinished shape size z) z t (omega arith)
@@ -62,19 +60,15 @@ module _ (shape : Shape) (size : ℕ) (z t : List ℕ) where
 module _ (shape : Shape) (size : ℕ) (z : List ℕ) where
   -- all is finished
   pub finished-all : unfinished shape size z ≡ 0 → finished shape size z ≡ z
-  unfolding finished
   finished-all none = take_all (length z - unfinished shape size z) z (omega (arith, none))
 
   pub rest-none : unfinished shape size z ≡ 0 → rest_of shape size z ≡ []
-  unfolding rest_of
   rest-none none = drop_of_length-le z (omega (arith, none))
 
   pub parts : finished shape size z ++ rest_of shape size z ≡ z
-  unfolding finished rest_of
   parts = take-append-drop (length z - unfinished shape size z) z
 
   pub length-rest : unfinished shape size z ≤ length z → length (rest_of shape size z) ≡ unfinished shape size z
-  unfolding rest_of
   length-rest fits = omega (arith, length-drop (length z - unfinished shape size z) z, fits)
 
 -- a text without newlines
@@ -103,7 +97,7 @@ unfinished-fits size z = suffix_len-le-length goes_on z
 
 -- what a conversion holds back is a text
 pub rest-text : (size : ℕ) (z : List ℕ) → IsText (rest_of Block size z)
-unfolding unfinished rest_of
+unfolding unfinished
 rest-text size z k inside newline =
     let s = prefix_len goes_on (reverse z) in
     let few : s ≤ length z = suffix_len-le-length goes_on z in
@@ -121,7 +115,7 @@ abbrev pub IsEnded : List ℕ → Type 0
 IsEnded d = (d ≡ []) ⊎ ((a : List ℕ) × (d ≡ a ++ 10 ∷ []))
 
 pub finished-ended : (size : ℕ) (z : List ℕ) → IsEnded (finished Block size z)
-unfolding unfinished finished
+unfolding unfinished
 finished-ended size z =
     let s = prefix_len goes_on (reverse z) in
     let few : s ≤ length z = suffix_len-le-length goes_on z in
@@ -221,7 +215,7 @@ module _ (size : ℕ) (z written kept : List ℕ) (was_cut : Bool) (count : ℕ)
 
   -- a newline comes
   pub Stands_newline : (held : List ℕ) → held ≡ [] → Stands Block size (z ++ 10 ∷ []) (written ++ fitted size kept) held false (count + cond was_cut 1 0)
-  unfolding shaped cut_records
+  unfolding shaped cut_records fitted line_of
   Stands_newline held is =
       let none = unfinished-newline size z in
       let done = finished-all Block size (z ++ 10 ∷ []) none in
@@ -241,15 +235,13 @@ module _ (size : ℕ) (z written kept : List ℕ) (was_cut : Bool) (count : ℕ)
 
 -- nothing came
 finished_nil : (shape : Shape) (size : ℕ) → finished shape size [] ≡ []
-unfolding finished
 finished_nil shape size = take_nil (0 - unfinished shape size [])
 
 rest_nil : (shape : Shape) (size : ℕ) → rest_of shape size [] ≡ []
-unfolding rest_of
 rest_nil shape size = drop_of_length-le {A = ℕ} [] (omega arith)
 
 pub shaped_nil : (shape : Shape) (size : ℕ) → (shape ≢ Flat → 0 < size) → shaped shape size [] ≡ []
-unfolding shaped records
+unfolding shaped records fitted line_of
 shaped_nil Flat size some = refl
 shaped_nil Block size some = refl
 shaped_nil Unblock size some = in_pieces-none line_of size (some (λ e. cc))
@@ -277,7 +269,7 @@ unfolded_flat size z = refl
 
 -- bytes as they are
 pub Stands_flat : (size : ℕ) (z written kept bytes : List ℕ) (was_cut : Bool) (count : ℕ) → Stands Flat size z written kept was_cut count → Stands Flat size (z ++ bytes) (written ++ bytes) kept was_cut count
-unfolding shaped cut_records
+unfolding shaped cut_records fitted line_of
 Stands_flat size z written kept bytes was_cut count stands =
     let none : (y : List ℕ) → unfinished Flat size y ≡ 0 = λ y. unfolded_flat size y in
     let same = finished-all Flat size z (none z) in
@@ -298,7 +290,7 @@ line_end held e within spaces none =
 
 -- the sizes of what is held back of pieces
 pub held_piece : (size : ℕ) (z : List ℕ) → 0 < size → length (rest_of Unblock size z) ≡ length z % size
-unfolding unfinished rest_of
+unfolding unfinished
 held_piece size z pos = omega (arith, length-drop (length z - length z % size) z, mod-le (length z) size)
 
 pub mod_more : (a b n : ℕ) → 0 < n → a % n + b < n → (a + b) % n ≡ a % n + b
@@ -340,7 +332,7 @@ module _ (size : ℕ) (z written kept : List ℕ) (was_cut : Bool) (count : ℕ)
 
   -- the bytes that make a piece whole come
   pub Stands_whole : (t held : List ℕ) → length kept + length t ≡ size → held ≡ [] → Stands Unblock size (z ++ t) (written ++ line_of (kept ++ t)) held was_cut count
-  unfolding unfinished cut_records shaped
+  unfolding unfinished cut_records shaped fitted line_of
   Stands_whole t held full is =
       let none : unfinished Unblock size (z ++ t) ≡ 0 = ap (λ n. n % size) (length-append z t) ∙ mod_full (length z) (length t) size pos (omega (arith, kept_len)) in
       let d = finished Unblock size z in
@@ -379,7 +371,7 @@ empty_list (x ∷ xs) e = absurd (omega arith)
 -- the input ends
 pub Stands_last : (shape : Shape) (size : ℕ) (z written kept : List ℕ) (was_cut : Bool) (count : ℕ) → (shape ≢ Flat → 0 < size) → Stands shape size z written kept was_cut count →
     (written ++ last_of shape size kept ≡ shaped shape size z) × (count + cond was_cut 1 0 ≡ cut_records shape size z)
-unfolding shaped cut_records
+unfolding shaped cut_records fitted line_of
 Stands_last Flat size z written kept was_cut count some stands =
     let same = finished-all Flat size z (unfolded_flat size z) in
     let rest = rest-none Flat size z (unfolded_flat size z) in

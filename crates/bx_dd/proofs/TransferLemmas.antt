@@ -8,9 +8,8 @@ use Rattle.bx_text.specs.declared.stream.State.{State}
 use Rattle.bx_text.specs.declared.stream.State.TheVariants.{Open, Ended}
 use Rattle.bx_dd.specs.declared.fault.DdFault.{DdFault}
 use Rattle.bx_dd.specs.declared.fault.DdFault.TheVariants.{NoMemory, ReadFailed, InputTooLong}
-use Rattle.bx_dd.specs.Transfer.{HasStopped, IsReadOut, IsStopCause, IsWithin}
-use Rattle.bx_dd.specs.inner.Transfer.{HasRead, StopsWithin}
-use Rattle.bx_dd.specs.Output.{selected}
+use Rattle.bx_dd.specs.Transfer.{HasStopped, IsStopCause}
+use Rattle.bx_dd.specs.inner.Transfer.{IsReadOut, IsWithin, HasRead, StopsWithin, selected}
 
 cause_more : (e : DdFault) (room n m : ℕ) → n ≤ room → IsStopCause e (room - n) m → IsStopCause e room (n + m)
 cause_more NoMemory room n m few h = omega arith

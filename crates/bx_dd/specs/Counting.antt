@@ -15,13 +15,8 @@ counts_of form input = record {
   cut = cut_records form.shape form.cbs (joined form input);
 }
 
--- how many records were cut, if any were
-abbrev pub cut_text : ℕ → List ℕ
-cut_text n = if n == 0 then [] else if n == 1 then codes "1 truncated record\n" else decimal n ++ codes " truncated records\n"
-
--- dd's report
+-- dd's report; it tells how many records were cut, if any were
 abbrev pub report_text : Counts → List ℕ
-report_text c =
-    decimal c.whole_in ++ codes "+" ++ decimal c.part_in ++ codes " records in\n"
+report_text c = decimal c.whole_in ++ codes "+" ++ decimal c.part_in ++ codes " records in\n"
     ++ decimal c.whole_out ++ codes "+" ++ decimal c.part_out ++ codes " records out\n"
-    ++ cut_text c.cut
+    ++ (if c.cut == 0 then [] else if c.cut == 1 then codes "1 truncated record\n" else decimal c.cut ++ codes " truncated records\n")

@@ -1,11 +1,12 @@
 -- What operands of dd look like, which fault one has, and what they ask for.
-use Rattle.std.specs.Prelude.{◌≡◌, ◌≢◌, ◌↔◌, ◌⊎◌, ℕ, ◌+◌, ◌-◌, ◌^◌, ◌<◌, ◌≤◌, true, List, [], ◌∷◌, ◌++◌, length, codes, All, IsTrue, None, Some}
+use Rattle.std.specs.Prelude.{◌≡◌, ◌≢◌, ◌↔◌, ◌⊎◌, ℕ, ◌+◌, ◌-◌, ◌^◌, ◌<◌, ◌≤◌, ◌==◌, true, List, [], ◌∷◌, ◌++◌, length, codes, All, IsTrue, None, Some}
+use Rattle.std.specs.List.{slice_split}
 use Rattle.bx_text.specs.SizeGrammar.{IsProduct}
 use Rattle.bx_dd.specs.declared.fault.DdFault.{DdFault}
 use Rattle.bx_dd.specs.declared.fault.DdFault.TheVariants.{UnknownOperand, BadNumber, NumberTooLarge, ZeroSize, Repeated}
 use Rattle.bx_dd.specs.declared.operands.Kind.{Kind}
 use Rattle.bx_dd.specs.declared.operands.Kind.TheVariants.{File, Size, Number, Conversions}
-use Rattle.bx_dd.specs.Operands.{kind_of, parts_of, is_conversion, operand_fault, first_fault, given, number_given, converts}
+use Rattle.bx_dd.specs.Operands.{kind_of, is_conversion, operand_fault, first_fault, given, number_given, converts}
 
 -- The word is a name, the first `=` in it, and a value.
 abbrev pub IsOperand : List ℕ → List ℕ → List ℕ → Type 0
@@ -17,7 +18,7 @@ IsAmong name words = (front rest : List (List ℕ)) × (word value : List ℕ) �
 
 -- Each word of the value of `conv` is a conversion.
 abbrev pub AreConversions : List ℕ → Type 0
-AreConversions value = All (λ part. IsTrue (is_conversion part)) (parts_of value)
+AreConversions value = All (λ part. IsTrue (is_conversion part)) (slice_split (λ b. b == 44) value)
 
 -- The value is one of its kind: a name, a size, a number, or conversions.
 abbrev pub IsSoundValue : Kind → List ℕ → Type 0
@@ -77,4 +78,4 @@ WordsAreAskedFor = (words : List (List ℕ)) (name : List ℕ) →
     × (given name words ≡ None ↔ (IsAmong name words → ⊥))
     × ((n : ℕ) → number_given name words ≡ Some n ↔ ((value : List ℕ) × Says words name value × IsProduct value n × (n ≤ 2 ^ 40 - 1)))
     × ((part : List ℕ) → part ≢ [] → converts part words ≡ true
-    ↔ ((value : List ℕ) × (front rest : List (List ℕ)) × Says words (codes "conv") value × (parts_of value ≡ front ++ part ∷ rest)))
+    ↔ ((value : List ℕ) × (front rest : List (List ℕ)) × Says words (codes "conv") value × (slice_split (λ b. b == 44) value ≡ front ++ part ∷ rest)))

@@ -28,21 +28,15 @@ value_of word = after_first (λ b. b == 61) word
 
 -- what the value of an operand of this name is
 abbrev pub kind_of : List ℕ → Option Kind
-kind_of name =
-    if bytes_eq name (codes "if") || bytes_eq name (codes "of") then Some File else
+kind_of name = if bytes_eq name (codes "if") || bytes_eq name (codes "of") then Some File else
     if bytes_eq name (codes "ibs") || bytes_eq name (codes "bs") || bytes_eq name (codes "cbs") then Some (Size 16777216) else
     if bytes_eq name (codes "obs") then Some (Size 1099511627775) else
     if bytes_eq name (codes "skip") || bytes_eq name (codes "seek") || bytes_eq name (codes "count") then Some Number else
     if bytes_eq name (codes "conv") then Some Conversions else None
 
--- the words of `conv`
-abbrev pub parts_of : List ℕ → List (List ℕ)
-parts_of value = slice_split (λ b. b == 44) value
-
 -- the names of conversions
 abbrev pub is_conversion : List ℕ → Bool
-is_conversion part =
-    bytes_eq part (codes "block") || bytes_eq part (codes "unblock") || bytes_eq part (codes "lcase") || bytes_eq part (codes "ucase")
+is_conversion part = bytes_eq part (codes "block") || bytes_eq part (codes "unblock") || bytes_eq part (codes "lcase") || bytes_eq part (codes "ucase")
     || bytes_eq part (codes "swab") || bytes_eq part (codes "sync") || bytes_eq part (codes "notrunc")
 
 -- ---- faults, each with the operand's place from 1
@@ -59,7 +53,7 @@ value_fault at File value = if length value == 0 then Some (UnknownOperand at) e
 value_fault at (Size most) value =
     checked at (λ n. if nat_lt most n then Some (NumberTooLarge at) else if n == 0 then Some (ZeroSize at) else None) (number_of value)
 value_fault at Number value = checked at (λ n. None) (number_of value)
-value_fault at Conversions value = if list_all is_conversion (parts_of value) then None else Some (UnknownOperand at)
+value_fault at Conversions value = if list_all is_conversion (slice_split (λ b. b == 44) value) then None else Some (UnknownOperand at)
 
 -- whether the word is an operand of this name
 abbrev pub is_named : List ℕ → List ℕ → Bool
@@ -76,8 +70,7 @@ kind_fault at (Some kind) before value = if before then Some (Repeated at) else 
 
 -- the fault of a word behind others
 abbrev pub operand_fault : List (List ℕ) → List ℕ → Option DdFault
-operand_fault before word =
-    if is_operand word then kind_fault (length before + 1) (kind_of (name_of word)) (is_given (name_of word) before) (value_of word)
+operand_fault before word = if is_operand word then kind_fault (length before + 1) (kind_of (name_of word)) (is_given (name_of word) before) (value_of word)
     else Some (UnknownOperand (length before + 1))
 
 -- the fault of the first faulty word
@@ -105,7 +98,7 @@ block_size name words = number_or (number_or 512 name words) (codes "bs") words
 
 -- whether `conv` has this word
 abbrev pub converts : List ℕ → List (List ℕ) → Bool
-converts part words = list_any (λ p. bytes_eq p part) (parts_of (unwrap_or (given (codes "conv") words) []))
+converts part words = list_any (λ p. bytes_eq p part) (slice_split (λ b. b == 44) (unwrap_or (given (codes "conv") words) []))
 
 -- ---- faults of operands that each are sound
 

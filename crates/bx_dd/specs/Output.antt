@@ -1,5 +1,5 @@
 -- What dd makes of an input.
-use Rattle.std.specs.Prelude.{ℕ, ◌-◌, ◌*◌, ◌%◌, not, ◌==◌, nat_lt, if◌then◌else◌, List, [], ◌∷◌, ◌++◌, length, take, drop, map, replicate, count_by, Option, None, Some}
+use Rattle.std.specs.Prelude.{ℕ, ◌-◌, ◌%◌, not, ◌==◌, nat_lt, if◌then◌else◌, List, [], ◌∷◌, ◌++◌, length, take, map, replicate, count_by}
 use Rattle.std.specs.Char.{to_ascii_uppercase, to_ascii_lowercase}
 use Rattle.std.specs.List.{flat_map, onto_first, suffix_len}
 use Rattle.bx_text.specs.InPieces.{in_pieces}
@@ -8,11 +8,6 @@ use Rattle.bx_dd.specs.declared.convert.form.Letters.{Letters}
 use Rattle.bx_dd.specs.declared.convert.form.Letters.TheVariants.{Keep, Upper, Lower}
 use Rattle.bx_dd.specs.declared.convert.form.Shape.{Shape}
 use Rattle.bx_dd.specs.declared.convert.form.Shape.TheVariants.{Flat, Block, Unblock}
-
--- what follows `skip` blocks, at most `count` blocks of it
-abbrev pub selected : ℕ → ℕ → Option ℕ → List ℕ → List ℕ
-selected ibs skip None input = drop (skip * ibs) input
-selected ibs skip (Some count) input = take (count * ibs) (drop (skip * ibs) input)
 
 -- the byte that fills up a short block
 abbrev pub filler : Shape → ℕ
@@ -37,8 +32,7 @@ cased Lower b = to_ascii_lowercase b
 
 -- one block: padded, then swapped, then in one case
 unfoldable pub block_of : Form → List ℕ → List ℕ
-block_of form block =
-    let full = if form.sync then padded (filler form.shape) form.ibs block else block in
+block_of form block = let full = if form.sync then padded (filler form.shape) form.ibs block else block in
     map (cased form.letters) (if form.swab then swapped full else full)
 
 -- the blocks, joined
@@ -50,19 +44,11 @@ unfoldable pub records : List ℕ → List (List ℕ)
 records [] = []
 records (b ∷ bytes) = if b == 10 then [] ∷ records bytes else onto_first b (records bytes)
 
--- a record in n bytes
-unfoldable pub fitted : ℕ → List ℕ → List ℕ
-fitted n line = take n (padded 32 n line)
-
--- a line for a record: without the spaces at its end
-unfoldable pub line_of : List ℕ → List ℕ
-line_of piece = take (length piece - suffix_len (λ b. b == 32) piece) piece ++ 10 ∷ []
-
--- records of one size for lines, or lines for records of one size
+-- records of one size for lines, which are filled up or cut; or lines for records of one size, without the spaces at their end
 unfoldable pub shaped : Shape → ℕ → List ℕ → List ℕ
 shaped Flat size bytes = bytes
-shaped Block size bytes = flat_map (fitted size) (records bytes)
-shaped Unblock size bytes = in_pieces line_of size bytes
+shaped Block size bytes = flat_map (λ line. take size (padded 32 size line)) (records bytes)
+shaped Unblock size bytes = in_pieces (λ piece. take (length piece - suffix_len (λ b. b == 32) piece) piece ++ 10 ∷ []) size bytes
 
 -- how many records are too long
 unfoldable pub cut_records : Shape → ℕ → List ℕ → ℕ

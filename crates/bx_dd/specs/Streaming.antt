@@ -1,12 +1,12 @@
 -- What a copy to a writer reads and writes, and where it stands in between.
 -- ---- a whole copy
-use Rattle.std.specs.Prelude.{◌≡◌, ℕ, ◌+◌, ◌^◌, ◌<◌, ◌≤◌, List, length, take, Option}
+use Rattle.std.specs.Prelude.{◌≡◌, ℕ, ◌+◌, ◌*◌, ◌^◌, ◌<◌, ◌≤◌, List, length, take, Option, IfSome}
 use Rattle.std.specs.Io.KnownBytes.{Appends, Consumes}
 use Rattle.bx_text.specs.declared.fault.IoFault.{IoFault}
 use Rattle.bx_text.specs.declared.fault.IoFault.TheVariants.{NoMemory, ReadFailed, WriteFailed, InputTooLong, SkipPastEnd}
 use Rattle.bx_dd.specs.declared.stream.counts.Counts.{Counts}
 use Rattle.bx_dd.specs.declared.operands.plan.Plan.{Plan}
-use Rattle.bx_dd.specs.Transfer.{Copies, IsWithin, output_of}
+use Rattle.bx_dd.specs.Transfer.{Copies, output_of}
 
 -- All that the plan makes of the input that was read was written and counted.
 abbrev pub IsCopy : {A : Type 0} → Plan A → Option (List ℕ) → Option (List ℕ) → Option (List ℕ) → Option (List ℕ) → Counts → Type 0
@@ -26,7 +26,7 @@ pub record StopsCopy {A : Type 0} (plan : Plan A) (r0 r1 w0 w1 : Option (List �
   pub input : List ℕ
   pub written : ℕ
   pub consumed : Consumes r0 r1 input
-  pub within : IsWithin plan.ibs plan.skip plan.count input
+  pub within : IfSome plan.count (λ n. length input ≤ (plan.skip + n) * plan.ibs)
   pub short : written ≤ length (output_of plan input)
   pub appended : Appends w0 w1 (take written (output_of plan input))
   pub cause : IsCopyFault fault (length input) written (length (output_of plan input))

@@ -1,37 +1,29 @@
 -- What a transfer reads, and what it makes of that.
-use Rattle.std.specs.Prelude.{◌≡◌, ℕ, ◌+◌, ◌*◌, ◌^◌, ◌≤◌, List, length, Option, None, Some, IfSome, ◌⊎◌}
+use Rattle.std.specs.Prelude.{◌≡◌, ℕ, ◌+◌, ◌*◌, ◌^◌, ◌≤◌, List, length, take, drop, Option, IfSome, MatchOption, ◌⊎◌}
+use Rattle.std.specs.Option.{option_map_or}
 use Rattle.std.specs.Io.KnownBytes.{Consumes, IsAtEnd}
 use Rattle.bx_dd.specs.declared.stream.counts.Counts.{Counts}
 use Rattle.bx_dd.specs.declared.fault.DdFault.{DdFault}
 use Rattle.bx_dd.specs.declared.fault.DdFault.TheVariants.{NoMemory, ReadFailed, InputTooLong}
 use Rattle.bx_dd.specs.declared.operands.plan.Plan.{Plan}
 use Rattle.bx_dd.specs.Counting.{counts_of}
-use Rattle.bx_dd.specs.Output.{selected, converted}
+use Rattle.bx_dd.specs.Output.{converted}
 use Rattle.bx_dd.specs.Plan.{form_of}
 
--- of an input, what a plan copies
+-- of an input, what a plan copies: what follows `skip` blocks, at most `count` blocks of it
 abbrev pub selected_by : {A : Type 0} → Plan A → List ℕ → List ℕ
-selected_by plan input = selected plan.ibs plan.skip plan.count input
+selected_by plan input = option_map_or (λ n. take (n * plan.ibs) (drop (plan.skip * plan.ibs) input)) plan.count (drop (plan.skip * plan.ibs) input)
 
 -- of an input, what a plan writes
 abbrev pub output_of : {A : Type 0} → Plan A → List ℕ → List ℕ
 output_of plan input = converted (form_of plan) (selected_by plan input)
 
--- the input's end was reached, or that of skip and count
-abbrev pub IsReadOut : Option (List ℕ) → ℕ → ℕ → Option ℕ → List ℕ → Type 0
-IsReadOut new ibs skip None input = IsAtEnd new
-IsReadOut new ibs skip (Some count) input = (length input ≡ (skip + count) * ibs) ⊎ IsAtEnd new
-
--- no more was read than skip and count ask for
-abbrev pub IsWithin : ℕ → ℕ → Option ℕ → List ℕ → Type 0
-IsWithin ibs skip count input = IfSome count (λ n. length input ≤ (skip + n) * ibs)
-
 -- Some input was read, up to its end or that of skip and count, and these bytes and counts are what the plan makes of it.
 pub record Copies {A : Type 0} (plan : Plan A) (old new : Option (List ℕ)) (bytes : List ℕ) (counts : Counts) : Type 0 where
   pub input : List ℕ
   pub consumed : Consumes old new input
-  pub all : IsReadOut new plan.ibs plan.skip plan.count input
-  pub within : IsWithin plan.ibs plan.skip plan.count input
+  pub all : MatchOption plan.count (IsAtEnd new) (λ n. (length input ≡ (plan.skip + n) * plan.ibs) ⊎ IsAtEnd new)
+  pub within : IfSome plan.count (λ n. length input ≤ (plan.skip + n) * plan.ibs)
   pub few : length input ≤ 2 ^ 40
   pub made : bytes ≡ output_of plan input
   pub counted : counts ≡ counts_of (form_of plan) (selected_by plan input)

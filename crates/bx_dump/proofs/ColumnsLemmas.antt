@@ -12,8 +12,7 @@ use Rattle.bx_text.specs.Field.{char_at, laid_out, hex_text}
 use Rattle.bx_text.specs.Dump.{shown_byte}
 use Rattle.bx_text.proofs.FieldLemmas.{char_at-inside, char_at-below, char_at-above, div_mono}
 use Rattle.bx_dump.specs.inner.Cells.{piece_at, grouped}
-use Rattle.bx_dump.specs.Xxd.{columns_line, cell_of, cell_width}
-use Rattle.bx_dump.specs.inner.Xxd.{columns_place, columns_width, columns}
+use Rattle.bx_dump.specs.inner.Xxd.{columns_line, cell_of, cell_width, columns_place, columns_width, columns}
 use Rattle.bx_dump.specs.declared.xxd.columns.Columns.{Columns}
 use Rattle.bx_dump.specs.declared.xxd.columns.Digits.{Digits}
 use Rattle.bx_dump.specs.declared.xxd.columns.Digits.TheVariants.{Hexadecimal, Binary}

@@ -9,8 +9,8 @@ use Rattle.std.proofs.Math.Nat.{mul-add-div}
 use Rattle.std.proofs.Math.Seq.{drop-append-add}
 use Rattle.bx_text.specs.declared.line.fold.Fold.{Fold}
 use Rattle.bx_text.specs.declared.line.fold.Show.TheVariants.{Line, Star, Nothing}
-use Rattle.bx_text.specs.Fold.{line_bytes, is_hidden, was_hidden, show_at, line_text, lines_to, line_count, folded, HasTaken}
-use Rattle.bx_text.specs.inner.Fold.{IsTaken}
+use Rattle.bx_text.specs.Fold.{line_bytes, is_hidden, show_at, line_text, folded, HasTaken}
+use Rattle.bx_text.specs.inner.Fold.{lines_to, line_count, IsTaken}
 use Rattle.bx_text.proofs.RangeLemmas.{flat_map_along, flat_map_split}
 
 pos16 : 0 < 16
@@ -49,13 +49,13 @@ module _ (xs ys : List ℕ) (n : ℕ) (whole : length xs ≡ 16 * n) where
   hidden_stay zero below = refl
   hidden_stay (suc k) below = rw (bytes_stay (suc k) below, bytes_stay k (omega arith)) refl
 
-  was_stay : (k : ℕ) → k < n → was_hidden (xs ++ ys) k ≡ was_hidden xs k
-  was_stay zero below = refl
-  was_stay (suc k) below = hidden_stay k (omega arith)
+  show_stay : (k : ℕ) → k < n → show_at (xs ++ ys) k ≡ show_at xs k
+  show_stay zero below = refl
+  show_stay (suc k) below = rw (hidden_stay (suc k) below, hidden_stay k (omega arith)) refl
 
   text_stay : (line : ℕ → List ℕ → List ℕ) (all : Bool) (at k : ℕ) → k < n → line_text line all at (xs ++ ys) k ≡ line_text line all at xs k
   text_stay line true at k below = rw (bytes_stay k below) refl
-  text_stay line false at k below = rw (bytes_stay k below, hidden_stay k below, was_stay k below) refl
+  text_stay line false at k below = rw (bytes_stay k below, show_stay k below) refl
 
   pub lines_stay : (line : ℕ → List ℕ → List ℕ) (all : Bool) (at : ℕ) → lines_to line all at (xs ++ ys) n ≡ lines_to line all at xs n
   lines_stay line all at = flat_map_along (line_text line all at (xs ++ ys)) (line_text line all at xs) 0 0 n (λ k below. text_stay line all at (0 + k) (omega arith))

@@ -11,7 +11,8 @@ use Rattle.bx_text.specs.Dump.{pair_of}
 use Rattle.bx_text.specs.Field.{left_filled}
 use Rattle.bx_dump.specs.inner.Cells.{hex_value}
 use Rattle.bx_dump.specs.Lines.{in_lines}
-use Rattle.bx_dump.specs.Od.{value_of, value_text, width_of, size_of}
+use Rattle.bx_dump.specs.Od.{value_of}
+use Rattle.bx_dump.specs.inner.Od.{value_text}
 use Rattle.bx_dump.specs.declared.od.options.Size.{Size}
 use Rattle.bx_dump.specs.declared.od.options.Size.TheVariants.{One, Two, Four, Eight}
 use Rattle.bx_dump.specs.declared.od.options.NumForm.TheVariants as form

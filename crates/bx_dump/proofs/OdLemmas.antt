@@ -8,8 +8,8 @@ use Rattle.std.proofs.lemmas.List.{take-replicate, get_or-drop, length-drop, len
 use borrow.Rule.Slice.PartMut.{put_mid, post_of}
 use Rattle.bx_text.specs.Field.{left_filled}
 use Rattle.bx_text.proofs.KnownLemmas.{take-put_mid_more}
-use Rattle.bx_dump.specs.Od.{value_of, size_of, width_of}
-use Rattle.bx_dump.specs.inner.Od.{field_width}
+use Rattle.bx_dump.specs.Od.{value_of, width_of}
+use Rattle.bx_dump.specs.inner.Od.{size_of, field_width}
 use Rattle.bx_dump.specs.declared.od.options.NumForm.TheVariants as form
 use Rattle.bx_dump.specs.declared.od.options.Size.{Size}
 use Rattle.bx_dump.specs.declared.od.options.Size.TheVariants.{One, Two, Four, Eight}

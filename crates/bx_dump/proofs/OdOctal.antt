@@ -8,7 +8,7 @@ use lib.Lanes.{zip2, pick_l}
 use Rattle.bx_text.specs.Field.{left_filled}
 use Rattle.bx_dump.specs.inner.Cells.{by_twos, octal_cells}
 use Rattle.bx_dump.specs.Lines.{in_lines}
-use Rattle.bx_dump.specs.Od.{value_text}
+use Rattle.bx_dump.specs.inner.Od.{value_text}
 use Rattle.bx_dump.specs.declared.od.options.Size.TheVariants.{Two}
 use Rattle.bx_dump.specs.declared.od.options.NumForm.TheVariants as form
 use Rattle.bx_dump.specs.declared.od.options.Kind.TheVariants.{Number}

@@ -5,13 +5,15 @@ use Rattle.std.proofs.lemmas.List.{take-append-le, take_all, take_at, drop_all}
 use Rattle.std.proofs.Math.Seq.{take-append-add, drop-append-add}
 use Rattle.bx_text.specs.declared.fault.IoFault.{IoFault}
 use Rattle.bx_text.specs.declared.fault.IoFault.TheVariants.{NoMemory, ReadFailed, WriteFailed, InputTooLong, SkipPastEnd}
-use Rattle.bx_text.specs.Stream.{StopsIn, IsReadCause}
+use Rattle.bx_text.specs.Stream.{IsReadCause}
+use Rattle.bx_text.specs.inner.Stream.{StopsAfter}
 use Rattle.bx_text.specs.Writing.{WritesFront}
 use Rattle.bx_text.proofs.KnownLemmas.{Appends-trans, Consumes-trans, Appends-nil, Consumes-nil}
-use Rattle.bx_dump.specs.Dumped.{IsDumpFault, KeepsUp}
+use Rattle.bx_dump.specs.inner.Dumped.{IsDumpFault, KeepsUp}
 use Rattle.bx_dump.proofs.DumpLemmas.{cause_longer, keeps_read, keeps_along, keeps_whole}
-use Rattle.bx_dump.specs.Pages.{WritesPart, WritesFrontBut, Skips, part_of, capped, IsEndOf}
-use Rattle.bx_dump.specs.inner.Pages.{WritesRest, StopsAt, IsLast}
+use Rattle.bx_dump.specs.Dumped.{IsDumpStop}
+use Rattle.bx_dump.specs.Pages.{Dump, WritesAll, WritesFrontOf, part_of}
+use Rattle.bx_dump.specs.inner.Pages.{WritesPart, WritesFrontBut, capped, IsEndOf, WritesRest, Skips, StopsAt, IsLast}
 
 -- more bytes were read before the fault
 cause_after : (fault : IoFault) (less wanted taken n : ℕ) → taken ≤ 2 ^ 40 → taken + less ≤ wanted → IsReadCause fault less (2 ^ 40 - taken) n →
@@ -61,7 +63,7 @@ asked_at_end None skip n r p = tt
 asked_at_end (Some most) skip n r p = p.0
 
 pub stops_after : (r0 r1 r2 : Option (List ℕ)) (input : List ℕ) (less wanted taken : ℕ) (fault : IoFault) → length input ≡ taken → taken ≤ 2 ^ 40 → taken + less ≤ wanted →
-    Consumes r0 r1 input → StopsIn r1 r2 less (2 ^ 40 - taken) fault → StopsAt wanted (2 ^ 40) r0 r2 fault
+    Consumes r0 r1 input → StopsAfter r1 r2 less (2 ^ 40 - taken) fault → StopsAt wanted (2 ^ 40) r0 r2 fault
 stops_after r0 r1 r2 input less wanted taken fault len few most reads stop =
     let all : length (input ++ stop.0) ≡ taken + length stop.0 = omega (arith, length-append input stop.0) in record {
       input = input ++ stop.0;
@@ -83,7 +85,7 @@ capped_all (Some most) xs within = take_all most xs within
 -- the reader stopped
 pub rest_read_stop : (text : List ℕ → List ℕ) (limit : Option ℕ) (before : ℕ) (r0 r1 r2 w0 w1 : Option (List ℕ)) (input : List ℕ) (from taken less : ℕ) (fault : IoFault) →
     from + length input ≡ taken → taken ≤ 2 ^ 40 → IfSome limit (λ most. length input + less ≤ most) → ((more : List ℕ) → (rest : List ℕ) × (text (input ++ more) ≡ text input ++ rest)) →
-    Consumes r0 r1 input → Appends w0 w1 (text input) → StopsIn r1 r2 less (2 ^ 40 - taken) fault → WritesFrontBut 0 (λ xs. text (capped limit xs)) 0 limit from before r0 r2 w0 w1 fault
+    Consumes r0 r1 input → Appends w0 w1 (text input) → StopsAfter r1 r2 less (2 ^ 40 - taken) fault → WritesFrontBut 0 (λ xs. text (capped limit xs)) 0 limit from before r0 r2 w0 w1 fault
 rest_read_stop text limit before r0 r1 r2 w0 w1 input from taken less fault len few within goes reads writes stop =
     let cut = capped_more limit input stop.0 (within_along limit (length input + less) (length input) (omega arith) within) in
     let more = goes cut.0 in
@@ -379,3 +381,36 @@ front_head slack text skip limit r w0 w1 before head NoMemory stop = absurd stop
 front_head slack text skip limit r w0 w1 before head ReadFailed stop = absurd stop
 front_head slack text skip limit r w0 w1 before head InputTooLong stop = absurd stop
 front_head slack text skip limit r w0 w1 before head SkipPastEnd stop = absurd stop
+
+-- a whole text was written
+pub all_of : (d : Dump) (r0 r1 w0 w1 : Option (List ℕ)) (read written : ℕ) →
+    WritesPart (λ xs. d.text (part_of d.skip d.limit xs)) d.skip d.limit r0 r1 w0 w1 read written → WritesAll d r0 r1 w0 w1 read
+all_of d r0 r1 w0 w1 read written p = record {
+  input = p.input;
+  consumed = p.consumed;
+  ends = p.ends;
+  few = p.few;
+  dumped = p.dumped;
+  appended = p.appended;
+}
+
+stop_of : (text : List ℕ → List ℕ) (input : List ℕ) (written : ℕ) (fault : IoFault) → IsDumpFault fault (0 + length input) (0 + written) (0 + length (text input)) →
+    KeepsUp (2 ^ 7) text input written fault → IsDumpStop text input written fault
+stop_of text input written ReadFailed cause ahead = omega (arith, cause)
+stop_of text input written InputTooLong cause ahead = omega (arith, cause)
+stop_of text input written (WriteFailed n) cause ahead = (omega (arith, cause.0), omega (arith, cause.1), omega (arith, cause.2), ahead)
+stop_of text input written NoMemory cause ahead = absurd cause
+stop_of text input written SkipPastEnd cause ahead = absurd cause
+
+-- a front of one was
+pub front_of : (d : Dump) (r0 r1 w0 w1 : Option (List ℕ)) (fault : IoFault) →
+    WritesFrontBut (2 ^ 7) (λ xs. d.text (part_of d.skip d.limit xs)) d.skip d.limit 0 0 r0 r1 w0 w1 fault → WritesFrontOf d r0 r1 w0 w1 fault
+front_of d r0 r1 w0 w1 fault p = record {
+  input = p.input;
+  written = p.written;
+  consumed = p.consumed;
+  asked = p.asked;
+  within = p.within;
+  appended = p.appended;
+  cause = stop_of (λ xs. d.text (part_of d.skip d.limit xs)) p.input p.written fault p.cause p.ahead;
+}

@@ -8,7 +8,7 @@ use Rattle.bx_text.proofs.RangeLemmas.{flat_map_along}
 use Rattle.std.specs.Prelude.{Option, None}
 use Rattle.std.proofs.lemmas.List.{take-append-le}
 use Rattle.bx_text.specs.declared.fault.IoFault.{IoFault}
-use Rattle.bx_dump.specs.Pages.{WritesFrontBut}
+use Rattle.bx_dump.specs.inner.Pages.{WritesFrontBut}
 use Rattle.bx_dump.specs.inner.Dumped.{DumpsFrontBut}
 use Rattle.bx_dump.proofs.DumpLemmas.{cause_longer, keeps_along, front_whole}
 use Rattle.bx_dump.proofs.ScanLemmas.{both}

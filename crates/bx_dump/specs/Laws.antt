@@ -1,9 +1,8 @@
 -- What the definitions say, in other words.
 use Rattle.std.specs.Prelude.{◌≡◌, ℕ, ◌+◌, ◌-◌, ◌*◌, ◌/◌, ◌^◌, ◌<◌, ◌==◌, nat_lt, false, if◌then◌else◌, List, ◌++◌, length, take, drop, slice_index, sum_by, codes}
-use Rattle.std.specs.List.{flat_map, range_with_len}
+use Rattle.std.specs.List.{flat_map, join_by, range_with_len}
 use Rattle.bx_text.specs.Dump.{pair_of}
 use Rattle.bx_dump.specs.Od.{value_of}
-use Rattle.bx_dump.specs.Rows.{items}
 use Rattle.bx_dump.specs.Styles.{include_items, styled}
 use Rattle.bx_dump.specs.Pages.{part_of}
 use Rattle.bx_dump.specs.declared.xxd.options.XxdStyle.{XxdStyle}
@@ -12,6 +11,14 @@ use Rattle.bx_dump.specs.declared.xxd.options.XxdOptions.{XxdOptions}
 -- The value of bytes is the sum of each byte times 256 to the power of its place.
 abbrev pub ValueIsSum : Type 0
 ValueIsSum = (bytes : List ℕ) → value_of bytes ≡ sum_by (λ i. slice_index bytes i * 256 ^ i) (range_with_len 0 (length bytes))
+
+-- a byte as an item of a C array
+abbrev pub item : ℕ → List ℕ
+item b = codes "0x" ++ pair_of false b
+
+-- the items of a line, a comma between two
+abbrev pub items : List ℕ → List ℕ
+items bytes = join_by item (codes ", ") bytes
 
 -- item i of a line: a comma and a space stand in front of each but the first
 abbrev pub item_at : List ℕ → ℕ → List ℕ

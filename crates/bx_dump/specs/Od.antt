@@ -25,10 +25,6 @@ by_size Two a b c d = b
 by_size Four a b c d = c
 by_size Eight a b c d = d
 
--- how many bytes a value of this size has
-abbrev pub size_of : Size → ℕ
-size_of size = by_size size 1 2 4 8
-
 -- a value in two's complement, as text
 abbrev pub signed_text : ℕ → ℕ → List ℕ
 signed_text size v = if nat_lt v (2 ^ (8 * size - 1)) then digits 10 false v else 45 ∷ digits 10 false (2 ^ (8 * size) - v)
@@ -38,32 +34,23 @@ abbrev pub number_text : NumForm → Size → ℕ → List ℕ
 number_text form.Hexadecimal size v = left_filled 48 (by_size size 2 4 8 16) (digits 16 false v)
 number_text form.Octal size v = left_filled 48 (by_size size 3 6 11 22) (digits 8 false v)
 number_text form.Unsigned size v = left_filled 32 (by_size size 3 5 10 20) (digits 10 false v)
-number_text form.Signed size v = left_filled 32 (by_size size 4 6 11 20) (signed_text (size_of size) v)
+number_text form.Signed size v = left_filled 32 (by_size size 4 6 11 20) (signed_text (by_size size 1 2 4 8) v)
 
 -- a byte as a character: by its name where it has one, itself where it prints, else in octal
 abbrev pub char_text : ℕ → List ℕ
-char_text b =
-    if b == 0 then codes "\\0" else if b == 7 then codes "\\a" else if b == 8 then codes "\\b" else if b == 9 then codes "\\t" else
+char_text b = if b == 0 then codes "\\0" else if b == 7 then codes "\\a" else if b == 8 then codes "\\b" else if b == 9 then codes "\\t" else
     if b == 10 then codes "\\n" else if b == 11 then codes "\\v" else if b == 12 then codes "\\f" else if b == 13 then codes "\\r" else
     if nat_le 32 b && nat_le b 126 then b ∷ [] else left_filled 48 3 (digits 8 false b)
 
 -- how many bytes a value has
 abbrev pub width_of : Kind → ℕ
 width_of Chars = 1
-width_of (Number form size) = size_of size
+width_of (Number form size) = by_size size 1 2 4 8
 
 -- the field for the bytes of one value
 abbrev pub field_text : Kind → List ℕ → List ℕ
 field_text Chars bytes = left_filled 32 3 (char_text (value_of bytes))
 field_text (Number form size) bytes = number_text form size (value_of bytes)
-
--- a space and the field, wherever it stands
-abbrev pub value_text : Kind → ℕ → List ℕ → List ℕ
-value_text kind at bytes = 32 ∷ field_text kind bytes
-
--- the values of some bytes
-abbrev pub values_text : Kind → List ℕ → List ℕ
-values_text kind bytes = in_lines (value_text kind) (width_of kind) 0 bytes
 
 -- an address in 7 octal, 7 decimal or 6 hexadecimal digits, or more where it needs them
 abbrev pub address_text : Address → ℕ → List ℕ
@@ -74,7 +61,7 @@ address_text Without at = []
 
 -- a line: the address, and a space and a field for each value
 abbrev pub od_line : Address → Kind → ℕ → List ℕ → List ℕ
-od_line address kind at bytes = address_text address at ++ values_text kind bytes ++ codes "\n"
+od_line address kind at bytes = address_text address at ++ in_lines (λ place value. 32 ∷ field_text kind value) (width_of kind) 0 bytes ++ codes "\n"
 
 -- the address behind the last byte, on a line of its own
 abbrev pub od_end : Address → ℕ → List ℕ

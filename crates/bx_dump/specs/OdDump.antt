@@ -1,10 +1,10 @@
 -- What od reads and writes, and why it stops.
-use Rattle.std.specs.Prelude.{◌≡◌, ℕ, ◌≤◌, ◌⊎◌, false, List, length, Option}
-use Rattle.std.specs.Io.KnownBytes.{Consumes}
+use Rattle.std.specs.Prelude.{◌≡◌, ℕ, ◌^◌, ◌<◌, ◌≤◌, ◌⊎◌, List, length, Option}
+use Rattle.std.specs.Io.KnownBytes.{Consumes, IsAtEnd}
 use Rattle.bx_text.specs.declared.fault.IoFault.{IoFault}
 use Rattle.bx_text.specs.declared.fault.IoFault.TheVariants.{WriteFailed, SkipPastEnd}
 use Rattle.bx_dump.specs.Od.{od_text}
-use Rattle.bx_dump.specs.Pages.{Dump, WritesFrontOf, Skips}
+use Rattle.bx_dump.specs.Pages.{Dump, WritesFrontOf}
 use Rattle.bx_dump.specs.declared.od.options.OdOptions.{OdOptions}
 
 -- at least so many bytes were read
@@ -20,6 +20,10 @@ FailsBehind count r0 r1 w0 w1 fault = (w1 ≡ w0) ⊎ Reaches count r0 r1
 abbrev pub od_of : OdOptions → Dump
 od_of o = record { text = od_text o.address o.kind o.all o.skip; skip = o.skip; limit = o.limit }
 
+-- the input ended before so many bytes
+abbrev pub EndsBefore : ℕ → Option (List ℕ) → Option (List ℕ) → Type 0
+EndsBefore count r0 r1 = (input : List ℕ) × Consumes r0 r1 input × (length input ≤ 2 ^ 40) × (length input < count) × IsAtEnd r1
+
 -- the input ended among the bytes to skip and nothing was written, or a front of the text was written
 abbrev pub StopsOd : OdOptions → Option (List ℕ) → Option (List ℕ) → Option (List ℕ) → Option (List ℕ) → IoFault → Type 0
-StopsOd o r0 r1 w0 w1 fault = (fault ≡ SkipPastEnd) × Skips false o.skip r0 r1 × (w1 ≡ w0) ⊎ WritesFrontOf (od_of o) r0 r1 w0 w1 fault
+StopsOd o r0 r1 w0 w1 fault = (fault ≡ SkipPastEnd) × EndsBefore o.skip r0 r1 × (w1 ≡ w0) ⊎ WritesFrontOf (od_of o) r0 r1 w0 w1 fault

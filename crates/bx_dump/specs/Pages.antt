@@ -1,8 +1,9 @@
 -- What a dump of a part of an input reads and writes.
-use Rattle.std.specs.Prelude.{◌≡◌, ℕ, ◌+◌, ◌^◌, ◌<◌, ◌≤◌, ◌⊎◌, Bool, true, false, List, length, take, drop, Option, None, Some, IfSome}
+use Rattle.std.specs.Prelude.{◌≡◌, ℕ, ◌+◌, ◌^◌, ◌≤◌, ◌⊎◌, List, length, take, drop, Option, IfSome, MatchOption}
+use Rattle.std.specs.Option.{option_map_or}
 use Rattle.std.specs.Io.KnownBytes.{Appends, Consumes, IsAtEnd}
 use Rattle.bx_text.specs.declared.fault.IoFault.{IoFault}
-use Rattle.bx_dump.specs.Dumped.{IsDumpFault, KeepsUp}
+use Rattle.bx_dump.specs.Dumped.{IsDumpStop}
 
 -- A dump: the text that it makes of bytes, the place from which it is asked for those of an input, and how many at most.
 pub record Dump : Type 0 where
@@ -10,54 +11,25 @@ pub record Dump : Type 0 where
   pub skip : ℕ
   pub limit : Option ℕ
 
--- at most so many of the bytes
-abbrev pub capped : Option ℕ → List ℕ → List ℕ
-capped None bytes = bytes
-capped (Some most) bytes = take most bytes
-
 -- the bytes from place `skip` on, at most `limit` of them
 abbrev pub part_of : ℕ → Option ℕ → List ℕ → List ℕ
-part_of skip limit bytes = capped limit (drop skip bytes)
+part_of skip limit bytes = option_map_or (λ most. take most (drop skip bytes)) limit (drop skip bytes)
 
--- n bytes were read: all up to the input's end, or as many as are skipped and dumped at most
-abbrev pub IsEndOf : ℕ → Option ℕ → ℕ → Option (List ℕ) → Type 0
-IsEndOf skip None n from = IsAtEnd from
-IsEndOf skip (Some most) n from = (n ≤ skip + most) × (IsAtEnd from ⊎ (n ≡ skip + most))
-
--- The input was read as far as its part needs, and its whole text was written.
-pub record WritesPart (text : List ℕ → List ℕ) (skip : ℕ) (limit : Option ℕ) (r0 r1 w0 w1 : Option (List ℕ)) (read written : ℕ) : Type 0 where
+-- The whole text of the part was written, which has n bytes, and the input was read up to its end, or as far as the part needs.
+pub record WritesAll (d : Dump) (r0 r1 w0 w1 : Option (List ℕ)) (n : ℕ) : Type 0 where
   pub input : List ℕ
   pub consumed : Consumes r0 r1 input
-  pub ends : IsEndOf skip limit (length input) r1
+  pub ends : MatchOption d.limit (IsAtEnd r1) (λ most. (length input ≤ d.skip + most) × (IsAtEnd r1 ⊎ (length input ≡ d.skip + most)))
   pub few : length input ≤ 2 ^ 40
-  pub dumped : length (part_of skip limit input) ≡ read
-  pub appended : Appends w0 w1 (text input)
-  pub long : length (text input) ≡ written
+  pub dumped : length (part_of d.skip d.limit input) ≡ n
+  pub appended : Appends w0 w1 (d.text (part_of d.skip d.limit input))
 
--- the whole text of the part was written, which has n bytes
-abbrev pub WritesAll : Dump → Option (List ℕ) → Option (List ℕ) → Option (List ℕ) → Option (List ℕ) → ℕ → Type 0
-WritesAll d r0 r1 w0 w1 n = (written : ℕ) × WritesPart (λ input. d.text (part_of d.skip d.limit input)) d.skip d.limit r0 r1 w0 w1 n written
-
--- Some input was read after `from` bytes, no more of it than skip and limit ask for, and a front of its text was written
--- after `before` bytes, which the fault counts too; reading is no more than a block ahead.
-pub record WritesFrontBut (slack : ℕ) (text : List ℕ → List ℕ) (skip : ℕ) (limit : Option ℕ) (from before : ℕ) (r0 r1 w0 w1 : Option (List ℕ)) (fault : IoFault) : Type 0 where
+-- Some input was read, no more of it than skip and limit ask for, and a front of the text of its part was written.
+pub record WritesFrontOf (d : Dump) (r0 r1 w0 w1 : Option (List ℕ)) (fault : IoFault) : Type 0 where
   pub input : List ℕ
   pub written : ℕ
   pub consumed : Consumes r0 r1 input
-  pub asked : IfSome limit (λ most. length input ≤ skip + most)
-  pub within : written ≤ length (text input)
-  pub appended : Appends w0 w1 (take written (text input))
-  pub cause : IsDumpFault fault (from + length input) (before + written) (before + length (text input))
-  pub ahead : KeepsUp slack text input written fault
-
--- A front of the text of the part was written, before any other byte. What a text ends with has no more than 2^7 bytes.
-abbrev pub WritesFrontOf : Dump → Option (List ℕ) → Option (List ℕ) → Option (List ℕ) → Option (List ℕ) → IoFault → Type 0
-WritesFrontOf d r0 r1 w0 w1 fault = WritesFrontBut (2 ^ 7) (λ input. d.text (part_of d.skip d.limit input)) d.skip d.limit 0 0 r0 r1 w0 w1 fault
-
--- Bytes were skipped: all that were asked for, or fewer up to the input's end.
-pub record Skips (all : Bool) (count : ℕ) (r0 r1 : Option (List ℕ)) : Type 0 where
-  pub input : List ℕ
-  pub consumed : Consumes r0 r1 input
-  pub few : length input ≤ 2 ^ 40
-  pub whole : all ≡ true → length input ≡ count
-  pub short : all ≡ false → (length input < count) × IsAtEnd r1
+  pub asked : IfSome d.limit (λ most. length input ≤ d.skip + most)
+  pub within : written ≤ length (d.text (part_of d.skip d.limit input))
+  pub appended : Appends w0 w1 (take written (d.text (part_of d.skip d.limit input)))
+  pub cause : IsDumpStop (λ input. d.text (part_of d.skip d.limit input)) input written fault

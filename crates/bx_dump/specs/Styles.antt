@@ -1,25 +1,19 @@
 -- The text of xxd in each style.
-use Rattle.std.specs.Prelude.{ℕ, zero, suc, ◌+◌, ◌^◌, ◌≤◌, false, if◌then◌else◌, List, [], ◌∷◌, ◌++◌, map, length, codes, None, Some}
+use Rattle.std.specs.Prelude.{ℕ, ◌+◌, ◌^◌, ◌≤◌, ◌==◌, false, if◌then◌else◌, List, [], ◌∷◌, ◌++◌, map, length, slice_index, codes, None, Some}
 use Rattle.std.specs.Char.{is_ascii_alphanumeric, is_ascii_digit}
 use Rattle.std.specs.Fmt.{digits}
+use Rattle.bx_text.specs.Dump.{dump_line}
 use Rattle.bx_dump.specs.Lines.{in_lines}
 use Rattle.bx_dump.specs.Pages.{Dump}
 use Rattle.bx_dump.specs.Rows.{plain_line, include_line}
-use Rattle.bx_dump.specs.Xxd.{columns_line}
-use Rattle.bx_dump.specs.declared.xxd.columns.Digits.{Digits}
-use Rattle.bx_dump.specs.declared.xxd.columns.Digits.TheVariants.{Hexadecimal, Binary}
+use Rattle.bx_dump.specs.Xxd.{bits_line}
 use Rattle.bx_dump.specs.declared.xxd.options.XxdStyle.{XxdStyle}
 use Rattle.bx_dump.specs.declared.xxd.options.XxdStyle.TheVariants.{Normal, Plain, Bits, Include}
 use Rattle.bx_dump.specs.declared.xxd.options.XxdOptions.{XxdOptions}
 
--- what stands in front of a name
-abbrev pub name_front : List ℕ → List ℕ
-name_front [] = []
-name_front (b ∷ bs) = if is_ascii_digit b then codes "__" else []
-
--- a name as C has it, with `_` for what is no letter and no digit
+-- a name as C has it: with `_` for what is no letter and no digit, and with two in front where it begins with a digit
 abbrev pub c_name : List ℕ → List ℕ
-c_name name = name_front name ++ map (λ b. if is_ascii_alphanumeric b then b else 95) name
+c_name name = (if is_ascii_digit (slice_index name 0) then codes "__" else []) ++ map (λ b. if is_ascii_alphanumeric b then b else 95) name
 
 -- all items: lines with a comma between two, and a newline at the end
 abbrev pub include_items : ℕ → List ℕ → List ℕ
@@ -28,23 +22,17 @@ include_items cols (b ∷ bs) = in_lines include_line cols 0 (b ∷ bs) ++ codes
 
 -- a whole declaration: its head, the items, the end of the array, and its length under the name
 abbrev pub named_text : List ℕ → ℕ → List ℕ → List ℕ
-named_text name cols bytes =
-    (codes "unsigned char " ++ c_name name ++ codes "[] = {\n") ++ include_items cols bytes
+named_text name cols bytes = (codes "unsigned char " ++ c_name name ++ codes "[] = {\n") ++ include_items cols bytes
     ++ (codes "};\nunsigned int " ++ c_name name ++ codes "_len = " ++ (digits 10 false (length bytes) ++ codes ";\n"))
 
 -- bytes a group, where 0 stands for all of a line
 abbrev pub group_of : ℕ → ℕ → ℕ
-group_of cols zero = cols
-group_of cols (suc g) = suc g
+group_of cols group = if group == 0 then cols else group
 
--- lines with columns of digits, the first at the address where the part begins
-abbrev pub columns_text : Digits → XxdOptions → List ℕ → List ℕ
-columns_text digits o bytes = in_lines (columns_line digits o.cols (group_of o.cols o.group)) o.cols (o.seek + o.shift) bytes
-
--- the text of the bytes of a part
+-- the text of the bytes of a part; the address of a line begins where the part does
 abbrev pub styled : XxdStyle → XxdOptions → List ℕ → List ℕ
-styled Normal o bytes = columns_text (Hexadecimal o.upper) o bytes
-styled Bits o bytes = columns_text Binary o bytes
+styled Normal o bytes = in_lines (dump_line o.upper o.cols (group_of o.cols o.group)) o.cols (o.seek + o.shift) bytes
+styled Bits o bytes = in_lines (bits_line o.cols (group_of o.cols o.group)) o.cols (o.seek + o.shift) bytes
 styled Plain o bytes = in_lines (plain_line o.upper) o.cols 0 bytes
 styled (Include None) o bytes = include_items o.cols bytes
 styled (Include (Some name)) o bytes = named_text name.now o.cols bytes

@@ -1,25 +1,11 @@
--- The text of xxd.
+-- A line of xxd in binary.
 use Rattle.std.specs.Prelude.{ℕ, ◌+◌, ◌-◌, ◌*◌, ◌/◌, false, List, ◌++◌, map, length, slice_index, codes}
 use Rattle.bx_text.specs.Field.{hex_text, laid_out}
-use Rattle.bx_text.specs.Dump.{shown_byte, pair_of}
+use Rattle.bx_text.specs.Dump.{shown_byte}
 use Rattle.bx_dump.specs.Cells.{bits_of}
-use Rattle.bx_dump.specs.declared.xxd.columns.Digits.{Digits}
-use Rattle.bx_dump.specs.declared.xxd.columns.Digits.TheVariants.{Hexadecimal, Binary}
 
--- a byte in two hexadecimal or eight binary digits
-abbrev pub cell_of : Digits → ℕ → List ℕ
-cell_of (Hexadecimal upper) b = pair_of upper b
-cell_of Binary b = bits_of b
-
--- how many digits that are
-abbrev pub cell_width : Digits → ℕ
-cell_width (Hexadecimal upper) = 2
-cell_width Binary = 8
-
--- A line: the address, the digits of the bytes, one space after each group, in a field for `cols` bytes, and the bytes as text.
-abbrev pub columns_line : Digits → ℕ → ℕ → ℕ → List ℕ → List ℕ
-columns_line digits cols group at bytes =
-    hex_text false 8 at ++ codes ": "
-    ++ laid_out (λ i. cell_width digits * i + i / group) (λ i. cell_of digits (slice_index bytes i)) (length bytes)
-    (cell_width digits * cols + (cols + group - 1) / group)
+-- A line in binary: the address, the digits of the bytes, one space after each group, in a field for `cols` bytes, and the bytes as text.
+abbrev pub bits_line : ℕ → ℕ → ℕ → List ℕ → List ℕ
+bits_line cols group at bytes = hex_text false 8 at ++ codes ": "
+    ++ laid_out (λ i. 8 * i + i / group) (λ i. bits_of (slice_index bytes i)) (length bytes) (8 * cols + (cols + group - 1) / group)
     ++ codes " " ++ map shown_byte bytes ++ codes "\n"

@@ -27,4 +27,6 @@ pub mod DigitLanes
 pub mod PartLemmas
 pub mod FollowLemmas
 pub mod OverLemmas
+pub mod GatherLemmas
+pub mod LinesLemmas
 pub mod Bounds

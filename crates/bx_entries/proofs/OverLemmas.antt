@@ -20,7 +20,7 @@ over_length old at bytes new put =
     omega (arith, ap length put.is, length-append (take at old ++ bytes) (drop (at + length bytes) old), front_long old at bytes put.within, length-drop (at + length bytes) old, put.within)
 
 -- what ends where the bytes end
-over_front : (old : List ℕ) (at : ℕ) (bytes new : List ℕ) → IsPutOver old at bytes new → take (at + length bytes) new ≡ take at old ++ bytes
+pub over_front : (old : List ℕ) (at : ℕ) (bytes new : List ℕ) → IsPutOver old at bytes new → take (at + length bytes) new ≡ take at old ++ bytes
 over_front old at bytes new put =
     let front : List ℕ = take at old ++ bytes in
     let long : length front ≡ at + length bytes = front_long old at bytes put.within in

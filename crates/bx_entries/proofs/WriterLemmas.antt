@@ -8,7 +8,8 @@ use Rattle.std.proofs.lemmas.Bool.{cases_lt}
 use Rattle.std.proofs.lemmas.Grind.{flat_map-append}
 use Rattle.bx_text.specs.declared.owned.pieces.Piece.{Piece}
 use Rattle.bx_text.specs.Field.{hex_text, char_at}
-use Rattle.bx_text.specs.Dump.{hex_place, hex_columns, pair_of, shown_byte}
+use Rattle.bx_text.specs.Dump.{pair_of, shown_byte}
+use Rattle.bx_text.specs.inner.Dump.{hex_place, hex_columns}
 use Rattle.bx_image.specs.Change.{AllWithin}
 use Rattle.bx_image.specs.Image.{end_of}
 use Rattle.bx_entries.specs.Kept.{Run, Kept, run_of}

@@ -6,8 +6,10 @@ pub mod Front
 pub mod Journal
 pub mod Kept
 pub mod Line
+pub mod Lines
 pub mod Mark
 pub mod Parsed
 pub mod Plain
 pub mod Rows
+pub mod TakeLine
 pub mod Tally

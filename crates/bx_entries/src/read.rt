@@ -2,6 +2,8 @@
 pub(crate) mod count;
 mod extend;
 mod full_lines;
+mod gather;
+pub(crate) mod lines;
 mod reuse_text;
 pub(crate) mod rows;
 mod tail;

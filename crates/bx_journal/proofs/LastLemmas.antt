@@ -1,14 +1,13 @@
 -- The last entries of a text, read behind those that were counted.
-use Rattle.std.proofs.Common.{◌≡◌, ◌⊎◌, ℕ, ◌+◌, ◌-◌, ◌<◌, ◌≤◌, ◌^◌, false, List, [], ◌++◌, length, take, drop, ap, sym, ◌∙◌, subst, inl, inr, arith, length-append, length-drop, Option, Some, None, Result, Ok, Err}
+use Rattle.std.proofs.Common.{◌≡◌, ◌⊎◌, ℕ, ◌+◌, ◌-◌, ◌≤◌, false, List, [], ◌++◌, length, take, drop, ap, sym, ◌∙◌, subst, inl, inr, arith, Option, Some, None, Result, Ok, Err}
 use Rattle.std.specs.Prelude.{IfOk, IfErr, IfSome}
-use Rattle.std.proofs.lemmas.List.{take-append-drop, take-append-le, take_all}
-use Rattle.std.proofs.Math.Seq.{drop-append_seam}
+use Rattle.std.proofs.lemmas.List.{take_all}
 use Rattle.bx_entries.specs.declared.read.types.EntryRead.{EntryRead}
 use Rattle.bx_entries.specs.declared.read.types.Front.{Front}
-use Rattle.bx_entries.specs.Text.{Entry, Between, Reads, split, start, after_lines}
+use Rattle.bx_entries.specs.Text.{Entry, Between, split, start, after_lines}
 use Rattle.bx_entries.specs.declared.read.types.StageRead.TheVariants.{Between as BetweenRead}
-use Rattle.bx_entries.specs.declared.read.whole.JournalRead.{JournalRead}
-use Rattle.bx_entries.specs.inner.Journal.{HasReadBehind, IsBehind}
+use Rattle.bx_entries.specs.declared.read.lines.LinesRead.{LinesRead}
+use Rattle.bx_entries.specs.inner.Lines.{IsFront, IsReadUpTo}
 use Rattle.bx_entries.specs.inner.Parsed.{entries_onto, reading_onto, AreMarked, IsMarked}
 use Rattle.bx_entries.specs.inner.Mark.{IsMark}
 use Rattle.bx_entries.specs.inner.Tally.{IsCounted}
@@ -16,58 +15,88 @@ use Rattle.bx_journal.specs.declared.session.entries.FinishedRead.{FinishedRead}
 use Rattle.bx_journal.specs.declared.session.fault.SessionFault.{SessionFault}
 use Rattle.bx_journal.specs.declared.session.fault.SessionFault.TheVariants.{NoMemory, TooLarge, DeviceFailed, Damaged, TooFew, JournalFull, Interrupted, Broken, LengthDiffers, NothingToRedo, RedoDamaged}
 use Rattle.bx_journal.specs.Undoing.{AgainFault, IsOutOfStep}
-use Rattle.bx_journal.specs.inner.Undoing.{IsReadFrom, IsReadLast, IsLastFrom}
+use Rattle.bx_journal.specs.inner.Undoing.{IsReadFrom, IsReadLast, IsReadOn, IsReadBehind, IsLastFrom}
 use Rattle.bx_journal.specs.inner.Windows.{IsFrontCounted}
-use Rattle.bx_journal.proofs.Tails.{rest_none}
+use Rattle.bx_entries.proofs.TallyLemmas.{take_sum}
 
--- all that is behind a place
-pub rest_is : (at len : ℕ) (text old new : List ℕ) → len ≡ length text → length old ≡ len - at → at ≤ len → new ≡ take (length old) (drop at text) → new ≡ drop at text
-rest_is at len text old new long size within is = is ∙ take_all (length old) (drop at text) (omega (arith, long, size, within, length-drop at text))
-
-front_taken : (front bytes : List ℕ) (at : ℕ) → length front ≡ at → take at (front ++ bytes) ≡ front
-front_taken front bytes at long = take-append-le at front bytes (omega (arith, long)) ∙ take_all at front (omega (arith, long))
-
--- what was counted, and all that is behind it
-pub behind_front : (honest : Type 0) (stored bytes : List ℕ) (f : Front) (len : ℕ) → (c : IsFrontCounted honest stored false f) → f.at + length bytes ≡ len → len + 1 < 2 ^ 64 → IsBehind (c.front ++ bytes) c.counted.counted.entries f bytes
-behind_front honest stored bytes f len c all small =
+-- what was counted is a front
+pub front_is : (honest : Type 0) (stored : List ℕ) (f : Front) → (c : IsFrontCounted honest stored false f) → IsFront c.front c.counted.counted.entries f
+front_is honest stored f c =
     let counted : IsCounted c.front f.count f.told = c.counted.counted in
-    let taken : take f.at (c.front ++ bytes) ≡ c.front = front_taken c.front bytes f.at c.long in
-    let long : length (c.front ++ bytes) ≡ len = omega (arith, length-append c.front bytes, c.long, all) in
+    let taken : take f.at c.front ≡ c.front = take_all f.at c.front (omega (arith, c.long)) in
     record {
       mark = record {
-        within = omega (arith, long, all);
+        within = omega (arith, c.long);
         lines = ap (λ t. after_lines start (split t).lines) taken ∙ counted.finished.reads.lines;
         whole = ap (λ t. (split t).rest) taken ∙ counted.finished.whole;
       };
-      rest = sym (subst (λ n. drop n (c.front ++ bytes) ≡ bytes) c.long (drop-append_seam c.front bytes));
+      long = c.long;
       count = counted.counted;
       told = counted.told_is;
-      many = c.counted.many ∙ sym (ap (λ t. length (split t).lines) taken);
-      lines = c.lines;
       few = c.few;
-      countable = omega (arith, long, small);
     }
 
--- the text of both, where the store is honest
-pub joined_is : (honest : Type 0) (stored bytes : List ℕ) (f : Front) → (c : IsFrontCounted honest stored false f) → (honest → bytes ≡ drop f.at stored) → honest → stored ≡ c.front ++ bytes
-joined_is honest stored bytes f c is h = sym (take-append-drop f.at stored) ∙ ap (λ l. l ++ drop f.at stored) (sym (c.is h)) ∙ ap (λ l. c.front ++ l) (sym (is h))
+-- nothing was read yet behind what was counted
+pub none_behind : {A : Type 0} → (honest : Type 0) (stored : List ℕ) (f : Front) (r : LinesRead A) → (c : IsFrontCounted honest stored false f) → r.at ≡ f.at
+    → IsReadUpTo c.front c.counted.counted.entries f r → IsReadBehind honest stored f r
+none_behind honest stored f r c place read = record {
+  text = c.front;
+  older = c.counted.counted.entries;
+  is = λ h. c.is h ∙ ap (λ n. take n stored) (sym place);
+  read = read;
+}
+
+-- a window of a store that is the same as before
+pub read_on_from : {A : Type 0} → (honest now : Type 0) (stored text : List ℕ) (f : Front) (len : ℕ) (old new : LinesRead A) → (honest → now) → (honest → text ≡ stored)
+    → IsReadOn now text f len old new → IsReadOn honest stored f len old new
+read_on_from honest now stored text f len old new still same on = record {
+  bytes = on.bytes;
+  is = λ h. on.is (still h) ∙ ap (λ l. take (new.at - old.at) (drop old.at l)) (same h);
+  leads = on.leads;
+  some = on.some;
+  within = on.within;
+}
+
+-- a window more
+pub behind_on : {A : Type 0} → (honest : Type 0) (stored : List ℕ) (f : Front) (len : ℕ) (old new : LinesRead A) → IsReadBehind honest stored f old → IsReadOn honest stored f len old new
+    → IsReadBehind honest stored f new
+behind_on honest stored f len old new b on =
+    let place : old.at + (new.at - old.at) ≡ new.at = omega (arith, on.some) in
+    record {
+      text = b.text ++ on.bytes;
+      older = b.older;
+      is = λ h. ap (λ l. l ++ on.bytes) (b.is h) ∙ ap (λ l. take old.at stored ++ l) (on.is h) ∙ sym (take_sum old.at (new.at - old.at) stored) ∙ ap (λ n. take n stored) place;
+      read = on.leads b.text b.older b.read;
+    }
+
+-- all of a store's text was read
+pub behind_all : {A : Type 0} → (honest : Type 0) (stored : List ℕ) (f : Front) (len : ℕ) (r : LinesRead A) → (b : IsReadBehind honest stored f r) → r.at ≡ len → (honest → len ≡ length stored) → honest → stored ≡ b.text
+behind_all honest stored f len r b all long h = sym (b.is h ∙ take_all r.at stored (omega (arith, all, long h)))
 
 pub last_from : {A : Type 0} → (honest : Type 0) (stored text : List ℕ) (len count : ℕ) (o : Option (FinishedRead A)) → (honest → stored ≡ text) → len ≡ length text
     → IfSome o (λ r. IsReadLast text r.entries.items count) → IfSome o (λ r. r.len ≡ len) → IfSome o (λ r. IsLastFrom honest stored r.len r.entries.items count)
 last_from honest stored text len count None is long read same = tt
 last_from honest stored text len count (Some r) is long read same = record { text = text; is = is; long = same ∙ long; read = read }
 
--- a text that was read behind its older entries
-pub last_read : {A : Type 0} → (text : List ℕ) (older : List Entry) (j : JournalRead A) (len first count : ℕ) → HasReadBehind text older j → j.stage ≡ BetweenRead → j.whole ≡ len → first + length j.entries.items ≡ count
-    → first ≡ length older → len ≡ length text → IsReadLast text j.entries.items count
-last_read text older j len first count read is all many before long =
-    let es = j.entries.items in
-    let whole : j.whole ≡ length text = all ∙ long in record {
+-- a text that was read behind its older entries, and in which none is unfinished
+pub last_read : {A : Type 0} → (text : List ℕ) (older : List Entry) (f : Front) (r : LinesRead A) (first count : ℕ) → IsReadUpTo text older f r → r.stage ≡ BetweenRead → first ≡ f.count
+    → first + length r.entries.items ≡ count → IsReadLast text r.entries.items count
+last_read text older f r first count read is before many =
+    let es = r.entries.items in
+    let long : r.at ≡ length text = sym read.long in
+    let mark : IsMark text (length text) (record { entries = entries_onto older es; stage = Between }) =
+    subst (λ n. IsMark text n (record { entries = entries_onto older es; stage = Between })) long (subst (λ s. IsMark text r.at (reading_onto older es s)) is read.read.mark) in
+    let taken : take (length text) text ≡ text = take_all (length text) text (omega arith) in
+    let rest : (split text).rest ≡ [] = ap (λ t. (split t).rest) (sym taken) ∙ mark.whole in
+    record {
       older = older;
-      finished = record { reads = subst (λ s. Reads text (reading_onto older es s)) is read.reads; whole = rest_none text j.whole read.places.rest whole };
-      mark = subst (λ n. IsMark text n (record { entries = entries_onto older es; stage = Between })) whole (subst (λ s. IsMark text j.whole (reading_onto older es s)) is read.places.mark);
-      marked = subst (AreMarked text older 0 es) whole (subst (λ s. IsMarked text older es s j.whole) is read.places.marked).0;
-      counted = omega (arith, many, before);
+      finished = record {
+        reads = record { lines = ap (λ t. after_lines start (split t).lines) (sym taken) ∙ mark.lines; rest = inl rest };
+        whole = rest;
+      };
+      mark = mark;
+      marked = subst (AreMarked text older 0 es) long (subst (λ s. IsMarked text older es s r.at) is read.read.marked).0;
+      counted = omega (arith, many, before, read.count);
     }
 
 -- all of it was read

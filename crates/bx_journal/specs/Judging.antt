@@ -1,18 +1,11 @@
 -- Whether a text is a redo text, and at which line it isn't.
 use Rattle.std.specs.Prelude.{◌≡◌, ℕ}
 use Rattle.bx_journal.specs.declared.session.fault.SessionFault.{SessionFault}
-use Rattle.bx_journal.specs.declared.session.fault.SessionFault.TheVariants.{NoMemory, TooLarge, DeviceFailed, Damaged, TooFew, JournalFull, Interrupted, Broken, LengthDiffers, NothingToRedo, RedoDamaged}
+use Rattle.bx_journal.specs.declared.session.fault.SessionFault.TheVariants.{NoMemory, DeviceFailed, RedoDamaged}
 
 -- which fault a redo text that is refused at a line makes, where no other came before
 abbrev pub RefusesRedo : ℕ → SessionFault → Type 0
 RefusesRedo line NoMemory = Unit {0}
 RefusesRedo line DeviceFailed = Unit {0}
 RefusesRedo line (RedoDamaged m) = m ≡ line
-RefusesRedo line TooLarge = ⊥
-RefusesRedo line (Damaged m) = ⊥
-RefusesRedo line (TooFew have) = ⊥
-RefusesRedo line JournalFull = ⊥
-RefusesRedo line Interrupted = ⊥
-RefusesRedo line Broken = ⊥
-RefusesRedo line (LengthDiffers expected) = ⊥
-RefusesRedo line (NothingToRedo have) = ⊥
+RefusesRedo line e = ⊥

@@ -6,7 +6,9 @@ pub mod Phase
 pub mod SessionView
 pub mod Session
 pub mod Stack
+pub mod Opened
 pub mod Opening
+pub mod Performing
 pub mod Standing
 pub mod Undoing
 pub mod Images

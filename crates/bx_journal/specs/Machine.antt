@@ -5,7 +5,7 @@ use Rattle.bx_image.specs.declared.change.TheConstants.{MAX_LEN}
 use Rattle.bx_image.specs.Change.{effect, Fits}
 use Rattle.bx_journal.specs.Images.{Images, redo_of}
 use Rattle.bx_journal.specs.declared.session.fault.SessionFault.{SessionFault}
-use Rattle.bx_journal.specs.declared.session.fault.SessionFault.TheVariants.{NoMemory, TooLarge, DeviceFailed, Damaged, TooFew, JournalFull, Interrupted, Broken, LengthDiffers, NothingToRedo, RedoDamaged}
+use Rattle.bx_journal.specs.declared.session.fault.SessionFault.TheVariants.{NoMemory, TooLarge, TooFew, JournalFull, NothingToRedo}
 
 -- the newest image of a stack
 abbrev pub top : List (List ℕ) → List ℕ
@@ -23,41 +23,18 @@ PerformStep old c (Ok n) new =
 PerformStep old c (Err NoMemory) new = new ≡ old
 PerformStep old c (Err JournalFull) new = (changes_of old ≡ 65535) × (new ≡ old)
 PerformStep old c (Err TooLarge) new = (changes_of old < 65535) × (Fits c (length (top old)) MAX_LEN → ⊥) × (new ≡ old)
-PerformStep old c (Err DeviceFailed) new = ⊥
-PerformStep old c (Err (Damaged line)) new = ⊥
-PerformStep old c (Err (TooFew have)) new = ⊥
-PerformStep old c (Err Interrupted) new = ⊥
-PerformStep old c (Err Broken) new = ⊥
-PerformStep old c (Err (LengthDiffers expected)) new = ⊥
-PerformStep old c (Err (NothingToRedo have)) new = ⊥
-PerformStep old c (Err (RedoDamaged line)) new = ⊥
+PerformStep old c (Err e) new = ⊥
 
 -- an undo of k: the k newest images are taken off; 41 where there are fewer, and want of memory may take its place
 abbrev pub UndoStep : List (List ℕ) → ℕ → Result ℕ SessionFault → List (List ℕ) → Type 0
 UndoStep old k (Ok left) new = (k ≤ changes_of old) × (left ≡ changes_of old - k) × (new ≡ drop k old)
 UndoStep old k (Err (TooFew have)) new = (changes_of old < k) × (have ≡ changes_of old) × (new ≡ old)
 UndoStep old k (Err NoMemory) new = new ≡ old
-UndoStep old k (Err JournalFull) new = ⊥
-UndoStep old k (Err TooLarge) new = ⊥
-UndoStep old k (Err DeviceFailed) new = ⊥
-UndoStep old k (Err (Damaged line)) new = ⊥
-UndoStep old k (Err Interrupted) new = ⊥
-UndoStep old k (Err Broken) new = ⊥
-UndoStep old k (Err (LengthDiffers expected)) new = ⊥
-UndoStep old k (Err (NothingToRedo have)) new = ⊥
-UndoStep old k (Err (RedoDamaged line)) new = ⊥
+UndoStep old k (Err e) new = ⊥
 
 -- a redo: 46 only where there are too few to redo, and want of memory may take the place of a redo
 abbrev pub RedoStep : Images → ℕ → Result ℕ SessionFault → Images → Type 0
 RedoStep old j (Ok n) new = (j ≤ length old.undone) × (n ≡ changes_of old.stack + j) × (new ≡ redo_of j old)
 RedoStep old j (Err (NothingToRedo have)) new = (length old.undone < j) × (have ≡ length old.undone) × (new ≡ old)
 RedoStep old j (Err NoMemory) new = new ≡ old
-RedoStep old j (Err JournalFull) new = ⊥
-RedoStep old j (Err TooLarge) new = ⊥
-RedoStep old j (Err DeviceFailed) new = ⊥
-RedoStep old j (Err (Damaged line)) new = ⊥
-RedoStep old j (Err (TooFew have)) new = ⊥
-RedoStep old j (Err Interrupted) new = ⊥
-RedoStep old j (Err Broken) new = ⊥
-RedoStep old j (Err (LengthDiffers expected)) new = ⊥
-RedoStep old j (Err (RedoDamaged line)) new = ⊥
+RedoStep old j (Err e) new = ⊥

@@ -1,6 +1,6 @@
 -- What opening finds in a journal's text, and what it leaves of the redo text.
 use Rattle.bx_journal.specs.declared.session.fault.SessionFault.{SessionFault}
-use Rattle.bx_journal.specs.declared.session.fault.SessionFault.TheVariants.{NoMemory, TooLarge, DeviceFailed, Damaged, TooFew, JournalFull, Interrupted, Broken, LengthDiffers, NothingToRedo, RedoDamaged}
+use Rattle.bx_journal.specs.declared.session.fault.SessionFault.TheVariants.{NoMemory, DeviceFailed, Damaged, Interrupted, LengthDiffers, RedoDamaged}
 
 -- which fault opening may answer at all
 abbrev pub OpenKind : SessionFault → Type 0
@@ -10,8 +10,4 @@ OpenKind (Damaged line) = Unit {0}
 OpenKind (LengthDiffers expected) = Unit {0}
 OpenKind Interrupted = Unit {0}
 OpenKind (RedoDamaged line) = Unit {0}
-OpenKind TooLarge = ⊥
-OpenKind (TooFew have) = ⊥
-OpenKind JournalFull = ⊥
-OpenKind Broken = ⊥
-OpenKind (NothingToRedo have) = ⊥
+OpenKind e = ⊥

@@ -1,7 +1,7 @@
 -- What undoing starts from and leaves.
 use Rattle.std.specs.Prelude.{◌≡◌, ◌⊎◌, ℕ, List, length}
 use Rattle.bx_journal.specs.declared.session.fault.SessionFault.{SessionFault}
-use Rattle.bx_journal.specs.declared.session.fault.SessionFault.TheVariants.{NoMemory, TooLarge, DeviceFailed, Damaged, TooFew, JournalFull, Interrupted, Broken, LengthDiffers, NothingToRedo, RedoDamaged}
+use Rattle.bx_journal.specs.declared.session.fault.SessionFault.TheVariants.{NoMemory, DeviceFailed, Damaged, TooFew, Interrupted, Broken, NothingToRedo, RedoDamaged}
 use Rattle.bx_entries.specs.Finished.{IsFinished}
 use Rattle.bx_entries.specs.Text.{Entry, IsPrefix, IsDamagedAt, IsAccepted}
 
@@ -23,39 +23,24 @@ abbrev pub AgainFault : Type 0 → List ℕ → ℕ → SessionFault → Type 0
 AgainFault honest text count NoMemory = Unit {0}
 AgainFault honest text count DeviceFailed = Unit {0}
 AgainFault honest text count (Damaged line) = honest → IsOutOfStep text count line
-AgainFault honest text count TooLarge = ⊥
-AgainFault honest text count (TooFew have) = ⊥
-AgainFault honest text count JournalFull = ⊥
-AgainFault honest text count Interrupted = ⊥
-AgainFault honest text count Broken = ⊥
-AgainFault honest text count (LengthDiffers expected) = ⊥
-AgainFault honest text count (NothingToRedo have) = ⊥
-AgainFault honest text count (RedoDamaged line) = ⊥
+AgainFault honest text count e = ⊥
 
 -- which fault undoing may answer, where `count` changes stand
 abbrev pub UndoFault : ℕ → SessionFault → Type 0
 UndoFault count (TooFew have) = have ≡ count
-UndoFault count TooLarge = ⊥
-UndoFault count JournalFull = ⊥
-UndoFault count (LengthDiffers expected) = ⊥
-UndoFault count (NothingToRedo have) = ⊥
-UndoFault count (RedoDamaged line) = ⊥
 UndoFault count NoMemory = Unit {0}
 UndoFault count DeviceFailed = Unit {0}
 UndoFault count (Damaged line) = Unit {0}
 UndoFault count Interrupted = Unit {0}
 UndoFault count Broken = Unit {0}
+UndoFault count e = ⊥
 
 -- which fault redoing may answer, where `undone` changes are undone
 abbrev pub RedoFault : ℕ → SessionFault → Type 0
 RedoFault undone (NothingToRedo have) = have ≡ undone
-RedoFault undone TooLarge = ⊥
-RedoFault undone JournalFull = ⊥
-RedoFault undone (TooFew have) = ⊥
-RedoFault undone (LengthDiffers expected) = ⊥
-RedoFault undone (Damaged line) = ⊥
 RedoFault undone NoMemory = Unit {0}
 RedoFault undone DeviceFailed = Unit {0}
 RedoFault undone (RedoDamaged line) = Unit {0}
 RedoFault undone Interrupted = Unit {0}
 RedoFault undone Broken = Unit {0}
+RedoFault undone e = ⊥

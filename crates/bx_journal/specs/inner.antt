@@ -1,12 +1,14 @@
 -- What no public contract names.
 pub mod Calls
 pub mod Devices
+pub mod Entries
 pub mod Fault
 pub mod Images
 pub mod Judging
 pub mod Opening
 pub mod Page
 pub mod Phase
+pub mod Recovering
 pub mod Recovery
 pub mod Redo
 pub mod RedoFound
@@ -19,3 +21,4 @@ pub mod Turns
 pub mod Undoing
 pub mod Undone
 pub mod Windows
+pub mod Written

@@ -1,11 +1,7 @@
 //! A session: changes to an image, each with its entry in the journal.
-ghost use Rattle.std.specs.Prelude.{◌≡◌, ◌↔◌, ◌+◌, ◌<◌, ◌≤◌, [], ◌∷◌, ◌++◌, List, ℕ, length, true, false, IfOk, IfErr, OnOk, IsErrOf};
-ghost use Rattle.bx_image.specs.Change.{effect, saved, Fits};
-ghost use Rattle.bx_entries.specs.Kept.{kept_of};
-ghost use Rattle.bx_entries.specs.Entry.{entry_text};
-ghost use Rattle.bx_journal.specs.Images.{Images as Pictures, change_to};
-ghost use Rattle.bx_journal.specs.Machine.{PerformStep, top};
-ghost use Rattle.bx_journal.specs.Phase.{RecoversEither};
+ghost use Rattle.std.specs.Prelude.{◌≡◌, ◌↔◌, ◌+◌, ◌<◌, ◌≤◌, [], ◌∷◌, length, true, false, IfOk, IfErr, OnOk, IsErrOf};
+ghost use Rattle.bx_image.specs.Change.{effect, Fits};
+ghost use Rattle.bx_journal.specs.Machine.{top};
 
 pub(crate) mod answers;
 mod close;
@@ -54,8 +50,9 @@ impl<D: Device, T: TextStore, A: Allocator> Model for Session<D, T, A> {
 
 impl<D: Device, T: TextStore, A: Allocator + Clone> Session<D, T, A> {
     ghost use Rattle.bx_journal.specs.Calls.{AfterFault};
-    ghost use Rattle.bx_journal.specs.Session.{Breaks, FindsEither, HasSameDevices, HasUndone, IsReady, IsRedoSame, IsSame, IsUnfailed, IsUnmoved, SessionCounts};
-    ghost use Rattle.bx_journal.specs.Standing.{IsStanding, PerformFault};
+    ghost use Rattle.bx_journal.specs.Performing.{AppendsEntry, FindsOne, Performs, StaysReady, StopsPerform};
+    ghost use Rattle.bx_journal.specs.Session.{Breaks, HasSameDevices, HasUndone, IsRedoSame, IsSame, IsUnfailed, IsUnmoved, SessionCounts};
+    ghost use Rattle.bx_journal.specs.Standing.{PerformFault};
 
     /// Changes the image, and answers the change's number, which is how many changes then stand. What was undone is
     /// given up: the redo text is then empty.
@@ -69,31 +66,24 @@ impl<D: Device, T: TextStore, A: Allocator + Clone> Session<D, T, A> {
         requires redo_countable { T.failures self.old.redo_text < u64.MAX }
 
         // Accepted, it makes the machine's step, and the session goes on.
-        ensures accepted { D.honest self.old.device → T.honest self.old.store → (stack : List (List ℕ)) → IsStanding D.image T.text self.old stack
-            → IfOk result (λ n. PerformStep stack change.now (Ok n) (effect change.now (top stack) ∷ stack)
-            × IsStanding D.image T.text self.new (effect change.now (top stack) ∷ stack)) }
-        ensures sound { D.honest self.old.device → T.honest self.old.store → (stack : List (List ℕ)) → IsReady D.image T.text self.old stack
-            → OnOk result (IsReady D.image T.text self.new (effect change.now (top stack) ∷ stack)) }
+        ensures accepted { D.honest self.old.device → T.honest self.old.store → Performs D.image T.text change.now self.old self.new result }
+        ensures sound { D.honest self.old.device → T.honest self.old.store
+            → StaysReady D.image T.text self.old self.new (λ s. effect change.now (top s) ∷ s) result }
         ensures number { IfOk result (λ n. (n ≡ self.old.count + 1) × (self.new.count ≡ n) × (self.new.undone ≡ 0) × (self.new.is_broken ≡ false)) }
-        ensures entry { D.honest self.old.device → T.honest self.old.store → IfOk result (λ n.
-            T.text self.new.store ≡ T.text self.old.store
-            ++ entry_text n (kept_of (saved change.now (D.image self.old.device))) (length (effect change.now (D.image self.old.device)))) }
+        ensures entry { D.honest self.old.device → T.honest self.old.store
+            → IfOk result (AppendsEntry D.image T.text change.now self.old self.new) }
 
         // What was undone is given up.
         ensures emptied { T.honest self.old.redo_text → OnOk result (T.text self.new.redo_text ≡ []) }
         ensures undone { T.honest self.old.redo_text → OnOk result (HasUndone D.image T.text self.new []) }
 
         // An interruption leaves the old stack or the new one, and another fault leaves all as it was.
-        ensures fault { D.honest self.old.device → T.honest self.old.store → (stack : List (List ℕ)) → IsReady D.image T.text self.old stack
-            → IfErr result (λ e. AfterFault e
-            (RecoversEither (T.text self.new.store) (D.image self.new.device) stack (effect change.now (top stack) ∷ stack))
-            (IsSame D.image T.text self.old self.new)) }
+        ensures fault { D.honest self.old.device → T.honest self.old.store → StopsPerform D.image T.text change.now self.old self.new result }
 
         ensures refused { D.honest self.old.device → T.honest self.old.store
             → IfErr result (λ e. AfterFault e (Unit {0}) (IsSame D.image T.text self.old self.new)) }
-        ensures finds { D.honest self.old.device → T.honest self.old.store → T.honest self.old.redo_text → (s : Pictures)
-            → IsReady D.image T.text self.old s.stack → HasUndone D.image T.text self.old s.undone
-            → IfErr result (λ e. AfterFault e (FindsEither D.image T.text self.new s (change_to (effect change.now (top s.stack)) s)) (Unit {0})) }
+        ensures finds { D.honest self.old.device → T.honest self.old.store → T.honest self.old.redo_text
+            → FindsOne D.image T.text change.now self.old self.new result }
         ensures redo_same { T.honest self.old.redo_text → IfErr result (λ e. AfterFault e (Unit {0}) (IsRedoSame T.text self.old self.new)) }
         ensures unmoved { IfErr result (λ e. AfterFault e (Unit {0}) (IsUnmoved self.old self.new)) }
         ensures breaks { IsErrOf result SessionFault.Interrupted → Breaks self.old self.new }

@@ -1,6 +1,6 @@
 //! The jobs that change an image or show its changes.
 ghost use Rattle.std.specs.Prelude.{◌≡◌, ◌≤◌, ◌^◌, IfOk};
-ghost use Rattle.bx_cli.specs.Command.{IsNear};
+ghost use Rattle.bx_commands.specs.Command.{IsNear};
 
 use crate::files::trio;
 use crate::stopped::{Devices, Stopped};

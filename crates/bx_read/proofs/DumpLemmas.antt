@@ -5,18 +5,19 @@ use Rattle.std.specs.Option.{unwrap_or, option_map}
 use Rattle.std.proofs.lemmas.Slice.Eq.{bytes_eq-Decides}
 use Rattle.std.proofs.lemmas.Bool.{eqb-true, ltb-true}
 use Rattle.std.specs.Char.{digit_value}
-use Rattle.std.specs.List.{All}
+use Rattle.std.specs.List.{All, sum_by}
+use Rattle.std.proofs.lemmas.List.Sums.{sum_by-cons}
 use Rattle.std.proofs.lemmas.List.{get_or_append_left, length-append, length-map, map-append, get_or-map}
 use Rattle.std.proofs.lemmas.List.Elements.{All-cons}
 use Rattle.bx_read.proofs.PieceLemmas.{some_bytes}
 use Rattle.bx_read.specs.Digits.{is_hex, pairs_of, pair_value}
 use Rattle.bx_read.specs.Line.{read_line}
-use Rattle.bx_read.specs.Grammar.{IsLine}
+use Rattle.bx_read.specs.Grammar.{IsLine, GivesPieces, total_bytes}
 use Rattle.bx_read.specs.inner.Next.{IsNextPiece}
-use Rattle.bx_read.specs.Text.{ReadLine, is_skipped, answer_then, answers, piece_then, gathered, GivesPieces, IsPiece, total_bytes, lines_of, with_front, contents}
+use Rattle.bx_read.specs.Text.{ReadLine, is_skipped, answer_then, answers, piece_then, gathered, lines_of, contents}
+use Rattle.bx_read.specs.inner.Text.{IsPiece, with_front}
 use Rattle.bx_text.specs.declared.owned.pieces.Piece.{Piece}
 use Rattle.bx_read.specs.declared.fault.ReadFault.{ReadFault}
-use Rattle.bx_read.specs.declared.fault.ReadFault.TheVariants.{NoMemory}
 use Rattle.bx_read.proofs.GrammarLemmas.{read_line-found, read_line-only, and_true, guard_some, unmap}
 use Rattle.bx_read.proofs.LinesLemmas.{answers_read, answers_skip}
 
@@ -157,7 +158,7 @@ line_is : (line : List ℕ) (at : ℕ) (hex bytes : List ℕ) → IsLine line at
 line_is line at hex bytes is =
     let are = pairs_are hex bytes is.pairs in
     let len : length line ≡ length is.digits + length (58 ∷ 32 ∷ (hex ++ is.tail)) = ap length is.spelled ∙ length-append is.digits (58 ∷ 32 ∷ (hex ++ is.tail)) in (
-      record { some = some_bytes hex bytes is.pairs; few = is.few_pairs; small = is.small; are_bytes = are.1 },
+      (some_bytes hex bytes is.pairs, is.few_pairs, is.small, are.1),
       omega (arith, are.0, len, length-append hex is.tail),
     )
 
@@ -200,6 +201,10 @@ few_in_lines (line ∷ lines) ps (inr read) =
 pub few_bytes : (text : List ℕ) (ps : Pieces) → GivesPieces (lines_of text) ps → 2 * total_bytes ps ≤ length text
 few_bytes text ps is = omega (arith, few_in_lines (lines_of text) ps is, lines_length text)
 
+total_is : {A : Type 0} (pieces : List (Piece A)) → total_bytes (contents pieces) ≡ sum_by (λ p. length p.bytes) pieces
+total_is [] = refl
+total_is (piece ∷ pieces) = ap (λ n. length piece.bytes + n) (total_is pieces) ∙ sym (sum_by-cons (λ p. length p.bytes) piece pieces)
+
 -- the answer of one line, in front of those of the others
 pub one_more : {A : Type 0} (whole : Result Pieces ReadFault) (old new : List (Piece A)) (piece : Piece A) (before later : List (Result ReadLine ReadFault)) (at number : ℕ) (hex : List ℕ) →
     whole ≡ after (contents old) (gathered before) → before ≡ Ok (at, hex, number) ∷ later → piece.at ≡ at → pairs_of hex ≡ Some piece.bytes → new ≡ old ++ piece ∷ [] →
@@ -211,11 +216,8 @@ one_more whole old new piece before later at number hex inv step place pairs pus
 
 -- what follows of an exact answer
 module _ {A : Type 0} (text : List ℕ) (pieces : List (Piece A)) (exact : gathered (answers 1 (lines_of text)) ≡ Ok (contents pieces)) where
-  pub gives : GivesPieces (lines_of text) (contents pieces)
+  gives : GivesPieces (lines_of text) (contents pieces)
   gives = found (lines_of text) 1 (contents pieces) exact
-
-  pub same_pieces : (ps : Pieces) → GivesPieces (lines_of text) ps → contents pieces ≡ ps
-  same_pieces ps is = one_list (lines_of text) (contents pieces) ps gives is
 
   pub all_small : All (λ p. IsPiece p.at p.bytes) pieces
   all_small k d inside =
@@ -227,9 +229,8 @@ module _ {A : Type 0} (text : List ℕ) (pieces : List (Piece A)) (exact : gathe
   pub count_small : length pieces ≤ length (lines_of text)
   count_small = omega (arith, few_pieces (lines_of text) (contents pieces) gives, length-map {B = ℕ × List ℕ} pieces (λ p. (p.at, p.bytes)))
 
-pub not_read : (text : List ℕ) (e : ReadFault) → (e ≡ NoMemory) ⊎ (gathered (answers 1 (lines_of text)) ≡ Err e) → (ps : Pieces) → GivesPieces (lines_of text) ps → e ≡ NoMemory
-not_read text e (inl is) ps gives = is
-not_read text e (inr is) ps gives = let read = only (lines_of text) 1 ps gives in cc
+  pub bytes_small : 2 * sum_by (λ p. length p.bytes) pieces ≤ length text
+  bytes_small = omega (arith, few_bytes text (contents pieces) gives, total_is pieces)
 
 -- the next piece, where there is one
 pub next_is : {A : Type 0} (old new : List (Result ReadLine ReadFault)) (o : Option (Piece A)) (piece : Piece A) → o ≡ Some piece → IsNextPiece old new o →

@@ -7,7 +7,8 @@ use Rattle.std.proofs.lemmas.Bool.{ne_eqb, lt-leb, le-leb}
 use Rattle.std.proofs.lemmas.List.{drop_more, drop_all, drop-drop, take_more_set}
 use Rattle.std.proofs.lemmas.List.Sums.{prefix_len_stops}
 use Rattle.bx_read.specs.Digits.{is_hex, pair_value}
-use Rattle.bx_read.specs.Plain.{is_space, without_space, hex_bytes, plain_bytes}
+use Rattle.bx_read.specs.Plain.{is_space, hex_bytes}
+use Rattle.bx_read.specs.inner.Plain.{plain_bytes, without_space}
 use Rattle.bx_read.proofs.GrammarLemmas.{and_true}
 use Rattle.bx_read.proofs.WrittenLemmas.{hex_range}
 use Rattle.bx_read.proofs.DecodeLemmas.{more_in_front}

@@ -1,8 +1,8 @@
 -- Texts of written lines, each of which gives a piece.
 use Rattle.std.proofs.Common.{◌≡◌, ◌≢◌, ℕ, zero, suc, ◌+◌, ◌<◌, ◌≤◌, List, [], ◌∷◌, ◌++◌, map, refl, arith, ap, ◌∙◌, append_assoc, inr}
 use Rattle.std.specs.List.{All, flat_map, range_with_len}
-use Rattle.bx_read.specs.Grammar.{IsLine}
-use Rattle.bx_read.specs.Text.{lines_of, GivesPieces}
+use Rattle.bx_read.specs.Grammar.{IsLine, GivesPieces}
+use Rattle.bx_read.specs.Text.{lines_of}
 use Rattle.bx_read.proofs.FullLines.{first_line}
 
 -- a line of the grammar with no newline inside, and the newline that ends it

@@ -100,7 +100,7 @@ module _ {A : Type 0} (text : List ℕ) (runs : List (Piece A)) where
   pub all_near : joined_of (dump_pieces text) ≡ Ok (contents runs) → All (λ run. run.at < 2 ^ 62) runs
   all_near e k d inside =
       let is = pieces_are e in
-      let each : All (λ p. p.0 < 2 ^ 62) is.0 = λ k d inside. (small (lines_of text) is.0 (found (lines_of text) 1 is.0 is.1) k d inside).small in
+      let each : All (λ p. p.0 < 2 ^ 62) is.0 = λ k d inside. (small (lines_of text) is.0 (found (lines_of text) 1 is.0 is.1) k d inside).2 in
       let near : All (λ p. p.0 < 2 ^ 62) (contents runs) = subst (All (λ p. p.0 < 2 ^ 62)) (sym is.2) (joined_at (λ at. at < 2 ^ 62) is.0 each) in
       let here = near k (d.at, d.bytes) (omega (arith, inside, length-map {B = ℕ × List ℕ} runs (λ p. (p.at, p.bytes)))) in
       let P : (ℕ × List ℕ) → Type 0 = λ p. p.0 < 2 ^ 62 in

@@ -1,10 +1,10 @@
 -- What a line of a dump gives, and what a line that is written gives back.
-use Rattle.std.specs.Prelude.{◌≡◌, ◌≢◌, ℕ, Bool, ◌*◌, ◌^◌, ◌<◌, ◌≤◌, List, ◌++◌, length, slice_index, map, codes, All, Some, false}
-use Rattle.bx_text.specs.Field.{hex_text}
-use Rattle.bx_text.specs.Dump.{hex_columns, hex_width, shown_byte, dump_line, default_line}
-use Rattle.bx_read.specs.Grammar.{IsLine}
+use Rattle.std.specs.Prelude.{◌≡◌, ◌≢◌, ℕ, Bool, ◌+◌, ◌-◌, ◌*◌, ◌/◌, ◌^◌, ◌<◌, ◌≤◌, List, ◌++◌, length, slice_index, map, codes, All, Some, false}
+use Rattle.bx_text.specs.Field.{hex_text, laid_out}
+use Rattle.bx_text.specs.Dump.{shown_byte, pair_of, dump_line}
+use Rattle.bx_read.specs.Grammar.{IsLine, GivesPieces, total_bytes}
 use Rattle.bx_read.specs.Line.{line_piece}
-use Rattle.bx_read.specs.Text.{lines_of, GivesPieces, total_bytes}
+use Rattle.bx_read.specs.Text.{lines_of}
 
 -- No line gives two different pairs of an address and bytes.
 abbrev pub LineIsUnique : Type 0
@@ -21,12 +21,15 @@ PiecesAreFew = (text : List ℕ) (pieces : List (ℕ × List ℕ)) → GivesPiec
 
 -- xxd's default line without its newline
 abbrev pub line_text : ℕ → List ℕ → List ℕ
-line_text at bytes = hex_text false 8 at ++ codes ": " ++ hex_columns false 2 bytes 40 ++ codes " " ++ map shown_byte bytes
+line_text at bytes = hex_text false 8 at ++ codes ": " ++ laid_out (λ i. 2 * i + i / 2) (λ i. pair_of false (slice_index bytes i)) (length bytes) 40
+    ++ codes " " ++ map shown_byte bytes
 
 -- a line for some columns and groups without its newline
 abbrev pub wide_line_text : Bool → ℕ → ℕ → ℕ → List ℕ → List ℕ
 wide_line_text upper cols group at bytes =
-    hex_text false 8 at ++ codes ": " ++ hex_columns upper group bytes (hex_width cols group) ++ codes " " ++ map shown_byte bytes
+    hex_text false 8 at ++ codes ": "
+    ++ laid_out (λ i. 2 * i + i / group) (λ i. pair_of upper (slice_index bytes i)) (length bytes) (2 * cols + (cols + group - 1) / group)
+    ++ codes " " ++ map shown_byte bytes
 
 -- A line of a dump with some columns and groups gives back its address and bytes, and it has no newline inside.
 abbrev pub DumpLineReadsBack : Type 0
@@ -47,4 +50,4 @@ pub record IsWritten (line : List ℕ) (at : ℕ) (bytes : List ℕ) : Type 0 wh
 -- xxd's default line of 1 to 16 bytes gives them back, at any address that a line can have.
 abbrev pub WrittenLineReadsBack : Type 0
 WrittenLineReadsBack = (at : ℕ) (bytes : List ℕ) → 0 < length bytes → length bytes ≤ 16 → All (λ b. b < 256) bytes → at < 2 ^ 62 →
-    (default_line at bytes ≡ line_text at bytes ++ codes "\n") × IsWritten (line_text at bytes) at bytes
+    (dump_line false 16 2 at bytes ≡ line_text at bytes ++ codes "\n") × IsWritten (line_text at bytes) at bytes

@@ -4,32 +4,25 @@ use Rattle.std.specs.List.{prefix_len}
 use Rattle.std.specs.Option.{option_map, option_and_then}
 use Rattle.std.specs.Result.{result_ok}
 use Rattle.std.specs.Str.Parse.{digits_value}
-use Rattle.bx_read.specs.Digits.{is_hex, pairs_of, pair_count, data_of}
+use Rattle.bx_read.specs.Digits.{is_hex, pairs_of, data_of}
 use Rattle.bx_read.specs.declared.fault.ReadFault.{ReadFault}
 use Rattle.bx_read.specs.declared.fault.ReadFault.TheVariants.{BadAddress, MissingColon, BadPair, NoData, TooWide, AddressTooLarge}
 
 -- What is read of the text of the pairs, by how many there are.
 abbrev pub read_pairs : ℕ → ℕ → List ℕ → Option ℕ → Result (ℕ × List ℕ) ReadFault
 read_pairs line at hex None = Err (BadPair line)
-read_pairs line at hex (Some count) =
-    if nat_lt 256 count then Err (TooWide line)
-    else if nat_le (2 ^ 62) at then Err (AddressTooLarge line)
-    else Ok (at, hex)
+read_pairs line at hex (Some count) = if nat_lt 256 count then Err (TooWide line) else if nat_le (2 ^ 62) at then Err (AddressTooLarge line) else Ok (at, hex)
 
 -- What is read after the colon.
 abbrev pub read_data : ℕ → ℕ → List ℕ → Result (ℕ × List ℕ) ReadFault
-read_data line at text =
-    if length text == 0 then Err (NoData line)
-    else if not (slice_index text 0 == 32) then Err (BadPair line)
-    else if length text == 1 || slice_index text 1 == 32 then Err (NoData line)
-    else read_pairs line at (data_of (drop 1 text)) (pair_count (data_of (drop 1 text)))
+read_data line at text = if length text == 0 then Err (NoData line) else if not (slice_index text 0 == 32) then Err (BadPair line) else
+    if length text == 1 || slice_index text 1 == 32 then Err (NoData line)
+    else read_pairs line at (data_of (drop 1 text)) (option_map length (pairs_of (data_of (drop 1 text))))
 
 -- The address and the text of the pairs of a line, or the first fault in it.
 abbrev pub read_line : ℕ → List ℕ → Result (ℕ × List ℕ) ReadFault
-read_line line text =
-    let count = prefix_len is_hex text in
-    if count == 0 || nat_lt 16 count then Err (BadAddress line)
-    else if not (slice_index text count == 58) then Err (MissingColon line)
+read_line line text = let count = prefix_len is_hex text in
+    if count == 0 || nat_lt 16 count then Err (BadAddress line) else if not (slice_index text count == 58) then Err (MissingColon line)
     else read_data line (digits_value 16 (take count text)) (drop (count + 1) text)
 
 -- The address and the bytes of a line, or none where it has a fault.

@@ -4,9 +4,7 @@ use Rattle.std.specs.Prelude.{ℕ, ◌+◌, ◌==◌, if◌then◌else◌, List,
 -- a piece in front of runs: the first one has its bytes too, where that begins at its end
 abbrev pub with_piece : ℕ × List ℕ → List (ℕ × List ℕ) → List (ℕ × List ℕ)
 with_piece piece [] = piece ∷ []
-with_piece piece (run ∷ runs) =
-    if run.0 == piece.0 + length piece.1 then (piece.0, piece.1 ++ run.1) ∷ runs
-    else piece ∷ run ∷ runs
+with_piece piece (run ∷ runs) = if run.0 == piece.0 + length piece.1 then (piece.0, piece.1 ++ run.1) ∷ runs else piece ∷ run ∷ runs
 
 -- The runs of pieces: neighbours of which one begins where the one before ends are one.
 abbrev pub joined : List (ℕ × List ℕ) → List (ℕ × List ℕ)

@@ -1,21 +1,17 @@
 -- How the text of a dump is read, line by line.
-use Rattle.std.specs.Prelude.{◌≡◌, ◌⊎◌, ℕ, ◌+◌, ◌<◌, ◌≤◌, ◌^◌, Bool, ◌==◌, ◌||◌, bytes_eq, if◌then◌else◌, List, [], ◌∷◌, length, map, codes, All, Result, Ok, Err}
+use Rattle.std.specs.Prelude.{ℕ, ◌+◌, Bool, ◌==◌, ◌||◌, bytes_eq, if◌then◌else◌, List, [], ◌∷◌, length, map, codes, Result, Ok, Err}
+use Rattle.std.specs.List.{onto_first}
 use Rattle.std.specs.Option.{unwrap_or}
+use Rattle.std.specs.Result.{result_map_both}
 use Rattle.bx_text.specs.declared.owned.pieces.Piece.{Piece}
 use Rattle.bx_read.specs.Digits.{pairs_of}
 use Rattle.bx_read.specs.Line.{read_line}
-use Rattle.bx_read.specs.Grammar.{IsLine}
 use Rattle.bx_read.specs.declared.fault.ReadFault.{ReadFault}
-
--- a byte in front of the first line
-abbrev pub with_front : ℕ → List (List ℕ) → List (List ℕ)
-with_front c [] = (c ∷ []) ∷ []
-with_front c (line ∷ lines) = (c ∷ line) ∷ lines
 
 -- The lines of a text, which is cut at newlines; the last newline may be missing.
 abbrev pub lines_of : List ℕ → List (List ℕ)
 lines_of [] = []
-lines_of (c ∷ text) = if c == 10 then [] ∷ lines_of text else with_front c (lines_of text)
+lines_of (c ∷ text) = if c == 10 then [] ∷ lines_of text else onto_first c (lines_of text)
 
 -- an empty line, or a star, which xxd writes for lines left out: they give nothing
 abbrev pub is_skipped : List ℕ → Bool
@@ -33,44 +29,22 @@ answer_then number (Err fault) later = Err fault ∷ []
 -- What the lines give, the first of them being line `number`: those that aren't skipped, up to the first fault.
 abbrev pub answers : ℕ → List (List ℕ) → List (Result ReadLine ReadFault)
 answers number [] = []
-answers number (line ∷ lines) =
-    if is_skipped line then answers (number + 1) lines
-    else answer_then number (read_line number line) (answers (number + 1) lines)
-
--- a piece in front of others, where there is no fault
-abbrev pub piece_then : ℕ × List ℕ → Result (List (ℕ × List ℕ)) ReadFault → Result (List (ℕ × List ℕ)) ReadFault
-piece_then piece (Ok pieces) = Ok (piece ∷ pieces)
-piece_then piece (Err fault) = Err fault
+answers number (line ∷ lines) = if is_skipped line then answers (number + 1) lines else answer_then number (read_line number line) (answers (number + 1) lines)
 
 -- the addresses and bytes of lines that were read, or the fault among them
 abbrev pub gathered : List (Result ReadLine ReadFault) → Result (List (ℕ × List ℕ)) ReadFault
 gathered [] = Ok []
 gathered (Err fault ∷ later) = Err fault
-gathered (Ok line ∷ later) = piece_then (line.0, unwrap_or (pairs_of line.1) []) (gathered later)
+gathered (Ok line ∷ later) = result_map_both (λ pieces. (line.0, unwrap_or (pairs_of line.1) []) ∷ pieces) (λ fault. fault) (gathered later)
 
 -- The pieces of a text, or the first fault of its first faulty line.
 abbrev pub dump_pieces : List ℕ → Result (List (ℕ × List ℕ)) ReadFault
 dump_pieces text = gathered (answers 1 (lines_of text))
 
--- how many bytes pieces have together
-abbrev pub total_bytes : List (ℕ × List ℕ) → ℕ
-total_bytes [] = 0
-total_bytes (piece ∷ pieces) = length piece.1 + total_bytes pieces
-
--- a piece of a dump: 1 to 256 bytes at an address below 2 ^ 62
-pub record IsPiece (at : ℕ) (bytes : List ℕ) : Type 0 where
-  pub some : 0 < length bytes
-  pub few : length bytes ≤ 256
-  pub small : at < 2 ^ 62
-  pub are_bytes : All (λ b. b < 256) bytes
-
--- The lines are in the grammar and give these pieces, in order.
-abbrev pub GivesPieces : List (List ℕ) → List (ℕ × List ℕ) → Type 0
-GivesPieces [] pieces = pieces ≡ []
-GivesPieces (line ∷ lines) pieces =
-    (((line ≡ []) ⊎ (line ≡ codes "*")) × GivesPieces lines pieces)
-    ⊎ ((at : ℕ) × (hex bytes : List ℕ) × (rest : List (ℕ × List ℕ)) × IsLine line at hex bytes × (pieces ≡ (at, bytes) ∷ rest) × GivesPieces lines rest)
-
 -- the addresses and bytes of pieces
 abbrev pub contents : {A : Type 0} → List (Piece A) → List (ℕ × List ℕ)
 contents pieces = map (λ piece. (piece.at, piece.bytes)) pieces
+
+-- what proofs alone need: a piece in front of others, where there is no fault
+abbrev pub piece_then : ℕ × List ℕ → Result (List (ℕ × List ℕ)) ReadFault → Result (List (ℕ × List ℕ)) ReadFault
+piece_then piece r = result_map_both (λ pieces. piece ∷ pieces) (λ fault. fault) r

@@ -1,7 +1,10 @@
 -- What no public contract names.
+pub mod Digits
 pub mod Full
 pub mod Lanes
 pub mod Next
 pub mod NextLine
+pub mod Plain
 pub mod Rows
 pub mod Steps
+pub mod Text

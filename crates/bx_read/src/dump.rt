@@ -1,8 +1,8 @@
 //! Whole dumps.
-ghost use Rattle.std.specs.Prelude.{◌≡◌, ◌⊎◌, ◌*◌, ◌≤◌, ◌∷◌, ℕ, List, Result, length, map, Some, Ok, Err, MatchResult, IfOk, All};
-ghost use Rattle.bx_read.specs.Text.{ReadLine, lines_of, dump_pieces, contents, total_bytes, IsPiece, GivesPieces};
+ghost use Rattle.std.specs.Prelude.{◌≡◌, ◌⊎◌, ◌*◌, ◌^◌, ◌<◌, ◌≤◌, ◌∷◌, ℕ, List, Result, length, Some, Ok, Err, MatchResult, IfOk, All, sum_by};
+ghost use Rattle.bx_read.specs.Text.{ReadLine, lines_of, dump_pieces, contents};
 ghost use Rattle.bx_read.specs.Lines.{coming};
-ghost use Rattle.bx_read.specs.inner.Next.{IsNextPiece};
+ghost use Rattle.bx_read.specs.inner.Next.{IsNextPiece, IsNextFault};
 ghost use Rattle.bx_read.specs.declared.fault.ReadFault.{ReadFault};
 
 use crate::fault::ReadFault;
@@ -15,17 +15,13 @@ use std::alloc::Allocator;
 /// Reads the text of a dump, whose last newline may be missing: the pieces of its lines, in order. Empty lines and
 /// lines `*` give none. A fault is the first one of the first faulty line.
 pub fn read_dump<A: Allocator + Clone>(alloc: A, text: &[u8]) -> Result<Vec<Piece<A>, A>, ReadFault>
-    // What is read is what the grammar gives, and what the grammar gives is read.
-    ensures found { IfOk result (λ v. GivesPieces (lines_of text.now) (contents v.items)) }
-    ensures only { (pieces : List (ℕ × List ℕ)) → GivesPieces (lines_of text.now) pieces →
-        MatchResult result (λ v. contents v.items ≡ pieces) (λ e. e ≡ ReadFault.NoMemory) }
-    // Which fault it is.
+    // What is read is what the grammar gives, by `text_has_form`.
     ensures exact { MatchResult result (λ v. dump_pieces text.now ≡ Ok (contents v.items)) (λ e. (e ≡ ReadFault.NoMemory) ⊎ (dump_pieces text.now ≡ Err e)) }
     // Each piece has 1 to 256 bytes at an address below 2^62.
-    ensures pieces { IfOk result (λ v. All (λ p. IsPiece p.at p.bytes) v.items) }
+    ensures pieces { IfOk result (λ v. All (λ p. (0 < length p.bytes) × (length p.bytes ≤ 256) × (p.at < 2 ^ 62) × All (λ b. b < 256) p.bytes) v.items) }
     // How much it can be at most.
     ensures count { IfOk result (λ v. length v.items ≤ length (lines_of text.now)) }
-    ensures bytes { IfOk result (λ v. 2 * total_bytes (contents v.items) ≤ length text.now) }
+    ensures bytes { IfOk result (λ v. 2 * sum_by (λ p. length p.bytes) v.items ≤ length text.now) }
 {
     gather(alloc, text)
 }
@@ -53,8 +49,7 @@ fn next_piece<A: Allocator + Clone>(
     alloc: &A,
     lines: &mut DumpLines<'_>,
 ) -> Result<Option<Piece<A>>, ReadFault>
-    ensures { MatchResult result (IsNextPiece (coming lines.old) (coming lines.new)) (λ e.
-        (e ≡ ReadFault.NoMemory) ⊎ ((later : List (Result ReadLine ReadFault)) × (coming lines.old ≡ Err e ∷ later))) }
+    ensures { MatchResult result (IsNextPiece (coming lines.old) (coming lines.new)) (IsNextFault (coming lines.old)) }
 {
     if let Some(full) = lines.take_full() {
         return Ok(Some(piece(alloc.clone()?, full.at, &full.bytes)?));

@@ -1,5 +1,6 @@
 //! Laws of the format, over its definitions alone.
 ghost use Rattle.bx_read.specs.FaultTable.{FaultIsOfLine};
+ghost use Rattle.bx_read.specs.Grammar.{LineHasForm, TextHasForm};
 ghost use Rattle.bx_read.specs.Laws.{LineIsUnique, TextIsUnique, PiecesAreFew, DumpLineReadsBack, WrittenLineReadsBack};
 ghost use Rattle.bx_read.specs.PairGrammar.{PairsHaveForm, PlainHasForm};
 
@@ -11,6 +12,16 @@ pub fn line_is_unique()
 /// No text gives two different lists of pieces.
 pub fn text_is_unique()
     ensures { TextIsUnique }
+{}
+
+/// A line is read exactly where it is in the grammar, and what is read of it is its address and the text of its pairs.
+pub fn line_has_form()
+    ensures { LineHasForm }
+{}
+
+/// A text is read exactly where its lines are in the grammar, and what is read of it are their pieces.
+pub fn text_has_form()
+    ensures { TextHasForm }
 {}
 
 /// A line that isn't read has the fault that is answered: that of the first part that isn't as it has to be.

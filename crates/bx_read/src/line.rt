@@ -1,7 +1,8 @@
 //! One line of a dump.
-ghost use Rattle.std.specs.Prelude.{◌≡◌, ◌+◌, ◌^◌, ◌<◌, ◌≤◌, ◌&&◌, if◌then◌else◌, length, take, drop, slice_index, Some, None, Ok, Err, IsTrue, IfOk, IfErr, IfSome, IfNone, MatchResult, IsOkAnd, List, ℕ};
-ghost use Rattle.std.specs.Option.{option_map};
-ghost use Rattle.bx_read.specs.Digits.{is_hex, pair_value, pairs_of, pair_count, few_pairs, data_of};
+ghost use Rattle.std.specs.Prelude.{◌≡◌, ◌+◌, ◌^◌, ◌<◌, ◌≤◌, ◌&&◌, if◌then◌else◌, length, take, drop, slice_index, Some, None, Ok, Err, IsTrue, IfOk, IfErr, IfSome, IfNone, MatchResult, List, ℕ, nat_le, false};
+ghost use Rattle.std.specs.Option.{option_map, option_map_or};
+ghost use Rattle.bx_read.specs.Digits.{is_hex, pair_value, pairs_of, data_of};
+ghost use Rattle.bx_read.specs.inner.Digits.{pair_count, few_pairs};
 
 use crate::digits::{front_digits, is_pair, number_of};
 use crate::fault::ReadFault;
@@ -14,12 +15,11 @@ pub struct Line<'a> {
     pub at: u64,
     pub hex: &'a [u8],
     pub number: u64,
-    ghost few: { IsTrue (few_pairs hex.now) },
+    ghost few: { IsTrue (option_map_or (λ count. nat_le count 256) (option_map length (pairs_of hex.now)) false) },
 }
 
 impl<'a> Line<'a> {
     ghost use Rattle.bx_read.specs.Line.{read_line, read_data, line_piece};
-    ghost use Rattle.bx_read.specs.Grammar.{IsLine};
 
     /// Reads a line, which is given without its newline. Nothing is skipped: an empty line and `*` have no address.
     ///
@@ -27,10 +27,7 @@ impl<'a> Line<'a> {
     /// hexadecimal digits with no space or one between two; then its end, or one space and its end, or two spaces and
     /// anything.
     pub fn parse(line: &'a [u8], number: u64) -> Result<Line<'a>, ReadFault>
-        // What is read is in the grammar, and what is in the grammar is read.
-        ensures found { IfOk result (λ l. (bytes : List ℕ) × IsLine line.now l.at l.hex.now bytes) }
-        ensures only { (at : ℕ) (hex bytes : List ℕ) → IsLine line.now at hex bytes → IsOkAnd result (λ l. (l.at ≡ at) × (l.hex.now ≡ hex)) }
-        // Which fault it is.
+        // What is read is what the grammar gives, by `line_has_form`, and a fault is the line's, by `fault_is_of_line`.
         ensures exact { MatchResult result (λ l. read_line number line.now ≡ Ok (l.at, l.hex.now)) (λ e. read_line number line.now ≡ Err e) }
         ensures number { IfOk result (λ l. l.number ≡ number) }
         // With the bytes of its pairs, what is read is the line's address and bytes.

@@ -1,5 +1,5 @@
 //! The lines of a dump, one after another.
-ghost use Rattle.std.specs.Prelude.{◌≡◌, ◌+◌, ◌^◌, ◌<◌, ◌≤◌, ◌∷◌, [], ℕ, List, length, MatchOption, MatchResult, IfOk, IfSome, IfNone, Some, None, Ok, Err};
+ghost use Rattle.std.specs.Prelude.{◌≡◌, ◌+◌, ◌^◌, ◌<◌, ◌≤◌, ◌∷◌, [], ℕ, List, length, MatchOption, MatchResult, IfErr, IfOk, IfSome, IfNone, Some, None, Ok, Err};
 ghost use Rattle.bx_read.specs.Text.{lines_of, is_skipped, answers};
 
 use crate::fault::ReadFault;
@@ -18,9 +18,9 @@ pub struct DumpLines<'a> {
 }
 
 impl<'a> DumpLines<'a> {
-    ghost use Rattle.bx_read.specs.Text.{lines_of, answers, gathered, piece_then};
+    ghost use Rattle.bx_read.specs.Text.{lines_of, answers};
     ghost use Rattle.bx_read.specs.Lines.{coming, line_view};
-    ghost use Rattle.bx_read.specs.inner.NextLine.{joined_of};
+    ghost use Rattle.bx_read.specs.inner.NextLine.{runs_with};
     ghost use Rattle.bx_read.specs.Line.{read_line};
     ghost use Rattle.bx_read.specs.Digits.{pairs_of};
 
@@ -75,10 +75,8 @@ impl<'a> DumpLines<'a> {
         at: u64,
         bytes: &mut Vec<u8, A>,
     ) -> Result<(), ReadFault>
-        ensures run { MatchResult result
-            (λ _. joined_of (piece_then (at, bytes.old.items) (gathered (coming self.old)))
-            ≡ joined_of (piece_then (at, bytes.new.items) (gathered (coming self.new))))
-            (λ e. e ≡ ReadFault.NoMemory) }
+        ensures run { IfOk result (λ _. runs_with at bytes.old.items (coming self.old) ≡ runs_with at bytes.new.items (coming self.new)) }
+        ensures err { IfErr result (λ e. e ≡ ReadFault.NoMemory) }
         ensures fewer { IfOk result (λ _. length (coming self.new) ≤ length (coming self.old)) }
     {
         let taken = extend_run(at, bytes, self.text)?;

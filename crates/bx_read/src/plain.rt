@@ -1,9 +1,9 @@
 //! Plain hexadecimal.
-ghost use Rattle.std.specs.Prelude.{◌≡◌, ◌⊎◌, ℕ, ◌+◌, ◌*◌, ◌/◌, ◌<◌, ◌≤◌, ◌∷◌, ◌++◌, List, length, take, drop, Some, None, Ok, Err, MatchResult, MatchOption, IfOk, IfSome};
-ghost use Rattle.std.specs.Option.{option_map};
+ghost use Rattle.std.specs.Prelude.{◌≡◌, ◌⊎◌, ℕ, ◌+◌, ◌*◌, ◌/◌, ◌<◌, ◌≤◌, List, length, take, Some, None, Ok, Err, MatchResult, MatchOption, IfOk, IfSome};
 ghost use Rattle.std.specs.List.{prefix_len};
-ghost use Rattle.bx_read.specs.Plain.{is_space, plain_bytes, plain_fault, bad_line, digit_line, plain_answer};
-ghost use Rattle.bx_read.specs.inner.Steps.{IsStep};
+ghost use Rattle.bx_read.specs.Plain.{is_space, bad_line, digit_line, plain_answer};
+ghost use Rattle.bx_read.specs.inner.Plain.{plain_bytes, plain_fault};
+ghost use Rattle.bx_read.specs.inner.Steps.{IsStep, PutsPairs};
 
 use crate::digits::{is_digit, is_pair, pair};
 use crate::fault::ReadFault;
@@ -12,10 +12,7 @@ use std::alloc::Allocator;
 /// Reads hexadecimal digits in either case, two for each byte. White space may stand anywhere, also inside a pair.
 /// A fault is a byte that doesn't belong, at its line, or else a last digit without a second one, at its line.
 pub fn read_plain<A: Allocator>(alloc: A, text: &[u8]) -> Result<Vec<u8, A>, ReadFault>
-    // What is read is what the digits write, and what they write is read.
-    ensures found { IfOk result (λ v. plain_bytes text.now ≡ Some v.items) }
-    ensures only { (bytes : List ℕ) → plain_bytes text.now ≡ Some bytes → MatchResult result (λ v. v.items ≡ bytes) (λ e. e ≡ ReadFault.NoMemory) }
-    // Which fault it is.
+    // What is read is what the digits write, by `plain_has_form`.
     ensures exact { MatchResult result (λ v. plain_answer text.now ≡ Ok v.items) (λ e. (e ≡ ReadFault.NoMemory) ⊎ (plain_answer text.now ≡ Err e)) }
     ensures few { IfOk result (λ v. 2 * length v.items ≤ length text.now) }
 {
@@ -57,8 +54,7 @@ fn decode_plain(text: &[u8], out: &mut [u8]) -> Option<usize>
 fn put_run(text: &[u8], out: &mut [u8], count: usize) -> usize
     requires { count + length text.now / 2 ≤ length out.old }
     ensures within { 2 * result ≤ length text.now }
-    ensures bytes { option_map (λ more. take count out.old ++ more) (plain_bytes text.now) ≡
-        option_map (λ more. take (count + result) out.new ++ more) (plain_bytes (drop (2 * result) text.now)) }
+    ensures bytes { PutsPairs text.now count result out.old out.new }
 {
     let most = text.len() / 2;
     for i in 0..most {

@@ -128,6 +128,34 @@ fn dd_reads_no_more(rt: HostRuntime) {
     }
 }
 
+/// What dd has written of an input of eleven bytes, five at a time, when it fails.
+fn written_by_fives(alloc: Global, line: &str, fails_after: usize) -> Vec<u8> {
+    let mut from = Trickle {
+        rest: b"hello world",
+        interruptions: 0,
+        each: 5,
+        fails_after,
+    };
+    let mut to = Vec::new(alloc);
+    let _ = run_line(alloc, line, &mut from, &mut to);
+    to
+}
+
+// What was read goes out before more is asked for: bytes, or whole blocks where their pairs matter.
+#[test]
+fn dd_writes_before_it_reads_on(rt: HostRuntime) {
+    for (line, fails_after, wanted) in [
+        ("dd", 5, "hello"),
+        ("dd conv=ucase", 10, "HELLO WORL"),
+        ("dd skip=3 bs=1", 10, "lo worl"),
+        ("dd bs=4 conv=swab", 5, "ehll"),
+        ("dd bs=4 conv=swab", 10, "ehll oow"),
+    ] {
+        let written = written_by_fives(rt.alloc(), line, fails_after);
+        assert_bytes(&rt, written.as_slice(), wanted.as_bytes());
+    }
+}
+
 /// Runs dd on an image.
 fn replied(
     alloc: Global,

@@ -1,6 +1,6 @@
 //! Calls of dd and of listings with each growth refused in turn; and heaps that get all memory back.
 ghost use Rattle.std.specs.Prelude.{IfOk};
-ghost use Rattle.bx_cli.specs.Command.{IsNear};
+ghost use Rattle.bx_commands.specs.Command.{IsNear};
 
 use crate::expected::{job_of, run_job, words};
 use crate::sessions::{MemSession, open, run, trio};

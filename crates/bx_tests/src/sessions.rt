@@ -1,6 +1,6 @@
 //! Sessions in memory, and commands on them.
 ghost use Rattle.std.specs.Prelude.{All};
-ghost use Rattle.bx_cli.specs.Command.{IsNear};
+ghost use Rattle.bx_commands.specs.Command.{IsNear};
 
 use bx_cli::{Command, Fault, Reply, run_all};
 use bx_image::MemImage;

@@ -10,7 +10,8 @@ use Rattle.std.specs.Str.Parse.{AllDigits}
 use Rattle.std.proofs.Math.Nat.{pow-le-pow_right}
 use Rattle.std.proofs.lemmas.Int.Digits.{digits_value-lt}
 use Rattle.std.proofs.lemmas.List.{get_or-drop, drop-drop, length-drop}
-use Rattle.bx_text.specs.Number.{factors_of, product_of, some_digits, hex_number}
+use Rattle.bx_text.specs.Number.{product_of, some_digits, hex_number}
+use Rattle.bx_text.specs.inner.Number.{factors_of}
 use Rattle.bx_text.specs.inner.Capped.{capped, capped_value}
 use Rattle.bx_text.specs.declared.number.size.SizeStyle.TheVariants.{Product}
 

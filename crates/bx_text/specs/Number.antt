@@ -1,8 +1,8 @@
 -- How numbers are read.
 use Rattle.std.specs.Prelude.{ℕ, ◌*◌, ◌^◌, ◌-◌, ◌==◌, ◌&&◌, ◌||◌, nat_lt, nat_le, if◌then◌else◌, List, [], ◌∷◌, length, take, drop, Option, None, Some, Result, Ok, Err}
-use Rattle.std.specs.Option.{option_map, option_and_then}
+use Rattle.std.specs.Option.{option_map, option_map_or, option_and_then}
 use Rattle.std.specs.Char.{is_digit}
-use Rattle.std.specs.List.{prefix_len}
+use Rattle.std.specs.List.{prefix_len, slice_split}
 use Rattle.std.specs.Str.Parse.{digits_value}
 use Rattle.bx_text.specs.declared.number.size.SizeStyle.{SizeStyle}
 use Rattle.bx_text.specs.declared.number.size.SizeStyle.TheVariants.{Count, Bare, Product}
@@ -15,19 +15,14 @@ digit_count base text = prefix_len (λ c. is_digit c base) text
 
 -- the number that 1 to 16 hexadecimal digits write
 abbrev pub hex_number : List ℕ → Option ℕ
-hex_number text =
-    if nat_lt 0 (length text) && nat_le (length text) 16 && (digit_count 16 text == length text) then Some (digits_value 16 text) else None
+hex_number text = if nat_lt 0 (length text) && nat_le (length text) 16 && (digit_count 16 text == length text) then Some (digits_value 16 text) else None
 
 -- what a suffix multiplies by in each style; b, k, m, and K, M, G
 abbrev pub unit_of : SizeStyle → ℕ → Option ℕ
 unit_of Count c = if c == 98 then Some 512 else if c == 107 then Some 1024 else if c == 109 then Some (1024 * 1024) else None
 unit_of Bare c = None
-unit_of Product c =
-    if c == 98 then Some 512
-    else if c == 107 || c == 75 then Some 1024
-    else if c == 77 then Some (1024 * 1024)
-    else if c == 71 then Some (1024 * 1024 * 1024)
-    else None
+unit_of Product c = if c == 98 then Some 512 else if c == 107 || c == 75 then Some 1024 else if c == 77 then Some (1024 * 1024) else
+    if c == 71 then Some (1024 * 1024 * 1024) else None
 
 -- the same of what follows the digits: nothing, or one suffix
 abbrev pub units_of : SizeStyle → List ℕ → Option ℕ
@@ -54,38 +49,21 @@ abbrev pub prefixed : SizeStyle → List ℕ → Option ℕ
 prefixed style [] = None
 prefixed style (c ∷ text) = if c == 48 then after_zero style text else some_digits style 10 (c ∷ text)
 
--- a character in front of the first part
-abbrev pub in_first : ℕ → List (List ℕ) → List (List ℕ)
-in_first c [] = (c ∷ []) ∷ []
-in_first c (part ∷ parts) = (c ∷ part) ∷ parts
-
--- the parts between letters x
-abbrev pub factors_of : List ℕ → List (List ℕ)
-factors_of [] = [] ∷ []
-factors_of (c ∷ text) = if c == 120 then [] ∷ factors_of text else in_first c (factors_of text)
-
 -- the product of decimal numbers
 abbrev pub product_of : List (List ℕ) → Option ℕ
 product_of [] = Some 1
 product_of (part ∷ parts) = option_and_then (λ first. option_map (λ rest. first * rest) (product_of parts)) (some_digits Product 10 part)
 
--- the number that a text writes, however large, or none where the text isn't of the form
+-- the number that a text writes, however large, or none where the text isn't of the form; a product has the letter x between two factors
 abbrev pub size_value : SizeStyle → List ℕ → Option ℕ
-size_value Count text = prefixed Count text
-size_value Bare text = prefixed Bare text
-size_value Product text = product_of (factors_of text)
+size_value Product text = product_of (slice_split (λ c. c == 120) text)
+size_value style text = prefixed style text
 
 -- the greatest number of each style
 abbrev pub greatest : SizeStyle → ℕ
-greatest Count = 2 ^ 62
-greatest Bare = 2 ^ 62
 greatest Product = 2 ^ 40 - 1
+greatest style = 2 ^ 62
 
--- the number, if it isn't too large
-abbrev pub within : ℕ → Option ℕ → Result ℕ SizeFault
-within most None = Err Bad
-within most (Some n) = if nat_le n most then Ok n else Err TooLarge
-
--- What is read of a text in a style.
+-- What is read of a text in a style: the number, if it isn't too large.
 abbrev pub read_size : SizeStyle → List ℕ → Result ℕ SizeFault
-read_size style text = within (greatest style) (size_value style text)
+read_size style text = option_map_or (λ n. if nat_le n (greatest style) then Ok n else Err TooLarge) (size_value style text) (Err Bad)

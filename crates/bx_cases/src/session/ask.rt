@@ -1,6 +1,6 @@
 //! What a case asks a session for: commands, changes that no command makes, the log.
 ghost use Rattle.std.specs.Prelude.{IfOk, IfSome};
-ghost use Rattle.bx_cli.specs.Command.{IsNear};
+ghost use Rattle.bx_commands.specs.Command.{IsNear};
 
 use crate::report::compare::{Wrong, differs, fault_text};
 use crate::session::MANY;

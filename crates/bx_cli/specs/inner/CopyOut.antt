@@ -4,9 +4,9 @@ use Rattle.bx_text.specs.declared.fault.IoFault.{IoFault}
 use Rattle.bx_dd.specs.declared.stream.counts.Counts.{Counts}
 use Rattle.bx_dd.specs.declared.operands.plan.Plan.{Plan}
 use Rattle.bx_dd.specs.Streaming.{IsCopy, StopsCopy}
-use Rattle.bx_cli.specs.declared.fault.Fault.{Fault}
-use Rattle.bx_cli.specs.declared.fault.Fault.TheVariants.{SeekWithoutOutput}
-use Rattle.bx_cli.specs.Fault.{of_io}
+use Rattle.bx_commands.specs.declared.fault.Fault.{Fault}
+use Rattle.bx_commands.specs.declared.fault.Fault.TheVariants.{SeekWithoutOutput}
+use Rattle.bx_commands.specs.Fault.{of_io}
 
 -- the plan seeks nowhere, and what it makes of the input was written
 abbrev pub CopiesOut : {A : Type 0} → Plan A → Option (List ℕ) → Option (List ℕ) → Option (List ℕ) → Option (List ℕ) → Counts → Type 0

@@ -1,6 +1,6 @@
 -- What proofs alone need: what operands ask for, in its parts.
 use Rattle.std.specs.Prelude.{ℕ, ◌+◌, Bool, not, ◌==◌, ◌&&◌, ◌||◌, if◌then◌else◌, List, codes, nat_lt, Option, None, Some, Result}
-use Rattle.std.specs.List.{position_or_len}
+use Rattle.std.specs.List.{position_or_len, slice_split}
 use Rattle.bx_dd.specs.declared.convert.form.Letters.{Letters}
 use Rattle.bx_dd.specs.declared.convert.form.Letters.TheVariants.{Keep, Upper, Lower}
 use Rattle.bx_dd.specs.declared.convert.form.Shape.{Shape}
@@ -9,6 +9,10 @@ use Rattle.bx_dd.specs.Operands.{block_size, converts, is_given, is_named, check
 use Rattle.bx_dd.specs.declared.fault.DdFault.{DdFault}
 use Rattle.bx_dd.specs.declared.fault.DdFault.TheVariants.{NumberTooLarge, ZeroSize}
 use Rattle.bx_text.specs.declared.number.size.SizeFault.{SizeFault}
+
+-- the words of `conv`
+abbrev pub parts_of : List ℕ → List (List ℕ)
+parts_of value = slice_split (λ b. b == 44) value
 
 -- the byte `=`
 abbrev pub is_equals : ℕ → Bool

@@ -4,6 +4,7 @@ use Rattle.std.specs.Io.KnownBytes.{Appends}
 use Rattle.std.specs.declared.result.Result.{Result}
 use Rattle.bx_text.specs.declared.fault.IoFault.{IoFault}
 use Rattle.bx_text.specs.Writing.{WritesFront}
+use Rattle.bx_text.specs.declared.stream.Meter.{Meter}
 use Rattle.bx_dd.specs.declared.convert.form.Form.{Form}
 use Rattle.bx_dd.specs.declared.convert.form.Shape.{Shape}
 use Rattle.bx_dd.specs.declared.convert.form.Shape.TheVariants.{Block}
@@ -81,9 +82,10 @@ StopsStageOf form w0 w1 pending page0 kept0 tail outcome =
     (input : List ℕ) (start : Option (List ℕ)) → StageBy form start w0 input pending page0 kept0 tail → IfErr outcome (StopsStage form start w1 input)
 
 -- the rest of an input was read and stands converted
-abbrev pub PassesBy : {A : Type 0} → Form → ℕ → ℕ → ℕ → Option (List ℕ) → Option (List ℕ) → Option (List ℕ) → Option (List ℕ) → List ℕ → Page A → List ℕ → Tail → Type 0
-PassesBy form most before after r0 r1 w0 w1 pending page kept tail =
-    Passes form most before after r0 r1 w0 w1 pending page.bytes.items page.written kept tail.over tail.cut
+abbrev pub PassesBy : {A R W E : Type 0} → Form → ℕ → Meter → Meter → (R → Option (List ℕ)) → R → R → (W → Option (List ℕ)) → W → W → List ℕ → Page A → List ℕ → Result Turn E → Type 0
+PassesBy form most before after remaining r0 r1 contents w0 w1 buf page kept outcome =
+    IfOk outcome (λ t. Passes form most before.taken after.taken (remaining r0) (remaining r1) (contents w0) (contents w1)
+    (take t.have buf) page.bytes.items page.written kept t.tail.over t.tail.cut)
 
 -- More was read, whatever stood so: of all of it whole units flow, and the rest is pending.
 abbrev pub GoesOn : {A E : Type 0} → Form → Option (List ℕ) → Option (List ℕ) → List ℕ → List ℕ → Page A → Page A → List ℕ → List ℕ → Tail → Result Turn E → Type 0

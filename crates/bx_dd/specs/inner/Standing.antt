@@ -1,10 +1,19 @@
 -- What proofs alone need: where a conversion stands once some blocks were given to it.
-use Rattle.std.specs.Prelude.{ℕ, ◌<◌, ◌≤◌, ◌≢◌, ◌==◌, Bool, if◌then◌else◌, List, [], ◌++◌, length, slice_index}
+use Rattle.std.specs.Prelude.{ℕ, ◌-◌, ◌<◌, ◌≤◌, ◌≢◌, ◌==◌, Bool, if◌then◌else◌, List, [], ◌++◌, length, take, drop, slice_index}
 use Rattle.bx_dd.specs.Standing.{Stands}
 use Rattle.bx_dd.specs.declared.convert.form.Shape.{Shape}
 use Rattle.bx_dd.specs.declared.convert.form.Shape.TheVariants.{Flat, Block, Unblock}
-use Rattle.bx_dd.specs.Output.{fitted, line_of}
+use Rattle.bx_dd.specs.Output.{unfinished}
+use Rattle.bx_dd.specs.inner.Output.{fitted, line_of}
 use Rattle.bx_dd.specs.declared.convert.form.Form.{Form}
+
+-- the bytes of the records that are finished
+abbrev pub finished : Shape → ℕ → List ℕ → List ℕ
+finished shape size bytes = take (length bytes - unfinished shape size bytes) bytes
+
+-- the bytes after them
+abbrev pub rest_of : Shape → ℕ → List ℕ → List ℕ
+rest_of shape size bytes = drop (length bytes - unfinished shape size bytes) bytes
 
 -- what the end of the input gives of a record that was kept
 abbrev pub last_of : Shape → ℕ → List ℕ → List ℕ

@@ -1,5 +1,6 @@
 -- What proofs alone need: what a transfer reads, and what it makes of that.
-use Rattle.std.specs.Prelude.{◌≡◌, ℕ, ◌+◌, ◌*◌, ◌≤◌, List, length, Option, ◌⊎◌}
+use Rattle.std.specs.Prelude.{◌≡◌, ℕ, ◌+◌, ◌*◌, ◌≤◌, List, length, take, drop, Option, IfSome, MatchOption, ◌⊎◌}
+use Rattle.std.specs.Option.{option_map_or}
 use Rattle.std.specs.Io.KnownBytes.{Consumes, IsAtEnd}
 use Rattle.bx_text.specs.declared.stream.Meter.{Meter}
 use Rattle.bx_text.specs.declared.stream.State.{State}
@@ -8,7 +9,19 @@ use Rattle.bx_dd.specs.declared.fault.DdFault.{DdFault}
 use Rattle.bx_dd.specs.Standing.{IsAfter, Progress}
 use Rattle.bx_dd.specs.Transfer.{IsStopCause}
 
--- the same, and no more than `most` bytes were read
+-- what follows `skip` blocks, at most `count` blocks of it
+abbrev pub selected : ℕ → ℕ → Option ℕ → List ℕ → List ℕ
+selected ibs skip count input = option_map_or (λ n. take (n * ibs) (drop (skip * ibs) input)) count (drop (skip * ibs) input)
+
+-- the input's end was reached, or that of skip and count
+abbrev pub IsReadOut : Option (List ℕ) → ℕ → ℕ → Option ℕ → List ℕ → Type 0
+IsReadOut new ibs skip count input = MatchOption count (IsAtEnd new) (λ n. (length input ≡ (skip + n) * ibs) ⊎ IsAtEnd new)
+
+-- no more was read than skip and count ask for
+abbrev pub IsWithin : ℕ → ℕ → Option ℕ → List ℕ → Type 0
+IsWithin ibs skip count input = IfSome count (λ n. length input ≤ (skip + n) * ibs)
+
+-- some bytes were read before the fault, no more than `most` of them bytes were read
 abbrev pub StopsWithin : ℕ → Option (List ℕ) → Option (List ℕ) → ℕ → DdFault → Type 0
 StopsWithin most old new room fault = (bytes : List ℕ) × Consumes old new bytes × IsStopCause fault room (length bytes) × (length bytes ≤ most)
 

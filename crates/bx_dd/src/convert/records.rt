@@ -1,6 +1,6 @@
 //! Records of a stream.
 ghost use Rattle.std.specs.Prelude.{◌≡◌, ◌≢◌, ℕ, ◌+◌, ◌-◌, ◌*◌, ◌^◌, ◌<◌, ◌≤◌, List, [], ◌∷◌, ◌++◌, length, take, vec_capacity, Option, IfOk, IfErr, OnOk, Bool, false, slice_index};
-ghost use Rattle.bx_dd.specs.Output.{fitted, line_of};
+ghost use Rattle.bx_dd.specs.inner.Output.{fitted, line_of};
 ghost use Rattle.bx_dd.specs.inner.Standing.{HoldsText, last_of};
 ghost use Rattle.bx_dd.specs.inner.Paged.{EndsRecord, Pushes, PushesPieces, Puts, StopsPieces, StopsPush, StopsPut};
 ghost use Rattle.bx_dd.specs.declared.convert.form.Shape.TheVariants.{Flat, Block, Unblock};

@@ -326,9 +326,7 @@ fn copy_units<R: Read, W: Write, A: Allocator, B: Allocator>(
     ensures part { IfOk result (λ t. form.shape ≡ Unblock → length held.new.items < form.cbs) }
     ensures space { vec_capacity held.old ≤ vec_capacity held.new }
     ensures limit { meter.new.limit ≡ 2 ^ 40 }
-    ensures ok { IfOk result (λ t.
-        PassesBy form most meter.old.taken meter.new.taken (R.remaining r.old) (R.remaining r.new) (W.contents w.old) (W.contents w.new)
-        (take t.have buf.new) page.new held.new.items t.tail) }
+    ensures ok { PassesBy form most meter.old meter.new R.remaining r.old r.new W.contents w.old w.new buf.new page.new held.new.items result }
     ensures err { IfErr result (StopsPass form most meter.old.taken (R.remaining r.old) (R.remaining r.new) (W.contents w.old) (W.contents w.new)) }
 {
     let mut turn = Turn {

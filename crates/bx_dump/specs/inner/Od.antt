@@ -1,11 +1,16 @@
--- What proofs alone need: how wide the fields of od are.
-use Rattle.std.specs.Prelude.{ℕ}
+-- What proofs alone need: how wide the fields of od are, and what stands for some values.
+use Rattle.std.specs.Prelude.{ℕ, List, ◌∷◌}
+use Rattle.bx_dump.specs.Lines.{in_lines}
 use Rattle.bx_dump.specs.declared.od.options.NumForm.{NumForm}
 use Rattle.bx_dump.specs.declared.od.options.NumForm.TheVariants as form
 use Rattle.bx_dump.specs.declared.od.options.Size.{Size}
 use Rattle.bx_dump.specs.declared.od.options.Kind.{Kind}
 use Rattle.bx_dump.specs.declared.od.options.Kind.TheVariants.{Chars, Number}
-use Rattle.bx_dump.specs.Od.{by_size}
+use Rattle.bx_dump.specs.Od.{by_size, field_text, width_of}
+
+-- how many bytes a value of this size has
+abbrev pub size_of : Size → ℕ
+size_of size = by_size size 1 2 4 8
 
 -- how wide the field of a value is
 abbrev pub number_width : NumForm → Size → ℕ
@@ -18,3 +23,11 @@ number_width form.Signed size = by_size size 4 6 11 20
 abbrev pub field_width : Kind → ℕ
 field_width Chars = 3
 field_width (Number form size) = number_width form size
+
+-- a space and the field, wherever it stands
+abbrev pub value_text : Kind → ℕ → List ℕ → List ℕ
+value_text kind at bytes = 32 ∷ field_text kind bytes
+
+-- the values of some bytes
+abbrev pub values_text : Kind → List ℕ → List ℕ
+values_text kind bytes = in_lines (value_text kind) (width_of kind) 0 bytes

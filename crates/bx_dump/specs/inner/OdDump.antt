@@ -1,10 +1,10 @@
 -- What proofs alone need: what od reads, and why it stops.
-use Rattle.std.specs.Prelude.{◌≡◌, ℕ, ◌^◌, ◌⊎◌, false, List, Option}
+use Rattle.std.specs.Prelude.{◌≡◌, ℕ, ◌^◌, ◌⊎◌, List, Option}
 use Rattle.bx_text.specs.declared.fault.IoFault.{IoFault}
 use Rattle.bx_text.specs.declared.fault.IoFault.TheVariants.{SkipPastEnd}
 use Rattle.bx_text.specs.Fold.{folded}
 use Rattle.bx_dump.specs.Od.{od_line}
-use Rattle.bx_dump.specs.Pages.{Skips}
+use Rattle.bx_dump.specs.OdDump.{EndsBefore}
 use Rattle.bx_dump.specs.inner.Pages.{StopsAt, StopsNext, WritesNext}
 use Rattle.bx_dump.specs.declared.driver.pages.Part.{Part}
 use Rattle.bx_dump.specs.declared.od.options.OdOptions.{OdOptions}
@@ -23,4 +23,4 @@ StopsOdLines o taken r0 r1 w0 w1 fault = StopsNext (od_lines o) taken o.limit 0 
 
 -- the input ended among the bytes to skip, or a read stopped
 abbrev pub StopsShort : ℕ → Option (List ℕ) → Option (List ℕ) → IoFault → Type 0
-StopsShort count r0 r1 fault = (fault ≡ SkipPastEnd) × Skips false count r0 r1 ⊎ StopsAt count (2 ^ 40) r0 r1 fault
+StopsShort count r0 r1 fault = (fault ≡ SkipPastEnd) × EndsBefore count r0 r1 ⊎ StopsAt count (2 ^ 40) r0 r1 fault

@@ -1,10 +1,42 @@
 -- What proofs alone need: what a dump of a part of an input reads and writes.
-use Rattle.std.specs.Prelude.{◌≡◌, ℕ, ◌+◌, ◌^◌, ◌≤◌, ◌⊎◌, List, length, Option, None, Some, Result, IfOk, IfErr}
+use Rattle.std.specs.Prelude.{◌≡◌, ℕ, ◌+◌, ◌^◌, ◌<◌, ◌≤◌, ◌⊎◌, Bool, true, false, List, length, take, Option, None, Some, IfSome, Result, IfOk, IfErr, MatchOption}
+use Rattle.std.specs.Option.{option_map_or}
 use Rattle.std.specs.Io.KnownBytes.{Appends, Consumes, IsAtEnd}
 use Rattle.bx_text.specs.declared.fault.IoFault.{IoFault}
 use Rattle.bx_text.specs.Stream.{IsReadCause}
-use Rattle.bx_dump.specs.Pages.{WritesPart, WritesFrontBut, capped, part_of}
+use Rattle.bx_dump.specs.Pages.{part_of}
+use Rattle.bx_dump.specs.inner.Dumped.{IsDumpFault, KeepsUp}
 use Rattle.bx_dump.specs.declared.driver.pages.Part.{Part}
+
+-- at most so many of the bytes
+abbrev pub capped : Option ℕ → List ℕ → List ℕ
+capped limit bytes = option_map_or (λ most. take most bytes) limit bytes
+
+-- n bytes were read: all up to the input's end, or as many as are skipped and dumped at most
+abbrev pub IsEndOf : ℕ → Option ℕ → ℕ → Option (List ℕ) → Type 0
+IsEndOf skip limit n from = MatchOption limit (IsAtEnd from) (λ most. (n ≤ skip + most) × (IsAtEnd from ⊎ (n ≡ skip + most)))
+
+-- The input was read as far as its part needs, and its whole text was written.
+pub record WritesPart (text : List ℕ → List ℕ) (skip : ℕ) (limit : Option ℕ) (r0 r1 w0 w1 : Option (List ℕ)) (read written : ℕ) : Type 0 where
+  pub input : List ℕ
+  pub consumed : Consumes r0 r1 input
+  pub ends : IsEndOf skip limit (length input) r1
+  pub few : length input ≤ 2 ^ 40
+  pub dumped : length (part_of skip limit input) ≡ read
+  pub appended : Appends w0 w1 (text input)
+  pub long : length (text input) ≡ written
+
+-- Some input was read after `from` bytes, no more of it than skip and limit ask for, and a front of its text was written
+-- after `before` bytes, which the fault counts too; reading is no more than a block ahead.
+pub record WritesFrontBut (slack : ℕ) (text : List ℕ → List ℕ) (skip : ℕ) (limit : Option ℕ) (from before : ℕ) (r0 r1 w0 w1 : Option (List ℕ)) (fault : IoFault) : Type 0 where
+  pub input : List ℕ
+  pub written : ℕ
+  pub consumed : Consumes r0 r1 input
+  pub asked : IfSome limit (λ most. length input ≤ skip + most)
+  pub within : written ≤ length (text input)
+  pub appended : Appends w0 w1 (take written (text input))
+  pub cause : IsDumpFault fault (from + length input) (before + written) (before + length (text input))
+  pub ahead : KeepsUp slack text input written fault
 
 -- n bytes were dumped: all up to the input's end, or as many as may be
 abbrev pub IsLast : Option ℕ → ℕ → Option (List ℕ) → Type 0
@@ -53,3 +85,11 @@ pub record StopsAt (wanted room : ℕ) (r0 r1 : Option (List ℕ)) (fault : IoFa
   pub input : List ℕ
   pub consumed : Consumes r0 r1 input
   pub cause : IsReadCause fault wanted room (length input)
+
+-- Bytes were skipped: all that were asked for, or fewer up to the input's end.
+pub record Skips (all : Bool) (count : ℕ) (r0 r1 : Option (List ℕ)) : Type 0 where
+  pub input : List ℕ
+  pub consumed : Consumes r0 r1 input
+  pub few : length input ≤ 2 ^ 40
+  pub whole : all ≡ true → length input ≡ count
+  pub short : all ≡ false → (length input < count) × IsAtEnd r1

@@ -1,7 +1,7 @@
 //! Dumps of whole inputs, a page at a time.
 ghost use Rattle.std.specs.Prelude.{◌≡◌, ℕ, zero, suc, ◌+◌, ◌*◌, ◌/◌, ◌^◌, ◌<◌, ◌≤◌, Bool, true, false, List, [], ◌++◌, length, take, IsTrue, if◌then◌else◌};
-ghost use Rattle.bx_text.specs.Fold.{line_count, folded};
-ghost use Rattle.bx_text.specs.inner.Fold.{IsTaken};
+ghost use Rattle.bx_text.specs.Fold.{folded};
+ghost use Rattle.bx_text.specs.inner.Fold.{line_count, IsTaken};
 ghost use Rattle.bx_dump.specs.inner.Folded.{PutsLines, PutsNext, ShowsNext, TakesLines, TakesNext};
 
 use crate::driver::pages::{BLOCK, Pages};

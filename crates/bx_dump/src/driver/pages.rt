@@ -1,7 +1,6 @@
 //! Dumps of inputs, a page of text at a time.
 ghost use Rattle.std.specs.Prelude.{◌≡◌, ℕ, ◌+◌, ◌-◌, ◌*◌, ◌^◌, ◌<◌, ◌≤◌, true, List, [], ◌++◌, length, take, Option, IfOk, IfErr, IfSome, Some};
-ghost use Rattle.bx_dump.specs.Pages.{Skips};
-ghost use Rattle.bx_dump.specs.inner.Pages.{StopsAt, StopsOn, StopsPart, WritesOn, WritesTextOf};
+ghost use Rattle.bx_dump.specs.inner.Pages.{Skips, StopsAt, StopsOn, StopsPart, WritesOn, WritesTextOf};
 
 use bx_text::{IoFault, Meter, State, emit_after};
 use std::io::{Read, Write};

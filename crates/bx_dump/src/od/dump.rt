@@ -2,7 +2,8 @@
 ghost use Rattle.std.specs.Prelude.{◌≡◌, ◌+◌, ◌^◌, ◌<◌, ◌≤◌, true, length, IfOk, IfErr, OnOk};
 ghost use Rattle.bx_dump.specs.OdDump.{FailsBehind, Reaches, StopsOd, od_of};
 ghost use Rattle.bx_dump.specs.inner.OdDump.{StopsOdLines, StopsShort, WritesOdLines};
-ghost use Rattle.bx_dump.specs.Pages.{Skips, WritesAll};
+ghost use Rattle.bx_dump.specs.Pages.{WritesAll};
+ghost use Rattle.bx_dump.specs.inner.Pages.{Skips};
 
 use crate::driver::folded::FoldedPages;
 use crate::driver::pages::{BLOCK, LIMIT, PAGE, Part, dump_pages, skip};

@@ -1,7 +1,7 @@
 //! od's hexadecimal values, lane by lane.
 ghost use Rattle.std.specs.Prelude.{◌≡◌, ◌≤◌, length, take};
 ghost use Rattle.bx_dump.specs.inner.Cells.{ShowsValues};
-ghost use Rattle.bx_dump.specs.Od.{values_text};
+ghost use Rattle.bx_dump.specs.inner.Od.{values_text};
 
 use crate::hex_lanes::put_sixteen;
 use crate::od::options::{Kind, NumForm, Size};

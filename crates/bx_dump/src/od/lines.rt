@@ -1,7 +1,8 @@
 //! od's lines.
 ghost use Rattle.std.specs.Prelude.{◌≡◌, ℕ, ◌+◌, ◌-◌, ◌*◌, ◌^◌, ◌<◌, ◌≤◌, ◌++◌, List, length, take, codes};
 ghost use Rattle.bx_dump.specs.Lines.{in_lines};
-ghost use Rattle.bx_dump.specs.Od.{address_text, od_line, od_end, value_text, width_of};
+ghost use Rattle.bx_dump.specs.Od.{address_text, od_line, od_end, width_of};
+ghost use Rattle.bx_dump.specs.inner.Od.{value_text};
 
 use crate::driver::folded::Form;
 use crate::od::octal::{put_eight, put_nine, put_seven};

@@ -1,7 +1,7 @@
 //! od's octal values of two bytes, lane by lane.
 ghost use Rattle.std.specs.Prelude.{◌≡◌, ◌+◌, ◌*◌, ◌/◌, ◌%◌, ◌^◌, ◌<◌, ◌≤◌, [], ◌∷◌, length, map, take};
 ghost use Rattle.bx_dump.specs.inner.Cells.{by_twos, octal_cells};
-ghost use Rattle.bx_dump.specs.Od.{values_text};
+ghost use Rattle.bx_dump.specs.inner.Od.{values_text};
 
 use crate::od::options::{Kind, NumForm, Size};
 use std::simd::prelude::*;

@@ -58,7 +58,8 @@ pub struct OdOptions {
 }
 
 impl Size {
-    ghost use Rattle.bx_dump.specs.Od.{size_of, by_size};
+    ghost use Rattle.bx_dump.specs.Od.{by_size};
+    ghost use Rattle.bx_dump.specs.inner.Od.{size_of};
 
     /// How many bytes these are.
     #[inline(always)]

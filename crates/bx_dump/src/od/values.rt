@@ -1,8 +1,8 @@
 //! The values of a line.
 ghost use Rattle.std.specs.Prelude.{◌≡◌, ℕ, ◌+◌, ◌-◌, ◌*◌, ◌^◌, ◌<◌, ◌≤◌, ◌∷◌, length, take, drop, min};
 ghost use Rattle.bx_dump.specs.Lines.{in_lines};
-ghost use Rattle.bx_dump.specs.Od.{value_of, width_of, field_text, value_text};
-ghost use Rattle.bx_dump.specs.inner.Od.{field_width};
+ghost use Rattle.bx_dump.specs.Od.{value_of, width_of, field_text};
+ghost use Rattle.bx_dump.specs.inner.Od.{field_width, value_text};
 
 use crate::od::byte_tables::char_of;
 use crate::od::fixed::put_number;

@@ -2,8 +2,8 @@
 ghost use Rattle.std.specs.Prelude.{◌≡◌, ◌+◌, ◌^◌, ◌<◌, ◌≤◌, ◌++◌, false, map, length, codes};
 ghost use Rattle.std.specs.Fmt.{digits};
 ghost use Rattle.bx_dump.specs.inner.Emitting.{Emits};
-ghost use Rattle.bx_dump.specs.Styles.{c_name, name_front};
-ghost use Rattle.bx_dump.specs.inner.Styles.{name_byte, include_head, include_tail};
+ghost use Rattle.bx_dump.specs.Styles.{c_name};
+ghost use Rattle.bx_dump.specs.inner.Styles.{name_front, name_byte, include_head, include_tail};
 
 use bx_text::{IoFault, ShortText, dec_field, emit_after};
 use std::io::Write;

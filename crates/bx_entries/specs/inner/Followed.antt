@@ -28,3 +28,16 @@ pub record GoesOnBy (len : ℕ) (rest : List ℕ) (old new : List Run) (count : 
 -- the runs, and one more behind them
 abbrev pub with_last : List Run → ℕ → List ℕ → List Run
 with_last front at bytes = front ++ record { at = at; bytes = bytes } ∷ []
+
+-- the same of the bytes of the last run, at this address, whatever runs are in front of it
+abbrev pub RunGoesOnBy : ℕ → List ℕ → ℕ → List ℕ → List ℕ → ℕ → Type 0
+RunGoesOnBy len rest at old new count = (front : List Run) → GoesOnBy len rest (with_last front at old) (with_last front at new) count
+
+-- So many full lines of a window from a place on go on with any run of this address and size: their bytes stand at the
+-- window's beginning, and what is behind the lines stays
+pub record IsGathered (len at size from : ℕ) (old new : List ℕ) (count : ℕ) : Type 0 where
+  pub within : from + 68 * count ≤ length old
+  pub same : length new ≡ length old
+  pub left : drop (from + 68 * count) new ≡ drop (from + 68 * count) old
+  pub goes_on : (front : List Run) (bytes : List ℕ) → length bytes ≡ size
+      → GoesOnBy len (drop from old) (with_last front at bytes) (with_last front at (bytes ++ take (16 * count) new)) count

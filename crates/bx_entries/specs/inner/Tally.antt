@@ -3,7 +3,7 @@ use Rattle.std.specs.Prelude.{◌≡◌, ℕ, Bool, IsTrue, Option, Some, List, 
 use Rattle.bx_entries.specs.declared.read.count.Place.{Place}
 use Rattle.bx_entries.specs.declared.read.count.Place.TheVariants.{Between as BetweenPlace, Saving as SavingPlace, Ending as EndingPlace}
 use Rattle.bx_entries.specs.declared.read.count.Tally.{Tally}
-use Rattle.bx_entries.specs.Text.{Entry, Stage, Between, Saving, Ending, Reading, next, split, start, after_lines}
+use Rattle.bx_entries.specs.Text.{Entry, Stage, Between, Saving, Ending, Reading, next, next_at, split, start, after_lines}
 use Rattle.bx_entries.specs.Parsed.{told_by}
 use Rattle.bx_entries.specs.Finished.{AllTell, IsFinished}
 
@@ -12,6 +12,10 @@ abbrev pub place_of : Stage → Place
 place_of Between = BetweenPlace
 place_of (Saving v s) = SavingPlace v s.len
 place_of (Ending v s) = EndingPlace v
+
+-- a line leads from a stage behind these entries to another behind them, which is seen as this place
+abbrev pub StaysIn : List Entry → Stage → List ℕ → Place → Type 0
+StaysIn es from line place = (s : Stage) × (next_at es from line ≡ Some (record { entries = es; stage = s })) × (place_of s ≡ place)
 
 -- a reading without what was saved
 abbrev pub tally_of : Reading → Tally

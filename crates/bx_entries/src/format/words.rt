@@ -111,8 +111,7 @@ fn is_same(text: &[u8], other: &[u8]) -> bool
 #[inline(always)]
 fn behind_number<'a>(word: &[u8], number: u32, line: &'a [u8]) -> Option<&'a [u8]>
     requires { length word.now ≤ 8 }
-    ensures { MatchOption result (behind_front (word.now ++ hex_digits 8 number ++ codes " ") line.now ≡ None)
-        (λ rest. behind_front (word.now ++ hex_digits 8 number ++ codes " ") line.now ≡ Some rest.now) }
+    ensures { let read = behind_front (word.now ++ hex_digits 8 number ++ codes " ") line.now in MatchOption result (read ≡ None) (λ rest. read ≡ Some rest.now) }
 {
     if line.len() < word.len() + 9 {
         return None;
@@ -152,7 +151,7 @@ pub fn is_numbered(word: &[u8], number: u32, line: &[u8]) -> bool
 #[tactic(auto, unfolding(crate::specs::Line::start_head))]
 #[inline(always)]
 pub fn behind_start(version: Version, number: u32, line: &[u8]) -> Option<&[u8]>
-    ensures { MatchOption result (behind_front (start_front version number) line.now ≡ None) (λ rest. behind_front (start_front version number) line.now ≡ Some rest.now) }
+    ensures { let read = behind_front (start_front version number) line.now in MatchOption result (read ≡ None) (λ rest. read ≡ Some rest.now) }
 {
     match version {
         Version::First => behind_number(b"change ", number, line),
@@ -164,7 +163,7 @@ pub fn behind_start(version: Version, number: u32, line: &[u8]) -> Option<&[u8]>
 #[tactic(auto, unfolding(crate::specs::Line::end_head))]
 #[inline(always)]
 pub fn behind_end(number: u32, line: &[u8]) -> Option<&[u8]>
-    ensures { MatchOption result (behind_front (end_front Version.Second number) line.now ≡ None) (λ rest. behind_front (end_front Version.Second number) line.now ≡ Some rest.now) }
+    ensures { let read = behind_front (end_front Version.Second number) line.now in MatchOption result (read ≡ None) (λ rest. read ≡ Some rest.now) }
 {
     behind_number(b"done2 ", number, line)
 }

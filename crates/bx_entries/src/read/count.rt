@@ -1,10 +1,10 @@
 //! One more line of a journal's text whose entries are counted, and of which nothing else is kept.
-ghost use Rattle.std.specs.Prelude.{◌≡◌, ◌+◌, ◌<◌, ◌≤◌, ◌++◌, ◌∷◌, List, ℕ, suc, length, take, drop, is_some, IsTrue, Some, IfSome, IfNone};
+ghost use Rattle.std.specs.Prelude.{◌≡◌, ◌+◌, ◌<◌, ◌≤◌, ◌++◌, ◌∷◌, List, suc, length, take, drop, is_some, IsTrue, Some, IfSome, IfNone};
 ghost use Rattle.bx_entries.specs.Kept.{Kept as Record};
 ghost use Rattle.bx_entries.specs.Line.{after_in as after_at};
 ghost use Rattle.bx_entries.specs.inner.Plain.{HasNoNewline};
-ghost use Rattle.bx_entries.specs.inner.Tally.{LeadsTo, tally_of, place_of};
-ghost use Rattle.bx_entries.specs.Text.{Between as Resting, Saving as Keeping, Entry, Reading, Stage, next, next_at};
+ghost use Rattle.bx_entries.specs.inner.Tally.{LeadsTo, StaysIn, tally_of};
+ghost use Rattle.bx_entries.specs.Text.{Between as Resting, Saving as Keeping, Entry, Reading};
 ghost use Rattle.bx_entries.specs.Parsed.{told_by};
 
 use crate::Version;
@@ -32,8 +32,7 @@ pub struct Tally {
 #[inline]
 fn start(number: u32, told: Option<u64>, line: &[u8]) -> Option<Place>
     requires { number ≤ 65535 }
-    ensures { (es : List Entry) → suc (length es) ≡ number → told ≡ told_by es
-        → IfSome result (λ p. (s : Stage) × (next_at es Resting line.now ≡ Some (record { entries = es; stage = s })) × (place_of s ≡ p)) }
+    ensures { (es : List Entry) → suc (length es) ≡ number → told ≡ told_by es → IfSome result (StaysIn es Resting line.now) }
 {
     if let Some(len) = begin(Version::First, number, told, line) {
         return Some(Place::Saving {
@@ -51,8 +50,7 @@ fn start(number: u32, told: Option<u64>, line: &[u8]) -> Option<Place>
 /// Where a line leads among the saved lines of an entry.
 #[inline]
 fn save(number: u32, version: Version, len: u64, line: &[u8]) -> Option<Place>
-    ensures { (es : List Entry) (s : Record) → suc (length es) ≡ number → s.len ≡ len
-        → IfSome result (λ p. (t : Stage) × (next_at es (Keeping version s) line.now ≡ Some (record { entries = es; stage = t })) × (place_of t ≡ p)) }
+    ensures { (es : List Entry) (s : Record) → suc (length es) ≡ number → s.len ≡ len → IfSome result (StaysIn es (Keeping version s) line.now) }
 {
     if is_save(number, line) {
         return Some(Place::Ending { version });

@@ -1,7 +1,6 @@
 //! A run in the memory of the text that it is read from: its bytes take the place of lines that were read.
-ghost use Rattle.std.specs.Prelude.{◌≡◌, ◌+◌, ◌*◌, ◌≤◌, ◌++◌, List, ℕ, length, take, drop, IfOk};
-ghost use Rattle.bx_entries.specs.Kept.{Run};
-ghost use Rattle.bx_entries.specs.inner.Followed.{GoesOnBy, with_last};
+ghost use Rattle.std.specs.Prelude.{◌≡◌, ◌+◌, ◌*◌, ◌≤◌, ◌++◌, length, take, drop, IfOk};
+ghost use Rattle.bx_entries.specs.inner.Followed.{RunGoesOnBy};
 
 use crate::read::full_lines::{ENDED, extend_run, next_full};
 use crate::read::text::{Unread, behind, rest_of};
@@ -28,7 +27,7 @@ struct Parted<A: Allocator = Global> {
 
 /// Puts bytes over those at a place.
 #[inline(always)]
-fn put_over(text: &mut [u8], at: usize, bytes: &[u8])
+pub fn put_over(text: &mut [u8], at: usize, bytes: &[u8])
     requires { at + length bytes.now ≤ length text.old }
     ensures { text.new ≡ take at text.old ++ bytes.now ++ drop (at + length bytes.now) text.old }
 {
@@ -43,7 +42,7 @@ fn extend_over(len: u64, at: u64, size: usize, from: usize, text: &mut [u8]) -> 
     ensures within { from + 68 * result ≤ length text.old }
     ensures same_length { length text.new ≡ length text.old }
     ensures kept { take size text.new ≡ take size text.old }
-    ensures goes_on { (front : List Run) → GoesOnBy len (drop from text.old) (with_last front at (take size text.old)) (with_last front at (take (size + 16 * result) text.new)) result }
+    ensures goes_on { RunGoesOnBy len (drop from text.old) at (take size text.old) (take (size + 16 * result) text.new) result }
     ensures left { drop (from + 68 * result) text.new ≡ drop (from + 68 * result) text.old }
 {
     let mut count = 0;
@@ -62,7 +61,7 @@ fn put_run(len: u64, at: u64, first: &[u8], from: usize, text: &mut [u8]) -> usi
     ensures within { from + 68 * result ≤ length text.old }
     ensures same_length { length text.new ≡ length text.old }
     ensures first { take (length first.now) text.new ≡ first.now }
-    ensures goes_on { (front : List Run) → GoesOnBy len (drop from text.old) (with_last front at first.now) (with_last front at (take (length first.now + 16 * result) text.new)) result }
+    ensures goes_on { RunGoesOnBy len (drop from text.old) at first.now (take (length first.now + 16 * result) text.new) result }
     ensures left { drop (from + 68 * result) text.new ≡ drop (from + 68 * result) text.old }
 {
     put_over(text, 0, first);
@@ -115,7 +114,7 @@ fn extend_apart<A: Allocator>(
     mut bytes: Vec<u8, A>,
     text: Unread<A>,
 ) -> Result<Extended<A>, NoMemory>
-    ensures goes_on { IfOk result (λ e. (front : List Run) → GoesOnBy len (drop text.from text.bytes.items) (with_last front at bytes.items) (with_last front at e.bytes.items) e.count) }
+    ensures goes_on { IfOk result (λ e. RunGoesOnBy len (drop text.from text.bytes.items) at bytes.items e.bytes.items e.count) }
     ensures left { IfOk result (λ e. drop e.text.from e.text.bytes.items ≡ drop (68 * e.count) (drop text.from text.bytes.items)) }
 {
     let count = extend_run(len, at, &mut bytes, rest_of(&text))?;
@@ -132,7 +131,7 @@ pub fn extend_in_place<A: Allocator + Clone>(
     bytes: Vec<u8, A>,
     text: Unread<A>,
 ) -> Result<Extended<A>, NoMemory>
-    ensures goes_on { IfOk result (λ e. (front : List Run) → GoesOnBy len (drop text.from text.bytes.items) (with_last front at bytes.items) (with_last front at e.bytes.items) e.count) }
+    ensures goes_on { IfOk result (λ e. RunGoesOnBy len (drop text.from text.bytes.items) at bytes.items e.bytes.items e.count) }
     ensures left { IfOk result (λ e. drop e.text.from e.text.bytes.items ≡ drop (68 * e.count) (drop text.from text.bytes.items)) }
 {
     let size = bytes.len();

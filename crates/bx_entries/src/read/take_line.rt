@@ -1,12 +1,9 @@
 //! One more line of a journal's text.
-ghost use Rattle.std.specs.Prelude.{◌≡◌, ◌+◌, ◌<◌, ◌≤◌, List, ℕ, length, map, IfOk, IfSome, IfNone, MatchOption, None, Some, suc, [], true, false};
-ghost use Rattle.bx_entries.specs.Kept.{run_of};
-ghost use Rattle.bx_entries.specs.declared.format.version.Version.{Version as Form};
-ghost use Rattle.bx_entries.specs.declared.read.types.EntryRead.{EntryRead as Finished};
-ghost use Rattle.bx_entries.specs.inner.Mark.{IsMark};
-ghost use Rattle.bx_entries.specs.Text.{Between as Resting, Saving as Keeping, Ending as Closing, Entry, Reading, begins as begun, next_at, next};
+ghost use Rattle.std.specs.Prelude.{◌≡◌, ◌+◌, ◌≤◌, List, length, IfOk, suc, []};
+ghost use Rattle.bx_entries.specs.Text.{Entry};
 ghost use Rattle.bx_entries.specs.Parsed.{told_by};
-ghost use Rattle.bx_entries.specs.inner.Parsed.{Leads, KeepsMarks, stage_of, reading_onto, entries_of, entries_onto, IsMarked, AreMarked};
+ghost use Rattle.bx_entries.specs.inner.Parsed.{entries_of, entries_onto};
+ghost use Rattle.bx_entries.specs.inner.TakeLine.{BeginsAs, EndKeepsMarks, EndLeads, EndStops, LeadsFrom, LineKeepsMarks, LineLeads, SavedKeepsMarks, StartKeepsMarks};
 
 use crate::format::line::{after_in, is_save, length_in, push_line, saved_in};
 use crate::{EntryRead, Front, StageRead, Version};
@@ -20,8 +17,7 @@ pub const MOST_CHANGES: u32 = 65_535;
 /// The length in a line that begins an entry of this version, where the entry may begin with it.
 #[inline]
 pub fn begin(version: Version, number: u32, told: Option<u64>, line: &[u8]) -> Option<u64>
-    ensures { (es : List Entry) → suc (length es) ≡ number → told ≡ told_by es → MatchOption result
-        (begun es version line.now ≡ None) (λ len. begun es version line.now ≡ Some (Keeping version (record { len = len; runs = [] }))) }
+    ensures { (es : List Entry) → suc (length es) ≡ number → told ≡ told_by es → BeginsAs es version line.now result }
 {
     let len = length_in(version, number, line)?;
     match told {
@@ -38,11 +34,8 @@ pub fn take_start<A: Allocator + Clone>(
     at: u64,
     line: &[u8],
 ) -> Result<Option<StageRead<A>>, NoMemory>
-    ensures leads { (es : List Entry) → suc (length es) ≡ number → told ≡ told_by es
-        → IfOk result (Leads (record { entries = es; stage = Resting }) line.now es) }
-    ensures marked { (text : List ℕ) (older : List Entry) (es : List (Finished A)) (after : ℕ) → IsMarked text older es StageRead.Between at
-        → suc (length older + length es) ≡ number → IsMark text at (record { entries = entries_onto older es; stage = Resting }) → at ≤ after
-        → IfOk result (KeepsMarks text older es after) }
+    ensures leads { (es : List Entry) → suc (length es) ≡ number → told ≡ told_by es → LeadsFrom es StageRead.Between line.now result }
+    ensures marked { StartKeepsMarks number at result }
 {
     if number > MOST_CHANGES {
         return Ok(None);
@@ -86,10 +79,8 @@ pub fn take_saved<A: Allocator + Clone>(
     after: u64,
     line: &[u8],
 ) -> Result<Option<StageRead<A>>, NoMemory>
-    ensures leads { (es : List Entry) → suc (length es) ≡ number
-        → IfOk result (Leads (record { entries = es; stage = Keeping version (record { len = len; runs = map run_of runs.items }) }) line.now es) }
-    ensures marked { (text : List ℕ) (older : List Entry) (es : List (Finished A)) (at : ℕ)
-        → IsMarked text older es (StageRead.Saving version len runs begins) at → at ≤ after → IfOk result (KeepsMarks text older es after) }
+    ensures leads { (es : List Entry) → suc (length es) ≡ number → LeadsFrom es (StageRead.Saving version len runs begins) line.now result }
+    ensures marked { SavedKeepsMarks (StageRead.Saving version len runs begins) after result }
 {
     if is_save(number, line) {
         let kept = Saved {
@@ -125,14 +116,9 @@ pub fn take_end<A: Allocator>(
     saved: u64,
     line: &[u8],
 ) -> Result<bool, NoMemory>
-    ensures taken { (older : List Entry) → suc (length older + length entries.old.items) ≡ number
-        → IfOk result (λ b. b ≡ true → next (reading_onto older entries.old.items (StageRead.Ending version kept begins saved)) line.now
-        ≡ Some (reading_onto older entries.new.items StageRead.Between)) }
-    ensures damaged { (older : List Entry) → suc (length older + length entries.old.items) ≡ number
-        → IfOk result (λ b. b ≡ false → next (reading_onto older entries.old.items (StageRead.Ending version kept begins saved)) line.now ≡ None) }
-    ensures marked { (text : List ℕ) (older : List Entry) (at after : ℕ)
-        → IsMarked text older entries.old.items (StageRead.Ending version kept begins saved) at → at ≤ after
-        → IfOk result (λ b. b ≡ true → IsMarked text older entries.new.items StageRead.Between after) }
+    ensures taken { EndLeads number entries.old.items (StageRead.Ending version kept begins saved) line.now entries.new.items result }
+    ensures damaged { EndStops number entries.old.items (StageRead.Ending version kept begins saved) line.now result }
+    ensures marked { EndKeepsMarks entries.old.items (StageRead.Ending version kept begins saved) entries.new.items result }
 {
     let Some(after) = after_in(version, number, line) else {
         return Ok(false);
@@ -162,10 +148,8 @@ pub fn take_line<A: Allocator + Clone>(
     line: &[u8],
 ) -> Result<Option<StageRead<A>>, NoMemory>
     requires few { front.count + length entries.old.items ≤ 65535 }
-    ensures leads { (older : List Entry) → front.count ≡ length older → front.told ≡ told_by older
-        → IfOk result (Leads (reading_onto older entries.old.items stage) line.now (entries_onto older entries.new.items)) }
-    ensures marked { (text : List ℕ) (older : List Entry) → front.count ≡ length older → IsMarked text older entries.old.items stage at
-        → IsMark text at (reading_onto older entries.old.items stage) → at ≤ after → IfOk result (KeepsMarks text older entries.new.items after) }
+    ensures leads { LineLeads front entries.old.items stage line.now entries.new.items result }
+    ensures marked { LineKeepsMarks front.count entries.old.items stage at after entries.new.items result }
 {
     let number = front.count + entries.len() as u32 + 1;
     match stage {

@@ -1,5 +1,9 @@
 -- What proofs alone need: bytes that stand in pages of 4,096 bytes.
-use Rattle.std.specs.Prelude.{◌≡◌, ◌<◌, ◌≤◌, ℕ, ◌+◌, List, length, slice_index}
+use Rattle.std.specs.Prelude.{◌≡◌, ◌<◌, ◌≤◌, ℕ, ◌+◌, ◌++◌, List, length, take, drop, slice_index}
+
+-- x with these bytes in place of those that stand at an address
+abbrev pub written_over : List ℕ → ℕ → List ℕ → List ℕ
+written_over x at bytes = take at x ++ bytes ++ drop (at + length bytes) x
 
 -- bytes were written over what stood at an address
 pub record IsWrittenOver (at : ℕ) (bytes : List ℕ) (old new : ℕ → ℕ) : Type 0 where

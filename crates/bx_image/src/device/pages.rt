@@ -2,7 +2,7 @@
 ghost use Rattle.std.specs.Prelude.{◌≡◌, ◌≢◌, ◌+◌, ◌*◌, ◌-◌, ◌<◌, ◌≤◌, ℕ, [], ◌^◌, ◌++◌, length, take, drop, replicate, slice_index, slice_index_or, vec_len, max, ◌%◌, OnOk, OnErr, IfOk, IsOk};
 ghost use Rattle.bx_image.specs.Image.{image_of, place, cut};
 ghost use Rattle.bx_image.specs.Pages.{byte_at, image_within};
-ghost use Rattle.bx_image.specs.inner.Pages.{IsWrittenOver, IsCleared};
+ghost use Rattle.bx_image.specs.inner.Pages.{IsWrittenOver, IsCleared, written_over};
 
 use crate::{Device, DeviceFailed, NoMemory};
 use std::alloc::{AllocError, Allocator, Global};
@@ -19,7 +19,7 @@ fn new_page<A: Allocator>(alloc: A) -> Result<Page<A>, AllocError>
 
 fn overwrite(part: &mut [u8], at: usize, bytes: &[u8])
     requires { at + length bytes.now ≤ length part.old }
-    ensures { part.new ≡ take at part.old ++ bytes.now ++ drop (at + length bytes.now) part.old }
+    ensures { part.new ≡ written_over part.old at bytes.now }
 {
     part[at..at + bytes.len()].copy_from_slice(bytes);
 }
@@ -27,7 +27,7 @@ fn overwrite(part: &mut [u8], at: usize, bytes: &[u8])
 fn write_in_page(page: &mut [u8; PAGE], offset: usize, bytes: &[u8])
     requires { offset + length bytes.now ≤ PAGE }
     ensures size { length page.old ≡ PAGE }
-    ensures page { page.new ≡ take offset page.old ++ bytes.now ++ drop (offset + length bytes.now) page.old }
+    ensures page { page.new ≡ written_over page.old offset bytes.now }
 {
     overwrite(page, offset, bytes);
 }
@@ -39,9 +39,7 @@ fn write_part<A: Allocator>(pages: &mut Vec<Page<A>, A>, index: usize, offset: u
     ensures len { vec_len pages.new ≡ vec_len pages.old }
     ensures others { (k : ℕ) (d : _) → k ≢ index → slice_index_or pages.new.items k d ≡ slice_index_or pages.old.items k d }
     ensures size { (d : _) → length (slice_index_or pages.old.items index d).value ≡ PAGE }
-    ensures page { (d : _) → (slice_index_or pages.new.items index d).value ≡
-        take offset (slice_index_or pages.old.items index d).value ++ bytes.now
-        ++ drop (offset + length bytes.now) (slice_index_or pages.old.items index d).value }
+    ensures page { (d : _) → (slice_index_or pages.new.items index d).value ≡ written_over (slice_index_or pages.old.items index d).value offset bytes.now }
 {
     let page = &mut pages[index];
     write_in_page(page, offset, bytes);

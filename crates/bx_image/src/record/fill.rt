@@ -1,10 +1,10 @@
 //! A record is made with zeros for its bytes, and filled later, when no memory may be taken.
-ghost use Rattle.std.specs.Prelude.{◌≡◌, ◌+◌, ◌<◌, ◌≤◌, List, ℕ, length, All, IfOk, OnOk, is_err};
+ghost use Rattle.std.specs.Prelude.{◌≡◌, ◌+◌, ◌<◌, ◌≤◌, ℕ, length, All, IfOk, OnOk, is_err};
 ghost use Rattle.bx_image.specs.declared.change.Change.{Change as ChangeOf};
 ghost use Rattle.bx_image.specs.Change.{saved, AllWithin, AreBytes, HaveBytes, IsOf, Restores};
 ghost use Rattle.bx_image.specs.Device.{GoesOn};
 ghost use Rattle.bx_image.specs.Image.{zeros};
-ghost use Rattle.bx_image.specs.Runs.{IsRunOf, AreRunsOf, LieBelow, HaveShape};
+ghost use Rattle.bx_image.specs.Runs.{IsRunOf, AreRunsOf, LieBelow, HaveShape, IsSavedAnew};
 ghost use Rattle.bx_image.specs.inner.Spans.{LieWithin, StandOver};
 
 use crate::record::spans::{Span, touched};
@@ -111,8 +111,7 @@ impl<A: Allocator> Saved<A> {
         ensures bytes { OnOk result (HaveBytes self.new.runs) }
         ensures read { D.honest device.old → OnOk result (AreRunsOf (D.image device.old) self.new.runs) }
         ensures kept { D.honest device.old → self.old.len ≡ length (D.image device.old) → OnOk result (IsOf self.new (D.image device.old)) }
-        ensures saved { D.honest device.old → OnOk result ((change : ChangeOf A) (x : List ℕ) → length x ≡ length (D.image device.old)
-            → self.old ≡ saved change x → self.new ≡ saved change (D.image device.old)) }
+        ensures saved { D.honest device.old → OnOk result (IsSavedAnew self.old self.new (D.image device.old)) }
         ensures image { D.honest device.old → D.image device.new ≡ D.image device.old }
         ensures goes_on { GoesOn D.honest D.room D.failures (is_err result) device.old device.new }
     {

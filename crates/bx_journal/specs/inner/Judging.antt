@@ -1,5 +1,5 @@
 -- What proofs alone need: whether a text is a redo text, and at which line it isn't.
-use Rattle.std.specs.Prelude.{◌≡◌, ◌⊎◌, ◌≤◌, ℕ, suc, ◌+◌, is_some, IsTrue, Option, None, List, [], ◌++◌, ◌∷◌, length, take}
+use Rattle.std.specs.Prelude.{◌≡◌, ◌⊎◌, ◌≤◌, ℕ, suc, ◌+◌, is_some, IsTrue, Option, None, Some, List, [], ◌++◌, ◌∷◌, length, take}
 use Rattle.bx_journal.specs.declared.session.fault.SessionFault.{SessionFault}
 use Rattle.bx_journal.specs.declared.session.fault.SessionFault.TheVariants.{NoMemory, TooLarge, DeviceFailed, Damaged, TooFew, JournalFull, Interrupted, Broken, LengthDiffers, NothingToRedo, RedoDamaged}
 use Rattle.bx_entries.specs.declared.read.types.EntryRead.{EntryRead}
@@ -96,3 +96,7 @@ pub record IsBeyondAt {A : Type 0} (es : List (EntryRead A)) (changes at : ℕ) 
 pub record IsUnfitFrom (text : List ℕ) (changes at : ℕ) : Type 0 where
   pub within : at ≤ length text
   pub unfit : IsUnfitAt text changes (suc (length (split (take at text)).lines))
+
+-- a device failed, or the text is damaged at its last line, which tells a length that the image, if honest, doesn't have
+abbrev pub LastLineFault : Type 0 → ℕ → Option ℕ → List ℕ → SessionFault → Type 0
+LastLineFault honest lines told x e = (e ≡ DeviceFailed) ⊎ ((e ≡ RedoDamaged lines) × (honest → (n : ℕ) × (told ≡ Some n) × (length x ≡ n → ⊥)))

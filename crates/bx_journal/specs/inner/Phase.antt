@@ -1,14 +1,14 @@
 -- What proofs alone need: the phases of a change and of an undo.
-use Rattle.std.specs.Prelude.{◌≡◌, ℕ, List, [], flat_map}
+use Rattle.std.specs.Prelude.{◌≡◌, ℕ, List, [], flat_map, Result, OnOk, OnErr}
 use Rattle.bx_entries.specs.Kept.{Kept, kept_of}
 use Rattle.bx_entries.specs.inner.Kept.{with_runs}
 use Rattle.bx_image.specs.declared.change.Change.{Change}
-use Rattle.bx_image.specs.Change.{restore, saved}
+use Rattle.bx_image.specs.Change.{Covers, IsAsGood, restore, saved}
 use Rattle.bx_entries.specs.declared.format.version.Version.{Version}
 use Rattle.bx_entries.specs.declared.format.version.Version.TheVariants.{Second}
 use Rattle.bx_entries.specs.Text.{Entry, Ending, Reads, split}
 use Rattle.bx_entries.specs.Entry.{rows}
-use Rattle.bx_journal.specs.Stack.{stack_of, IsSound, HaveLengths}
+use Rattle.bx_journal.specs.Stack.{stack_of, IsSound, HaveLengths, Recovers}
 
 -- The text ends with the save line of an entry that keeps s, and restoring s gives the image of the stack's top. The pair is sound.
 pub record IsOpen (v : Version) (s : Kept) (text x : List ℕ) (stack : List (List ℕ)) : Type 0 where
@@ -26,3 +26,23 @@ as_read s = record { len = s.len; runs = with_runs [] (flat_map rows s.runs) }
 -- the text is open on what the change takes from x
 abbrev pub IsOpenFor : {A : Type 0} → Change A → List ℕ → List ℕ → List ℕ → List (List ℕ) → Type 0
 IsOpenFor c x text y stack = IsOpen Second (as_read (kept_of (saved c x))) text y stack
+
+-- a pair that is open on what the change takes from x stays so
+abbrev pub StaysOpenFor : {A : Type 0} → Change A → List ℕ → List ℕ → Type 0
+StaysOpenFor c x y = (text : List ℕ) (stack : List (List ℕ)) → IsOpenFor c x text x stack → IsOpenFor c x text y stack
+
+-- and opening finds its stack
+abbrev pub RecoversOpenFor : {A V E : Type 0} → Change A → List ℕ → List ℕ → Result V E → Type 0
+RecoversOpenFor c x y result = (text : List ℕ) (stack : List (List ℕ)) → IsOpenFor c x text x stack → OnErr result (Recovers text y stack)
+
+-- a pair that is open on a record stays so
+abbrev pub StaysOpen : Kept → List ℕ → List ℕ → Type 0
+StaysOpen s x y = (v : Version) (text : List ℕ) (stack : List (List ℕ)) → IsOpen v s text x stack → IsOpen v s text y stack
+
+-- and opening finds its stack
+abbrev pub RecoversOpenOn : {V E : Type 0} → Kept → List ℕ → List ℕ → Result V E → Type 0
+RecoversOpenOn s x y result = (v : Version) (text : List ℕ) (stack : List (List ℕ)) → IsOpen v s text x stack → OnErr result (Recovers text y stack)
+
+-- restoring a record again gives the same, where it was done once
+abbrev pub RestoresAlike : {V E : Type 0} → Kept → List ℕ → List ℕ → Result V E → Type 0
+RestoresAlike s x y result = Covers s x → OnOk result (IsAsGood s x y)

@@ -1,5 +1,5 @@
 -- What proofs alone need: what opening finds in a journal's text, and what it leaves of the redo text.
-use Rattle.std.specs.Prelude.{◌≡◌, ◌≤◌, ℕ, Option, Some, List, length, IfSome, Result, OnOk, OnErr}
+use Rattle.std.specs.Prelude.{◌≡◌, ◌⊎◌, ◌≤◌, ℕ, Option, Some, List, length, IfSome, Result, IfOk, MatchResult, OnOk, OnErr}
 use Rattle.bx_journal.specs.declared.session.answers.Recovered.{Recovered}
 use Rattle.bx_journal.specs.declared.session.fault.SessionFault.{SessionFault}
 use Rattle.bx_journal.specs.declared.session.fault.SessionFault.TheVariants.{NoMemory, TooLarge, DeviceFailed, Damaged, TooFew, JournalFull, Interrupted, Broken, LengthDiffers, NothingToRedo, RedoDamaged}
@@ -8,7 +8,9 @@ use Rattle.bx_journal.specs.declared.recovery.journal.Found.TheVariants.{Finishe
 use Rattle.bx_entries.specs.declared.read.whole.JournalRead.{JournalRead}
 use Rattle.bx_entries.specs.declared.read.types.StageRead.TheVariants.{Between as BetweenRead}
 use Rattle.bx_entries.specs.inner.Journal.{HasRead}
+use Rattle.bx_journal.specs.Judging.{RefusesRedo}
 use Rattle.bx_journal.specs.Opening.{IsOpened}
+use Rattle.bx_journal.specs.inner.Opening.{LookFault}
 use Rattle.bx_journal.specs.Phase.{IsAtRest}
 use Rattle.bx_journal.specs.Stack.{HaveLengths, Recovers, image_at}
 use Rattle.bx_journal.specs.Redo.{IsRedoOf, IsRefusedAt, found_undone}
@@ -105,3 +107,23 @@ FinishedFault image both redo x changes told JournalFull = ⊥
 FinishedFault image both redo x changes told Interrupted = ⊥
 FinishedFault image both redo x changes told Broken = ⊥
 FinishedFault image both redo x changes told (NothingToRedo have) = ⊥
+
+-- a length that is told and that the image, if honest, doesn't have, or a failed device
+abbrev pub LengthFault : Type 0 → Option ℕ → List ℕ → SessionFault → Type 0
+LengthFault honest told x e = (e ≡ DeviceFailed) ⊎ ((n : ℕ) × (e ≡ LengthDiffers n) × (honest → HasOtherLength told x n))
+
+-- which fault may come between reading a journal and the first write
+abbrev pub LookReadFault : {A : Type 0} → Type 0 → JournalRead A → List ℕ → SessionFault → Type 0
+LookReadFault honest j x e = LookFault honest (entries_of j.entries.items) (image_at (stage_of j.stage) x) e
+
+-- the same of an image and a redo text, which are honest by themselves
+abbrev pub FaultBeside : Type 0 → Type 0 → List ℕ → List ℕ → ℕ → Option ℕ → SessionFault → Type 0
+FaultBeside image text redo x changes told e = FinishedFault image (image × text) redo x changes told e
+
+-- a redo text that is refused beside finished entries, whose length is the image's, is refused at that line, unless another fault came before
+abbrev pub RefusesBeside : {V : Type 0} → List ℕ → List ℕ → ℕ → Option ℕ → Result V SessionFault → Type 0
+RefusesBeside redo x changes told result = (line : ℕ) → HasToldLength told x → IsRefusedAt redo x changes line → MatchResult result (λ v. ⊥) (RefusesRedo line)
+
+-- so many undone images are told as the redo text and the image stand for
+abbrev pub TellsCount : {E : Type 0} → List ℕ → List ℕ → ℕ → Result Recovered E → Type 0
+TellsCount redo x changes result = IfOk result (λ o. HasUndoneCount redo x changes o.undone)

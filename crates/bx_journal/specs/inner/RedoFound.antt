@@ -1,9 +1,13 @@
 -- What proofs alone need: what was found of a redo text.
-use Rattle.std.specs.Prelude.{◌≡◌, ℕ, List, length}
+use Rattle.std.specs.Prelude.{◌≡◌, ℕ, List, length, Result, IfErr, MatchResult}
 use Rattle.bx_journal.specs.declared.recovery.windows.CountedText.{CountedText}
 use Rattle.bx_journal.specs.declared.recovery.judge.RedoFound.{RedoFound}
 use Rattle.bx_journal.specs.declared.recovery.judge.RedoFound.TheVariants.{Counted, Text}
+use Rattle.bx_journal.specs.declared.session.fault.SessionFault.{SessionFault}
+use Rattle.bx_journal.specs.declared.session.fault.SessionFault.TheVariants.{RedoDamaged}
 use Rattle.bx_entries.specs.Text.{split}
+use Rattle.bx_journal.specs.Judging.{RefusesRedo}
+use Rattle.bx_journal.specs.Redo.{IsRedoOf, IsRefusedAt}
 use Rattle.bx_journal.specs.inner.Judging.{IsRedoCounted}
 
 -- the text was counted as a redo text beside so many changes, or is there as it is
@@ -23,3 +27,13 @@ pub record IsRedoCountedIn (honest : Type 0) (stored : List ℕ) (changes : ℕ)
   pub is : honest → stored ≡ text
   pub counted : IsRedoCounted text changes c.counted.count c.counted.told
   pub many : c.lines ≡ length (split text).lines
+
+-- a text that was found and is refused at a line is so, unless another fault came before
+abbrev pub RefusesFound : {A V : Type 0} → RedoFound A → ℕ → List ℕ → Result V SessionFault → Type 0
+RefusesFound found changes x result =
+    (text : List ℕ) → IsRedoFound text changes found → (line : ℕ) → IsRefusedAt text x changes line → MatchResult result (λ v. ⊥) (RefusesRedo line)
+
+-- a text that was found and is the image's redo text isn't refused
+abbrev pub AcceptsFound : {A V : Type 0} → RedoFound A → ℕ → List ℕ → Result V SessionFault → Type 0
+AcceptsFound found changes x result =
+    (text : List ℕ) → IsRedoFound text changes found → (undone : List (List ℕ)) → IsRedoOf text x changes undone → IfErr result (λ e. (line : ℕ) → e ≡ RedoDamaged line → ⊥)

@@ -1,15 +1,17 @@
 -- What the steps of a change start from.
-use Rattle.std.specs.Prelude.{◌≡◌, ◌≤◌, ℕ, List, ◌∷◌, length}
+use Rattle.std.specs.Prelude.{◌≡◌, ◌⊎◌, ◌≤◌, ◌+◌, ℕ, List, ◌∷◌, length, Result, OnOk, OnErr}
 use Rattle.bx_entries.specs.Kept.{Kept, kept_of}
 use Rattle.bx_image.specs.declared.change.Change.{Change}
 use Rattle.bx_image.specs.declared.change.TheConstants.{MAX_LEN}
+use Rattle.bx_image.specs.declared.record.Saved.{Saved}
 use Rattle.bx_image.specs.Change.{effect, saved, IsOf}
 use Rattle.bx_entries.specs.declared.format.version.Version.TheVariants.{Second}
 use Rattle.bx_entries.specs.Entry.{head_text, end_text}
 use Rattle.bx_journal.specs.Phase.{IsAtRest}
-use Rattle.bx_journal.specs.inner.Phase.{IsOpen}
-use Rattle.bx_entries.specs.Text.{Entry, Stage, Between, Reads}
-use Rattle.bx_journal.specs.Stack.{IsSound, HaveLengths, image_at, stack_of}
+use Rattle.bx_journal.specs.inner.Phase.{IsOpen, as_read}
+use Rattle.bx_journal.specs.inner.Redo.{RecoversOpen}
+use Rattle.bx_entries.specs.Text.{Entry, Stage, Between, Ending, Reads}
+use Rattle.bx_journal.specs.Stack.{IsSound, HaveLengths, Recovers, image_at, stack_of}
 use Rattle.bx_entries.specs.inner.Mark.{IsMark, HasMarks}
 use Rattle.bx_entries.specs.declared.format.version.Version.{Version}
 
@@ -47,3 +49,47 @@ pub record HasTail (text x : List ℕ) (stack : List (List ℕ)) (entries : List
   pub lengths : HaveLengths entries (image_at stage x)
   pub stack_is : stack_of entries (image_at stage x) ≡ stack
   pub mark : IsMark text n (record { entries = entries; stage = Between })
+
+-- behind the text there is room for an entry's head and end
+abbrev pub HasEntryRoom : {A : Type 0} → List ℕ → ℕ → Saved A → List ℕ → ℕ → Type 0
+HasEntryRoom text number kept end_line room = length text + length (head_text number (kept_of kept)) + length end_line ≤ room
+
+-- with the head of an entry behind it a text at rest is open on what the head keeps
+abbrev pub HeadOpens : {V E : Type 0} → List ℕ → List ℕ → List ℕ → Result V E → Type 0
+HeadOpens text head new result =
+    (x : List ℕ) (stack : List (List ℕ)) (s : Kept) → StartsEntry text x stack s head → OnOk result (IsOpen Second (as_read s) new x stack)
+
+-- and with a front of the head opening finds its stack
+abbrev pub HeadStops : {V E : Type 0} → List ℕ → List ℕ → List ℕ → Result V E → Type 0
+HeadStops text head new result =
+    (x : List ℕ) (stack : List (List ℕ)) (s : Kept) → StartsEntry text x stack s head → OnErr result (Recovers new x stack)
+
+-- with the end of an entry behind it a text is at rest, and the image is the newest of its stack
+abbrev pub EndRests : {V E : Type 0} → List ℕ → List ℕ → List ℕ → Result V E → Type 0
+EndRests text end_line new result =
+    (x : List ℕ) (stack : List (List ℕ)) (s : Kept) → EndsEntry text x stack s end_line → OnOk result (IsAtRest new x (x ∷ stack))
+
+-- and with a front of the end opening finds the stack before, in an unfinished text, or this one
+abbrev pub EndStops : {V E : Type 0} → List ℕ → List ℕ → List ℕ → Result V E → Type 0
+EndStops text end_line new result =
+    (x : List ℕ) (stack : List (List ℕ)) (s : Kept) → EndsEntry text x stack s end_line → OnErr result (RecoversOpen new x stack ⊎ Recovers new x (x ∷ stack))
+
+-- without what is unfinished, of which the image was not changed, a text is at rest
+abbrev pub TailRests : {V E : Type 0} → List ℕ → ℕ → List ℕ → Result V E → Type 0
+TailRests text begins new result =
+    (x : List ℕ) (stack : List (List ℕ)) (es : List Entry) (stage : Stage) → HasTail text x stack es stage begins → image_at stage x ≡ x → OnOk result (IsAtRest new x stack)
+
+-- and without some of it opening finds the same stack
+abbrev pub TailStops : {V E : Type 0} → List ℕ → ℕ → List ℕ → Result V E → Type 0
+TailStops text begins new result =
+    (x : List ℕ) (stack : List (List ℕ)) (es : List Entry) (stage : Stage) → HasTail text x stack es stage begins → image_at stage x ≡ x → OnErr result (Recovers new x stack)
+
+-- where the change of an unfinished entry is taken back, image and journal are at rest
+abbrev pub TakesTail : {D T V E : Type 0} → (D → List ℕ) → (T → List ℕ) → Kept → ℕ → D → T → D → T → Result V E → Type 0
+TakesTail image text s begins d t d_new t_new result =
+    (stack : List (List ℕ)) (es : List Entry) (v : Version) → HasTail (text t) (image d) stack es (Ending v s) begins → OnOk result (IsAtRest (text t_new) (image d_new) stack)
+
+-- and where that is stopped opening finds the same stack
+abbrev pub StopsTail : {D T V E : Type 0} → (D → List ℕ) → (T → List ℕ) → Kept → ℕ → D → T → D → T → Result V E → Type 0
+StopsTail image text s begins d t d_new t_new result =
+    (stack : List (List ℕ)) (es : List Entry) (v : Version) → HasTail (text t) (image d) stack es (Ending v s) begins → OnErr result (Recovers (text t_new) (image d_new) stack)

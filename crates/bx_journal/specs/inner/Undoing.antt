@@ -1,9 +1,12 @@
 -- What proofs alone need: what undoing starts from and leaves.
-use Rattle.std.specs.Prelude.{◌≡◌, ◌≤◌, ◌<◌, ◌+◌, ◌^◌, ℕ, List, [], length}
+use Rattle.std.specs.Prelude.{◌≡◌, ◌≤◌, ◌<◌, ◌+◌, ◌-◌, ◌^◌, ℕ, List, [], ◌++◌, length, take, drop}
 use Rattle.bx_journal.specs.declared.session.fault.SessionFault.{SessionFault}
 use Rattle.bx_journal.specs.declared.session.fault.SessionFault.TheVariants.{NoMemory, TooLarge, DeviceFailed, Damaged, TooFew, JournalFull, Interrupted, Broken, LengthDiffers, NothingToRedo, RedoDamaged}
 use Rattle.bx_entries.specs.declared.read.types.EntryRead.{EntryRead}
+use Rattle.bx_entries.specs.declared.read.lines.LinesRead.{LinesRead}
+use Rattle.bx_entries.specs.declared.read.types.Front.{Front}
 use Rattle.bx_entries.specs.Text.{Between, Entry}
+use Rattle.bx_entries.specs.inner.Lines.{IsReadUpTo}
 use Rattle.bx_entries.specs.inner.Mark.{IsMark}
 use Rattle.bx_entries.specs.inner.Parsed.{AreMarked, entries_of, entries_onto}
 use Rattle.bx_entries.specs.Finished.{IsFinished}
@@ -32,6 +35,21 @@ pub record IsReadLast {A : Type 0} (text : List ℕ) (es : List (EntryRead A)) (
   pub mark : IsMark text (length text) (record { entries = entries_onto older es; stage = Between })
   pub marked : AreMarked text older 0 es (length text)
   pub counted : length older + length es ≡ count
+
+-- what was read of a text in windows leads on, behind the next whole lines before `len`: the store's, where that is honest
+pub record IsReadOn {A : Type 0} (honest : Type 0) (stored : List ℕ) (front : Front) (len : ℕ) (old new : LinesRead A) : Type 0 where
+  pub bytes : List ℕ
+  pub is : honest → bytes ≡ take (new.at - old.at) (drop old.at stored)
+  pub leads : (text : List ℕ) (older : List Entry) → IsReadUpTo text older front old → IsReadUpTo (text ++ bytes) older front new
+  pub some : old.at < new.at
+  pub within : new.at ≤ len
+
+-- a text was read so far behind a front of it: the store's, where that is honest
+pub record IsReadBehind {A : Type 0} (honest : Type 0) (stored : List ℕ) (front : Front) (r : LinesRead A) : Type 0 where
+  pub text : List ℕ
+  pub older : List Entry
+  pub is : honest → text ≡ take r.at stored
+  pub read : IsReadUpTo text older front r
 
 -- the same of a text of this length: the store's, where that is honest
 pub record IsLastFrom {A : Type 0} (honest : Type 0) (stored : List ℕ) (len : ℕ) (es : List (EntryRead A)) (count : ℕ) : Type 0 where

@@ -1,10 +1,16 @@
 -- What undoing one entry needs and leaves.
-use Rattle.std.specs.Prelude.{◌≡◌, ◌≤◌, ◌+◌, ℕ, List, [], length, map, Result, OnOk}
+use Rattle.std.specs.Prelude.{◌≡◌, ◌⊎◌, ◌≤◌, ◌+◌, ℕ, List, [], ◌∷◌, length, map, take, Result, OnOk, OnErr}
 use Rattle.bx_image.specs.declared.record.Saved.{Saved}
 use Rattle.bx_image.specs.Change.{AllWithin, restore}
 use Rattle.bx_entries.specs.Entry.{entry_text}
 use Rattle.bx_entries.specs.Kept.{run_of, kept_of}
-use Rattle.bx_journal.specs.inner.Turns.{kept_text}
+use Rattle.bx_entries.specs.Text.{Entry}
+use Rattle.bx_entries.specs.declared.format.version.Version.{Version}
+use Rattle.bx_journal.specs.Phase.{IsAtRest, RecoversEither}
+use Rattle.bx_journal.specs.inner.Redo.{LeavesEither}
+use Rattle.bx_journal.specs.inner.Step.{TakesBack}
+use Rattle.bx_journal.specs.inner.Turns.{kept_text, side_of}
+use Rattle.bx_store.specs.Store.{IsPartlyCut}
 
 -- What is restored and what is taken lie within their lengths, image and redo text have room, and the page is empty and has room for each line
 pub record CanUndo {T A : Type 0} (honest : T → Type 0) (text : T → List ℕ) (text_room : T → ℕ) (redo : T) (room : ℕ) (waiting : List ℕ) (capacity number : ℕ) (taken kept : Saved A) : Type 0 where
@@ -21,3 +27,28 @@ pub record Undoes {D T R E A : Type 0} (honest : D → Type 0) (image : D → Li
   pub redo_is : text_honest u → OnOk result (text u_new ≡ kept_text (text u) (kept_of taken) number kept.len)
   pub room_kept : room d ≤ room d_new
   pub redo_room : text_room u ≤ text_room u_new
+
+-- The journal is cut first: where that is stopped image and redo text are as they were, and else the journal is cut
+abbrev pub CutsFirst : {D T V E : Type 0} → (T → List ℕ) → ℕ → D → T → T → D → T → T → Result V E → Type 0
+CutsFirst text saved d t u d_new t_new u_new result =
+    OnErr result (((d_new ≡ d) × (u_new ≡ u) × IsPartlyCut saved (text t) (text t_new)) ⊎ (text t_new ≡ take saved (text t)))
+
+-- Without its newest entry, of this record, a pair is at rest
+abbrev pub UndoRests : {D T A V E : Type 0} → (D → List ℕ) → (T → List ℕ) → Saved A → ℕ → ℕ → D → T → D → T → Result V E → Type 0
+UndoRests image text kept begins saved d t d_new t_new result =
+    (below : List (List ℕ)) (v : Version) (e : Entry) → TakesBack (text t) (image d) below v e begins saved → kept_of kept ≡ e.saved
+    → OnOk result (IsAtRest (text t_new) (image d_new) below)
+
+-- and where that is stopped opening finds the old stack or the one below
+abbrev pub UndoStops : {D T A V E : Type 0} → (D → List ℕ) → (T → List ℕ) → Saved A → ℕ → ℕ → D → T → D → T → Result V E → Type 0
+UndoStops image text kept begins saved d t d_new t_new result =
+    (below : List (List ℕ)) (v : Version) (e : Entry) → TakesBack (text t) (image d) below v e begins saved → kept_of kept ≡ e.saved
+    → OnErr result (RecoversEither (text t_new) (image d_new) (image d ∷ below) below)
+
+-- and with the redo text all is as before, as behind it, or the journal is unfinished, where all three are honest
+abbrev pub LeftUndo : {D T A V E : Type 0} → (D → Type 0) → (D → List ℕ) → (T → Type 0) → (T → List ℕ) → ℕ → Saved A → Saved A → ℕ → ℕ → D → T → T → D → T → T → Result V E → Type 0
+LeftUndo honest image text_honest text number taken kept begins saved d t u d_new t_new u_new result =
+    honest d → text_honest t → text_honest u → (below : List (List ℕ)) (v : Version) (e : Entry)
+    → TakesBack (text t) (image d) below v e begins saved → kept_of kept ≡ e.saved
+    → OnErr result (LeavesEither (text t_new) (image d_new) (text u_new) (side_of (image d ∷ below) (image d) (text u))
+    (side_of below (restore e.saved (image d)) (kept_text (text u) (kept_of taken) number kept.len)))

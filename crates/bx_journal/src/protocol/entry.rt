@@ -1,18 +1,15 @@
 //! The entry of a change: its head, its end, and both with the change of the image between them, which cuts the redo text.
-ghost use Rattle.std.specs.Prelude.{◌≡◌, ◌↔◌, ◌⊎◌, ◌+◌, ◌<◌, ◌≤◌, [], ◌∷◌, ◌++◌, List, ℕ, length, take, vec_capacity, OnOk, OnErr, is_err};
-ghost use Rattle.bx_entries.specs.Kept.{Kept as Record, kept_of};
+ghost use Rattle.std.specs.Prelude.{◌≡◌, ◌↔◌, ◌⊎◌, ◌+◌, ◌<◌, ◌≤◌, [], ◌++◌, ℕ, length, take, vec_capacity, OnOk, OnErr, is_err};
+ghost use Rattle.bx_entries.specs.Kept.{kept_of};
 ghost use Rattle.bx_image.specs.Change.{effect, saved, AllWithin, IsAsGood};
 ghost use Rattle.bx_image.specs.Device.{GoesOn};
-ghost use Rattle.bx_entries.specs.declared.format.version.Version.TheVariants.{Second};
 ghost use Rattle.bx_entries.specs.Entry.{head_text};
-ghost use Rattle.bx_journal.specs.Stack.{Recovers};
-ghost use Rattle.bx_journal.specs.Phase.{IsAtRest, RecoversEither};
-ghost use Rattle.bx_journal.specs.inner.Devices.{AreBelow, StepsOn};
-ghost use Rattle.bx_journal.specs.inner.Phase.{IsOpen, IsOpenFor, as_read};
-ghost use Rattle.bx_journal.specs.inner.Redo.{LeavesEither, RecoversOpen};
-ghost use Rattle.bx_journal.specs.inner.Step.{StartsEntry, EndsEntry, WritesEntry};
+ghost use Rattle.bx_journal.specs.inner.Devices.{AreBelow, ImageIsFirst, StepsOn};
+ghost use Rattle.bx_journal.specs.inner.Phase.{StaysOpenFor};
+ghost use Rattle.bx_journal.specs.inner.Step.{EndRests, EndStops, HeadOpens, HeadStops};
 ghost use Rattle.bx_journal.specs.Opening.{OneMore};
-ghost use Rattle.bx_journal.specs.inner.Turns.{place_of, side_of};
+ghost use Rattle.bx_journal.specs.inner.Turns.{place_of};
+ghost use Rattle.bx_journal.specs.inner.Written.{EntryRests, EntryStops, Left};
 
 use crate::protocol::image::change_image;
 use crate::protocol::redo_text::{RedoCut, cut_redo};
@@ -33,12 +30,8 @@ pub fn append_head<T: TextStore, A: Allocator>(
     requires fits { T.honest store.old → length (T.text store.old) + length (head_text number (kept_of kept.now)) ≤ T.room store.old }
     requires empty { page.old.items ≡ [] }
     requires room { 82 ≤ vec_capacity page.old }
-    ensures ok { T.honest store.old → (x : List ℕ) (stack : List (List ℕ)) (s : Record)
-        → StartsEntry (T.text store.old) x stack s (head_text number (kept_of kept.now))
-        → OnOk result (IsOpen Second (as_read s) (T.text store.new) x stack) }
-    ensures fault { T.honest store.old → (x : List ℕ) (stack : List (List ℕ)) (s : Record)
-        → StartsEntry (T.text store.old) x stack s (head_text number (kept_of kept.now))
-        → OnErr result (Recovers (T.text store.new) x stack) }
+    ensures ok { T.honest store.old → HeadOpens (T.text store.old) (head_text number (kept_of kept.now)) (T.text store.new) result }
+    ensures fault { T.honest store.old → HeadStops (T.text store.old) (head_text number (kept_of kept.now)) (T.text store.new) result }
     ensures text { T.honest store.old → OnOk result (T.text store.new ≡ T.text store.old ++ head_text number (kept_of kept.now)) }
     ensures emptied { OnOk result (page.new.items ≡ []) }
     ensures page_kept { vec_capacity page.old ≤ vec_capacity page.new }
@@ -51,10 +44,8 @@ pub fn append_head<T: TextStore, A: Allocator>(
 pub fn append_end<T: TextStore>(store: &mut T, end: &[u8]) -> Result<(), DeviceFailed>
     requires countable { T.failures store.old < u64.MAX }
     requires fits { T.honest store.old → length (T.text store.old) + length end.now ≤ T.room store.old }
-    ensures ok { T.honest store.old → (x : List ℕ) (stack : List (List ℕ)) (s : Record) → EndsEntry (T.text store.old) x stack s end.now
-        → OnOk result (IsAtRest (T.text store.new) x (x ∷ stack)) }
-    ensures fault { T.honest store.old → (x : List ℕ) (stack : List (List ℕ)) (s : Record) → EndsEntry (T.text store.old) x stack s end.now
-        → OnErr result (RecoversOpen (T.text store.new) x stack ⊎ Recovers (T.text store.new) x (x ∷ stack)) }
+    ensures ok { T.honest store.old → EndRests (T.text store.old) end.now (T.text store.new) result }
+    ensures fault { T.honest store.old → EndStops (T.text store.old) end.now (T.text store.new) result }
     ensures text { T.honest store.old → OnOk result (T.text store.new ≡ T.text store.old ++ end.now) }
     ensures goes_on { GoesOn T.honest T.room T.failures (is_err result) store.old store.new }
 {
@@ -73,11 +64,12 @@ pub fn change_with<D: Device, T: TextStore, A: Allocator>(
     requires redo_countable { T.failures redo_text.old < u64.MAX }
     requires room { length (effect change.now []) ≤ D.room device.old }
     requires within { T.honest redo_text.old → place_of part ≤ length (T.text redo_text.old) }
-    ensures phase { D.honest device.old → (text : List ℕ) (stack : List (List ℕ)) → IsOpenFor change.now (D.image device.old) text (D.image device.old) stack
-        → IsOpenFor change.now (D.image device.old) text (D.image device.new) stack }
+    ensures phase { D.honest device.old → StaysOpenFor change.now (D.image device.old) (D.image device.new) }
     ensures image { D.honest device.old → OnOk result (D.image device.new ≡ effect change.now (D.image device.old)) }
     ensures back { D.honest device.old → OnOk result (IsAsGood (kept_of (saved change.now (D.image device.old))) (D.image device.old) (D.image device.new)) }
     ensures redo { T.honest redo_text.old → OnOk result (T.text redo_text.new ≡ take (place_of part) (T.text redo_text.old)) }
+    ensures emptied_first { T.honest redo_text.old → part ≡ RedoCut.All → OnErr result ((device.new ≡ device.old) ⊎ (T.text redo_text.new ≡ [])) }
+    ensures order { (n : ℕ) → part ≡ RedoCut.From n → ImageIsFirst D.honest D.image result (effect change.now) device.old device.new redo_text.old redo_text.new }
     ensures device_room { D.room device.old ≤ D.room device.new }
     ensures device_honesty { D.honest device.new ↔ D.honest device.old }
     ensures redo_honesty { T.honest redo_text.new ↔ T.honest redo_text.old }
@@ -100,43 +92,36 @@ pub fn change_with<D: Device, T: TextStore, A: Allocator>(
 pub fn write_entry<D: Device, T: TextStore, A: Allocator>(
     device: &mut D,
     store: &mut T,
-    redo_text: &mut T,
+    redo: &mut T,
     page: &mut Vec<u8, A>,
     change: &Change<A>,
     number: u32,
     kept: &Saved<A>,
     end: &[u8],
-    part: RedoCut,
+    cut: RedoCut,
 ) -> Result<(), DeviceFailed>
-    requires countable { AreBelow u64.MAX (D.failures device.old) (T.failures store.old) (T.failures redo_text.old) }
+    requires countable { AreBelow u64.MAX (D.failures device.old) (T.failures store.old) (T.failures redo.old) }
     requires kept_within { AllWithin kept.now.len kept.now.runs }
     requires empty { page.old.items ≡ [] }
     requires page_room { 82 ≤ vec_capacity page.old }
     requires image_room { length (effect change.now []) ≤ D.room device.old }
     requires text_room { T.honest store.old → length (T.text store.old) + length (head_text number (kept_of kept.now)) + length end.now ≤ T.room store.old }
-    requires within { T.honest redo_text.old → place_of part ≤ length (T.text redo_text.old) }
-    ensures ok { D.honest device.old → T.honest store.old → (stack : List (List ℕ))
-        → WritesEntry change.now (T.text store.old) (D.image device.old) stack (head_text number (kept_of kept.now)) end.now
-        → OnOk result (IsAtRest (T.text store.new) (D.image device.new) (effect change.now (D.image device.old) ∷ stack)) }
-    ensures fault { D.honest device.old → T.honest store.old → (stack : List (List ℕ))
-        → WritesEntry change.now (T.text store.old) (D.image device.old) stack (head_text number (kept_of kept.now)) end.now
-        → OnErr result (RecoversEither (T.text store.new) (D.image device.new) stack (effect change.now (D.image device.old) ∷ stack)) }
-    ensures left { D.honest device.old → T.honest store.old → T.honest redo_text.old → (stack : List (List ℕ))
-        → WritesEntry change.now (T.text store.old) (D.image device.old) stack (head_text number (kept_of kept.now)) end.now
-        → OnErr result (LeavesEither (T.text store.new) (D.image device.new) (T.text redo_text.new)
-        (side_of stack (D.image device.old) (T.text redo_text.old))
-        (side_of (effect change.now (D.image device.old) ∷ stack) (effect change.now (D.image device.old)) (take (place_of part) (T.text redo_text.old)))) }
+    requires within { T.honest redo.old → place_of cut ≤ length (T.text redo.old) }
+    ensures ok { EntryRests D.honest D.image T.honest T.text change.now number kept.now end.now device.old store.old device.new store.new result }
+    ensures fault { EntryStops D.honest D.image T.honest T.text change.now number kept.now end.now device.old store.old device.new store.new result }
+    ensures left { Left D.honest D.image T.honest T.text change.now number kept.now end.now cut
+        device.old store.old redo.old device.new store.new redo.new result }
     ensures image { D.honest device.old → OnOk result (D.image device.new ≡ effect change.now (D.image device.old)) }
     ensures back { D.honest device.old → OnOk result (IsAsGood (kept_of (saved change.now (D.image device.old))) (D.image device.old) (D.image device.new)) }
     ensures text { T.honest store.old → OnOk result (T.text store.new ≡ T.text store.old ++ head_text number (kept_of kept.now) ++ end.now) }
-    ensures redo { T.honest redo_text.old → OnOk result (T.text redo_text.new ≡ take (place_of part) (T.text redo_text.old)) }
+    ensures redo { T.honest redo.old → OnOk result (T.text redo.new ≡ take (place_of cut) (T.text redo.old)) }
     ensures emptied { OnOk result (page.new.items ≡ []) }
     ensures page_kept { vec_capacity page.old ≤ vec_capacity page.new }
     ensures room { D.room device.old ≤ D.room device.new }
     ensures store_room { T.room store.old ≤ T.room store.new }
-    ensures steps_on { StepsOn D.honest T.honest D.failures T.failures result device.old store.old redo_text.old device.new store.new redo_text.new }
+    ensures steps_on { StepsOn D.honest T.honest D.failures T.failures result device.old store.old redo.old device.new store.new redo.new }
 {
     append_head(store, page, number, kept)?;
-    change_with(device, redo_text, change, part)?;
+    change_with(device, redo, change, cut)?;
     append_end(store, end)
 }

@@ -1,11 +1,9 @@
 //! Saving and restoring, in the journal's own records.
-ghost use Rattle.std.specs.Prelude.{◌≡◌, ◌<◌, ◌≤◌, [], map, List, ℕ, length, IfOk, OnOk, OnErr, IsErrOf, is_err};
+ghost use Rattle.std.specs.Prelude.{◌≡◌, ◌<◌, ◌≤◌, [], map, length, IfOk, OnOk, IsErrOf, is_err};
 ghost use Rattle.bx_image.specs.Change.{effect, saved, restore, AllWithin, Covers, IsOf, IsAsGood};
 ghost use Rattle.bx_image.specs.Device.{GoesOn, has_failed};
-ghost use Rattle.bx_entries.specs.declared.format.version.Version.{Version as Form};
 ghost use Rattle.bx_entries.specs.Kept.{run_of, kept_of};
-ghost use Rattle.bx_journal.specs.inner.Phase.{IsOpen, IsOpenFor};
-ghost use Rattle.bx_journal.specs.Stack.{Recovers};
+ghost use Rattle.bx_journal.specs.inner.Phase.{RecoversOpenFor, RecoversOpenOn, StaysOpen, StaysOpenFor};
 
 use bx_image::{Change, Device, DeviceFailed, ImageFault, Saved, apply, save};
 use std::alloc::Allocator;
@@ -37,10 +35,8 @@ pub fn change_image<D: Device, A: Allocator>(
     requires room { length (effect change.now []) ≤ D.room device.old }
     ensures ok { D.honest device.old → OnOk result (D.image device.new ≡ effect change.now (D.image device.old)) }
     ensures taken_back { D.honest device.old → IsAsGood (kept_of (saved change.now (D.image device.old))) (D.image device.old) (D.image device.new) }
-    ensures phase { D.honest device.old → (text : List ℕ) (stack : List (List ℕ)) → IsOpenFor change.now (D.image device.old) text (D.image device.old) stack
-        → IsOpenFor change.now (D.image device.old) text (D.image device.new) stack }
-    ensures fault { D.honest device.old → (text : List ℕ) (stack : List (List ℕ)) → IsOpenFor change.now (D.image device.old) text (D.image device.old) stack
-        → OnErr result (Recovers text (D.image device.new) stack) }
+    ensures phase { D.honest device.old → StaysOpenFor change.now (D.image device.old) (D.image device.new) }
+    ensures fault { D.honest device.old → RecoversOpenFor change.now (D.image device.old) (D.image device.new) result }
     ensures goes_on { GoesOn D.honest D.room D.failures (is_err result) device.old device.new }
 {
     apply(device, change)
@@ -57,10 +53,8 @@ pub fn restore_image<D: Device, A: Allocator>(
     requires room { kept.len ≤ D.room device.old }
     ensures ok { D.honest device.old → OnOk result (D.image device.new ≡ restore (kept_of kept) (D.image device.old)) }
     ensures again { D.honest device.old → Covers (kept_of kept) (D.image device.old) → IsAsGood (kept_of kept) (D.image device.old) (D.image device.new) }
-    ensures phase { D.honest device.old → (v : Form) (text : List ℕ) (stack : List (List ℕ)) → IsOpen v (kept_of kept) text (D.image device.old) stack
-        → IsOpen v (kept_of kept) text (D.image device.new) stack }
-    ensures fault { D.honest device.old → (v : Form) (text : List ℕ) (stack : List (List ℕ)) → IsOpen v (kept_of kept) text (D.image device.old) stack
-        → OnErr result (Recovers text (D.image device.new) stack) }
+    ensures phase { D.honest device.old → StaysOpen (kept_of kept) (D.image device.old) (D.image device.new) }
+    ensures fault { D.honest device.old → RecoversOpenOn (kept_of kept) (D.image device.old) (D.image device.new) result }
     ensures goes_on { GoesOn D.honest D.room D.failures (is_err result) device.old device.new }
 {
     let change = kept.into_change();

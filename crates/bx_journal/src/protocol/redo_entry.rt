@@ -1,15 +1,10 @@
 //! Making undone changes again: some entries of the redo text, the last first.
-ghost use Rattle.std.specs.Prelude.{◌≡◌, ◌+◌, ◌-◌, ◌<◌, ◌≤◌, [], List, ℕ, length, drop, reverse, vec_capacity, IfOk, OnOk, OnErr};
-ghost use Rattle.bx_journal.specs.Images.{Images as Pictures, redo_of};
-ghost use Rattle.bx_journal.specs.Machine.{changes_of};
+ghost use Rattle.std.specs.Prelude.{◌≡◌, ◌+◌, ◌-◌, ◌<◌, ◌≤◌, [], length, drop, reverse, vec_capacity, IfOk, OnOk};
 ghost use Rattle.bx_entries.specs.inner.Parsed.{AllKept};
-ghost use Rattle.bx_journal.specs.Redo.{Finds};
 ghost use Rattle.bx_journal.specs.inner.Devices.{AreBelow, StepsOn};
+ghost use Rattle.bx_journal.specs.inner.Entries.{LeavesFront, RedoAll, RedoRests, RedoSome};
 ghost use Rattle.bx_journal.specs.inner.Takens.{AreReady, AllShaped, entries_len};
-ghost use Rattle.bx_entries.specs.Text.{Entry, IsPrefix};
-ghost use Rattle.bx_entries.specs.Finished.{IsFinished};
-ghost use Rattle.bx_journal.specs.inner.Turns.{AreAtRest, AreStanding};
-ghost use Rattle.bx_journal.specs.Undoing.{HasLeft};
+ghost use Rattle.bx_entries.specs.Text.{IsPrefix};
 ghost use Rattle.bx_journal.specs.inner.Undoing.{AreReadFrom};
 
 use crate::protocol::entry::write_entry;
@@ -41,19 +36,15 @@ pub fn redo_entries<D: Device, T: TextStore, A: Allocator>(
     requires fits { T.honest store.old → length (T.text store.old) + entries_len takens.old.items ≤ T.room store.old }
     requires empty { page.old.items ≡ [] }
     requires page_room { 82 ≤ vec_capacity page.old }
-    ensures found { D.honest device.old → T.honest store.old → T.honest redo_text.old → (s : Pictures)
-        → AreAtRest (T.text store.old) (D.image device.old) (T.text redo_text.old) s → count ≡ changes_of s.stack
-        → OnOk result (AreAtRest (T.text store.new) (D.image device.new) (T.text redo_text.new) (redo_of (length takens.old.items) s)) }
-    ensures images { D.honest device.old → T.honest store.old → T.honest redo_text.old → (s : Pictures)
-        → AreStanding (T.text store.old) (D.image device.old) (T.text redo_text.old) s → count ≡ changes_of s.stack
-        → OnOk result (AreStanding (T.text store.new) (D.image device.new) (T.text redo_text.new) (redo_of (length takens.old.items) s)) }
+    ensures found { RedoRests D.honest D.image T.honest T.text
+        device.old store.old redo_text.old device.new store.new redo_text.new count takens.old.items result }
+    ensures images { RedoAll D.honest D.image T.honest T.text
+        device.old store.old redo_text.old device.new store.new redo_text.new count takens.old.items result }
     ensures number { IfOk result (λ n. n ≡ count + length takens.old.items) }
-    ensures left { T.honest redo_text.old → (all : List Entry) → IsFinished (T.text redo_text.old) all
-        → OnOk result (HasLeft (T.text redo_text.old) (T.text redo_text.new) (drop (length takens.old.items) all)) }
+    ensures left { T.honest redo_text.old → LeavesFront (T.text redo_text.old) (length takens.old.items) (T.text redo_text.new) result }
     ensures front { T.honest store.old → OnOk result (IsPrefix (T.text store.old) (T.text store.new)) }
-    ensures finds { D.honest device.old → T.honest store.old → T.honest redo_text.old → (s : Pictures)
-        → AreAtRest (T.text store.old) (D.image device.old) (T.text redo_text.old) s → count ≡ changes_of s.stack
-        → OnErr result ((i : ℕ) × (i ≤ length takens.old.items) × Finds (T.text store.new) (D.image device.new) (T.text redo_text.new) (redo_of i s)) }
+    ensures finds { RedoSome D.honest D.image T.honest T.text
+        device.old store.old redo_text.old device.new store.new redo_text.new count takens.old.items result }
     ensures steps_on { StepsOn D.honest T.honest D.failures T.failures result device.old store.old redo_text.old device.new store.new redo_text.new }
 {
     let k = takens.len();

@@ -1,26 +1,15 @@
 //! Taking entries back: the newest, or some of them one after another.
-ghost use Rattle.std.specs.Prelude.{◌≡◌, ◌↔◌, ◌⊎◌, ◌+◌, ◌-◌, ◌<◌, ◌≤◌, [], ◌∷◌, List, ℕ, length, take, drop, reverse, nat_le, vec_capacity, if◌then◌else◌, IfOk, OnOk, OnErr};
-ghost use Rattle.bx_image.specs.Change.{Covers, IsAsGood, restore};
-ghost use Rattle.bx_entries.specs.declared.format.version.Version.{Version as Form};
-ghost use Rattle.bx_journal.specs.Images.{Images as Pictures, undo_of};
+ghost use Rattle.std.specs.Prelude.{◌≡◌, ◌↔◌, ◌+◌, ◌-◌, ◌<◌, ◌≤◌, [], length, take, drop, reverse, nat_le, vec_capacity, if◌then◌else◌, IfOk, OnOk, OnErr};
+ghost use Rattle.bx_image.specs.Change.{restore, Covers, IsAsGood};
 ghost use Rattle.bx_entries.specs.Kept.{kept_of};
 ghost use Rattle.bx_journal.specs.Opening.{OneMore};
 ghost use Rattle.bx_entries.specs.inner.Parsed.{AllKept};
-ghost use Rattle.bx_journal.specs.Phase.{IsAtRest, RecoversEither};
-ghost use Rattle.bx_journal.specs.inner.Devices.{AreBelow, StepsOn};
-ghost use Rattle.bx_journal.specs.inner.Phase.{IsOpen};
-ghost use Rattle.bx_journal.specs.Redo.{Finds};
-ghost use Rattle.bx_journal.specs.inner.Redo.{LeavesEither};
-ghost use Rattle.bx_journal.specs.Stack.{Recovers, StandsFor};
-ghost use Rattle.bx_journal.specs.inner.Step.{TakesBack};
+ghost use Rattle.bx_journal.specs.inner.Devices.{AreBelow, ImageIsFirst, StepsOn};
+ghost use Rattle.bx_journal.specs.inner.Entries.{DropsRest, DropsSome, DropsStand, LeavesFront, UndoAll, UndoSome};
+ghost use Rattle.bx_journal.specs.inner.Phase.{RestoresAlike, StaysOpen};
 ghost use Rattle.bx_journal.specs.inner.Takens.{AreReady, AllShaped, entries_len};
-ghost use Rattle.bx_journal.specs.inner.Undone.{CanUndo, Undoes};
-ghost use Rattle.bx_entries.specs.Text.{Entry};
-ghost use Rattle.bx_entries.specs.Finished.{IsFinished};
-ghost use Rattle.bx_journal.specs.inner.Turns.{AreAtRest, AreStanding, kept_text, side_of};
-ghost use Rattle.bx_journal.specs.Undoing.{HasLeft};
+ghost use Rattle.bx_journal.specs.inner.Undone.{CanUndo, CutsFirst, LeftUndo, UndoRests, UndoStops, Undoes};
 ghost use Rattle.bx_journal.specs.inner.Undoing.{AreReadFrom};
-ghost use Rattle.bx_store.specs.Store.{IsPartlyCut};
 
 use crate::protocol::fill::fill_last;
 use crate::protocol::image::restore_image;
@@ -44,9 +33,9 @@ fn change_undone<D: Device, T: TextStore, A: Allocator>(
     requires device_countable { D.failures device.old < u64.MAX }
     requires redo_countable { T.failures redo_text.old < u64.MAX }
     requires ready { CanUndo T.honest T.text T.room redo_text.old (D.room device.old) page.old.items (vec_capacity page.old) number taken.now kept }
-    ensures phase { D.honest device.old → (v : Form) (text : List ℕ) (stack : List (List ℕ)) → IsOpen v (kept_of kept) text (D.image device.old) stack
-        → IsOpen v (kept_of kept) text (D.image device.new) stack }
+    ensures phase { D.honest device.old → StaysOpen (kept_of kept) (D.image device.old) (D.image device.new) }
     ensures again { D.honest device.old → Covers (kept_of kept) (D.image device.old) → IsAsGood (kept_of kept) (D.image device.old) (D.image device.new) }
+    ensures order { ImageIsFirst D.honest D.image result (restore (kept_of kept)) device.old device.new redo_text.old redo_text.new }
     ensures emptied { OnOk result (page.new.items ≡ []) }
     ensures page_kept { vec_capacity page.old ≤ vec_capacity page.new }
     ensures undoes { Undoes D.honest D.image D.room T.honest T.text T.room result device.old redo_text.old device.new redo_text.new number taken.now kept }
@@ -75,13 +64,9 @@ fn open_and_change<D: Device, T: TextStore, A: Allocator>(
     requires countable { AreBelow u64.MAX (D.failures device.old) (T.failures store.old) (T.failures redo_text.old) }
     requires within_text { T.honest store.old → saved ≤ length (T.text store.old) }
     requires ready { CanUndo T.honest T.text T.room redo_text.old (D.room device.old) page.old.items (vec_capacity page.old) number taken.now kept }
-    ensures order { T.honest store.old → OnErr result (
-        ((device.new ≡ device.old) × (redo_text.new ≡ redo_text.old) × IsPartlyCut saved (T.text store.old) (T.text store.new))
-        ⊎ (T.text store.new ≡ take saved (T.text store.old))) }
-    ensures phase { D.honest device.old → (v : Form) (text : List ℕ) (stack : List (List ℕ)) → IsOpen v (kept_of kept) text (D.image device.old) stack
-        → IsOpen v (kept_of kept) text (D.image device.new) stack }
-    ensures again { D.honest device.old → Covers (kept_of kept) (D.image device.old)
-        → OnOk result (IsAsGood (kept_of kept) (D.image device.old) (D.image device.new)) }
+    ensures order { T.honest store.old → CutsFirst T.text saved device.old store.old redo_text.old device.new store.new redo_text.new result }
+    ensures phase { D.honest device.old → StaysOpen (kept_of kept) (D.image device.old) (D.image device.new) }
+    ensures again { D.honest device.old → RestoresAlike (kept_of kept) (D.image device.old) (D.image device.new) result }
     ensures text { T.honest store.old → OnOk result (T.text store.new ≡ take saved (T.text store.old)) }
     ensures emptied { OnOk result (page.new.items ≡ []) }
     ensures page_kept { vec_capacity page.old ≤ vec_capacity page.new }
@@ -98,7 +83,7 @@ fn open_and_change<D: Device, T: TextStore, A: Allocator>(
 pub fn undo_entry<D: Device, T: TextStore, A: Allocator>(
     device: &mut D,
     store: &mut T,
-    redo_text: &mut T,
+    redo: &mut T,
     page: &mut Vec<u8, A>,
     number: u32,
     taken: &Saved<A>,
@@ -106,28 +91,23 @@ pub fn undo_entry<D: Device, T: TextStore, A: Allocator>(
     begins: u64,
     saved: u64,
 ) -> Result<(), DeviceFailed>
-    requires countable { AreBelow u64.MAX (D.failures device.old) (T.failures store.old) (T.failures redo_text.old) }
+    requires countable { AreBelow u64.MAX (D.failures device.old) (T.failures store.old) (T.failures redo.old) }
     requires order { begins ≤ saved }
     requires within_text { T.honest store.old → saved ≤ length (T.text store.old) }
-    requires ready { CanUndo T.honest T.text T.room redo_text.old (D.room device.old) page.old.items (vec_capacity page.old) number taken.now kept }
-    ensures ok { D.honest device.old → T.honest store.old → (below : List (List ℕ)) (v : Form) (e : Entry)
-        → TakesBack (T.text store.old) (D.image device.old) below v e begins saved → kept_of kept ≡ e.saved
-        → OnOk result (IsAtRest (T.text store.new) (D.image device.new) below) }
-    ensures fault { D.honest device.old → T.honest store.old → (below : List (List ℕ)) (v : Form) (e : Entry)
-        → TakesBack (T.text store.old) (D.image device.old) below v e begins saved → kept_of kept ≡ e.saved
-        → OnErr result (RecoversEither (T.text store.new) (D.image device.new) (D.image device.old ∷ below) below) }
-    ensures left { D.honest device.old → T.honest store.old → T.honest redo_text.old → (below : List (List ℕ)) (v : Form) (e : Entry)
-        → TakesBack (T.text store.old) (D.image device.old) below v e begins saved → kept_of kept ≡ e.saved
-        → OnErr result (LeavesEither (T.text store.new) (D.image device.new) (T.text redo_text.new)
-        (side_of (D.image device.old ∷ below) (D.image device.old) (T.text redo_text.old))
-        (side_of below (restore e.saved (D.image device.old)) (kept_text (T.text redo_text.old) (kept_of taken.now) number kept.len))) }
+    requires ready { CanUndo T.honest T.text T.room redo.old (D.room device.old) page.old.items (vec_capacity page.old) number taken.now kept }
+    ensures ok { D.honest device.old → T.honest store.old
+        → UndoRests D.image T.text kept begins saved device.old store.old device.new store.new result }
+    ensures fault { D.honest device.old → T.honest store.old
+        → UndoStops D.image T.text kept begins saved device.old store.old device.new store.new result }
+    ensures left { LeftUndo D.honest D.image T.honest T.text number taken.now kept begins saved
+        device.old store.old redo.old device.new store.new redo.new result }
     ensures text { T.honest store.old → OnOk result (T.text store.new ≡ take begins (T.text store.old)) }
     ensures emptied { OnOk result (page.new.items ≡ []) }
     ensures page_kept { vec_capacity page.old ≤ vec_capacity page.new }
-    ensures undoes { Undoes D.honest D.image D.room T.honest T.text T.room result device.old redo_text.old device.new redo_text.new number taken.now kept }
-    ensures steps_on { StepsOn D.honest T.honest D.failures T.failures result device.old store.old redo_text.old device.new store.new redo_text.new }
+    ensures undoes { Undoes D.honest D.image D.room T.honest T.text T.room result device.old redo.old device.new redo.new number taken.now kept }
+    ensures steps_on { StepsOn D.honest T.honest D.failures T.failures result device.old store.old redo.old device.new store.new redo.new }
 {
-    open_and_change(device, store, redo_text, page, number, taken, kept, saved)?;
+    open_and_change(device, store, redo, page, number, taken, kept, saved)?;
     drop_tail(store, begins)
 }
 
@@ -160,22 +140,18 @@ pub fn undo_entries<D: Device, T: TextStore, A: Allocator>(
     requires fits { T.honest redo_text.old → length (T.text redo_text.old) + entries_len takens.old.items ≤ T.room redo_text.old }
     requires empty { page.old.items ≡ [] }
     requires page_room { 82 ≤ vec_capacity page.old }
-    ensures ok { D.honest device.old → T.honest store.old → (stack : List (List ℕ)) → IsAtRest (T.text store.old) (D.image device.old) stack
-        → OnOk result (IsAtRest (T.text store.new) (D.image device.new) (drop (length takens.old.items) stack)) }
-    ensures stands { D.honest device.old → T.honest store.old → (stack : List (List ℕ)) → StandsFor (T.text store.old) (D.image device.old) stack
-        → OnOk result (StandsFor (T.text store.new) (D.image device.new) (drop (length takens.old.items) stack)) }
-    ensures left { T.honest store.old → (all : List Entry) → IsFinished (T.text store.old) all
-        → OnOk result (HasLeft (T.text store.old) (T.text store.new) (drop (length takens.old.items) all)) }
-    ensures fault { D.honest device.old → T.honest store.old → (stack : List (List ℕ)) → IsAtRest (T.text store.old) (D.image device.old) stack
-        → OnErr result ((j : ℕ) × (j ≤ length takens.old.items) × Recovers (T.text store.new) (D.image device.new) (drop j stack)) }
-    ensures images { D.honest device.old → T.honest store.old → T.honest redo_text.old → (s : Pictures)
-        → AreStanding (T.text store.old) (D.image device.old) (T.text redo_text.old) s → undone ≡ length s.undone
-        → IfOk result (λ n. (n ≡ length (undo_of (length takens.old.items) s).undone)
-        × AreStanding (T.text store.new) (D.image device.new) (T.text redo_text.new) (undo_of (length takens.old.items) s)) }
+    ensures ok { D.honest device.old → T.honest store.old
+        → DropsRest D.image T.text device.old store.old device.new store.new takens.old.items result }
+    ensures stands { D.honest device.old → T.honest store.old
+        → DropsStand D.image T.text device.old store.old device.new store.new takens.old.items result }
+    ensures left { T.honest store.old → LeavesFront (T.text store.old) (length takens.old.items) (T.text store.new) result }
+    ensures fault { D.honest device.old → T.honest store.old
+        → DropsSome D.image T.text device.old store.old device.new store.new takens.old.items result }
+    ensures images { UndoAll D.honest D.image T.honest T.text
+        device.old store.old redo_text.old device.new store.new redo_text.new undone takens.old.items result }
     ensures few { IfOk result (λ n. n ≤ undone + length takens.old.items) }
-    ensures finds { D.honest device.old → T.honest store.old → T.honest redo_text.old → (s : Pictures)
-        → AreAtRest (T.text store.old) (D.image device.old) (T.text redo_text.old) s → undone ≡ length s.undone
-        → OnErr result ((i : ℕ) × (i ≤ length takens.old.items) × Finds (T.text store.new) (D.image device.new) (T.text redo_text.new) (undo_of i s)) }
+    ensures finds { UndoSome D.honest D.image T.honest T.text
+        device.old store.old redo_text.old device.new store.new redo_text.new undone takens.old.items result }
     ensures steps_on { StepsOn D.honest T.honest D.failures T.failures result device.old store.old redo_text.old device.new store.new redo_text.new }
 {
     let k = takens.len();

@@ -1,9 +1,7 @@
 //! Opening beside a journal of finished entries alone: the redo text is read and judged.
-ghost use Rattle.std.specs.Prelude.{◌≡◌, ◌↔◌, ◌⊎◌, ◌+◌, ◌<◌, ◌≤◌, ℕ, length, OnOk, IfOk, IfErr, IfSome, MatchResult};
-ghost use Rattle.bx_journal.specs.Judging.{RefusesRedo};
+ghost use Rattle.std.specs.Prelude.{◌≡◌, ◌↔◌, ◌⊎◌, ◌+◌, ◌<◌, ◌≤◌, ℕ, OnOk, IfOk, IfErr, IfSome, MatchResult};
 ghost use Rattle.bx_journal.specs.Opening.{FaultCounts, RefusesLength};
-ghost use Rattle.bx_journal.specs.inner.Recovery.{FinishedFault, HasOtherLength, HasToldLength, HasUndoneCount};
-ghost use Rattle.bx_journal.specs.Redo.{IsRefusedAt};
+ghost use Rattle.bx_journal.specs.inner.Recovery.{FaultBeside, HasOtherLength, HasToldLength, RefusesBeside, TellsCount};
 ghost use Rattle.bx_journal.specs.inner.RedoFound.{IsRedoCountedIn, IsRedoIn};
 
 use crate::recovery::judge::{RedoFound, judge_redo};
@@ -86,14 +84,13 @@ pub fn open_finished<D: Device, T: TextStore, A: Allocator + Clone>(
     requires few { found.count ≤ 65535 }
     ensures clean { IfOk result (λ o. (o.how ≡ How.Clean) × (o.changes ≡ found.count)) }
     ensures same_length { D.honest device.old → OnOk result (HasToldLength found.told (D.image device.old)) }
-    ensures undone { D.honest device.old → T.honest redo_text.old
-        → IfOk result (λ o. HasUndoneCount (T.text redo_text.old) (D.image device.old) found.count o.undone) }
+    ensures undone { D.honest device.old → T.honest redo_text.old → TellsCount (T.text redo_text.old) (D.image device.old) found.count result }
     ensures sum { IfOk result (λ o. o.changes + o.undone ≤ 65535) }
-    ensures fault { IfErr result (FinishedFault (D.honest device.old) (D.honest device.old × T.honest redo_text.old)
+    ensures fault { IfErr result (FaultBeside (D.honest device.old) (T.honest redo_text.old)
         (T.text redo_text.old) (D.image device.old) found.count found.told) }
     ensures differs { D.honest device.old → (n : ℕ) → HasOtherLength found.told (D.image device.old) n → MatchResult result (λ _. ⊥) (RefusesLength n) }
-    ensures unfit { D.honest device.old → T.honest redo_text.old → (line : ℕ) → HasToldLength found.told (D.image device.old)
-        → IsRefusedAt (T.text redo_text.old) (D.image device.old) found.count line → MatchResult result (λ _. ⊥) (RefusesRedo line) }
+    ensures unfit { D.honest device.old → T.honest redo_text.old
+        → RefusesBeside (T.text redo_text.old) (D.image device.old) found.count found.told result }
     ensures image { D.honest device.old → D.image device.new ≡ D.image device.old }
     ensures redo_same { T.honest redo_text.old → T.text redo_text.new ≡ T.text redo_text.old }
     ensures device_honesty { D.honest device.new ↔ D.honest device.old }

@@ -3,9 +3,8 @@ ghost use Rattle.std.specs.Prelude.{◌≡◌, ◌⊎◌, ◌+◌, ◌<◌, ◌�
 ghost use Rattle.bx_entries.specs.inner.Journal.{HasRead};
 ghost use Rattle.bx_journal.specs.Judging.{RefusesRedo};
 ghost use Rattle.bx_journal.specs.inner.Devices.{LooksAt};
-ghost use Rattle.bx_journal.specs.inner.Judging.{AllTold, IsBeyondAt, IsFit, IsRedoCounted, IsUnfitAt, IsUnfitFrom, IsUntoldAt, JudgeFault, RedoTextFault, redo_fault};
+ghost use Rattle.bx_journal.specs.inner.Judging.{AllTold, IsBeyondAt, IsFit, IsRedoCounted, IsUnfitAt, IsUnfitFrom, IsUntoldAt, JudgeFault, LastLineFault, RedoTextFault, redo_fault};
 ghost use Rattle.bx_journal.specs.inner.Recovery.{HasUndoneCount};
-ghost use Rattle.bx_journal.specs.Redo.{IsRedoOf, IsRefusedAt};
 ghost use Rattle.bx_entries.specs.inner.Parsed.{entries_of};
 ghost use Rattle.bx_entries.specs.Text.{split};
 
@@ -25,7 +24,7 @@ pub enum RedoFound<A: Allocator = Global> {
     Text(Vec<u8, A>),
 }
 
-ghost use Rattle.bx_journal.specs.inner.RedoFound.{IsRedoFound};
+ghost use Rattle.bx_journal.specs.inner.RedoFound.{AcceptsFound, IsRedoFound, RefusesFound};
 
 /// How many newlines a text has.
 fn newlines(text: &[u8]) -> u64
@@ -183,8 +182,7 @@ pub fn check_redo_length<D: Device>(
 ) -> Result<(), SessionFault>
     requires { D.failures device.old < u64.MAX }
     ensures same_length { D.honest device.old → OnOk result (IfSome told (λ n. length (D.image device.old) ≡ n)) }
-    ensures fault { IfErr result (λ e. (e ≡ SessionFault.DeviceFailed) ⊎ ((e ≡ SessionFault.RedoDamaged lines)
-        × (D.honest device.old → (n : ℕ) × (told ≡ Some n) × (length (D.image device.old) ≡ n → ⊥)))) }
+    ensures fault { IfErr result (LastLineFault (D.honest device.old) lines told (D.image device.old)) }
     ensures looks { LooksAt D.honest D.image D.failures result device.old device.new }
 {
     let Some(expected) = told else { return Ok(()) };
@@ -208,10 +206,8 @@ pub fn judge_redo<D: Device, A: Allocator + Clone>(
     ensures undone { D.honest device.old → (text : List ℕ) → IsRedoFound text changes found → IfOk result (HasUndoneCount text (D.image device.old) changes) }
     ensures sum { (text : List ℕ) → IsRedoFound text changes found → IfOk result (λ n. changes + n ≤ 65535) }
     ensures fault { (text : List ℕ) → IsRedoFound text changes found → IfErr result (JudgeFault (D.honest device.old) text (D.image device.old) changes) }
-    ensures unfit { D.honest device.old → (text : List ℕ) → IsRedoFound text changes found → (line : ℕ) → IsRefusedAt text (D.image device.old) changes line
-        → MatchResult result (λ _. ⊥) (RefusesRedo line) }
-    ensures kept { D.honest device.old → (text : List ℕ) → IsRedoFound text changes found → (undone : List (List ℕ))
-        → IsRedoOf text (D.image device.old) changes undone → IfErr result (λ e. (line : ℕ) → e ≡ SessionFault.RedoDamaged line → ⊥) }
+    ensures unfit { D.honest device.old → RefusesFound found changes (D.image device.old) result }
+    ensures kept { D.honest device.old → AcceptsFound found changes (D.image device.old) result }
     ensures looks { LooksAt D.honest D.image D.failures result device.old device.new }
 {
     let counted = match count_found(alloc, found, changes) {

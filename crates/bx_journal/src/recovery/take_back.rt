@@ -1,13 +1,9 @@
 //! Taking back what is unfinished.
-ghost use Rattle.std.specs.Prelude.{◌≡◌, ◌↔◌, ◌<◌, ◌≤◌, List, ℕ, length, take, OnOk, OnErr, map, is_err};
+ghost use Rattle.std.specs.Prelude.{◌≡◌, ◌↔◌, ◌<◌, ◌≤◌, length, take, OnOk, OnErr, map, is_err};
 ghost use Rattle.bx_image.specs.Change.{AllWithin, restore};
 ghost use Rattle.bx_image.specs.Device.{GoesOn};
 ghost use Rattle.bx_entries.specs.Kept.{run_of, kept_of};
-ghost use Rattle.bx_entries.specs.declared.format.version.Version.{Version as Form};
-ghost use Rattle.bx_entries.specs.Text.{Entry, Stage, Ending};
-ghost use Rattle.bx_journal.specs.Stack.{Recovers, image_at};
-ghost use Rattle.bx_journal.specs.Phase.{IsAtRest};
-ghost use Rattle.bx_journal.specs.inner.Step.{HasTail};
+ghost use Rattle.bx_journal.specs.inner.Step.{StopsTail, TailRests, TailStops, TakesTail};
 ghost use Rattle.bx_journal.specs.Opening.{OneMore};
 
 use crate::protocol::image::restore_image;
@@ -19,10 +15,8 @@ use std::alloc::Allocator;
 pub fn drop_tail<T: TextStore>(store: &mut T, begins: u64) -> Result<(), DeviceFailed>
     requires countable { T.failures store.old < u64.MAX }
     requires within_text { T.honest store.old → begins ≤ length (T.text store.old) }
-    ensures ok { T.honest store.old → (x : List ℕ) (stack : List (List ℕ)) (es : List Entry) (stage : Stage)
-        → HasTail (T.text store.old) x stack es stage begins → image_at stage x ≡ x → OnOk result (IsAtRest (T.text store.new) x stack) }
-    ensures fault { T.honest store.old → (x : List ℕ) (stack : List (List ℕ)) (es : List Entry) (stage : Stage)
-        → HasTail (T.text store.old) x stack es stage begins → image_at stage x ≡ x → OnErr result (Recovers (T.text store.new) x stack) }
+    ensures ok { T.honest store.old → TailRests (T.text store.old) begins (T.text store.new) result }
+    ensures fault { T.honest store.old → TailStops (T.text store.old) begins (T.text store.new) result }
     ensures text { T.honest store.old → OnOk result (T.text store.new ≡ take begins (T.text store.old)) }
     ensures goes_on { GoesOn T.honest T.room T.failures (is_err result) store.old store.new }
 {
@@ -41,12 +35,10 @@ pub fn take_back<D: Device, T: TextStore, A: Allocator>(
     requires within_text { T.honest store.old → begins ≤ length (T.text store.old) }
     requires within { AllWithin kept.len (map run_of kept.runs) }
     requires image_room { kept.len ≤ D.room device.old }
-    ensures ok { D.honest device.old → T.honest store.old → (stack : List (List ℕ)) (es : List Entry) (v : Form)
-        → HasTail (T.text store.old) (D.image device.old) stack es (Ending v (kept_of kept)) begins
-        → OnOk result (IsAtRest (T.text store.new) (D.image device.new) stack) }
-    ensures fault { D.honest device.old → T.honest store.old → (stack : List (List ℕ)) (es : List Entry) (v : Form)
-        → HasTail (T.text store.old) (D.image device.old) stack es (Ending v (kept_of kept)) begins
-        → OnErr result (Recovers (T.text store.new) (D.image device.new) stack) }
+    ensures ok { D.honest device.old → T.honest store.old
+        → TakesTail D.image T.text (kept_of kept) begins device.old store.old device.new store.new result }
+    ensures fault { D.honest device.old → T.honest store.old
+        → StopsTail D.image T.text (kept_of kept) begins device.old store.old device.new store.new result }
     ensures image { D.honest device.old → OnOk result (D.image device.new ≡ restore (kept_of kept) (D.image device.old)) }
     ensures text { T.honest store.old → OnOk result (T.text store.new ≡ take begins (T.text store.old)) }
     ensures device_honesty { D.honest device.new ↔ D.honest device.old }

@@ -1,17 +1,16 @@
 //! What is unfinished in a journal, and how opening takes it back.
-ghost use Rattle.std.specs.Prelude.{◌≡◌, ◌↔◌, ◌⊎◌, Some, ◌+◌, ◌<◌, ◌≤◌, [], List, ℕ, length, suc, OnOk, OnErr, IfOk, IfErr, IfSome, MatchResult};
-ghost use Rattle.bx_journal.specs.Calls.{AfterFault, Differs, OpenFault};
-ghost use Rattle.bx_journal.specs.Images.{Images};
+ghost use Rattle.std.specs.Prelude.{◌≡◌, ◌↔◌, ◌⊎◌, Some, ◌+◌, ◌<◌, ◌≤◌, [], List, ℕ, length, OnOk, OnErr, IfOk, IfErr, IfSome, MatchResult};
+ghost use Rattle.bx_journal.specs.Calls.{AfterFault, OpenFault};
 ghost use Rattle.bx_entries.specs.inner.Journal.{HasRead};
-ghost use Rattle.bx_journal.specs.Judging.{RefusesRedo};
-ghost use Rattle.bx_journal.specs.Opening.{OneMore, ThreeCounts, IsOpened, RefusesLength, RefusesText};
-ghost use Rattle.bx_journal.specs.inner.Devices.{LooksAt, AreBelow, StepsOn};
-ghost use Rattle.bx_journal.specs.inner.Opening.{HasRoomFor, LookFault};
-ghost use Rattle.bx_entries.specs.inner.Parsed.{entries_of, stage_of};
+ghost use Rattle.bx_journal.specs.Opened.{RefusesDiffering};
+ghost use Rattle.bx_journal.specs.Opening.{OneMore, RefusesText};
+ghost use Rattle.bx_journal.specs.inner.Devices.{AreBelow, AreCounted, AreUnfailed, LooksAt, StepsOn};
+ghost use Rattle.bx_journal.specs.inner.Opening.{HasRoomFor};
+ghost use Rattle.bx_entries.specs.inner.Parsed.{entries_of};
 ghost use Rattle.bx_journal.specs.Recovery.{OpenKind};
-ghost use Rattle.bx_journal.specs.inner.Recovery.{HasLengths, HasUndoneCount, IsOpenedOf, IsUnfinishedIn, KeepsStack, KeepsUndone, RecoverFault};
-ghost use Rattle.bx_journal.specs.Redo.{Finds, IsClean, RefusesRedoAt};
-ghost use Rattle.bx_journal.specs.Stack.{Recovers, image_at};
+ghost use Rattle.bx_journal.specs.inner.Recovering.{CountsStack, FindsAgain, KeepsFoundUndone, KeepsRedoText, Opens, OpensRead, SparesClean, SparesPair, TellsRefused, TellsUndone, TellsUnfit};
+ghost use Rattle.bx_journal.specs.inner.Recovery.{HasLengths, IsUnfinishedIn, KeepsStack, LengthFault, LookReadFault, RecoverFault};
+ghost use Rattle.bx_journal.specs.Redo.{IsClean};
 ghost use Rattle.bx_entries.specs.Text.{IsAccepted, IsDamagedAt, Reading, Reads};
 ghost use Rattle.bx_journal.specs.Undoing.{HasLeft};
 
@@ -29,8 +28,7 @@ use std::alloc::Allocator;
 pub fn check_length<D: Device>(device: &mut D, told: Option<u64>) -> Result<(), SessionFault>
     requires { D.failures device.old < u64.MAX }
     ensures same_length { D.honest device.old → OnOk result (IfSome told (λ n. length (D.image device.old) ≡ n)) }
-    ensures fault { IfErr result (λ e. (e ≡ SessionFault.DeviceFailed)
-        ⊎ ((n : ℕ) × (e ≡ SessionFault.LengthDiffers n) × (D.honest device.old → (told ≡ Some n) × (length (D.image device.old) ≡ n → ⊥)))) }
+    ensures fault { IfErr result (LengthFault (D.honest device.old) told (D.image device.old)) }
     ensures looks { LooksAt D.honest D.image D.failures result device.old device.new }
 {
     let Some(expected) = told else { return Ok(()) };
@@ -50,8 +48,7 @@ fn prepare<D: Device, A: Allocator>(
     requires { D.failures device.old < u64.MAX }
     ensures lengths { D.honest device.old → (bytes : List ℕ) → HasRead bytes journal.now
         → OnOk result (HasLengths journal.now (D.image device.old)) }
-    ensures fault { IfErr result (LookFault (D.honest device.old) (entries_of journal.now.entries.items)
-        (image_at (stage_of journal.now.stage) (D.image device.old))) }
+    ensures fault { IfErr result (LookReadFault (D.honest device.old) journal.now (D.image device.old)) }
     ensures room { OnOk result (HasRoomFor journal.now.stage (D.room device.new)) }
     ensures looks { LooksAt D.honest D.image D.failures result device.old device.new }
 {
@@ -76,8 +73,7 @@ fn cut_unfinished<D: Device, T: TextStore, A: Allocator>(
     requires store_countable { T.failures store.old < u64.MAX }
     requires read { IsUnfinishedIn (T.honest store.old) (T.text store.old) journal }
     requires room { HasRoomFor journal.stage (D.room device.old) }
-    ensures opened { D.honest device.old → T.honest store.old → HasLengths journal (D.image device.old)
-        → IfOk result (IsOpenedOf journal (T.text store.old) (D.image device.old) (T.text store.new) (D.image device.new)) }
+    ensures opened { D.honest device.old → T.honest store.old → OpensRead journal D.image T.text device.old store.old device.new store.new result }
     ensures left { T.honest store.old → OnOk result (HasLeft (T.text store.old) (T.text store.new) (entries_of journal.entries.items)) }
     ensures unclean { IfOk result (λ o. (o.how ≡ How.Clean → ⊥) × (o.undone ≡ 0)) }
     ensures keeps { D.honest device.old → T.honest store.old
@@ -135,8 +131,7 @@ fn finish<D: Device, T: TextStore, A: Allocator>(
     requires countable { AreBelow u64.MAX (D.failures device.old) (T.failures store.old) (T.failures redo_text.old) }
     requires read { IsUnfinishedIn (T.honest store.old) (T.text store.old) journal }
     requires room { HasRoomFor journal.stage (D.room device.old) }
-    ensures opened { D.honest device.old → T.honest store.old → HasLengths journal (D.image device.old)
-        → IfOk result (IsOpenedOf journal (T.text store.old) (D.image device.old) (T.text store.new) (D.image device.new)) }
+    ensures opened { D.honest device.old → T.honest store.old → OpensRead journal D.image T.text device.old store.old device.new store.new result }
     ensures left { T.honest store.old → OnOk result (HasLeft (T.text store.old) (T.text store.new) (entries_of journal.entries.items)) }
     ensures unclean { IfOk result (λ o. (o.how ≡ How.Clean → ⊥) × (o.undone ≡ 0)) }
     ensures keeps { D.honest device.old → T.honest store.old
@@ -159,32 +154,25 @@ pub fn recover_read<D: Device, T: TextStore, A: Allocator>(
 ) -> Result<Recovered, SessionFault>
     requires countable { AreBelow u64.MAX (D.failures device.old) (T.failures store.old) (T.failures redo_text.old) }
     requires read { IsUnfinishedIn (T.honest store.old) (T.text store.old) journal }
-    ensures opened { D.honest device.old → T.honest store.old → (r : Reading) → Reads (T.text store.old) r
-        → IfOk result (λ o. IsOpened (T.text store.old) (D.image device.old) r (T.text store.new) (D.image device.new) o.how o.changes) }
+    ensures opened { D.honest device.old → T.honest store.old → Opens D.image T.text device.old store.old device.new store.new result }
     ensures left { T.honest store.old → (r : Reading) → Reads (T.text store.old) r → OnOk result (HasLeft (T.text store.old) (T.text store.new) r.entries) }
     ensures unclean { IfOk result (λ o. (o.how ≡ How.Clean → ⊥) × (o.undone ≡ 0)) }
     ensures sum { IfOk result (λ o. o.changes + o.undone ≤ 65535) }
     ensures faults { D.honest device.old → T.honest store.old → (r : Reading) → Reads (T.text store.old) r → IfErr result (OpenFault r (D.image device.old)) }
     ensures kind { IfErr result RecoverFault }
-    ensures differs { D.honest device.old → T.honest store.old → (r : Reading) (n : ℕ) → Reads (T.text store.old) r
-        → Differs r.entries (image_at r.stage (D.image device.old)) n
-        → MatchResult result (λ _. ⊥) (RefusesLength n) }
+    ensures differs { D.honest device.old → T.honest store.old → RefusesDiffering result (λ e. e) (T.text store.old) (D.image device.old) }
     ensures keeps { D.honest device.old → T.honest store.old
         → KeepsStack result (T.text store.old) (D.image device.old) (T.text store.new) (D.image device.new) }
-    ensures counted { D.honest device.old → T.honest store.old → (stack : List (List ℕ)) → Recovers (T.text store.old) (D.image device.old) stack
-        → IfOk result (λ o. length stack ≡ suc o.changes) }
-    ensures refused { D.honest device.old → T.honest store.old → IfErr result (λ e. AfterFault e (Unit {0})
-        ((T.text store.new ≡ T.text store.old) × (D.image device.new ≡ D.image device.old))) }
+    ensures counted { D.honest device.old → T.honest store.old → CountsStack (T.text store.old) (D.image device.old) result }
+    ensures refused { D.honest device.old → T.honest store.old → SparesPair D.image T.text device.old store.old device.new store.new result }
     ensures emptied { T.honest redo_text.old → OnOk result (T.text redo_text.new ≡ []) }
     ensures emptied_first { T.honest redo_text.old → OnErr result ((store.new ≡ store.old) ⊎ (T.text redo_text.new ≡ [])) }
     ensures redo_same { T.honest redo_text.old → IfErr result (λ e. AfterFault e (Unit {0}) (T.text redo_text.new ≡ T.text redo_text.old)) }
     ensures device_honesty { D.honest device.new ↔ D.honest device.old }
     ensures store_honesty { T.honest store.new ↔ T.honest store.old }
     ensures redo_honesty { T.honest redo_text.new ↔ T.honest redo_text.old }
-    ensures no_failure { OnOk result ((D.failures device.new ≡ D.failures device.old) × (T.failures store.new ≡ T.failures store.old)
-        × (T.failures redo_text.new ≡ T.failures redo_text.old)) }
-    ensures counts { IfErr result (λ e. ThreeCounts e (D.failures device.old) (T.failures store.old) (T.failures redo_text.old)
-        (D.failures device.new) (T.failures store.new) (T.failures redo_text.new)) }
+    ensures no_failure { AreUnfailed D.failures T.failures device.old store.old redo_text.old device.new store.new redo_text.new result }
+    ensures counts { AreCounted D.failures T.failures device.old store.old redo_text.old device.new store.new redo_text.new result }
 {
     if let Err(fault) = prepare(device, &journal) {
         return Err(fault);
@@ -203,53 +191,37 @@ pub fn recover<D: Device, T: TextStore, A: Allocator + Clone>(
     redo_text: &mut T,
 ) -> Result<Recovered, SessionFault>
     requires countable { AreBelow u64.MAX (D.failures device.old) (T.failures store.old) (T.failures redo_text.old) }
-    ensures opened { D.honest device.old → T.honest store.old → (r : Reading) → Reads (T.text store.old) r
-        → IfOk result (λ o. IsOpened (T.text store.old) (D.image device.old) r (T.text store.new) (D.image device.new) o.how o.changes) }
+    ensures opened { D.honest device.old → T.honest store.old → Opens D.image T.text device.old store.old device.new store.new result }
     ensures left { T.honest store.old → (r : Reading) → Reads (T.text store.old) r → OnOk result (HasLeft (T.text store.old) (T.text store.new) r.entries) }
-    ensures clean { D.honest device.old → T.honest store.old → IfOk result (λ o. o.how ≡ How.Clean
-        → (T.text store.new ≡ T.text store.old) × (D.image device.new ≡ D.image device.old)) }
+    ensures clean { D.honest device.old → T.honest store.old → SparesClean D.image T.text device.old store.old device.new store.new result }
     ensures accepted { T.honest store.old → OnOk result (IsAccepted (T.text store.old)) }
     ensures damaged { T.honest store.old → IfErr result (λ e. (line : ℕ) → e ≡ SessionFault.Damaged line → IsDamagedAt (T.text store.old) line) }
     ensures unaccepted { T.honest store.old → (IsAccepted (T.text store.old) → ⊥) → MatchResult result (λ _. ⊥) RefusesText }
     ensures faults { D.honest device.old → T.honest store.old → (r : Reading) → Reads (T.text store.old) r → IfErr result (OpenFault r (D.image device.old)) }
     ensures kind { IfErr result OpenKind }
     ensures unfinished { T.honest store.old → IfErr result (λ e. e ≡ SessionFault.Interrupted → IsClean (T.text store.old) → ⊥) }
-    ensures differs { D.honest device.old → T.honest store.old → (r : Reading) (n : ℕ) → Reads (T.text store.old) r
-        → Differs r.entries (image_at r.stage (D.image device.old)) n
-        → MatchResult result (λ _. ⊥) (RefusesLength n) }
+    ensures differs { D.honest device.old → T.honest store.old → RefusesDiffering result (λ e. e) (T.text store.old) (D.image device.old) }
     ensures keeps { D.honest device.old → T.honest store.old
         → KeepsStack result (T.text store.old) (D.image device.old) (T.text store.new) (D.image device.new) }
-    ensures counted { D.honest device.old → T.honest store.old → (stack : List (List ℕ)) → Recovers (T.text store.old) (D.image device.old) stack
-        → IfOk result (λ o. length stack ≡ suc o.changes) }
-    ensures refused { D.honest device.old → T.honest store.old → IfErr result (λ e. AfterFault e (Unit {0})
-        ((T.text store.new ≡ T.text store.old) × (D.image device.new ≡ D.image device.old))) }
+    ensures counted { D.honest device.old → T.honest store.old → CountsStack (T.text store.old) (D.image device.old) result }
+    ensures refused { D.honest device.old → T.honest store.old → SparesPair D.image T.text device.old store.old device.new store.new result }
     ensures clean_redo { T.honest redo_text.old → IfOk result (λ o. o.how ≡ How.Clean → T.text redo_text.new ≡ T.text redo_text.old) }
     ensures emptied { T.honest redo_text.old → IfOk result (λ o. (o.how ≡ How.Clean → ⊥) → (T.text redo_text.new ≡ []) × (o.undone ≡ 0)) }
     ensures redo_same { T.honest redo_text.old → IfErr result (λ e. AfterFault e (Unit {0}) (T.text redo_text.new ≡ T.text redo_text.old)) }
-    ensures undone { D.honest device.old → T.honest store.old → T.honest redo_text.old
-        → IfOk result (λ o. HasUndoneCount (T.text redo_text.new) (D.image device.new) o.changes o.undone) }
+    ensures undone { TellsUndone D.honest D.image T.honest T.text device.old store.old redo_text.old device.new redo_text.new result }
     ensures sum { IfOk result (λ o. o.changes + o.undone ≤ 65535) }
-    ensures redo_refused { D.honest device.old → T.honest store.old → T.honest redo_text.old → IfErr result (λ e. (line : ℕ) → e ≡ SessionFault.RedoDamaged line
-        → RefusesRedoAt (T.text store.old) (D.image device.old) (T.text redo_text.old) line) }
-    ensures redo_unfit { D.honest device.old → T.honest store.old → T.honest redo_text.old → (line : ℕ)
-        → RefusesRedoAt (T.text store.old) (D.image device.old) (T.text redo_text.old) line → MatchResult result (λ _. ⊥) (RefusesRedo line) }
-    ensures keeps_undone { D.honest device.old → T.honest store.old → T.honest redo_text.old → (s : Images)
-        → Finds (T.text store.old) (D.image device.old) (T.text redo_text.old) s
-        → IfOk result (λ o. KeepsUndone (T.text redo_text.new) (D.image device.new) o s.undone) }
-    ensures finds_err { D.honest device.old → T.honest store.old → T.honest redo_text.old → (s : Images)
-        → Finds (T.text store.old) (D.image device.old) (T.text redo_text.old) s
-        → IfErr result (λ e. AfterFault e (Finds (T.text store.new) (D.image device.new) (T.text redo_text.new) (record { stack = s.stack; undone = [] }))
-        (Finds (T.text store.new) (D.image device.new) (T.text redo_text.new) s)) }
-    ensures redo_kept { D.honest device.old → T.honest store.old → T.honest redo_text.old → (s : Images)
-        → Finds (T.text store.old) (D.image device.old) (T.text redo_text.old) s
-        → IfErr result (λ e. (line : ℕ) → e ≡ SessionFault.RedoDamaged line → ⊥) }
+    ensures redo_refused { TellsRefused D.honest D.image T.honest T.text device.old store.old redo_text.old result }
+    ensures redo_unfit { TellsUnfit D.honest D.image T.honest T.text device.old store.old redo_text.old result }
+    ensures keeps_undone { KeepsFoundUndone D.honest D.image T.honest T.text
+        device.old store.old redo_text.old device.new redo_text.new result }
+    ensures finds_err { FindsAgain D.honest D.image T.honest T.text
+        device.old store.old redo_text.old device.new store.new redo_text.new result }
+    ensures redo_kept { KeepsRedoText D.honest D.image T.honest T.text device.old store.old redo_text.old result }
     ensures device_honesty { D.honest device.new ↔ D.honest device.old }
     ensures store_honesty { T.honest store.new ↔ T.honest store.old }
     ensures redo_honesty { T.honest redo_text.new ↔ T.honest redo_text.old }
-    ensures no_failure { OnOk result ((D.failures device.new ≡ D.failures device.old) × (T.failures store.new ≡ T.failures store.old)
-        × (T.failures redo_text.new ≡ T.failures redo_text.old)) }
-    ensures counts { IfErr result (λ e. ThreeCounts e (D.failures device.old) (T.failures store.old) (T.failures redo_text.old)
-        (D.failures device.new) (T.failures store.new) (T.failures redo_text.new)) }
+    ensures no_failure { AreUnfailed D.failures T.failures device.old store.old redo_text.old device.new store.new redo_text.new result }
+    ensures counts { AreCounted D.failures T.failures device.old store.old redo_text.old device.new store.new redo_text.new result }
 {
     let found = match read_text(alloc, store) {
         Ok(found) => found,

@@ -1,19 +1,24 @@
 //! The journal of an open session, read once more: all of it, or its last entries alone.
 ghost use Rattle.std.specs.Prelude.{◌≡◌, ◌↔◌, ◌⊎◌, ◌+◌, ◌<◌, ◌≤◌, List, ℕ, false, length, drop, IfOk, IfErr, IfSome, IfNone, OnOk};
 ghost use Rattle.bx_entries.specs.Text.{Entry};
-ghost use Rattle.bx_entries.specs.inner.Journal.{HasRead, HasReadBehind};
+ghost use Rattle.bx_entries.specs.declared.read.types.Front.{Front as Counted};
+ghost use Rattle.bx_entries.specs.inner.Journal.{HasRead};
+ghost use Rattle.bx_entries.specs.inner.Lines.{IsReadUpTo};
 ghost use Rattle.bx_journal.specs.Opening.{FaultCounts};
 ghost use Rattle.bx_journal.specs.Undoing.{AgainFault, HasCount};
-ghost use Rattle.bx_journal.specs.inner.Undoing.{IsLastFrom, IsReadAgain, IsReadFrom, IsReadLast};
+ghost use Rattle.bx_journal.specs.inner.Undoing.{IsLastFrom, IsReadAgain, IsReadBehind, IsReadFrom, IsReadLast, IsReadOn};
 ghost use Rattle.bx_journal.specs.inner.Windows.{IsFrontCounted};
 
 use crate::SessionFault;
 use crate::recovery::windows::count_front;
 use crate::session::fault::of_text;
 use crate::session::read::read_journal;
-use bx_entries::{EntryFault, EntryRead, Front, JournalRead, StageRead, read_behind};
+use bx_entries::{EntryRead, Front, JournalRead, LinesRead, StageRead, nothing_read, read_lines};
 use bx_store::TextStore;
 use std::alloc::{Allocator, Global};
+
+/// So many bytes of a text are read at a time.
+const WINDOW: u64 = 262_144;
 
 /// How many bytes a text of finished entries alone has, and those entries, or the last of them.
 #[derive(Drop)]
@@ -77,28 +82,71 @@ pub fn read_again<T: TextStore, A: Allocator + Clone>(
     }
 }
 
-/// Reads what a text of `len` bytes has from a place on. It changes nothing.
-fn read_rest<T: TextStore, A: Allocator + Clone>(
+/// Reads the whole lines of the window at the place where reading stands, in a text of `len` bytes. It answers none where no
+/// line ends in it, or one is out of place.
+fn read_window<T: TextStore, A: Allocator + Clone>(
     alloc: &A,
     store: &mut T,
-    at: u64,
+    window: &mut [u8],
+    front: Front,
+    read: LinesRead<A>,
     len: u64,
-) -> Result<Vec<u8, A>, SessionFault>
+) -> Result<Option<LinesRead<A>>, SessionFault>
     requires countable { T.failures store.old < u64.MAX }
-    requires within { at ≤ len }
-    requires long { T.honest store.old → len ≡ length (T.text store.old) }
-    ensures bytes { T.honest store.old → IfOk result (λ bytes. bytes.items ≡ drop at (T.text store.old)) }
-    ensures size { IfOk result (λ bytes. at + length bytes.items ≡ len) }
+    requires within { T.honest store.old → len ≤ length (T.text store.old) }
+    requires below { read.at ≤ len }
+    ensures read { IfOk result (λ found. IfSome found (IsReadOn (T.honest store.old) (T.text store.old) front len read)) }
     ensures fault { IfErr result (λ e. (e ≡ SessionFault.NoMemory) ⊎ (e ≡ SessionFault.DeviceFailed)) }
     ensures text { T.honest store.old → T.text store.new ≡ T.text store.old }
     ensures honesty { T.honest store.new ↔ T.honest store.old }
     ensures no_failure { OnOk result (T.failures store.new ≡ T.failures store.old) }
     ensures counts { IfErr result (λ e. FaultCounts e 0 (T.failures store.old) 0 (T.failures store.new)) }
 {
-    let size = (len - at) as usize;
-    let mut bytes = vec![in alloc.clone()?; 0u8; size]?;
-    store.read_at(at, bytes.as_mut_slice())?;
-    Ok(bytes)
+    let at = read.at;
+    let more = (window.len() as u64).min(len - at) as usize;
+    let (now, _) = window.split_at_mut(more);
+    store.read_at(at, now)?;
+    let left = len - at - more as u64;
+    let found = read_lines(alloc, front, read, left, now)?;
+    let Some(next) = found else {
+        return Ok(None);
+    };
+    if next.at == at {
+        return Ok(None);
+    }
+    Ok(Some(next))
+}
+
+/// Reads what stands behind a front in a text of `len` bytes, a window at a time. What is left of a window's last line is
+/// read again with the next one. It answers none where a line is out of place, and where one is longer than the window.
+fn read_windows<T: TextStore, A: Allocator + Clone>(
+    alloc: &A,
+    store: &mut T,
+    window: &mut [u8],
+    front: Front,
+    len: u64,
+) -> Result<Option<LinesRead<A>>, SessionFault>
+    requires countable { T.failures store.old < u64.MAX }
+    requires within { front.at ≤ len }
+    requires long { T.honest store.old → len ≡ length (T.text store.old) }
+    requires front { IsFrontCounted (T.honest store.old) (T.text store.old) false front }
+    ensures read { IfOk result (λ found. IfSome found (IsReadBehind (T.honest store.old) (T.text store.old) front)) }
+    ensures all { IfOk result (λ found. IfSome found (λ r. r.at ≡ len)) }
+    ensures fault { IfErr result (λ e. (e ≡ SessionFault.NoMemory) ⊎ (e ≡ SessionFault.DeviceFailed)) }
+    ensures text { T.honest store.old → T.text store.new ≡ T.text store.old }
+    ensures honesty { T.honest store.new ↔ T.honest store.old }
+    ensures no_failure { OnOk result (T.failures store.new ≡ T.failures store.old) }
+    ensures counts { IfErr result (λ e. FaultCounts e 0 (T.failures store.old) 0 (T.failures store.new)) }
+{
+    let mut read = nothing_read(alloc, front)?;
+    while read.at < len {
+        let found = read_window(alloc, store, window, front, read, len)?;
+        let Some(next) = found else {
+            return Ok(None);
+        };
+        read = next;
+    }
+    Ok(Some(read))
 }
 
 /// What was read behind a front of so many entries, in a text of so many bytes, where that is all of its entries, and at
@@ -106,25 +154,18 @@ fn read_rest<T: TextStore, A: Allocator + Clone>(
 fn last_of<A: Allocator>(
     len: u64,
     first: u32,
-    journal: JournalRead<A>,
+    read: LinesRead<A>,
     k: u32,
     count: u32,
 ) -> Option<FinishedRead<A>>
-    ensures some { (text : List ℕ) (older : List Entry) → HasReadBehind text older journal → first ≡ length older → len ≡ length text
+    ensures some { (text : List ℕ) (older : List Entry) (front : Counted) → IsReadUpTo text older front read → first ≡ front.count → read.at ≡ len
         → IfSome result (λ o. IsReadLast text o.entries.items count) }
     ensures len { IfSome result (λ o. o.len ≡ len) }
     ensures few { IfSome result (λ o. k ≤ length o.entries.items) }
 {
-    let JournalRead {
-        entries,
-        stage,
-        whole,
-    } = journal;
+    let LinesRead { entries, stage, .. } = read;
     match stage {
         StageRead::Between => {
-            if whole != len {
-                return None;
-            }
             if first as usize + entries.len() != count as usize {
                 return None;
             }
@@ -139,7 +180,8 @@ fn last_of<A: Allocator>(
 }
 
 /// Reads what stands behind a front of finished entries in a text of `len` bytes: the last k entries at least, of so many in
-/// all. It answers none where the text isn't so many finished entries alone. It changes nothing.
+/// all. It takes the memory of their saved bytes, and of a window. It answers none where the text isn't so many finished
+/// entries alone, and where a line is longer than the window. It changes nothing.
 fn read_from<T: TextStore, A: Allocator + Clone>(
     alloc: &A,
     store: &mut T,
@@ -152,7 +194,6 @@ fn read_from<T: TextStore, A: Allocator + Clone>(
     requires within { front.at ≤ len }
     requires long { T.honest store.old → len ≡ length (T.text store.old) }
     requires front { IsFrontCounted (T.honest store.old) (T.text store.old) false front }
-    requires countable_text { len < u64.MAX }
     ensures read { IfOk result (λ found. IfSome found (λ o. IsLastFrom (T.honest store.old) (T.text store.old) o.len o.entries.items count)) }
     ensures few { IfOk result (λ found. IfSome found (λ o. k ≤ length o.entries.items)) }
     ensures fault { IfErr result (λ e. (e ≡ SessionFault.NoMemory) ⊎ (e ≡ SessionFault.DeviceFailed)) }
@@ -161,12 +202,13 @@ fn read_from<T: TextStore, A: Allocator + Clone>(
     ensures no_failure { OnOk result (T.failures store.new ≡ T.failures store.old) }
     ensures counts { IfErr result (λ e. FaultCounts e 0 (T.failures store.old) 0 (T.failures store.new)) }
 {
-    let bytes = read_rest(alloc, store, front.at, len)?;
-    match read_behind(alloc, front, bytes) {
-        Ok(journal) => Ok(last_of(len, front.count, journal, k, count)),
-        Err(EntryFault::NoMemory) => Err(SessionFault::NoMemory),
-        Err(EntryFault::Damaged { .. }) => Ok(None),
-    }
+    let size = WINDOW.min(len - front.at) as usize;
+    let mut window = vec![in alloc.clone()?; 0u8; size]?;
+    let found = read_windows(alloc, store, window.as_mut_slice(), front, len)?;
+    let Some(read) = found else {
+        return Ok(None);
+    };
+    Ok(last_of(len, front.count, read, k, count))
 }
 
 /// Reads the last k entries of a text that is to be so many finished entries alone. It answers none where the text isn't
@@ -188,9 +230,6 @@ fn find_last<T: TextStore, A: Allocator + Clone>(
     ensures counts { IfErr result (λ e. FaultCounts e 0 (T.failures store.old) 0 (T.failures store.new)) }
 {
     let len = store.len()?;
-    if len == u64::MAX {
-        return Ok(None);
-    }
     let found = count_front(alloc, store, len, false, count - k)?;
     let Some(front) = found else {
         return Ok(None);

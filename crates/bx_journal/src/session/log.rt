@@ -106,8 +106,7 @@ impl<D: Device, T: TextStore, A: Allocator + Clone> Session<D, T, A> {
     /// One row for each change, the oldest first. It reads the journal's text again, and changes nothing.
     pub fn log(&mut self) -> Result<Vec<LogRow, A>, SessionFault>
         requires { T.failures self.old.store < u64.MAX }
-        ensures rows { T.honest self.old.store → (entries : List Entry) → IsFinished (T.text self.old.store) entries
-            → IfOk result (λ rows. rows.items ≡ rows_of entries) }
+        ensures rows { T.honest self.old.store → (es : List Entry) → IsFinished (T.text self.old.store) es → IfOk result (λ rows. rows.items ≡ rows_of es) }
 
         // Nothing is changed. A broken session isn't even read.
         ensures text { T.honest self.old.store → T.text self.new.store ≡ T.text self.old.store }
@@ -122,7 +121,7 @@ impl<D: Device, T: TextStore, A: Allocator + Clone> Session<D, T, A> {
 
         // The text is called damaged exactly where it isn't so many finished entries alone.
         ensures undamaged { T.honest self.old.store → HasCount (T.text self.old.store) self.old.count
-            → IfErr result (λ e. (line : ℕ) → e ≡ SessionFault.Damaged line → ⊥) }
+            → IfErr result (λ e. (n : ℕ) → e ≡ SessionFault.Damaged n → ⊥) }
         ensures whole { T.honest self.old.store → OnOk result (HasCount (T.text self.old.store) self.old.count) }
         ensures store_honesty { T.honest self.new.store ↔ T.honest self.old.store }
         ensures no_failure { OnOk result (T.failures self.new.store ≡ T.failures self.old.store) }

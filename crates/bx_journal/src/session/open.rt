@@ -1,7 +1,7 @@
 //! Opening an image with its journal and its redo text.
-ghost use Rattle.std.specs.Prelude.{◌≡◌, ◌↔◌, ◌+◌, ◌<◌, [], List, ℕ, length, false, IfOk, IfErr, OnOk, MatchResult};
+ghost use Rattle.std.specs.Prelude.{◌≡◌, ◌↔◌, ◌+◌, ◌<◌, [], List, ℕ, false, IfOk, IfErr, OnOk, MatchResult};
 ghost use Rattle.bx_entries.specs.Text.{IsAccepted, IsDamagedAt, Reading, Reads};
-ghost use Rattle.bx_journal.specs.Stack.{Recovers, image_at, recovered};
+ghost use Rattle.bx_journal.specs.Stack.{Recovers};
 
 use crate::recovery::unfinished_entry::recover;
 use crate::{How, Recovered, Session, SessionFault};
@@ -10,14 +10,12 @@ use bx_store::TextStore;
 use std::alloc::Allocator;
 
 impl<D: Device, T: TextStore, A: Allocator + Clone> Session<D, T, A> {
-    ghost use Rattle.bx_journal.specs.Images.{Images as Pictures};
-    ghost use Rattle.bx_journal.specs.Judging.{RefusesRedo};
-    ghost use Rattle.bx_journal.specs.Redo.{Finds, IsClean, RefusesRedoAt, found_undone};
+    ghost use Rattle.bx_journal.specs.Redo.{IsClean};
     ghost use Rattle.bx_journal.specs.Recovery.{OpenKind};
     ghost use Rattle.bx_journal.specs.Session.{HasUndone, IsReady};
-    ghost use Rattle.bx_journal.specs.Standing.{IsStanding};
-    ghost use Rattle.bx_journal.specs.Calls.{AfterFault, Differs, OpenFault};
-    ghost use Rattle.bx_journal.specs.Opening.{ThreeCounts, IsOpened, RefusesLength, RefusesText};
+    ghost use Rattle.bx_journal.specs.Calls.{AfterFault, OpenFault};
+    ghost use Rattle.bx_journal.specs.Opened.{IsPairSame, Refinds, KeepsFound, KeepsImages, KeepsLengths, KeepsRedo, OpensAs, RefusesDiffering, RefusesRightly, RefusesUnfit, StandsRecovered};
+    ghost use Rattle.bx_journal.specs.Opening.{ThreeCounts, RefusesText};
     ghost use Rattle.bx_journal.specs.Undoing.{HasLeft};
 
     /// Opens an image with its journal and its redo text. An unfinished entry is dropped, or its change is taken back;
@@ -39,14 +37,12 @@ impl<D: Device, T: TextStore, A: Allocator + Clone> Session<D, T, A> {
         requires redo_countable { T.failures redo_text < u64.MAX }
 
         // What is found, whatever image it is: the pair that is left stands for the recovered stack.
-        ensures opened { D.honest device → T.honest store → (r : Reading) → Reads (T.text store) r
-            → IfOk result (λ o. IsOpened (T.text store) (D.image device) r (T.text o.0.store) (D.image o.0.device) o.1.how o.1.changes) }
-        ensures standing { D.honest device → T.honest store → (r : Reading) → Reads (T.text store) r
-            → IfOk result (λ o. IsStanding D.image T.text o.0 (recovered r (D.image device))) }
+        ensures opened { D.honest device → T.honest store → (r : _) → Reads (T.text store) r → IfOk result (λ o. OpensAs D.image T.text device store r o.0 o.1) }
+        ensures standing { D.honest device → T.honest store → (r : _) → Reads (T.text store) r → IfOk result (λ o. StandsRecovered D.image T.text device r o.0) }
         ensures left { T.honest store → (r : Reading) → Reads (T.text store) r → IfOk result (λ o. HasLeft (T.text store) (T.text o.0.store) r.entries) }
         ensures fresh { IfOk result (λ o. (o.0.count ≡ o.1.changes) × (o.0.undone ≡ o.1.undone) × (o.0.is_broken ≡ false)) }
-        ensures clean { D.honest device → T.honest store → IfOk result (λ o. o.1.how ≡ How.Clean
-            → (T.text o.0.store ≡ T.text store) × (D.image o.0.device ≡ D.image device)) }
+        ensures clean { D.honest device → T.honest store
+            → IfOk result (λ o. o.1.how ≡ How.Clean → IsPairSame D.image T.text device store o.0.device o.0.store) }
 
         // A text that isn't accepted is never opened, and one that is accepted is never called damaged.
         ensures accepted { T.honest store → OnOk result (IsAccepted (T.text store)) }
@@ -55,23 +51,18 @@ impl<D: Device, T: TextStore, A: Allocator + Clone> Session<D, T, A> {
 
         // A length differs exactly where the newest finished entry tells another one than that of the image below which it stands.
         ensures faults { D.honest device → T.honest store → (r : Reading) → Reads (T.text store) r → IfErr result (λ e. OpenFault r (D.image device) e.3) }
-        ensures differs { D.honest device → T.honest store → (r : Reading) (n : ℕ) → Reads (T.text store) r
-            → Differs r.entries (image_at r.stage (D.image device)) n
-            → MatchResult result (λ _. ⊥) (λ e. RefusesLength n e.3) }
+        ensures differs { D.honest device → T.honest store → RefusesDiffering result (λ e. e.3) (T.text store) (D.image device) }
 
         // An interruption comes only where something was unfinished, and no fault of another call comes at all.
         ensures unfinished { T.honest store → IfErr result (λ e. e.3 ≡ SessionFault.Interrupted → IsClean (T.text store) → ⊥) }
         ensures kind { IfErr result (λ e. OpenKind e.3) }
 
         // From a sound pair the stack is kept, whatever it answers.
-        ensures keeps { D.honest device → T.honest store → (stack : List (List ℕ)) → Recovers (T.text store) (D.image device) stack
-            → IfOk result (λ o. IsReady D.image T.text o.0 stack) }
-        ensures keeps_err { D.honest device → T.honest store → (stack : List (List ℕ)) → Recovers (T.text store) (D.image device) stack
-            → IfErr result (λ e. Recovers (T.text e.1) (D.image e.0) stack) }
-        ensures lengths_kept { D.honest device → T.honest store → (stack : List (List ℕ)) → Recovers (T.text store) (D.image device) stack
-            → IfErr result (λ e. (n : ℕ) → e.3 ≡ SessionFault.LengthDiffers n → ⊥) }
-        ensures refused { D.honest device → T.honest store → IfErr result (λ e. AfterFault e.3 (Unit {0})
-            ((T.text e.1 ≡ T.text store) × (D.image e.0 ≡ D.image device))) }
+        ensures keeps { D.honest device → T.honest store → (s : _) → Recovers (T.text store) (D.image device) s → IfOk result (λ o. IsReady D.image T.text o.0 s) }
+        ensures keeps_err { D.honest device → T.honest store → IfErr result (λ e. KeepsFound (T.text store) (D.image device) (T.text e.1) (D.image e.0)) }
+        ensures lengths_kept { D.honest device → T.honest store → IfErr result (λ e. KeepsLengths (T.text store) (D.image device) e.3) }
+        ensures refused { D.honest device → T.honest store
+            → IfErr result (λ e. AfterFault e.3 (Unit {0}) (IsPairSame D.image T.text device store e.0 e.1)) }
 
         // Beside a finished journal the redo text stays, and stands for the undone images. What is unfinished empties it.
         ensures clean_redo { T.honest redo_text → IfOk result (λ o. o.1.how ≡ How.Clean → T.text o.0.redo_text ≡ T.text redo_text) }
@@ -80,30 +71,28 @@ impl<D: Device, T: TextStore, A: Allocator + Clone> Session<D, T, A> {
             → IfOk result (λ o. (undone : List (List ℕ)) × HasUndone D.image T.text o.0 undone) }
 
         // A redo text is refused exactly where it isn't one of the image and of as many changes, and then at the one line.
-        ensures redo_refused { D.honest device → T.honest store → T.honest redo_text → IfErr result (λ e. (line : ℕ)
-            → e.3 ≡ SessionFault.RedoDamaged line → RefusesRedoAt (T.text store) (D.image device) (T.text redo_text) line) }
-        ensures redo_unfit { D.honest device → T.honest store → T.honest redo_text → (line : ℕ)
-            → RefusesRedoAt (T.text store) (D.image device) (T.text redo_text) line → MatchResult result (λ _. ⊥) (λ e. RefusesRedo line e.3) }
+        ensures redo_refused { D.honest device → T.honest store → T.honest redo_text
+            → IfErr result (λ e. RefusesRightly D.image T.text device store redo_text e.3) }
+        ensures redo_unfit { D.honest device → T.honest store → T.honest redo_text
+            → RefusesUnfit result (λ e. e.3) (T.text store) (D.image device) (T.text redo_text) }
 
         // From what an interruption left the undone images are kept, or given up where something is unfinished.
-        ensures keeps_undone { D.honest device → T.honest store → T.honest redo_text → (s : Pictures)
-            → Finds (T.text store) (D.image device) (T.text redo_text) s
-            → IfOk result (λ o. HasUndone D.image T.text o.0 (found_undone o.1.how s.undone)) }
-        ensures finds_err { D.honest device → T.honest store → T.honest redo_text → (s : Pictures)
-            → Finds (T.text store) (D.image device) (T.text redo_text) s
-            → IfErr result (λ e. AfterFault e.3 (Finds (T.text e.1) (D.image e.0) (T.text e.2) (record { stack = s.stack; undone = [] }))
-            (Finds (T.text e.1) (D.image e.0) (T.text e.2) s)) }
-        ensures redo_kept { D.honest device → T.honest store → T.honest redo_text → (s : Pictures)
-            → Finds (T.text store) (D.image device) (T.text redo_text) s
-            → IfErr result (λ e. (line : ℕ) → e.3 ≡ SessionFault.RedoDamaged line → ⊥) }
+        ensures keeps_undone { D.honest device → T.honest store → T.honest redo_text
+            → IfOk result (λ o. KeepsImages D.image T.text device store redo_text o.0 o.1) }
+        ensures finds_err { D.honest device → T.honest store → T.honest redo_text
+            → IfErr result (λ e. Refinds D.image T.text device store redo_text e.0 e.1 e.2 e.3) }
+        ensures redo_kept { D.honest device → T.honest store → T.honest redo_text
+            → IfErr result (λ e. KeepsRedo D.image T.text device store redo_text e.3) }
         ensures redo_same { T.honest redo_text → IfErr result (λ e. AfterFault e.3 (Unit {0}) (T.text e.2 ≡ T.text redo_text)) }
-        ensures honesty { IfOk result (λ o. (D.honest o.0.device ↔ D.honest device)
-            × (T.honest o.0.store ↔ T.honest store) × (T.honest o.0.redo_text ↔ T.honest redo_text)) }
+        ensures device_honesty { IfOk result (λ o. D.honest o.0.device ↔ D.honest device) }
+        ensures store_honesty { IfOk result (λ o. T.honest o.0.store ↔ T.honest store) }
+        ensures redo_honesty { IfOk result (λ o. T.honest o.0.redo_text ↔ T.honest redo_text) }
         ensures honesty_err { IfErr result (λ e. (D.honest e.0 ↔ D.honest device) × (T.honest e.1 ↔ T.honest store) × (T.honest e.2 ↔ T.honest redo_text)) }
-        ensures no_failure { IfOk result (λ o. (D.failures o.0.device ≡ D.failures device) × (T.failures o.0.store ≡ T.failures store)
-            × (T.failures o.0.redo_text ≡ T.failures redo_text)) }
-        ensures counts { IfErr result (λ e. ThreeCounts e.3 (D.failures device) (T.failures store) (T.failures redo_text)
-            (D.failures e.0) (T.failures e.1) (T.failures e.2)) }
+        ensures device_failures { IfOk result (λ o. D.failures o.0.device ≡ D.failures device) }
+        ensures store_failures { IfOk result (λ o. T.failures o.0.store ≡ T.failures store) }
+        ensures redo_failures { IfOk result (λ o. T.failures o.0.redo_text ≡ T.failures redo_text) }
+        ensures counts { let d = D.failures in let t = T.failures in
+            IfErr result (λ e. ThreeCounts e.3 (d device) (t store) (t redo_text) (d e.0) (t e.1) (t e.2)) }
     {
         let mut device = device;
         let mut store = store;

@@ -2,9 +2,10 @@
 ghost use Rattle.std.specs.Prelude.{◌≡◌, ◌↔◌, ◌+◌, ◌<◌, ◌≤◌, [], length, vec_capacity, IfOk, IfErr, OnOk, IsErrOf};
 ghost use Rattle.bx_image.specs.Change.{effect, saved, AllWithin, Fits, IsOf};
 ghost use Rattle.bx_entries.specs.Kept.{kept_of};
-ghost use Rattle.bx_entries.specs.Entry.{head_text, end_text};
+ghost use Rattle.bx_entries.specs.Entry.{end_text};
 ghost use Rattle.bx_journal.specs.Opening.{FaultCounts};
 ghost use Rattle.bx_journal.specs.inner.Standing.{PrepareFault};
+ghost use Rattle.bx_journal.specs.inner.Step.{HasEntryRoom};
 
 use crate::SessionFault;
 use crate::protocol::image::save_image;
@@ -40,8 +41,7 @@ pub fn prepare_change<D: Device, T: TextStore, A: Allocator + Clone>(
     ensures empty { IfOk result (λ p. p.page.items ≡ []) }
     ensures page_room { IfOk result (λ p. 82 ≤ vec_capacity p.page) }
     ensures image_room { OnOk result (length (effect change.now []) ≤ D.room device.new) }
-    ensures text_room { T.honest store.old → IfOk result (λ p.
-        length (T.text store.new) + length (head_text number (kept_of p.kept)) + length p.end ≤ T.room store.new) }
+    ensures text_room { T.honest store.old → IfOk result (λ p. HasEntryRoom (T.text store.new) number p.kept p.end (T.room store.new)) }
     ensures large { D.honest device.old → IsErrOf result SessionFault.TooLarge → Fits change.now (length (D.image device.old)) MAX_LEN → ⊥ }
     ensures fitting { D.honest device.old → IsErrOf result SessionFault.NoMemory → Fits change.now (length (D.image device.old)) MAX_LEN }
     ensures kind { IfErr result PrepareFault }

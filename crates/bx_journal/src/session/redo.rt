@@ -83,8 +83,8 @@ impl<D: Device, T: TextStore, A: Allocator + Clone> Session<D, T, A> {
 
     /// Makes the last j undone changes again, the one undone last first, and answers how many changes then stand.
     ///
-    /// All memory is taken before the first write: it is in proportion to the text of the last j entries of the redo text
-    /// and to the bytes that the j changes overwrite. The faults come in this order: `Broken`, `NothingToRedo`,
+    /// All memory is taken before the first write: it is in proportion to the bytes that the last j entries of the redo text
+    /// saved, and to those that the j changes overwrite. The faults come in this order: `Broken`, `NothingToRedo`,
     /// `DeviceFailed` and `NoMemory` of reading, `RedoDamaged` where the redo text was changed by others, `DeviceFailed`
     /// of the lengths, `NoMemory`, `DeviceFailed` of reading the image, and `Interrupted` from the first write on. Each
     /// but the last changes nothing.

@@ -32,8 +32,8 @@ impl<D: Device, T: TextStore, A: Allocator + Clone> Session<D, T, A> {
     /// Takes the last k changes back, the newest first, and answers how many are left. Their images are then undone, and
     /// can be made again; but an image of more than `MAX_LEN` bytes, and what was undone before it, is given up.
     ///
-    /// All memory is taken before the first write: it is in proportion to the text of the journal's last k entries and to
-    /// the bytes that the k changes wrote or added. The faults come in this order: `Broken`, `TooFew`, `DeviceFailed` and
+    /// All memory is taken before the first write: it is in proportion to the bytes that the journal's last k entries saved,
+    /// and to those that the k changes wrote or added. The faults come in this order: `Broken`, `TooFew`, `DeviceFailed` and
     /// `NoMemory` of reading, `Damaged` where the text was changed by others, `DeviceFailed` of the lengths, `NoMemory`,
     /// `DeviceFailed` of reading the image, and `Interrupted` from the first write on. Each but the last changes nothing.
     pub fn undo(&mut self, k: u32) -> Result<u32, SessionFault>

@@ -53,7 +53,9 @@ pub enum Ask {
     Replace,
     /// Puts `WHOLE` bytes at 0.
     Whole,
+    UndoOne,
     UndoTwo,
+    RedoOne,
     RedoTwo,
     /// The rows of the log: how many there are.
     Log,
@@ -110,7 +112,9 @@ fn asked<D: Device, T: TextStore>(
     }
     match ask {
         Ask::Nothing => Ok(0),
+        Ask::UndoOne => session.undo(1),
         Ask::UndoTwo => session.undo(2),
+        Ask::RedoOne => session.redo(1),
         Ask::RedoTwo => session.redo(2),
         Ask::Log => match session.log() {
             Ok(rows) => Ok(rows.len().min(u32::MAX as usize) as u32),

@@ -1,12 +1,17 @@
-//! Texts that are counted in windows: of any size, and of a journal that is longer than two.
+//! Texts that are counted and read in windows: of any size, and of a journal that is longer than two.
 use crate::journal::reads::{
     Ask, Held, NO_STEP, NONE, PATCHED, REFUSED, UNDONE_TWO, assert_refused, found, held, left_by,
     open,
 };
 use bumpalo::Bump;
-use bx_entries::{count_lines, counted_by, no_entries};
-use bx_journal::{How, SessionFault};
+use bx_entries::{
+    EntryRead, Front, LinesRead, count_lines, counted_by, no_entries, nothing_read, read_journal,
+    read_lines,
+};
+use bx_image::MemImage;
+use bx_journal::{How, Session, SessionFault};
 use bx_ration::ration;
+use bx_store::MemText;
 use std::alloc::{AllocError, Global};
 use std::process::Abort;
 use std::test::Fail;
@@ -67,19 +72,115 @@ fn counted_in_small_windows(rt: HostRuntime) {
     assert!(rt; count_by(PATCHED_FIRST, 60, true).is_none());
 }
 
+/// An entry of a run of two full lines and a short one, of a full line apart, and of a run of three; and one of one byte.
+const RUNS: &[u8] =
+    b"change2 00000001 0000000000000050\n00000000: 6161 6161 6161 6161 6161 6161 6161 6161  aaaaaaaaaaaaaaaa\n00000010: 6262 6262 6262 6262 6262 6262 6262 6262  bbbbbbbbbbbbbbbb\n00000020: 6364 65                                  cde\n00000040: 6666 6666 6666 6666 6666 6666 6666 6666  ffffffffffffffff\n00000000: 6767 6767 6767 6767 6767 6767 6767 6767  gggggggggggggggg\n00000010: 6868 6868 6868 6868 6868 6868 6868 6868  hhhhhhhhhhhhhhhh\n00000020: 6969 6969 6969 6969 6969 6969 6969 6969  iiiiiiiiiiiiiiii\nsave 00000001\ndone2 00000001 0000000000000050\nchange2 00000002 0000000000000050\n00000007: 6a                                       j\nsave 00000002\ndone2 00000002 0000000000000050\n";
+
+// What entries saved, one run after another, each with its address in front.
+fn saved_in(alloc: Global, entries: &[EntryRead]) -> Result<Vec<u8>, AllocError> {
+    let mut saved = Vec::new(alloc);
+    for entry in entries {
+        for run in entry.kept.runs.as_slice() {
+            saved.extend_from_slice(&run.at.to_be_bytes())?;
+            saved.extend_from_slice(run.bytes.as_slice())?;
+        }
+    }
+    Ok(saved)
+}
+
+// What was read, and how many bytes of the text: those of the whole lines in a window of so many bytes.
+fn read_window(
+    alloc: Global,
+    front: Front,
+    read: LinesRead,
+    rest: &[u8],
+    size: usize,
+) -> Result<Option<LinesRead>, AllocError> {
+    let (now, behind) = rest.split_at(size.min(rest.len()));
+    let mut window = now.to_vec(alloc)?;
+    if read.at > 65_535 || window.len() > 65_535 {
+        return Ok(None);
+    }
+    let left = behind.len() as u64;
+    match read_lines(&alloc, front, read, left, window.as_mut_slice()) {
+        Ok(next) => Ok(next),
+        Err(_) => Err(AllocError),
+    }
+}
+
+// What a text's entries saved, read in windows of so many bytes; nothing where they can't be read so.
+fn read_by(alloc: Global, text: &[u8], size: usize) -> Result<Option<Vec<u8>>, AllocError> {
+    let front = Front {
+        count: 0,
+        told: None,
+        at: 0,
+        lines: 0,
+    };
+    let Ok(nothing) = nothing_read(&alloc, front) else {
+        return Err(AllocError);
+    };
+    let mut read = nothing;
+    for _ in 0..text.len() {
+        let at = (read.at as usize).min(text.len());
+        let (_, rest) = text.split_at(at);
+        let Some(next) = read_window(alloc, front, read, rest, size)? else {
+            return Ok(None);
+        };
+        read = next;
+    }
+    if read.at != text.len() as u64 {
+        return Ok(None);
+    }
+    Ok(Some(saved_in(alloc, read.entries.as_slice())?))
+}
+
+// A window of fewer bytes than the longest line has isn't read; any other gives what the whole text does.
+fn assert_read(alloc: Global, rt: &impl Abort, text: &[u8], longest: usize) -> Result<(), Fail> {
+    let Ok(whole) = read_journal(&alloc, text.to_vec(alloc)?) else {
+        return Ok(());
+    };
+    let saved = saved_in(alloc, whole.entries.as_slice())?;
+    for size in 1..text.len() + 2 {
+        let found = read_by(alloc, text, size)?;
+        match found {
+            Some(found) => assert!(rt; size >= longest && found.as_slice() == saved.as_slice()),
+            None => assert!(rt; size < longest),
+        }
+    }
+    Ok(())
+}
+
+#[test]
+fn read_in_small_windows(rt: HostRuntime) -> Result<(), Fail> {
+    let alloc = rt.alloc();
+    assert_read(alloc, &rt, RUNS, 68)?;
+    assert_read(alloc, &rt, PATCHED_FIRST, 54)?;
+    assert_read(alloc, &rt, UNDONE_TWO, 53)?;
+    let (front, _) = RUNS.split_at(RUNS.len().saturating_sub(1));
+    for size in 1..RUNS.len() + 2 {
+        assert!(rt; read_by(alloc, front, size)?.is_none());
+    }
+    Ok(())
+}
+
 /// So many bytes were overwritten.
 const LEN: usize = 131_072;
 
-// The journal of a change of an image of as many bytes: an entry that is longer than two windows.
-fn long_journal(alloc: Global) -> Result<Vec<u8>, AllocError> {
+/// Many more than a window has.
+const LONGER: usize = 524_288;
+
+// The journal of a change of an image of so many bytes, at least `LEN`: an entry that is longer than two windows.
+fn long_journal(alloc: Global, len: usize) -> Result<Vec<u8>, AllocError> {
     let mut text = Vec::new(alloc);
-    text.extend_from_slice(b"change2 00000001 0000000000020000\n")?;
-    for row in 0..LEN as u32 / 16 {
+    let first = format!(in alloc; "change2 00000001 {len:016x}\n")?;
+    text.extend_from_slice(first.as_bytes())?;
+    for row in 0..len / 16 {
         let at = format!(in alloc; "{row:07x}0: ")?;
         text.extend_from_slice(at.as_bytes())?;
         text.extend_from_slice(b"7878 7878 7878 7878 7878 7878 7878 7878  xxxxxxxxxxxxxxxx\n")?;
     }
-    text.extend_from_slice(b"save 00000001\ndone2 00000001 0000000000020000\n")?;
+    let last = format!(in alloc; "save 00000001\ndone2 00000001 {len:016x}\n")?;
+    text.extend_from_slice(last.as_bytes())?;
     Ok(text)
 }
 
@@ -87,7 +188,7 @@ fn long_journal(alloc: Global) -> Result<Vec<u8>, AllocError> {
 #[test]
 fn each_window_fails(rt: HostRuntime) -> Result<(), Fail> {
     let alloc = rt.alloc();
-    let (image, journal) = (vec![in alloc; b'y'; LEN]?, long_journal(alloc)?);
+    let (image, journal) = (vec![in alloc; b'y'; LEN]?, long_journal(alloc, LEN)?);
     let start: Held<'_> = (image.as_slice(), journal.as_slice(), b"");
     for pass in 0..4 {
         assert_refused(alloc, &rt, start, (NONE, pass, NONE), REFUSED, NO_STEP)?;
@@ -101,7 +202,7 @@ fn each_window_fails(rt: HostRuntime) -> Result<(), Fail> {
 #[test]
 fn each_window_of_a_log_fails(rt: HostRuntime) -> Result<(), Fail> {
     let alloc = rt.alloc();
-    let (image, journal) = (vec![in alloc; b'y'; LEN]?, long_journal(alloc)?);
+    let (image, journal) = (vec![in alloc; b'y'; LEN]?, long_journal(alloc, LEN)?);
     let start: Held<'_> = (image.as_slice(), journal.as_slice(), b"");
     let opened = found(How::Clean, 1, 0);
     let refused = (Ask::Log, Err(SessionFault::DeviceFailed));
@@ -110,6 +211,40 @@ fn each_window_of_a_log_fails(rt: HostRuntime) -> Result<(), Fail> {
     }
     let listed = (Ask::Log, Ok(1));
     let _left = left_by(alloc, &rt, start, (NONE, 8, NONE), opened, listed)?;
+    Ok(())
+}
+
+// An undo reads the length and three windows too; each is refused.
+#[test]
+fn each_window_of_an_undo_fails(rt: HostRuntime) -> Result<(), Fail> {
+    let alloc = rt.alloc();
+    let (image, journal) = (vec![in alloc; b'y'; LEN]?, long_journal(alloc, LEN)?);
+    let start: Held<'_> = (image.as_slice(), journal.as_slice(), b"");
+    let opened = found(How::Clean, 1, 0);
+    let refused = (Ask::UndoOne, Err(SessionFault::DeviceFailed));
+    for pass in 4..8 {
+        assert_refused(alloc, &rt, start, (NONE, pass, NONE), opened, refused)?;
+    }
+    let undone = (Ask::UndoOne, Ok(0));
+    let left = left_by(alloc, &rt, start, (NONE, 8, NONE), opened, undone)?;
+    assert!(rt; left.0.as_slice() == vec![in alloc; b'x'; LEN]?.as_slice());
+    Ok(())
+}
+
+// And so does a redo, of the redo text.
+#[test]
+fn each_window_of_a_redo_fails(rt: HostRuntime) -> Result<(), Fail> {
+    let alloc = rt.alloc();
+    let (image, redo_text) = (vec![in alloc; b'y'; LEN]?, long_journal(alloc, LEN)?);
+    let start: Held<'_> = (image.as_slice(), b"", redo_text.as_slice());
+    let opened = found(How::Clean, 0, 1);
+    let refused = (Ask::RedoOne, Err(SessionFault::DeviceFailed));
+    for pass in 4..8 {
+        assert_refused(alloc, &rt, start, (NONE, NONE, pass), opened, refused)?;
+    }
+    let made = (Ask::RedoOne, Ok(1));
+    let left = left_by(alloc, &rt, start, (NONE, NONE, 8), opened, made)?;
+    assert!(rt; left.0.as_slice() == vec![in alloc; b'x'; LEN]?.as_slice());
     Ok(())
 }
 
@@ -124,9 +259,35 @@ fn opens_in<'a>(alloc: Global, bump: &'a Bump, start: Held<'_>) -> Result<u32, A
 #[test]
 fn long_journal_in_a_window(rt: HostRuntime) -> Result<(), Fail> {
     let alloc = rt.alloc();
-    let (image, journal) = (vec![in alloc; b'y'; LEN]?, long_journal(alloc)?);
+    let (image, journal) = (vec![in alloc; b'y'; LEN]?, long_journal(alloc, LEN)?);
     let bump = ration(alloc, 270_000)?;
     let changes = opens_in(alloc, &bump, (image.as_slice(), journal.as_slice(), b""))?;
     assert!(rt; changes == 1);
+    Ok(())
+}
+
+fn undoes<'a>(session: &mut Session<MemImage, MemText, &'a Bump>) -> Result<u32, SessionFault> {
+    if session.faults() > 0 {
+        return Err(SessionFault::DeviceFailed);
+    }
+    session.undo(1)
+}
+
+fn undoes_in<'a>(alloc: Global, bump: &'a Bump, start: Held<'_>) -> Result<bool, AllocError> {
+    match open(bump, held(alloc, start)?) {
+        Ok((mut session, _)) => Ok(undoes(&mut session) == Ok(0)),
+        Err(_) => Ok(false),
+    }
+}
+
+// Its entry is taken back in the memory of what it saved, of what is overwritten, and of three windows: far less than its
+// text has.
+#[test]
+fn long_entry_in_windows(rt: HostRuntime) -> Result<(), Fail> {
+    let alloc = rt.alloc();
+    let (image, journal) = (vec![in alloc; b'y'; LONGER]?, long_journal(alloc, LONGER)?);
+    let bump = ration(alloc, 2_100_000)?;
+    let start: Held<'_> = (image.as_slice(), journal.as_slice(), b"");
+    assert!(rt; journal.len() > 2_200_000 && undoes_in(alloc, &bump, start)?);
     Ok(())
 }

@@ -33,3 +33,7 @@ lines_left (Some line) later = suc (length later)
 abbrev pub joined_of : Result (List (ℕ × List ℕ)) ReadFault → Result (List (ℕ × List ℕ)) ReadFault
 joined_of (Ok pieces) = Ok (joined pieces)
 joined_of (Err fault) = Err fault
+
+-- the runs of a run so far and of the lines that come
+abbrev pub runs_with : ℕ → List ℕ → List (Result ReadLine ReadFault) → Result (List (ℕ × List ℕ)) ReadFault
+runs_with at bytes later = joined_of (piece_then (at, bytes) (gathered later))

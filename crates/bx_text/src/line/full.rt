@@ -1,7 +1,8 @@
 //! The default line for 16 bytes, at its fixed places.
 ghost use Rattle.std.specs.Prelude.{◌≡◌, ◌≤◌, false, map, length};
 ghost use Rattle.bx_text.specs.Field.{hex_text};
-ghost use Rattle.bx_text.specs.Dump.{shown_byte, default_line, hex_columns};
+ghost use Rattle.bx_text.specs.Dump.{shown_byte, dump_line};
+ghost use Rattle.bx_text.specs.inner.Dump.{hex_columns};
 
 use crate::line::lanes::{put_columns, put_shown};
 use crate::line::tables::digits_of;
@@ -12,7 +13,7 @@ use std::simd::prelude::*;
 #[inline]
 pub fn put_full_line(line: &mut [u8], at: u32, bytes: &[u8; 16])
     requires { length line.old ≡ 68 }
-    ensures { line.new ≡ default_line at bytes.now }
+    ensures { line.new ≡ dump_line false 16 2 at bytes.now }
 {
     let (address, rest) = line.split_at_mut(8);
     let (colon, rest) = rest.split_at_mut(2);

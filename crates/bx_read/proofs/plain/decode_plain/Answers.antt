@@ -1,6 +1,6 @@
 use Rattle.std.proofs.Common.{arith, ◌≡◌, ◌∙◌, ap, ◌+◌, ◌-◌, ◌*◌, length, take, drop}
 use Rattle.std.proofs.lemmas.List.{take_rest, length-drop}
-use Rattle.bx_read.specs.Plain.{plain_bytes}
+use Rattle.bx_read.specs.inner.Plain.{plain_bytes}
 use Rattle.bx_read.proofs.PlainLemmas.{after_run, at_end, at_fault, at_pair}
 use Rattle.bx_read.proofs.plain.decode_plain.Goals as goal
 

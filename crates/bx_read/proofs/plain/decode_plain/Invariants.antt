@@ -1,6 +1,6 @@
 use Rattle.std.proofs.Common.{◌≡◌, ◌*◌, ◌-◌, ◌≤◌, ◌++◌, length, take, drop}
 use Rattle.std.specs.Option.{option_map}
-use Rattle.bx_read.specs.Plain.{plain_bytes}
+use Rattle.bx_read.specs.inner.Plain.{plain_bytes}
 use Rattle.bx_read.proofs.plain.decode_plain.Given as goal
 
 -- the bytes so far and those of the rest are all

@@ -1,6 +1,6 @@
 use Rattle.std.proofs.Common.{arith, sym, ◌∙◌, ◌++◌, take, length, ◌/◌, ◌≡◌}
 use Rattle.std.specs.Option.{option_map}
-use Rattle.bx_read.specs.Plain.{plain_bytes}
+use Rattle.bx_read.specs.inner.Plain.{plain_bytes}
 use Rattle.bx_read.proofs.PlainLemmas.{run_more}
 use Rattle.bx_read.proofs.plain.put_run.Goals as goal
 

@@ -39,7 +39,8 @@ returns-in-Err-clause-err g c =
     let same : have + want - have ≡ want = omega arith in
     let fits : have + want ≤ length buf = omega (arith, c.min-want.ensures, before.pending, c.requires.inside, c.loop-left.auto.buf) in
     let size : length (take (have + want - have) (drop have buf)) ≡ want = length-take-le (have + want - have) (drop have buf) (omega (arith, length-drop have buf)) ∙ same in
-    read_stops c.args.form _ _ _ _ _ now.0 _ _ _ _ _ c.args.most c.args.meter.now.taken _ _ _ c.in-Err.fault c.requires.sizes now.5 now.4 c.in-Err.ensures.stopped
+    let open_now : c.loop-left.meter.state ≡ Open = before.open_now (omega arith) in
+    read_stops c.args.form _ _ _ _ _ now.0 _ _ _ _ _ c.args.most c.args.meter.now.taken _ _ _ c.in-Err.fault c.requires.sizes now.5 now.4 (c.in-Err.ensures.stopped open_now)
     (omega (arith, size, now.1, c.min-want.ensures)) (omega (arith, now.2, before.limit, c.loop-left.meter.within))
 
 pub returns-in-Err-pass-clause-err : goal.returns-in-Err-pass-clause-err

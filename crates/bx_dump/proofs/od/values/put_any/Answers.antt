@@ -1,7 +1,8 @@
 use Rattle.std.proofs.Common.{◌∙◌, ap}
 use Rattle.std.proofs.lemmas.List.{take_all}
 use Rattle.bx_dump.specs.Lines.{in_lines}
-use Rattle.bx_dump.specs.Od.{value_text, width_of}
+use Rattle.bx_dump.specs.Od.{width_of}
+use Rattle.bx_dump.specs.inner.Od.{value_text}
 use Rattle.bx_dump.proofs.od.values.put_any.Goals as goal
 
 pub returns-in-Some-clause-text : goal.returns-in-Some-clause-text

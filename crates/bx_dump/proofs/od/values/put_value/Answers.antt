@@ -1,6 +1,6 @@
 use Rattle.std.proofs.Common.{◌^◌, ◌≤◌, length, arith}
 use Rattle.std.proofs.Math.Nat.{pow-le-pow_right}
-use Rattle.bx_dump.specs.Od.{size_of}
+use Rattle.bx_dump.specs.inner.Od.{size_of}
 use Rattle.bx_dump.proofs.OdLemmas.{size_fits}
 use Rattle.bx_dump.proofs.od.values.put_value.Goals as goal
 

@@ -1,7 +1,7 @@
 use Rattle.std.proofs.Common.{◌≡◌, ◌+◌, ◌*◌, take}
 use Rattle.bx_dump.specs.Lines.{in_lines}
-use Rattle.bx_dump.specs.Od.{width_of, value_text}
-use Rattle.bx_dump.specs.inner.Od.{field_width}
+use Rattle.bx_dump.specs.Od.{width_of}
+use Rattle.bx_dump.specs.inner.Od.{field_width, value_text}
 use Rattle.bx_dump.proofs.od.values.put_values.Given as goal
 
 -- the values so far

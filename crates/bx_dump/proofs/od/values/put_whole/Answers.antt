@@ -2,8 +2,8 @@ use Rattle.std.proofs.Common.{◌≡◌, ◌+◌, ◌-◌, ◌*◌, ◌/◌, ◌
 use Rattle.std.proofs.lemmas.List.{length-drop, length-take-le}
 use Rattle.std.proofs.Math.Nat.{mul-le-mul_left}
 use Rattle.bx_text.proofs.KnownLemmas.{take-put_mid_more}
-use Rattle.bx_dump.specs.Od.{width_of, value_text}
-use Rattle.bx_dump.specs.inner.Od.{field_width}
+use Rattle.bx_dump.specs.Od.{width_of}
+use Rattle.bx_dump.specs.inner.Od.{field_width, value_text}
 use Rattle.bx_dump.proofs.LinesLemmas.{line_begin, lines_next_at}
 use Rattle.bx_dump.proofs.OdLemmas.{values_fit, whole_value}
 use Rattle.bx_dump.proofs.od.values.put_whole.Goals as goal

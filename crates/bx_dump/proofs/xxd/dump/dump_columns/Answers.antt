@@ -2,7 +2,7 @@ use Rattle.std.proofs.Common.{◌≡◌, ℕ, ◌+◌, ◌^◌, List, refl, arit
 use Rattle.bx_dump.specs.Lines.{in_lines}
 use Rattle.bx_dump.specs.Pages.{part_of}
 use Rattle.bx_dump.specs.Styles.{group_of}
-use Rattle.bx_dump.specs.Xxd.{columns_line}
+use Rattle.bx_dump.specs.inner.Xxd.{columns_line}
 use Rattle.bx_dump.proofs.DumpLemmas.{ok_along, err_along}
 use Rattle.bx_dump.proofs.PagesLemmas.{part_along, front_along}
 use Rattle.bx_dump.proofs.xxd.dump.dump_columns.Goals as goal

@@ -1,6 +1,5 @@
 use Rattle.std.proofs.Common.{map}
-use Rattle.bx_dump.specs.Styles.{name_front}
-use Rattle.bx_dump.specs.inner.Styles.{name_byte}
+use Rattle.bx_dump.specs.inner.Styles.{name_front, name_byte}
 use Rattle.bx_dump.proofs.NamesLemmas.{emits_both}
 use Rattle.bx_dump.proofs.xxd.names.emit_name.Goals as goal
 

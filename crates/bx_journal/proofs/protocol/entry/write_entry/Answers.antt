@@ -28,10 +28,10 @@ returns-in_err-append_head-clause-fault g c dh th stack writes =
 pub returns-in_err-append_head-clause-left : goal.returns-in_err-append_head-clause-left
 returns-in_err-append_head-clause-left g c dh th rh stack writes =
     let x : List ℕ = g.D.Device.image c.args.device.now in
-    let r : List ℕ = g.T.TextStore.text c.args.redo_text.now in
+    let r : List ℕ = g.T.TextStore.text c.args.redo.now in
     let new : List ℕ = effect c.args.change.now x in
     always_err c.from_residual.result
-    (before_stops (g.T.TextStore.text c.append_head.new.store) x r (side_of stack x r) (side_of (new ∷ stack) new (take (place_of c.args.part) r)) refl refl
+    (before_stops (g.T.TextStore.text c.append_head.new.store) x r (side_of stack x r) (side_of (new ∷ stack) new (take (place_of c.args.cut) r)) refl refl
     (c.in_err-append_head.ensures.fault th x stack (kept_of (saved c.args.change.now x)) writes.starts))
 
 -- in the middle the journal is open, whatever was done
@@ -39,13 +39,13 @@ pub returns-in_err-change_with-clause-left : goal.returns-in_err-change_with-cla
 returns-in_err-change_with-clause-left g c dh th rh stack writes =
     let x : List ℕ = g.D.Device.image c.args.device.now in
     let y : List ℕ = g.D.Device.image c.change_with.new.device in
-    let r : List ℕ = g.T.TextStore.text c.args.redo_text.now in
+    let r : List ℕ = g.T.TextStore.text c.args.redo.now in
     let new : List ℕ = effect c.args.change.now x in
     let s : Kept = kept_of (saved c.args.change.now x) in
     let opened = c.in_ok-append_head.ensures.ok th x stack s writes.starts in
     let moved = c.change_with.ensures.phase dh (g.T.TextStore.text c.append_head.new.store) stack opened in
     always_err c.from_residual-in_err-change_with.result
-    (within_old Second (as_read s) (g.T.TextStore.text c.append_head.new.store) y (g.T.TextStore.text c.change_with.new.redo_text) (side_of stack x r) (side_of (new ∷ stack) new (take (place_of c.args.part) r)) moved)
+    (within_old Second (as_read s) (g.T.TextStore.text c.append_head.new.store) y (g.T.TextStore.text c.change_with.new.redo_text) (side_of stack x r) (side_of (new ∷ stack) new (take (place_of c.args.cut) r)) moved)
 
 pub returns-clause-ok : goal.returns-clause-ok
 returns-clause-ok g c dh th stack writes =
@@ -62,7 +62,7 @@ pub returns-clause-left : goal.returns-clause-left
 returns-clause-left g c dh th rh stack writes =
     let x : List ℕ = g.D.Device.image c.args.device.now in
     let y : List ℕ = g.D.Device.image c.change_with.new.device in
-    let r : List ℕ = g.T.TextStore.text c.args.redo_text.now in
+    let r : List ℕ = g.T.TextStore.text c.args.redo.now in
     let new : List ℕ = effect c.args.change.now x in
     let is : y ≡ new = c.in_ok-change_with.ensures.image dh in
     let opened = c.in_ok-append_head.ensures.ok th x stack (kept_of (saved c.args.change.now x)) writes.starts in
@@ -70,7 +70,7 @@ returns-clause-left g c dh th rh stack writes =
     let ends = ends_of c.args.change.now (g.T.TextStore.text c.args.store.now) (g.T.TextStore.text c.append_head.new.store) x y stack (head_text c.args.number (kept_of c.args.kept.now)) c.args.end.now writes moved is in
     let text : List ℕ = g.T.TextStore.text c.append_end.new.store in
     on_err_weaker c.append_end.result
-    (λ h. last_stops text y (g.T.TextStore.text c.change_with.new.redo_text) (side_of stack x r) (side_of (new ∷ stack) new (take (place_of c.args.part) r)) is (c.in_ok-change_with.ensures.redo rh)
+    (λ h. last_stops text y (g.T.TextStore.text c.change_with.new.redo_text) (side_of stack x r) (side_of (new ∷ stack) new (take (place_of c.args.cut) r)) is (c.in_ok-change_with.ensures.redo rh)
     (at_new text y stack new is h))
     (c.append_end.ensures.fault (c.append_head.ensures.goes_on.honesty.1 th) y stack (as_read (kept_of (saved c.args.change.now x))) ends)
   where

@@ -122,7 +122,7 @@ returns-in_err-write_entry-clause-finds g c dh th rh s rest count =
     let less : c.loop-i.i < length c.args.takens.now.items = omega (arith, c.loop-i-test.true, c.len-k.ensures) in
     let new : List ℕ = g.T.TextStore.text c.write_entry.new.store in
     let y : List ℕ = g.D.Device.image c.write_entry.new.device in
-    let r_new : List ℕ = g.T.TextStore.text c.write_entry.new.redo_text in
+    let r_new : List ℕ = g.T.TextStore.text c.write_entry.new.redo in
     let leaves = c.in_err-write_entry.ensures.left (inv.device_honest.1 dh) (inv.store_honest.1 th) (inv.redo_honest.1 rh) stack writes in
     always_err c.from_residual.result
     (redo_stopped text x r new y r_new s e c.loop-i.i (length c.args.takens.now.items) less here.0 one
@@ -182,14 +182,14 @@ returns-in_err-fill_last-clause-finds g c dh th rh s rest count =
     let y : List ℕ = g.D.Device.image c.write_entry.new.device in
     let changed : y ≡ effect (change_back e) x = c.in_ok-write_entry.ensures.image (inv.device_honest.1 dh) ∙ ap (λ d. effect d x) same in
     let at_rest = subst (λ d. IsAtRest (g.T.TextStore.text c.write_entry.new.store) y (effect d x ∷ stack)) same (c.in_ok-write_entry.ensures.ok (inv.device_honest.1 dh) (inv.store_honest.1 th) stack writes) in
-    let next = redone text x r (g.T.TextStore.text c.write_entry.new.store) y (g.T.TextStore.text c.write_entry.new.redo_text) s e c.loop-i.i c.loop-i.count here.0 here.1 one changed
+    let next = redone text x r (g.T.TextStore.text c.write_entry.new.store) y (g.T.TextStore.text c.write_entry.new.redo) s e c.loop-i.i c.loop-i.count here.0 here.1 one changed
     (c.in_ok-write_entry.ensures.redo (inv.redo_honest.1 rh)) at_rest in
     let still : g.D.Device.image c.fill_last.new.device ≡ y = c.fill_last.ensures.image (c.write_entry.ensures.steps_on.device_honesty.1 (inv.device_honest.1 dh)) in
-    let found = rest_is_found (g.T.TextStore.text c.write_entry.new.store) y (g.T.TextStore.text c.write_entry.new.redo_text) (redo_of (c.loop-i.i + 1) s) next.0 in
+    let found = rest_is_found (g.T.TextStore.text c.write_entry.new.store) y (g.T.TextStore.text c.write_entry.new.redo) (redo_of (c.loop-i.i + 1) s) next.0 in
     always_err c.from_residual-in_err-fill_last.result (
       c.loop-i.i + 1,
       omega (arith, c.loop-i-test.true, c.len-k.ensures),
-      subst (λ z. Finds (g.T.TextStore.text c.write_entry.new.store) z (g.T.TextStore.text c.write_entry.new.redo_text) (redo_of (c.loop-i.i + 1) s)) (sym still) found,
+      subst (λ z. Finds (g.T.TextStore.text c.write_entry.new.store) z (g.T.TextStore.text c.write_entry.new.redo) (redo_of (c.loop-i.i + 1) s)) (sym still) found,
     )
 
 pub loop-i-preserved : goal.loop-i-preserved
@@ -215,7 +215,7 @@ loop-i-preserved g c =
       made = omega (arith, inv.made);
       few = inv.few;
       bound = omega (arith, inv.bound, most, c.fill_last.ensures.count);
-      dropped = λ rh all finished. dropped_next inv.place.text (g.T.TextStore.text c.loop-i.redo_text) (g.T.TextStore.text c.write_entry.new.redo_text) es e all inv.place.to c.loop-i.i u (inv.place.left rh) (wrote.redo (inv.redo_honest.1 rh))
+      dropped = λ rh all finished. dropped_next inv.place.text (g.T.TextStore.text c.loop-i.redo_text) (g.T.TextStore.text c.write_entry.new.redo) es e all inv.place.to c.loop-i.i u (inv.place.left rh) (wrote.redo (inv.redo_honest.1 rh))
           (inv.dropped rh all finished);
       front = λ th. prefix_more (g.T.TextStore.text c.args.store.now) (g.T.TextStore.text c.loop-i.store) (g.T.TextStore.text c.write_entry.new.store) (head_text (c.loop-i.count + 1) (kept_of t)) c.as_bytes.result.now (inv.front th) (wrote.text (inv.store_honest.1 th));
       kept = kept_more (g.D.Device.room c.loop-i.device) (g.D.Device.room c.fill_last.new.device) (drop n es) kept.0 (omega (arith, c.write_entry.ensures.room, c.fill_last.ensures.goes_on.no_less_room));
@@ -230,7 +230,7 @@ loop-i-preserved g c =
         to = e.begins;
         undone = p.0;
         is = inv.place.is;
-        left = λ rh. cut_at inv.place.text (g.T.TextStore.text c.loop-i.redo_text) (g.T.TextStore.text c.write_entry.new.redo_text) es e inv.place.to u (inv.place.left rh) (wrote.redo (inv.redo_honest.1 rh));
+        left = λ rh. cut_at inv.place.text (g.T.TextStore.text c.loop-i.redo_text) (g.T.TextStore.text c.write_entry.new.redo) es e inv.place.to u (inv.place.left rh) (wrote.redo (inv.redo_honest.1 rh));
       };
       shaped = c.fill_last.ensures.shaped shaped.0;
       ready = λ dh.
@@ -281,10 +281,10 @@ loop-i-preserved g c =
           let y : List ℕ = g.D.Device.image c.write_entry.new.device in
           let changed : y ≡ effect (change_back e) x = c.in_ok-write_entry.ensures.image (inv.device_honest.1 dh) ∙ ap (λ d. effect d x) same in
           let at_rest = subst (λ d. IsAtRest (g.T.TextStore.text c.write_entry.new.store) y (effect d x ∷ stack)) same (c.in_ok-write_entry.ensures.ok (inv.device_honest.1 dh) (inv.store_honest.1 th) stack writes) in
-          let next = redone text x r (g.T.TextStore.text c.write_entry.new.store) y (g.T.TextStore.text c.write_entry.new.redo_text) s e c.loop-i.i c.loop-i.count here.0 here.1 one changed
+          let next = redone text x r (g.T.TextStore.text c.write_entry.new.store) y (g.T.TextStore.text c.write_entry.new.redo) s e c.loop-i.i c.loop-i.count here.0 here.1 one changed
           (c.in_ok-write_entry.ensures.redo (inv.redo_honest.1 rh)) at_rest in
           let still : g.D.Device.image c.fill_last.new.device ≡ y = c.fill_last.ensures.image (c.write_entry.ensures.steps_on.device_honesty.1 (inv.device_honest.1 dh)) in (
-            subst (λ z. AreAtRest (g.T.TextStore.text c.write_entry.new.store) z (g.T.TextStore.text c.write_entry.new.redo_text) (redo_of (c.loop-i.i + 1) s)) (sym still) next.0,
+            subst (λ z. AreAtRest (g.T.TextStore.text c.write_entry.new.store) z (g.T.TextStore.text c.write_entry.new.redo) (redo_of (c.loop-i.i + 1) s)) (sym still) next.0,
             next.1,
           );
       images = λ dh th rh s rest count.
@@ -307,9 +307,9 @@ loop-i-preserved g c =
           let good : IsAsGood (kept_of (saved (change_back e) x)) x y = subst (λ d. IsAsGood (kept_of (saved d x)) x y) same (wrote.back (inv.device_honest.1 dh)) in
           let written : new ≡ text ++ head ++ line = wrote.text (inv.store_honest.1 th) ∙ ap (λ l. text ++ head ++ l) end_is in
           let stands = redone_stands (change_back e) text new x y stack head line again here.0.stands changed good written in
-          let next = redone_standing text x r new y (g.T.TextStore.text c.write_entry.new.redo_text) s e c.loop-i.i c.loop-i.count here.0 here.1 one changed (wrote.redo (inv.redo_honest.1 rh)) stands in
+          let next = redone_standing text x r new y (g.T.TextStore.text c.write_entry.new.redo) s e c.loop-i.i c.loop-i.count here.0 here.1 one changed (wrote.redo (inv.redo_honest.1 rh)) stands in
           let still : g.D.Device.image c.fill_last.new.device ≡ y = c.fill_last.ensures.image (c.write_entry.ensures.steps_on.device_honesty.1 (inv.device_honest.1 dh)) in (
-            subst (λ z. AreStanding new z (g.T.TextStore.text c.write_entry.new.redo_text) (redo_of (c.loop-i.i + 1) s)) (sym still) next.0,
+            subst (λ z. AreStanding new z (g.T.TextStore.text c.write_entry.new.redo) (redo_of (c.loop-i.i + 1) s)) (sym still) next.0,
             next.1,
           );
     }

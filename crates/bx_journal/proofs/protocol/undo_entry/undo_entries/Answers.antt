@@ -99,7 +99,7 @@ returns-in_err-undo_entry-clause-finds g c dh th rh s rest count =
     let below : List (List ℕ) = drop 1 (undo_of c.loop-i.i s).stack in
     let less : c.loop-i.i < length c.args.takens.now.items = omega (arith, c.loop-i-test.true, c.len-k.ensures) in
     always_err c.from_residual.result
-    (stopped text x r (g.T.TextStore.text c.undo_entry.new.store) (g.D.Device.image c.undo_entry.new.device) (g.T.TextStore.text c.undo_entry.new.redo_text) s e t c.loop-i.i (length c.args.takens.now.items) c.loop-i.undone less here.0 here.1 one
+    (stopped text x r (g.T.TextStore.text c.undo_entry.new.store) (g.D.Device.image c.undo_entry.new.device) (g.T.TextStore.text c.undo_entry.new.redo) s e t c.loop-i.i (length c.args.takens.now.items) c.loop-i.undone less here.0 here.1 one
     (c.in_err-undo_entry.ensures.left (inv.device_honest.1 dh) (inv.store_honest.1 th) (inv.redo_honest.1 rh) below e.version (entry_of e) back refl))
 
 pub returns-in_err-undo_entry-clause-fault : goal.returns-in_err-undo_entry-clause-fault
@@ -160,14 +160,14 @@ returns-in_err-fill_last-clause-finds g c dh th rh s rest count =
     let below : List (List ℕ) = drop 1 (undo_of c.loop-i.i s).stack in
     let y : List ℕ = g.D.Device.image c.undo_entry.new.device in
     let restored : y ≡ restore (kept_of e.kept) x = c.in_ok-undo_entry.ensures.undoes.image_is (inv.device_honest.1 dh) in
-    let next = turned text x r (g.T.TextStore.text c.undo_entry.new.store) y (g.T.TextStore.text c.undo_entry.new.redo_text) s e t c.loop-i.i c.loop-i.undone here.0 here.1 one restored
+    let next = turned text x r (g.T.TextStore.text c.undo_entry.new.store) y (g.T.TextStore.text c.undo_entry.new.redo) s e t c.loop-i.i c.loop-i.undone here.0 here.1 one restored
     (c.in_ok-undo_entry.ensures.undoes.redo_is (inv.redo_honest.1 rh)) (c.in_ok-undo_entry.ensures.ok (inv.device_honest.1 dh) (inv.store_honest.1 th) below e.version (entry_of e) back refl) in
     let same : g.D.Device.image c.fill_last.new.device ≡ y = c.fill_last.ensures.image (c.undo_entry.ensures.steps_on.device_honesty.1 (inv.device_honest.1 dh)) in
-    let found = rest_is_found (g.T.TextStore.text c.undo_entry.new.store) y (g.T.TextStore.text c.undo_entry.new.redo_text) (undo_of (c.loop-i.i + 1) s) next.0 in
+    let found = rest_is_found (g.T.TextStore.text c.undo_entry.new.store) y (g.T.TextStore.text c.undo_entry.new.redo) (undo_of (c.loop-i.i + 1) s) next.0 in
     always_err c.from_residual-in_err-fill_last.result (
       c.loop-i.i + 1,
       omega (arith, c.loop-i-test.true, c.len-k.ensures),
-      subst (λ z. Finds (g.T.TextStore.text c.undo_entry.new.store) z (g.T.TextStore.text c.undo_entry.new.redo_text) (undo_of (c.loop-i.i + 1) s)) (sym same) found,
+      subst (λ z. Finds (g.T.TextStore.text c.undo_entry.new.store) z (g.T.TextStore.text c.undo_entry.new.redo) (undo_of (c.loop-i.i + 1) s)) (sym same) found,
     )
 
 pub returns-in_err-fill_last-clause-fault : goal.returns-in_err-fill_last-clause-fault
@@ -242,7 +242,7 @@ loop-i-preserved g c =
       fits = λ rh.
           let was = inv.fits rh in
           let sum : length (g.T.TextStore.text c.loop-i.redo_text) + (entries_len ts + length (entry_text 0 (kept_of t) 0)) ≤ g.T.TextStore.room c.loop-i.redo_text = omega (arith, was, ap entries_len c.in-Some.ensures.items, len_pop ts t) in
-          let room = room_left (g.T.TextStore.text c.loop-i.redo_text) (g.T.TextStore.text c.undo_entry.new.redo_text) ts t (c.loop-i.undone + 1) e.kept.len (g.T.TextStore.room c.loop-i.redo_text) (g.T.TextStore.room c.undo_entry.new.redo_text)
+          let room = room_left (g.T.TextStore.text c.loop-i.redo_text) (g.T.TextStore.text c.undo_entry.new.redo) ts t (c.loop-i.undone + 1) e.kept.len (g.T.TextStore.room c.loop-i.redo_text) (g.T.TextStore.room c.undo_entry.new.redo)
           (undo.undoes.redo_is (inv.redo_honest.1 rh)) sum c.undo_entry.ensures.undoes.redo_room in
           omega (arith, room, c.fill_last.ensures.entries_len);
       empty = undo.emptied;
@@ -273,10 +273,10 @@ loop-i-preserved g c =
           let below : List (List ℕ) = drop 1 (undo_of c.loop-i.i s).stack in
           let y : List ℕ = g.D.Device.image c.undo_entry.new.device in
           let restored : y ≡ restore (kept_of e.kept) x = c.in_ok-undo_entry.ensures.undoes.image_is (inv.device_honest.1 dh) in
-          let next = turned text x r (g.T.TextStore.text c.undo_entry.new.store) y (g.T.TextStore.text c.undo_entry.new.redo_text) s e t c.loop-i.i c.loop-i.undone here.0 here.1 one restored
+          let next = turned text x r (g.T.TextStore.text c.undo_entry.new.store) y (g.T.TextStore.text c.undo_entry.new.redo) s e t c.loop-i.i c.loop-i.undone here.0 here.1 one restored
           (c.in_ok-undo_entry.ensures.undoes.redo_is (inv.redo_honest.1 rh)) (c.in_ok-undo_entry.ensures.ok (inv.device_honest.1 dh) (inv.store_honest.1 th) below e.version (entry_of e) back refl) in
           let same : g.D.Device.image c.fill_last.new.device ≡ y = c.fill_last.ensures.image (c.undo_entry.ensures.steps_on.device_honesty.1 (inv.device_honest.1 dh)) in (
-            subst (λ z. AreAtRest (g.T.TextStore.text c.undo_entry.new.store) z (g.T.TextStore.text c.undo_entry.new.redo_text) (undo_of (c.loop-i.i + 1) s)) (sym same) next.0,
+            subst (λ z. AreAtRest (g.T.TextStore.text c.undo_entry.new.store) z (g.T.TextStore.text c.undo_entry.new.redo) (undo_of (c.loop-i.i + 1) s)) (sym same) next.0,
             c.undone_with-undone.ensures ∙ next.1,
           );
       images = λ dh th rh s rest count.
@@ -289,10 +289,10 @@ loop-i-preserved g c =
           let below : List (List ℕ) = drop 1 (undo_of c.loop-i.i s).stack in
           let y : List ℕ = g.D.Device.image c.undo_entry.new.device in
           let restored : y ≡ restore (kept_of e.kept) x = c.in_ok-undo_entry.ensures.undoes.image_is (inv.device_honest.1 dh) in
-          let next = turned_standing text x r (g.T.TextStore.text c.undo_entry.new.store) y (g.T.TextStore.text c.undo_entry.new.redo_text) s e t c.loop-i.i c.loop-i.undone here.0 here.1 one restored
+          let next = turned_standing text x r (g.T.TextStore.text c.undo_entry.new.store) y (g.T.TextStore.text c.undo_entry.new.redo) s e t c.loop-i.i c.loop-i.undone here.0 here.1 one restored
           (c.in_ok-undo_entry.ensures.undoes.redo_is (inv.redo_honest.1 rh)) (stood_next inv.place.text text (g.T.TextStore.text c.undo_entry.new.store) x y (undo_of c.loop-i.i s).stack es e inv.place.to u (inv.place.left th) (undo.text (inv.store_honest.1 th)) restored here.0.stands) in
           let same : g.D.Device.image c.fill_last.new.device ≡ y = c.fill_last.ensures.image (c.undo_entry.ensures.steps_on.device_honesty.1 (inv.device_honest.1 dh)) in (
-            subst (λ z. AreStanding (g.T.TextStore.text c.undo_entry.new.store) z (g.T.TextStore.text c.undo_entry.new.redo_text) (undo_of (c.loop-i.i + 1) s)) (sym same) next.0,
+            subst (λ z. AreStanding (g.T.TextStore.text c.undo_entry.new.store) z (g.T.TextStore.text c.undo_entry.new.redo) (undo_of (c.loop-i.i + 1) s)) (sym same) next.0,
             c.undone_with-undone.ensures ∙ next.1,
           );
     }

@@ -32,7 +32,7 @@ pub returns-in_err-open_and_change-clause-left : goal.returns-in_err-open_and_ch
 returns-in_err-open_and_change-clause-left g c dh th rh below v e t is =
     let x : List ℕ = g.D.Device.image c.args.device.now in
     let y : List ℕ = g.D.Device.image c.open_and_change.new.device in
-    let r : List ℕ = g.T.TextStore.text c.args.redo_text.now in
+    let r : List ℕ = g.T.TextStore.text c.args.redo.now in
     let redo : List ℕ = g.T.TextStore.text c.open_and_change.new.redo_text in
     let text : List ℕ = g.T.TextStore.text c.open_and_change.new.store in
     let old : Side = side_of (x ∷ below) x r in
@@ -76,7 +76,7 @@ pub returns-clause-left : goal.returns-clause-left
 returns-clause-left g c dh th rh below v e t is =
     let x : List ℕ = g.D.Device.image c.args.device.now in
     let y : List ℕ = g.D.Device.image c.open_and_change.new.device in
-    let r : List ℕ = g.T.TextStore.text c.args.redo_text.now in
+    let r : List ℕ = g.T.TextStore.text c.args.redo.now in
     let text : List ℕ = g.T.TextStore.text c.open_and_change.new.store in
     let old : Side = side_of (x ∷ below) x r in
     let new : Side = side_of below (restore e.saved x) (kept_text r (kept_of c.args.taken.now) c.args.number c.args.kept.len) in

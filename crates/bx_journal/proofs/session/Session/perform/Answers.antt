@@ -130,7 +130,7 @@ returns-clause-fault g c =
 pub returns-in-Ok-clause-undone : goal.returns-in-Ok-clause-undone
 returns-in-Ok-clause-undone g c =
     rw (← c.self.view_is) (λ rh.
-    let none : g.T.TextStore.text c.write_entry.new.redo_text ≡ [] = c.in-Ok.ensures.redo rh in
+    let none : g.T.TextStore.text c.write_entry.new.redo ≡ [] = c.in-Ok.ensures.redo rh in
     let y : List ℕ = g.D.Device.image c.write_entry.new.device in
     record {
       redo = subst (λ t. IsRedoOf t y (c.self.inside.count + 1) []) (sym none) (empty_is_redo y (c.self.inside.count + 1) (omega arith));
@@ -148,7 +148,7 @@ returns-clause-finds g c =
     let x : List ℕ = g.D.Device.image c.prepare_change.new.device in
     let new : List ℕ = g.T.TextStore.text c.write_entry.new.store in
     let x_new : List ℕ = g.D.Device.image c.write_entry.new.device in
-    let redo_new : List ℕ = g.T.TextStore.text c.write_entry.new.redo_text in
+    let redo_new : List ℕ = g.T.TextStore.text c.write_entry.new.redo in
     let rest : IsAtRest text x stack =
     subst (λ t. IsAtRest t x stack) (sym (text_same g b th)) (subst (λ z. IsAtRest (g.T.TextStore.text c.self.inside.store) z stack) (sym (image_same g b dh)) ready.rest) in
     let counted : c.self.inside.count ≡ changes_of stack = omega (arith, ready.count) in

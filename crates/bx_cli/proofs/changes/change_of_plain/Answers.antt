@@ -1,5 +1,0 @@
-use Rattle.std.proofs.Common.{rules}
-use Rattle.bx_cli.proofs.changes.change_of_plain.Goals as goal
-
-pub returns : goal.returns
-returns g c = search rules

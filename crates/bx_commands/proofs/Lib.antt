@@ -1,0 +1,12 @@
+pub mod Moves
+pub mod Steps
+pub mod Stays
+pub mod Runs
+pub mod Unfailed
+pub mod GivesBack
+pub mod Stands
+pub mod Joined
+pub mod Refusals
+pub mod Obeys
+pub mod SessionRuns
+pub mod Copying

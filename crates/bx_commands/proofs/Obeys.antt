@@ -1,0 +1,359 @@
+-- Commands that are refused before the session is called, and commands that the session answers, obey their steps.
+use Rattle.std.proofs.Common.{◌≡◌, ◌↔◌, ◌≤◌, ◌<◌, inl, inr, ℕ, Bool, true, false, cond, Option, Result, Ok, Err, List, [], ◌∷◌, drop, length, refl, sym, ◌∙◌, ap, subst, arith}
+use Rattle.std.specs.Result.{IsErrOf}
+use Rattle.bx_dd.specs.declared.stream.counts.Counts.{Counts}
+use Rattle.bx_dd.specs.declared.fault.DdFault.{DdFault}
+use Rattle.bx_dd.specs.declared.fault.DdFault.TheVariants as dd
+use Rattle.bx_image.specs.declared.change.Change.{Change}
+use Rattle.bx_image.specs.declared.change.TheConstants.{MAX_LEN}
+use Rattle.bx_image.specs.Change.{effect, Fits}
+use Rattle.bx_journal.specs.Calls.{AfterFault}
+use Rattle.bx_journal.specs.Images.{Images, change_to, redo_of, undo_of, undone_by}
+use Rattle.bx_journal.specs.Machine.{PerformStep, RedoStep, UndoStep, top}
+use Rattle.bx_journal.specs.Session.{FindsEither, HasUndone, IsReady, IsRedoSame, IsSame, IsUnfailed, SessionCounts, SessionFinds}
+use Rattle.bx_journal.specs.SessionView.{SessionView}
+use Rattle.bx_journal.specs.Standing.{IsStanding, PerformFault}
+use Rattle.bx_journal.specs.Undoing.{HasCount, RedoFault, UndoFault}
+use Rattle.bx_journal.specs.declared.session.fault.SessionFault.{SessionFault}
+use Rattle.bx_journal.specs.declared.session.fault.SessionFault.TheVariants.{Damaged, TooFew, TooLarge, JournalFull, Interrupted, Broken, NothingToRedo, RedoDamaged}
+use Rattle.bx_read.specs.declared.fault.ReadFault.{ReadFault}
+use Rattle.bx_read.specs.declared.fault.ReadFault.TheVariants as read
+use Rattle.bx_commands.specs.declared.command.Reply.{Reply}
+use Rattle.bx_commands.specs.declared.command.Reply.TheVariants.{Refused, Undone, Redone}
+use Rattle.bx_commands.specs.declared.fault.Fault.{Fault}
+use Rattle.bx_commands.specs.Fault.{of_dd, of_read, of_session}
+use Rattle.bx_commands.specs.Obeys.{Obeys}
+use Rattle.bx_commands.specs.Refusal.{IsWholeRefusal}
+use Rattle.bx_commands.specs.inner.Refusal.{IsOwnFault}
+use Rattle.bx_commands.specs.Run.{answered, made_reply, is_failure, Unfailed, ChangeStep, ReadStep, DdStep}
+use Rattle.bx_commands.specs.inner.Run.{UndoesStep, RedoesStep}
+use Rattle.bx_commands.specs.Standing.{CallFrom, CountsBy, HoldsAt, PerformUp, RedoUp, Shows, Standing, UndoUp}
+use Rattle.bx_commands.proofs.Refusals.{IsNoRefusal, after_same, is_interrupted, made_no_refusal, no_failure, no_own, no_whole, redo_same_here, same_here, session_not_own, unfailed_whole, whole_goes_on}
+use Rattle.bx_commands.proofs.Stays.{holds_same, ready_shows, shows_same}
+use Rattle.bx_commands.proofs.Steps.{refusal, perform_stays, redo_stays, undo_stays, counts_least, counts_rise}
+
+-- no fault of a text or of dd is a device's
+read_unfailed : (e : ReadFault) → Unfailed (Refused (of_read e))
+read_unfailed read.NoMemory = refl
+read_unfailed (read.BadAddress line) = refl
+read_unfailed (read.MissingColon line) = refl
+read_unfailed (read.BadPair line) = refl
+read_unfailed (read.NoData line) = refl
+read_unfailed (read.TooWide line) = refl
+read_unfailed (read.AddressTooLarge line) = refl
+read_unfailed (read.OddDigits line) = refl
+
+dd_unfailed : (e : DdFault) → Unfailed (Refused (of_dd e))
+dd_unfailed dd.NoMemory = refl
+dd_unfailed dd.ReadFailed = refl
+dd_unfailed dd.InputTooLong = refl
+dd_unfailed (dd.UnknownOperand place) = refl
+dd_unfailed (dd.BadNumber place) = refl
+dd_unfailed (dd.NumberTooLarge place) = refl
+dd_unfailed (dd.ZeroSize place) = refl
+dd_unfailed dd.Conflict = refl
+dd_unfailed dd.MissingCbs = refl
+dd_unfailed (dd.Repeated place) = refl
+dd_unfailed dd.SeekWithoutOutput = refl
+
+-- what each call that the session refuses says of the session
+pub record IsRefused {D T : Type 0} (hd : D → Type 0) (ht : T → Type 0) (image : D → List ℕ) (text : T → List ℕ) (old new : SessionView D T) (e : SessionFault) : Type 0 where
+  pub broken : (old.is_broken ≡ true) ↔ IsErrOf (refusal e) Broken
+  pub same : hd old.device → ht old.store → AfterFault e (Unit {0}) (IsSame image text old new)
+  pub redo_same : ht old.redo_text → AfterFault e (Unit {0}) (IsRedoSame text old new)
+  pub breaks : IsErrOf (refusal e) Interrupted → (new.is_broken ≡ true) × (new.count ≡ old.count) × (new.undone ≡ old.undone)
+  pub device_honesty : hd new.device ↔ hd old.device
+  pub store_honesty : ht new.store ↔ ht old.store
+  pub redo_honesty : ht new.redo_text ↔ ht old.redo_text
+
+-- what each call that the session accepts says of it
+pub record IsAccepted {D T : Type 0} (hd : D → Type 0) (ht : T → Type 0) (fd : D → ℕ) (ft : T → ℕ) (old new : SessionView D T) (n : ℕ) : Type 0 where
+  pub broken : (old.is_broken ≡ true) ↔ IsErrOf (Ok n) Broken
+  pub unfailed : IsUnfailed fd ft old new
+  pub device_honesty : hd new.device ↔ hd old.device
+  pub store_honesty : ht new.store ↔ ht old.store
+  pub redo_honesty : ht new.redo_text ↔ ht old.redo_text
+
+module _ {D T : Type 0} (hd : D → Type 0) (ht : T → Type 0) (image : D → List ℕ) (text : T → List ℕ) (fd : D → ℕ) (ft : T → ℕ) where
+  -- a reply that tells of no failure raises no count
+  unfailed_counts : (old new : SessionView D T) (reply : Reply) → Unfailed reply → IsUnfailed fd ft old new → CountsBy fd ft old new (cond (is_failure reply) 1 0)
+  unfailed_counts old new reply unfailed same =
+      let d = same.0 in let t = same.1 in let u = same.2 in
+      let By : Bool → Type 0 = λ failed. CountsBy fd ft old new (cond failed 1 0) in
+      subst By (sym unfailed) (record { device_least = omega arith; store_least = omega arith; redo_least = omega arith; rise = omega arith })
+
+  -- a call that was refused raises one count, or none
+  fault_counts : (old new : SessionView D T) (e : SessionFault) → SessionCounts fd ft old new e
+      → CountsBy fd ft old new (cond (is_failure (Refused (of_session e))) 1 0)
+  fault_counts old new e counts =
+      let least = counts_least e (fd old.device) (ft old.store) (ft old.redo_text) (fd new.device) (ft new.store) (ft new.redo_text) counts in
+      record {
+        device_least = least.0;
+        store_least = least.1;
+        redo_least = least.2;
+        rise = counts_rise e (fd old.device) (ft old.store) (ft old.redo_text) (fd new.device) (ft new.store) (ft new.redo_text) counts;
+      }
+
+  -- a step that follows from another
+  pub obeys_next : {Step Next : Standing → Reply → Standing → Type 0} {old new : SessionView D T} {reply : Reply}
+      → ((before after : Standing) → Step before reply after → Next before reply after)
+      → Obeys hd ht image text fd ft old new reply Step → Obeys hd ht image text fd ft old new reply Next
+  obeys_next next obeys = record {
+    step = λ before h. let made = obeys.step before h in (made.0, made.1, next before made.0 made.2);
+    stands = λ device store redo images shows unfailed.
+        let made = obeys.stands device store redo images shows unfailed in
+        (made.0, made.1, next (Standing.Up images) (Standing.Up made.0) made.2);
+    device_honesty = obeys.device_honesty;
+    store_honesty = obeys.store_honesty;
+    redo_honesty = obeys.redo_honesty;
+    counts = obeys.counts;
+    own = obeys.own;
+    same = obeys.same;
+    redo_same = obeys.redo_same;
+  }
+
+  -- a refusal before the session is called
+  obeys_refused : (Step : Standing → Reply → Standing → Type 0) (s : SessionView D T) (reply : Reply)
+      → Unfailed reply → ((before : Standing) → Step before reply before) → Obeys hd ht image text fd ft s s reply Step
+  obeys_refused Step s reply unfailed refuses = record {
+    step = λ before h. (before, h, refuses before);
+    stands = λ device store redo images shows whole. (images, shows, refuses (Standing.Up images));
+    device_honesty = ((λ h. h), (λ h. h));
+    store_honesty = ((λ h. h), (λ h. h));
+    redo_honesty = ((λ h. h), (λ h. h));
+    counts = unfailed_counts s s reply unfailed (refl, refl, refl);
+    own = λ own. refl;
+    same = λ device store whole. same_here image text s;
+    redo_same = λ redo whole. redo_same_here text s;
+  }
+
+  pub read_refused : {A B : Type 0} (change : B → Change A) (s : SessionView D T) (e : ReadFault) (f : Fault) → f ≡ of_read e
+      → Obeys hd ht image text fd ft s s (Refused f) (λ before. ReadStep before change (Err e))
+  read_refused change s e f is =
+      let Goes : Fault → Type 0 = λ f. Unfailed (Refused f) in
+      obeys_refused (λ before. ReadStep before change (Err e)) s (Refused f)
+      (subst Goes (sym is) (read_unfailed e)) (λ before. (ap Refused is, refl))
+
+  pub dd_refused : (A : Type 0) (s : SessionView D T) (e : DdFault) (f : Fault) → f ≡ of_dd e
+      → Obeys hd ht image text fd ft s s (Refused f) (λ before. DdStep {A = A} before (Err e))
+  dd_refused A s e f is =
+      let Goes : Fault → Type 0 = λ f. Unfailed (Refused f) in
+      obeys_refused (λ before. DdStep {A = A} before (Err e)) s (Refused f)
+      (subst Goes (sym is) (dd_unfailed e)) (λ before. (ap Refused is, refl))
+
+  -- a call that was accepted, from where the session stood
+  accepted_step : (From : Standing → Result ℕ SessionFault → Standing → Type 0) (next : Images → Images) (old new : SessionView D T) (n : ℕ)
+      → IsAccepted hd ht fd ft old new n
+      → ((images : Images) → hd old.device → ht old.store → ht old.redo_text → Shows image text old images
+      → Shows image text new (next images) × From (Standing.Up images) (Ok n) (Standing.Up (next images)))
+      → ((images : Images) → hd old.device → ht old.store → ht old.redo_text → IsReady image text old images.stack → HasUndone image text old images.undone
+      → IsReady image text new (next images).stack)
+      → (before : Standing) → HoldsAt hd ht image text old before → (after : Standing) × HoldsAt hd ht image text new after × From before (Ok n) after
+  accepted_step From next old new n accepted shows sound (Standing.Up images) h =
+      let shown = shows images h.0 h.1 h.2 (ready_shows image text old images h.3) in (
+        Standing.Up (next images),
+        (accepted.device_honesty.1 h.0, accepted.store_honesty.1 h.1, accepted.redo_honesty.1 h.2, (sound images h.0 h.1 h.2 h.3.0 h.3.1, shown.0.1)),
+        shown.1,
+      )
+  accepted_step From next old new n accepted shows sound (Standing.Down images) h =
+      let bad : Ok n ≡ Err Broken = accepted.broken.0 h.3.0 in absurd (cc)
+
+  -- a call that was accepted
+  call_accepted : (told : Result ℕ SessionFault → Reply) (From : Standing → Result ℕ SessionFault → Standing → Type 0) (next : Images → Images)
+      (old new : SessionView D T) (n : ℕ) (reply : Reply) → reply ≡ told (Ok n) → IsNoRefusal reply
+      → IsAccepted hd ht fd ft old new n
+      → ((images : Images) → hd old.device → ht old.store → ht old.redo_text → Shows image text old images
+      → Shows image text new (next images) × From (Standing.Up images) (Ok n) (Standing.Up (next images)))
+      → ((images : Images) → hd old.device → ht old.store → ht old.redo_text → IsReady image text old images.stack → HasUndone image text old images.undone
+      → IsReady image text new (next images).stack)
+      → Obeys hd ht image text fd ft old new reply (λ before reply after. (r : Result ℕ SessionFault) × (reply ≡ told r) × From before r after)
+  call_accepted told From next old new n reply is no_refusal accepted shows sound = record {
+    step = λ before h.
+        let made = accepted_step From next old new n accepted shows sound before h in
+        (made.0, made.1, (Ok n, is, made.2));
+    stands = λ device store redo images shown unfailed.
+        let made = shows images device store redo shown in
+        (next images, made.0, (Ok n, is, made.1));
+    device_honesty = accepted.device_honesty;
+    store_honesty = accepted.store_honesty;
+    redo_honesty = accepted.redo_honesty;
+    counts = unfailed_counts old new reply (no_failure reply no_refusal) accepted.unfailed;
+    own = λ own. absurd (no_own reply no_refusal own);
+    same = λ device store whole. absurd (no_whole reply no_refusal whole);
+    redo_same = λ redo whole. absurd (no_whole reply no_refusal whole);
+  }
+
+  -- a call that was refused, or stopped, from where the session stood: what is left behind a stop, opening finds
+  refused_step : (From : Standing → Result ℕ SessionFault → Standing → Type 0) (Left : Images → Type 0) (old new : SessionView D T) (e : SessionFault)
+      → IsRefused hd ht image text old new e
+      → ((images : Images) → hd old.device → ht old.store → ht old.redo_text → Shows image text old images → (e ≡ Interrupted → ⊥)
+      → From (Standing.Up images) (Err e) (Standing.Up images))
+      → (hd old.device → ht old.store → ht old.redo_text → (images : Images) → IsReady image text old images.stack → HasUndone image text old images.undone
+      → AfterFault e (Left images) (Unit {0}))
+      → ((images : Images) → Left images → (found : Images) × SessionFinds image text new found × From (Standing.Up images) (Err Interrupted) (Standing.Down found))
+      → ((images : Images) → From (Standing.Down images) (Err Broken) (Standing.Down images))
+      → (before : Standing) → HoldsAt hd ht image text old before → (after : Standing) × HoldsAt hd ht image text new after × From before (Err e) after
+  refused_step From Left old new e refused stays finds stops down (Standing.Up images) h =
+      let Goal : Type 0 = (after : Standing) × HoldsAt hd ht image text new after × From (Standing.Up images) (Err e) after in
+      elim (is_interrupted e) as (λ _. Goal) [
+        | inl stopped ↦
+            let After : SessionFault → Type 0 = λ f. AfterFault f (Left images) (Unit {0}) in
+            let found = stops images (subst After stopped (finds h.0 h.1 h.2 images h.3.0 h.3.1)) in
+            let Step : SessionFault → Type 0 = λ f. From (Standing.Up images) (Err f) (Standing.Down found.0) in (
+              Standing.Down found.0,
+              (refused.device_honesty.1 h.0, refused.store_honesty.1 h.1, refused.redo_honesty.1 h.2, ((refused.breaks (ap refusal stopped)).0, found.1)),
+              subst Step (sym stopped) found.2,
+            )
+        | inr whole ↦
+            let same = after_same (IsSame image text old new) e (refused.same h.0 h.1) whole in
+            let redo_same = after_same (IsRedoSame text old new) e (refused.redo_same h.2) whole in (
+              Standing.Up images,
+              holds_same hd ht image text old new (Standing.Up images) refused.device_honesty refused.store_honesty refused.redo_honesty same redo_same h,
+              stays images h.0 h.1 h.2 (ready_shows image text old images h.3) whole,
+            )
+      ]
+  refused_step From Left old new e refused stays finds stops down (Standing.Down images) h =
+      let is : refusal e ≡ Err Broken = refused.broken.0 h.3.0 in
+      let whole : e ≡ Interrupted → ⊥ = λ stopped. cc in
+      let same = after_same (IsSame image text old new) e (refused.same h.0 h.1) whole in
+      let redo_same = after_same (IsRedoSame text old new) e (refused.redo_same h.2) whole in
+      let Step : Result ℕ SessionFault → Type 0 = λ r. From (Standing.Down images) r (Standing.Down images) in (
+        Standing.Down images,
+        holds_same hd ht image text old new (Standing.Down images) refused.device_honesty refused.store_honesty refused.redo_honesty same redo_same h,
+        subst Step (sym is) (down images),
+      )
+
+  -- a call that was refused, or stopped
+  call_refused : (told : Result ℕ SessionFault → Reply) (From : Standing → Result ℕ SessionFault → Standing → Type 0) (Left : Images → Type 0)
+      (old new : SessionView D T) (e : SessionFault) (f : Fault) → f ≡ of_session e → told (Err e) ≡ Refused (of_session e)
+      → IsRefused hd ht image text old new e → SessionCounts fd ft old new e
+      → ((images : Images) → hd old.device → ht old.store → ht old.redo_text → Shows image text old images → (e ≡ Interrupted → ⊥)
+      → From (Standing.Up images) (Err e) (Standing.Up images))
+      → (hd old.device → ht old.store → ht old.redo_text → (images : Images) → IsReady image text old images.stack → HasUndone image text old images.undone
+      → AfterFault e (Left images) (Unit {0}))
+      → ((images : Images) → Left images → (found : Images) × SessionFinds image text new found × From (Standing.Up images) (Err Interrupted) (Standing.Down found))
+      → ((images : Images) → From (Standing.Down images) (Err Broken) (Standing.Down images))
+      → Obeys hd ht image text fd ft old new (Refused f) (λ before reply after. (r : Result ℕ SessionFault) × (reply ≡ told r) × From before r after)
+  call_refused told From Left old new e f is says refused counts stays finds stops down =
+      let By : Fault → Type 0 = λ f. CountsBy fd ft old new (cond (is_failure (Refused f)) 1 0) in
+      let Whole : Fault → Type 0 = λ f. IsWholeRefusal (Refused f) in
+      let Goes : Fault → Type 0 = λ f. Unfailed (Refused f) in
+      let reply_is : Refused f ≡ told (Err e) = ap Refused is ∙ sym says in
+      record {
+        step = λ before h.
+            let made = refused_step From Left old new e refused stays finds stops down before h in
+            (made.0, made.1, (Err e, reply_is, made.2));
+        stands = λ device store redo images shows unfailed.
+            let whole = unfailed_whole e (subst Goes is unfailed) in
+            let same = after_same (IsSame image text old new) e (refused.same device store) whole in
+            let redo_same = after_same (IsRedoSame text old new) e (refused.redo_same redo) whole in
+            (images, shows_same image text old new images same redo_same shows, (Err e, reply_is, stays images device store redo shows whole));
+        device_honesty = refused.device_honesty;
+        store_honesty = refused.store_honesty;
+        redo_honesty = refused.redo_honesty;
+        counts = subst By (sym is) (fault_counts old new e counts);
+        own = λ own. absurd (session_not_own e (subst IsOwnFault is own));
+        same = λ device store whole. after_same (IsSame image text old new) e (refused.same device store) (whole_goes_on e (subst Whole is whole));
+        redo_same = λ redo whole. after_same (IsRedoSame text old new) e (refused.redo_same redo) (whole_goes_on e (subst Whole is whole));
+      }
+
+  -- a change that was made
+  pub perform_obeys : {A : Type 0} (old new : SessionView D T) (c : Change A) (counts : Option Counts) (n : ℕ) (reply : Reply) → reply ≡ made_reply counts n
+      → IsAccepted hd ht fd ft old new n
+      → (hd old.device → ht old.store → (stack : List (List ℕ)) → IsStanding image text old stack
+      → PerformStep stack c (Ok n) (effect c (top stack) ∷ stack) × IsStanding image text new (effect c (top stack) ∷ stack))
+      → (hd old.device → ht old.store → (stack : List (List ℕ)) → IsReady image text old stack → IsReady image text new (effect c (top stack) ∷ stack))
+      → (ht old.redo_text → HasUndone image text new [])
+      → Obeys hd ht image text fd ft old new reply (λ before. ChangeStep before c counts)
+  perform_obeys old new c counts n reply is accepted makes sound undone =
+      let next : Images → Images = λ images. change_to (effect c (top images.stack)) images in
+      call_accepted (answered (made_reply counts)) (CallFrom (PerformUp c)) next old new n reply is
+      (subst IsNoRefusal (sym is) (made_no_refusal counts n)) accepted
+      (λ images device store redo shows.
+      let made = makes device store images.stack shows.0 in
+      ((made.1, undone redo), (next images, refl, made.0, refl)))
+      (λ images device store redo ready has. sound device store images.stack ready)
+
+  -- changes that were taken back
+  pub undo_obeys : (old new : SessionView D T) (k left : ℕ)
+      → IsAccepted hd ht fd ft old new left
+      → (hd old.device → ht old.store → (stack : List (List ℕ)) → IsStanding image text old stack
+      → UndoStep stack k (Ok left) (drop k stack) × IsStanding image text new (drop k stack))
+      → (hd old.device → ht old.store → (stack : List (List ℕ)) → IsReady image text old stack → IsReady image text new (drop k stack))
+      → (hd old.device → ht old.store → ht old.redo_text → (s : Images) → IsStanding image text old s.stack → HasUndone image text old s.undone
+      → HasUndone image text new (undone_by k s.stack s.undone))
+      → Obeys hd ht image text fd ft old new (Undone left) (λ before. UndoesStep before k)
+  undo_obeys old new k left accepted makes sound keeps =
+      call_accepted (answered Undone) (CallFrom (UndoUp k)) (undo_of k) old new left (Undone left) refl tt accepted
+      (λ images device store redo shows.
+      let made = makes device store images.stack shows.0 in
+      ((made.1, keeps device store redo images shows.0 shows.1), (undo_of k images, refl, made.0, refl)))
+      (λ images device store redo ready has. sound device store images.stack ready)
+
+  -- undone changes that were made again
+  pub redo_obeys : (old new : SessionView D T) (j n : ℕ)
+      → IsAccepted hd ht fd ft old new n
+      → (hd old.device → ht old.store → ht old.redo_text → (s : Images) → IsStanding image text old s.stack → HasUndone image text old s.undone
+      → RedoStep s j (Ok n) (redo_of j s) × IsStanding image text new (redo_of j s).stack × HasUndone image text new (redo_of j s).undone)
+      → (hd old.device → ht old.store → ht old.redo_text → (s : Images) → IsReady image text old s.stack → HasUndone image text old s.undone
+      → IsReady image text new (redo_of j s).stack × HasUndone image text new (redo_of j s).undone)
+      → Obeys hd ht image text fd ft old new (Redone n) (λ before. RedoesStep before j)
+  redo_obeys old new j n accepted makes sound =
+      call_accepted (answered Redone) (CallFrom (RedoUp j)) (redo_of j) old new n (Redone n) refl tt accepted
+      (λ images device store redo shows.
+      let made = makes device store redo images shows.0 shows.1 in
+      ((made.1, made.2), (redo_of j images, refl, made.0)))
+      (λ images device store redo ready has. (sound device store redo images ready has).0)
+
+  -- a change that was refused, or stopped
+  pub unperformed_obeys : {A : Type 0} (old new : SessionView D T) (c : Change A) (counts : Option Counts) (e : SessionFault) (f : Fault) → f ≡ of_session e
+      → IsRefused hd ht image text old new e → SessionCounts fd ft old new e
+      → (IsErrOf (refusal e) JournalFull ↔ ((old.is_broken ≡ false) × (65535 ≤ old.count)))
+      → (hd old.device → IsErrOf (refusal e) TooLarge → Fits c (length (image old.device)) MAX_LEN → ⊥)
+      → PerformFault e
+      → (hd old.device → ht old.store → ht old.redo_text → (s : Images) → IsReady image text old s.stack → HasUndone image text old s.undone
+      → AfterFault e (FindsEither image text new s (change_to (effect c (top s.stack)) s)) (Unit {0}))
+      → Obeys hd ht image text fd ft old new (Refused f) (λ before. ChangeStep before c counts)
+  unperformed_obeys old new c counts e f is refused failures full large kind finds =
+      let Made : Images → Images = λ s. change_to (effect c (top s.stack)) s in
+      let Found : Images → Type 0 = λ s. (found : Images) × SessionFinds image text new found × PerformUp c s (Err Interrupted) (Standing.Down found) in
+      call_refused (answered (made_reply counts)) (CallFrom (PerformUp c)) (λ s. FindsEither image text new s (Made s)) old new e f is refl refused failures
+      (λ images device store redo shows whole. perform_stays hd image text old c e refused.broken full large kind device images shows whole)
+      finds
+      (λ images either. elim either as (λ _. Found images) [
+        | inl before ↦ (images, before, inl refl)
+        | inr made ↦ (Made images, made, inr refl)
+      ])
+      (λ images. (refl, refl))
+
+  -- an undo that was refused, or stopped
+  pub kept_obeys : (old new : SessionView D T) (k : ℕ) (e : SessionFault) (f : Fault) → f ≡ of_session e
+      → IsRefused hd ht image text old new e → SessionCounts fd ft old new e
+      → (((old.is_broken ≡ false) × (old.count < k)) ↔ IsErrOf (refusal e) (TooFew old.count))
+      → UndoFault old.count e
+      → (ht old.store → HasCount (text old.store) old.count → (line : ℕ) → e ≡ Damaged line → ⊥)
+      → (hd old.device → ht old.store → ht old.redo_text → (s : Images) → IsReady image text old s.stack → HasUndone image text old s.undone
+      → AfterFault e ((i : ℕ) × (i ≤ k) × SessionFinds image text new (undo_of i s)) (Unit {0}))
+      → Obeys hd ht image text fd ft old new (Refused f) (λ before. UndoesStep before k)
+  kept_obeys old new k e f is refused failures few kind undamaged finds =
+      call_refused (answered Undone) (CallFrom (UndoUp k)) (λ s. (i : ℕ) × (i ≤ k) × SessionFinds image text new (undo_of i s)) old new e f is refl refused failures
+      (λ images device store redo shows whole. undo_stays ht image text old k e refused.broken few kind undamaged store images shows whole)
+      finds
+      (λ images left. (undo_of left.0 images, left.2, (left.0, left.1, refl)))
+      (λ images. (refl, refl))
+
+  -- a redo that was refused, or stopped
+  pub unredone_obeys : (old new : SessionView D T) (j : ℕ) (e : SessionFault) (f : Fault) → f ≡ of_session e
+      → IsRefused hd ht image text old new e → SessionCounts fd ft old new e
+      → (((old.is_broken ≡ false) × (old.undone < j)) ↔ IsErrOf (refusal e) (NothingToRedo old.undone))
+      → RedoFault old.undone e
+      → (ht old.redo_text → HasCount (text old.redo_text) old.undone → (line : ℕ) → e ≡ RedoDamaged line → ⊥)
+      → (hd old.device → ht old.store → ht old.redo_text → (s : Images) → IsReady image text old s.stack → HasUndone image text old s.undone
+      → AfterFault e ((i : ℕ) × (i ≤ j) × SessionFinds image text new (redo_of i s)) (Unit {0}))
+      → Obeys hd ht image text fd ft old new (Refused f) (λ before. RedoesStep before j)
+  unredone_obeys old new j e f is refused failures nothing kind undamaged finds =
+      call_refused (answered Redone) (CallFrom (RedoUp j)) (λ s. (i : ℕ) × (i ≤ j) × SessionFinds image text new (redo_of i s)) old new e f is refl refused failures
+      (λ images device store redo shows whole. redo_stays ht image text old j e refused.broken nothing kind undamaged redo images shows whole)
+      finds
+      (λ images left. (redo_of left.0 images, left.2, (left.0, left.1, refl)))
+      (λ images. (refl, refl))

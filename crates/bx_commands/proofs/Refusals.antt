@@ -1,0 +1,198 @@
+-- What refused commands leave.
+use Rattle.std.proofs.Common.{◌≡◌, ◌≢◌, ◌∙◌, ◌⊎◌, inl, inr, ℕ, List, Option, None, Some, refl, sym, subst}
+use Rattle.bx_dd.specs.declared.stream.counts.Counts.{Counts}
+use Rattle.bx_journal.specs.Calls.{AfterFault}
+use Rattle.bx_journal.specs.Session.{IsRedoSame, IsSame}
+use Rattle.bx_journal.specs.SessionView.{SessionView}
+use Rattle.bx_journal.specs.declared.session.fault.SessionFault.{SessionFault}
+use Rattle.bx_journal.specs.declared.session.fault.SessionFault.TheVariants.{NoMemory, TooLarge, DeviceFailed, Damaged, TooFew, JournalFull, Interrupted, Broken, LengthDiffers, NothingToRedo, RedoDamaged}
+use Rattle.bx_commands.specs.declared.command.Reply.{Reply}
+use Rattle.bx_commands.specs.declared.command.Reply.TheVariants.{Changed, Copied, Undone, Redone, Refused}
+use Rattle.bx_read.specs.declared.fault.ReadFault.{ReadFault}
+use Rattle.bx_read.specs.declared.fault.ReadFault.TheVariants as read
+use Rattle.bx_dd.specs.declared.fault.DdFault.{DdFault}
+use Rattle.bx_dd.specs.declared.fault.DdFault.TheVariants as dd
+use Rattle.bx_commands.specs.declared.fault.Fault.{Fault}
+use Rattle.bx_commands.specs.declared.fault.Fault.TheVariants as fault
+use Rattle.bx_commands.specs.Fault.{of_dd, of_read, of_session}
+use Rattle.bx_commands.specs.Refusal.{IsOwnRefusal, IsWholeRefusal}
+use Rattle.bx_commands.specs.inner.Refusal.{IsOwnFault, IsListedFault}
+use Rattle.bx_commands.specs.Run.{Unfailed, made_reply}
+use Rattle.bx_commands.proofs.Steps.{true_is_not_false}
+
+-- no fault of the session's is a listed one
+session_not_listed : (e : SessionFault) → IsListedFault (of_session e) → ⊥
+session_not_listed NoMemory own = own
+session_not_listed TooLarge own = own
+session_not_listed DeviceFailed own = own
+session_not_listed (Damaged line) own = own
+session_not_listed (TooFew have) own = own
+session_not_listed JournalFull own = own
+session_not_listed Interrupted own = own
+session_not_listed Broken own = own
+session_not_listed (LengthDiffers expected) own = own
+session_not_listed (NothingToRedo have) own = own
+session_not_listed (RedoDamaged line) own = own
+
+-- what a text or dd may answer is listed, but for two faults
+listed_read : (f : ReadFault) → of_read f ≢ fault.NoMemory → IsListedFault (of_read f)
+listed_read read.NoMemory some = absurd (some refl)
+listed_read (read.BadAddress line) some = tt
+listed_read (read.MissingColon line) some = tt
+listed_read (read.BadPair line) some = tt
+listed_read (read.NoData line) some = tt
+listed_read (read.TooWide line) some = tt
+listed_read (read.AddressTooLarge line) some = tt
+listed_read (read.OddDigits line) some = tt
+
+listed_dd : (f : DdFault) → of_dd f ≢ fault.NoMemory → of_dd f ≢ fault.SeekWithoutOutput → IsListedFault (of_dd f)
+listed_dd dd.NoMemory some other = absurd (some refl)
+listed_dd dd.SeekWithoutOutput some other = absurd (other refl)
+listed_dd dd.ReadFailed some other = tt
+listed_dd dd.InputTooLong some other = tt
+listed_dd (dd.UnknownOperand at) some other = tt
+listed_dd (dd.BadNumber at) some other = tt
+listed_dd (dd.NumberTooLarge at) some other = tt
+listed_dd (dd.ZeroSize at) some other = tt
+listed_dd dd.Conflict some other = tt
+listed_dd dd.MissingCbs some other = tt
+listed_dd (dd.Repeated at) some other = tt
+
+-- a fault of the command's own is a listed one
+listed_of : (e : Fault) → IsOwnFault e → IsListedFault e
+listed_of e (some, other, inl (f, is)) = subst IsListedFault (sym is) (listed_read f (λ none. some (is ∙ none)))
+listed_of e (some, other, inr (f, is)) = subst IsListedFault (sym is) (listed_dd f (λ none. some (is ∙ none)) (λ seeks. other (is ∙ seeks)))
+
+-- and each listed one is the command's own
+own_of_listed : (e : Fault) → IsListedFault e → IsOwnFault e
+own_of_listed (fault.BadAddress line) is = (λ e. cc, λ e. cc, inl (read.BadAddress line, refl))
+own_of_listed (fault.MissingColon line) is = (λ e. cc, λ e. cc, inl (read.MissingColon line, refl))
+own_of_listed (fault.BadPair line) is = (λ e. cc, λ e. cc, inl (read.BadPair line, refl))
+own_of_listed (fault.NoData line) is = (λ e. cc, λ e. cc, inl (read.NoData line, refl))
+own_of_listed (fault.TooWide line) is = (λ e. cc, λ e. cc, inl (read.TooWide line, refl))
+own_of_listed (fault.AddressTooLarge line) is = (λ e. cc, λ e. cc, inl (read.AddressTooLarge line, refl))
+own_of_listed (fault.OddDigits line) is = (λ e. cc, λ e. cc, inl (read.OddDigits line, refl))
+own_of_listed fault.ReadFailed is = (λ e. cc, λ e. cc, inr (dd.ReadFailed, refl))
+own_of_listed fault.InputTooLong is = (λ e. cc, λ e. cc, inr (dd.InputTooLong, refl))
+own_of_listed (fault.UnknownOperand at) is = (λ e. cc, λ e. cc, inr (dd.UnknownOperand at, refl))
+own_of_listed (fault.BadNumber at) is = (λ e. cc, λ e. cc, inr (dd.BadNumber at, refl))
+own_of_listed (fault.NumberTooLarge at) is = (λ e. cc, λ e. cc, inr (dd.NumberTooLarge at, refl))
+own_of_listed (fault.ZeroSize at) is = (λ e. cc, λ e. cc, inr (dd.ZeroSize at, refl))
+own_of_listed fault.Conflict is = (λ e. cc, λ e. cc, inr (dd.Conflict, refl))
+own_of_listed fault.MissingCbs is = (λ e. cc, λ e. cc, inr (dd.MissingCbs, refl))
+own_of_listed (fault.Repeated at) is = (λ e. cc, λ e. cc, inr (dd.Repeated at, refl))
+own_of_listed fault.NoMemory is = absurd is
+own_of_listed fault.SeekWithoutOutput is = absurd is
+own_of_listed (fault.WriteFailed k) is = absurd is
+own_of_listed fault.SkipPastEnd is = absurd is
+own_of_listed fault.TooLarge is = absurd is
+own_of_listed fault.DeviceFailed is = absurd is
+own_of_listed (fault.Damaged k) is = absurd is
+own_of_listed (fault.TooFew k) is = absurd is
+own_of_listed fault.JournalFull is = absurd is
+own_of_listed fault.Interrupted is = absurd is
+own_of_listed fault.Broken is = absurd is
+own_of_listed (fault.LengthDiffers k) is = absurd is
+own_of_listed (fault.NothingToRedo k) is = absurd is
+own_of_listed (fault.RedoDamaged k) is = absurd is
+own_of_listed fault.Usage is = absurd is
+own_of_listed fault.OpenFailed is = absurd is
+
+-- no fault of the session's is the command's own
+pub session_not_own : (e : SessionFault) → IsOwnFault (of_session e) → ⊥
+session_not_own e own = session_not_listed e (listed_of (of_session e) own)
+
+-- whether a fault is an interruption
+pub is_interrupted : (e : SessionFault) → (e ≡ Interrupted) ⊎ (e ≡ Interrupted → ⊥)
+is_interrupted NoMemory = inr (λ is. cc)
+is_interrupted TooLarge = inr (λ is. cc)
+is_interrupted DeviceFailed = inr (λ is. cc)
+is_interrupted (Damaged line) = inr (λ is. cc)
+is_interrupted (TooFew have) = inr (λ is. cc)
+is_interrupted JournalFull = inr (λ is. cc)
+is_interrupted Interrupted = inl refl
+is_interrupted Broken = inr (λ is. cc)
+is_interrupted (LengthDiffers expected) = inr (λ is. cc)
+is_interrupted (NothingToRedo have) = inr (λ is. cc)
+is_interrupted (RedoDamaged line) = inr (λ is. cc)
+
+-- a fault that leaves all as it was, unless it is an interruption
+pub after_same : (S : Type 0) (e : SessionFault) → AfterFault e (Unit {0}) S → (e ≡ Interrupted → ⊥) → S
+after_same S NoMemory same whole = same
+after_same S TooLarge same whole = same
+after_same S DeviceFailed same whole = same
+after_same S (Damaged line) same whole = same
+after_same S (TooFew have) same whole = same
+after_same S JournalFull same whole = same
+after_same S Interrupted same whole = absurd (whole refl)
+after_same S Broken same whole = same
+after_same S (LengthDiffers expected) same whole = same
+after_same S (NothingToRedo have) same whole = same
+after_same S (RedoDamaged line) same whole = same
+
+-- a refusal that tells of no device in the middle of writing, and one that tells of no device at all, is no interruption
+pub whole_goes_on : (e : SessionFault) → IsWholeRefusal (Refused (of_session e)) → e ≡ Interrupted → ⊥
+whole_goes_on e whole stopped =
+    let Whole : SessionFault → Type 0 = λ f. IsWholeRefusal (Refused (of_session f)) in
+    subst Whole stopped whole
+
+pub unfailed_whole : (e : SessionFault) → Unfailed (Refused (of_session e)) → e ≡ Interrupted → ⊥
+unfailed_whole e unfailed stopped =
+    let Goes : SessionFault → Type 0 = λ f. Unfailed (Refused (of_session f)) in
+    true_is_not_false (subst Goes stopped unfailed)
+
+-- the command was done
+abbrev pub IsNoRefusal : Reply → Type 0
+IsNoRefusal (Changed n) = Unit {0}
+IsNoRefusal (Copied n counts) = Unit {0}
+IsNoRefusal (Undone left) = Unit {0}
+IsNoRefusal (Redone n) = Unit {0}
+IsNoRefusal (Refused e) = ⊥
+
+pub made_no_refusal : (counts : Option Counts) (n : ℕ) → IsNoRefusal (made_reply counts n)
+made_no_refusal None n = tt
+made_no_refusal (Some counts) n = tt
+
+-- a reply to what was done tells of no failure and of no refusal
+pub no_failure : (p : Reply) → IsNoRefusal p → Unfailed p
+no_failure (Changed n) done = refl
+no_failure (Copied n counts) done = refl
+no_failure (Undone left) done = refl
+no_failure (Redone n) done = refl
+no_failure (Refused e) done = absurd done
+
+pub no_own : (p : Reply) → IsNoRefusal p → IsOwnRefusal p → ⊥
+no_own (Changed n) done h = h
+no_own (Copied n counts) done h = h
+no_own (Undone left) done h = h
+no_own (Redone n) done h = h
+no_own (Refused e) done h = done
+
+pub no_whole : (p : Reply) → IsNoRefusal p → IsWholeRefusal p → ⊥
+no_whole (Changed n) done h = h
+no_whole (Copied n counts) done h = h
+no_whole (Undone left) done h = h
+no_whole (Redone n) done h = h
+no_whole (Refused e) done h = done
+
+pub same_here : {D T : Type 0} (image : D → List ℕ) (text : T → List ℕ) (s : SessionView D T) → IsSame image text s s
+same_here image text s = record { image_same = refl; text_same = refl; count = refl; broken = refl }
+
+pub same_on : {D T : Type 0} (image : D → List ℕ) (text : T → List ℕ) (first now next : SessionView D T)
+    → IsSame image text first now → IsSame image text now next → IsSame image text first next
+same_on image text first now next before after = record {
+  image_same = after.image_same ∙ before.image_same;
+  text_same = after.text_same ∙ before.text_same;
+  count = after.count ∙ before.count;
+  broken = after.broken ∙ before.broken;
+}
+
+pub redo_same_here : {D T : Type 0} (text : T → List ℕ) (s : SessionView D T) → IsRedoSame text s s
+redo_same_here text s = record { text_same = refl; undone = refl }
+
+pub redo_same_on : {D T : Type 0} (text : T → List ℕ) (first now next : SessionView D T)
+    → IsRedoSame text first now → IsRedoSame text now next → IsRedoSame text first next
+redo_same_on text first now next before after = record {
+  text_same = after.text_same ∙ before.text_same;
+  undone = after.undone ∙ before.undone;
+}

@@ -1,0 +1,221 @@
+-- Runs of commands on a session: how a loop makes one, and what follows from one.
+use Rattle.std.proofs.Common.{◌≡◌, ◌∙◌, ◌<◌, ◌≤◌, ◌+◌, ℕ, zero, suc, Bool, true, false, cond, Option, List, [], ◌∷◌, ◌++◌, length, get_or, set, take, drop, refl, sym, ap, subst, arith, All}
+use Rattle.std.specs.Prelude.{count_by}
+use Rattle.std.proofs.lemmas.List.{append_assoc, append-nil, drop_more, drop-set-lt, take_all, drop_all, take_more_set}
+use Rattle.std.proofs.lemmas.List.Elements.{All-cons, All-nil}
+use Rattle.std.proofs.lemmas.List.Sums.{sum_by-cons}
+use Rattle.bx_journal.specs.Images.{Images}
+use Rattle.bx_journal.specs.Session.{IsRedoSame, IsSame, IsUnfailed}
+use Rattle.bx_journal.specs.SessionView.{SessionView}
+use Rattle.bx_commands.specs.declared.command.Command.{Command}
+use Rattle.bx_commands.specs.declared.command.Command.TheVariants.{Revert, RevertPlain, Dd, Undo, Redo}
+use Rattle.bx_commands.specs.declared.command.Reply.{Reply}
+use Rattle.bx_commands.specs.Obeys.{Obeys}
+use Rattle.bx_commands.specs.Refusal.{IsOwnRefusal, IsWholeRefusal}
+use Rattle.bx_commands.specs.Run.{is_failure, CommandRun, CommandStep, StackRun, Unfailed}
+use Rattle.bx_commands.specs.SessionRun.{SessionRun, SessionStep}
+use Rattle.bx_commands.specs.Standing.{CountsBy, CountsOn, HoldsAt, Shows, Standing}
+use Rattle.bx_commands.proofs.Obeys.{obeys_next}
+use Rattle.bx_commands.proofs.Refusals.{redo_same_here, redo_same_on, same_here, same_on}
+use Rattle.bx_commands.proofs.Unfailed.{all_tail}
+
+module _ {S C : Type 0} (Step : S → C → C → Reply → S → Type 0) where
+  -- each run of what is ahead makes a run of the whole list
+  pub record LeadsTo (first : S) (whole done : List C) (replies : List Reply) (now : S) (ahead : List C) : Type 0 where
+    pub joins : (left : List C) (qs : List Reply) (new : S) → SessionRun Step now ahead left qs new → SessionRun Step first whole (done ++ left) (replies ++ qs) new
+
+  pub leads_none : (s : S) (whole : List C) → LeadsTo s whole (take 0 whole) [] s (drop 0 whole)
+  leads_none s whole = record { joins = λ left qs new run. run }
+
+  -- one command more
+  pub leads_more : (first now next : S) (whole list : List C) (replies : List Reply) (i : ℕ) (d new : C) (reply : Reply)
+      → i < length list → Step now (get_or list i d) new reply next
+      → LeadsTo first whole (take i list) replies now (drop i list)
+      → LeadsTo first whole (take (i + 1) (set list i new)) (replies ++ reply ∷ []) next (drop (i + 1) (set list i new))
+  leads_more first now next whole list replies i d new reply within step leads = record {
+    joins = λ left qs after run.
+        let Rest : List C → Type 0 = λ rest. SessionRun Step next rest left qs after in
+        let tail = subst Rest (drop-set-lt (i + 1) list i new (omega arith)) run in
+        let Ahead : List C → Type 0 = λ ahead. SessionRun Step now ahead (new ∷ left) (reply ∷ qs) after in
+        let joined = leads.joins (new ∷ left) (reply ∷ qs) after (subst Ahead (sym (drop_more list i d within)) (next, step, tail)) in
+        let Replies : List Reply → Type 0 = λ ps. SessionRun Step first whole (take i list ++ new ∷ left) ps after in
+        let Done : List C → Type 0 = λ done. SessionRun Step first whole done ((replies ++ reply ∷ []) ++ qs) after in
+        let done : take (i + 1) (set list i new) ++ left ≡ take i list ++ new ∷ left =
+        ap (λ xs. xs ++ left) (take_more_set list i new within) ∙ append_assoc (take i list) (new ∷ []) left in
+        subst Done (sym done) (subst Replies (sym (append_assoc replies (reply ∷ []) qs)) joined);
+  }
+
+  -- at the end of the list
+  pub leads_all : (first now : S) (whole list : List C) (replies : List Reply) (i : ℕ) → length list ≤ i
+      → LeadsTo first whole (take i list) replies now (drop i list) → SessionRun Step first whole list replies now
+  leads_all first now whole list replies i all leads =
+      let Ahead : List C → Type 0 = λ ahead. SessionRun Step now ahead [] [] now in
+      let run = leads.joins [] [] now (subst Ahead (sym (drop_all i list all)) refl) in
+      let Done : List C → Type 0 = λ done. SessionRun Step first whole done (replies ++ []) now in
+      let Replies : List Reply → Type 0 = λ ps. SessionRun Step first whole list ps now in
+      subst Replies (append-nil replies) (subst Done (append-nil (take i list) ∙ take_all i list all) run)
+
+  -- what holds of no command, and of one more in front, holds of a run
+  run_induction : (P : S → List C → List Reply → S → Type 0) → ((s : S) → P s [] [] s)
+      → ((old now new : S) (c left : C) (list : List C) (p : Reply) (replies : List Reply) → Step old c left p now → P now list replies new
+      → P old (c ∷ list) (p ∷ replies) new)
+      → (old new : S) (list left : List C) (replies : List Reply) → SessionRun Step old list left replies new → P old list replies new
+  run_induction P none more old new [] [] [] is = let Ends : S → Type 0 = λ s. P old [] [] s in subst Ends (sym is) (none old)
+  run_induction P none more old new (c ∷ list) (d ∷ left) (p ∷ replies) (now, step, rest) =
+      more old now new c d list p replies step (run_induction P none more now new list left replies rest)
+  run_induction P none more old new [] [] (p ∷ replies) run = absurd run
+  run_induction P none more old new [] (d ∷ left) replies run = absurd run
+  run_induction P none more old new (c ∷ list) [] replies run = absurd run
+  run_induction P none more old new (c ∷ list) (d ∷ left) [] run = absurd run
+
+-- the three devices are honest
+abbrev AreHonest : {D T : Type 0} → (D → Type 0) → (T → Type 0) → SessionView D T → Type 0
+AreHonest device text s = device s.device × text s.store × text s.redo_text
+
+-- P holds of the first element
+all_head : {X : Type 0} (P : X → Type 0) (x : X) (xs : List X) → All P (x ∷ xs) → P x
+all_head P x xs all = all 0 x (omega arith)
+
+-- 1 for a failure
+abbrev weight : Reply → ℕ
+weight p = cond (is_failure p) 1 0
+
+no_weight : (p : Reply) → weight p ≡ 0 → Unfailed p
+no_weight p = at (is_failure p)
+  where
+    at : (b : Bool) → cond b (suc 0) 0 ≡ zero → b ≡ false
+    at true none = absurd (omega arith)
+    at false none = refl
+
+-- where no reply is counted, none tells of a failure
+none_failed : (replies : List Reply) → count_by is_failure replies ≡ 0 → All Unfailed replies
+none_failed [] none = All-nil Unfailed
+none_failed (p ∷ replies) none =
+    let all = sym (sum_by-cons weight p replies) ∙ none in
+    All-cons Unfailed p replies (no_weight p (omega arith)) (none_failed replies (omega arith))
+
+module _ {D T : Type 0} (fd : D → ℕ) (ft : T → ℕ) where
+  pub unfailed_of : (old new : SessionView D T) (replies : List Reply) → CountsBy fd ft old new (count_by is_failure replies)
+      → IsUnfailed fd ft old new → All Unfailed replies
+  unfailed_of old new replies told same =
+      let rise = told.rise in let d = same.0 in let t = same.1 in let u = same.2 in
+      none_failed replies (omega arith)
+
+  -- the counts of some commands, and of one more
+  pub counts_none : (s : SessionView D T) → CountsOn fd ft s s 0
+  counts_none s = (0, omega arith, record { device_least = omega arith; store_least = omega arith; redo_least = omega arith; rise = omega arith })
+
+  pub counts_more : (first now next : SessionView D T) (i : ℕ) (reply : Reply) → CountsOn fd ft first now i → CountsBy fd ft now next (weight reply)
+      → CountsOn fd ft first next (i + 1)
+  counts_more first now next i reply (failed, few, on) by =
+      let small = bit (is_failure reply) in (
+        failed + weight reply,
+        omega arith,
+        record {
+          device_least = let a = on.device_least in let b = by.device_least in omega arith;
+          store_least = let a = on.store_least in let b = by.store_least in omega arith;
+          redo_least = let a = on.redo_least in let b = by.redo_least in omega arith;
+          rise = let a = on.rise in let b = by.rise in omega arith;
+        },
+      )
+    where
+      bit : (b : Bool) → cond b (suc 0) 0 ≤ suc 0
+      bit true = omega arith
+      bit false = omega arith
+
+  pub counts_all : (first now : SessionView D T) (i n : ℕ) → i ≤ n → CountsOn fd ft first now i → CountsOn fd ft first now n
+  counts_all first now i n within (failed, few, on) = (failed, omega arith, on)
+
+module _ {D T R A : Type 0} (hd : D → Type 0) (ht : T → Type 0) (image : D → List ℕ) (text : T → List ℕ) (fd : D → ℕ) (ft : T → ℕ) (remaining : R → Option (List ℕ)) where
+  -- whatever is left of it, a command obeys its step
+  obeys_command : (old new : SessionView D T) (c left : Command R A) (reply : Reply) → SessionStep hd ht image text fd ft remaining old c left reply new
+      → Obeys hd ht image text fd ft old new reply (λ before. CommandStep remaining before c)
+  obeys_command old new (Dd operands input) (Dd words rest) reply step =
+      obeys_next hd ht image text fd ft (λ before after dd. (remaining rest, (step.1.0, (step.1.1, dd)))) step.1.2
+  obeys_command old new (Dd operands input) (Revert text_ offset) reply step = step.1
+  obeys_command old new (Dd operands input) (RevertPlain text_ at_) reply step = step.1
+  obeys_command old new (Dd operands input) (Undo k) reply step = step.1
+  obeys_command old new (Dd operands input) (Redo j) reply step = step.1
+  obeys_command old new (Revert text_ offset) left reply step = step.1
+  obeys_command old new (RevertPlain text_ at_) left reply step = step.1
+  obeys_command old new (Undo k) left reply step = step.1
+  obeys_command old new (Redo j) left reply step = step.1
+
+  abbrev Step : SessionView D T → Command R A → Command R A → Reply → SessionView D T → Type 0
+  Step old c left reply new = SessionStep hd ht image text fd ft remaining old c left reply new
+
+  abbrev Runs : SessionView D T → List (Command R A) → List (Command R A) → List Reply → SessionView D T → Type 0
+  Runs old list left replies new = SessionRun Step old list left replies new
+
+  -- from where the session stands
+  pub run_of : (old new : SessionView D T) (list left : List (Command R A)) (replies : List Reply) → Runs old list left replies new
+      → (start : Standing) → HoldsAt hd ht image text old start
+      → (after : Standing) × HoldsAt hd ht image text new after × CommandRun remaining start list replies after
+  run_of = run_induction Step
+      (λ old list replies new. (start : Standing) → HoldsAt hd ht image text old start
+      → (after : Standing) × HoldsAt hd ht image text new after × CommandRun remaining start list replies after)
+      (λ s start h. (start, h, refl))
+      (λ old now new c left list p replies step later start h.
+      let made = (obeys_command old now c left p step).step start h in
+      let rest = later made.0 made.1 in
+      (rest.0, rest.1, (made.0, made.2, rest.2)))
+
+  -- from the images that honest devices stand for, where no reply tells of a failure
+  pub stacks_of : (old new : SessionView D T) (list left : List (Command R A)) (replies : List Reply) → Runs old list left replies new
+      → AreHonest hd ht old → (start : Images) → Shows image text old start → All Unfailed replies
+      → (top : Images) × Shows image text new top × StackRun remaining start list replies top
+  stacks_of = run_induction Step
+      (λ old list replies new. AreHonest hd ht old → (start : Images) → Shows image text old start → All Unfailed replies
+      → (top : Images) × Shows image text new top × StackRun remaining start list replies top)
+      (λ s honest start shows all. (start, shows, refl))
+      (λ old now new c left list p replies step later honest start shows all.
+      let obeys = obeys_command old now c left p step in
+      let unfailed = all_head Unfailed p replies all in
+      let made = obeys.stands honest.0 honest.1 honest.2 start shows unfailed in
+      let rest = later (obeys.device_honesty.1 honest.0, obeys.store_honesty.1 honest.1, obeys.redo_honesty.1 honest.2) made.0 made.1 (all_tail Unfailed p replies all) in
+      (rest.0, rest.1, (made.0, (made.2, unfailed), rest.2)))
+
+  pub counts_once : (old new : SessionView D T) (c left : Command R A) (reply : Reply) → SessionStep hd ht image text fd ft remaining old c left reply new
+      → CountsBy fd ft old new (weight reply)
+  counts_once old new c left reply step = (obeys_command old new c left reply step).counts
+
+  -- as many replies tell of a failure as the counts rose by
+  pub told_of : (old new : SessionView D T) (list left : List (Command R A)) (replies : List Reply) → Runs old list left replies new
+      → CountsBy fd ft old new (count_by is_failure replies)
+  told_of = run_induction Step (λ old list replies new. CountsBy fd ft old new (count_by is_failure replies))
+      (λ s. record { device_least = omega arith; store_least = omega arith; redo_least = omega arith; rise = omega arith })
+      (λ old now new c left list p replies step later.
+      let once = (obeys_command old now c left p step).counts in
+      let all = sum_by-cons weight p replies in
+      record {
+        device_least = let a = once.device_least in let b = later.device_least in omega arith;
+        store_least = let a = once.store_least in let b = later.store_least in omega arith;
+        redo_least = let a = once.redo_least in let b = later.redo_least in omega arith;
+        rise = let a = once.rise in let b = later.rise in omega arith;
+      })
+
+  -- where all are refused
+  pub own_of : (old new : SessionView D T) (list left : List (Command R A)) (replies : List Reply) → Runs old list left replies new
+      → All IsOwnRefusal replies → new ≡ old
+  own_of = run_induction Step (λ old list replies new. All IsOwnRefusal replies → new ≡ old)
+      (λ s all. refl)
+      (λ old now new c left list p replies step later all.
+      later (all_tail IsOwnRefusal p replies all) ∙ (obeys_command old now c left p step).own (all_head IsOwnRefusal p replies all))
+
+  pub same_of : (old new : SessionView D T) (list left : List (Command R A)) (replies : List Reply) → Runs old list left replies new
+      → hd old.device → ht old.store → All IsWholeRefusal replies → IsSame image text old new
+  same_of = run_induction Step (λ old list replies new. hd old.device → ht old.store → All IsWholeRefusal replies → IsSame image text old new)
+      (λ s device store all. same_here image text s)
+      (λ old now new c left list p replies step later device store all.
+      let obeys = obeys_command old now c left p step in
+      same_on image text old now new (obeys.same device store (all_head IsWholeRefusal p replies all))
+      (later (obeys.device_honesty.1 device) (obeys.store_honesty.1 store) (all_tail IsWholeRefusal p replies all)))
+
+  pub redo_same_of : (old new : SessionView D T) (list left : List (Command R A)) (replies : List Reply) → Runs old list left replies new
+      → ht old.redo_text → All IsWholeRefusal replies → IsRedoSame text old new
+  redo_same_of = run_induction Step (λ old list replies new. ht old.redo_text → All IsWholeRefusal replies → IsRedoSame text old new)
+      (λ s redo all. redo_same_here text s)
+      (λ old now new c left list p replies step later redo all.
+      let obeys = obeys_command old now c left p step in
+      redo_same_on text old now new (obeys.redo_same redo (all_head IsWholeRefusal p replies all))
+      (later (obeys.redo_honesty.1 redo) (all_tail IsWholeRefusal p replies all)))

@@ -1,0 +1,22 @@
+-- What dd makes of an input.
+use Rattle.std.specs.Prelude.{◌≡◌, ◌⊎◌, ◌^◌, ℕ, Option, None, Some, Result, Ok, Err, List}
+use Rattle.bx_dd.specs.declared.fault.DdFault.{DdFault}
+use Rattle.bx_dd.specs.declared.fault.DdFault.TheVariants.{NoMemory}
+use Rattle.bx_dd.specs.declared.operands.plan.Plan.{Plan}
+use Rattle.bx_dd.specs.Operands.{fault_of}
+use Rattle.bx_dd.specs.Parsing.{IsPlanOf}
+use Rattle.bx_dd.specs.Plan.{change_of}
+use Rattle.bx_dd.specs.Transfer.{Copies, HasStopped}
+use Rattle.bx_commands.specs.declared.changes.DdChange.{DdChange}
+
+-- Why nothing is made: the first fault of the operands, or want of memory, and then nothing was read; else a fault of the
+-- input or want of memory after some bytes
+abbrev pub StopsCopy : Option DdFault → Option (List ℕ) → Option (List ℕ) → DdFault → Type 0
+StopsCopy (Some fault) old left e = ((e ≡ fault) ⊎ (e ≡ NoMemory)) × (left ≡ old)
+StopsCopy None old left e = HasStopped old left (2 ^ 40) e
+
+-- What dd's operands make of what a reader gives, which then has `left`: the change of what their plan copies, and its counts.
+abbrev pub Makes : {A : Type 0} → List (List ℕ) → Option (List ℕ) → Option (List ℕ) → Result (DdChange A) DdFault → Type 0
+Makes {A = A} words old left (Ok made) = (fault_of words ≡ None) × ((plan : Plan A) × IsPlanOf words plan
+    × ((bytes : List ℕ) × Copies plan old left bytes made.counts × (made.change ≡ change_of plan bytes)))
+Makes words old left (Err e) = StopsCopy (fault_of words) old left e

@@ -1,0 +1,48 @@
+-- Laws of runs.
+use Rattle.std.specs.Prelude.{◌≡◌, ℕ, List, ◌++◌, length, Option, All}
+use Rattle.bx_journal.specs.Images.{Images}
+use Rattle.bx_journal.specs.Machine.{changes_of}
+use Rattle.bx_commands.specs.declared.command.Command.{Command}
+use Rattle.bx_commands.specs.declared.command.Command.TheVariants.{Undo, Redo}
+use Rattle.bx_commands.specs.declared.command.Reply.{Reply}
+use Rattle.bx_commands.specs.declared.command.Reply.TheVariants.{Changed, Copied, Undone, Redone, Refused}
+use Rattle.bx_commands.specs.Standing.{Standing}
+use Rattle.bx_commands.specs.Run.{CommandRun, StackRun, StackStep, Unfailed}
+
+-- the runs of two lists, one from where the other ends, are a run of both
+abbrev pub RunsJoin : (R A : Type 0) → (R → Option (List ℕ)) → Type 0
+RunsJoin R A remaining = (start middle after : Standing) (xs ys : List (Command R A)) (ps qs : List Reply)
+    → CommandRun remaining start xs ps middle → CommandRun remaining middle ys qs after → CommandRun remaining start (xs ++ ys) (ps ++ qs) after
+
+-- the same of runs in which no device fails, from images to images
+abbrev pub StackRunsJoin : (R A : Type 0) → (R → Option (List ℕ)) → Type 0
+StackRunsJoin R A remaining = (start middle after : Images) (xs ys : List (Command R A)) (ps qs : List Reply)
+    → StackRun remaining start xs ps middle → StackRun remaining middle ys qs after → StackRun remaining start (xs ++ ys) (ps ++ qs) after
+
+-- a run in which no device fails goes from images to images
+abbrev pub UnfailedRuns : (R A : Type 0) → (R → Option (List ℕ)) → Type 0
+UnfailedRuns R A remaining = (start : Images) (after : Standing) (list : List (Command R A)) (replies : List Reply)
+    → CommandRun remaining (Standing.Up start) list replies after → All Unfailed replies
+    → (top : Images) × (after ≡ Standing.Up top) × StackRun remaining start list replies top
+
+-- the reply says that a change was made
+abbrev pub IsMade : Reply → Type 0
+IsMade (Changed n) = Unit {0}
+IsMade (Copied n counts) = Unit {0}
+IsMade (Undone left) = ⊥
+IsMade (Redone n) = ⊥
+IsMade (Refused e) = ⊥
+
+-- behind changes that were all made, an undo of as many that is made leads back to the first stack, so to its image
+abbrev pub UndoGivesBack : (R A : Type 0) → (R → Option (List ℕ)) → Type 0
+UndoGivesBack R A remaining = (start changed after : Images) (list : List (Command R A)) (replies : List Reply) (left : ℕ)
+    → StackRun remaining start list replies changed → All IsMade replies
+    → StackStep {R = R} {A = A} remaining changed (Undo (length list)) (Undone left) after
+    → (after.stack ≡ start.stack) × (left ≡ changes_of start.stack)
+
+-- an undo of k and a redo of k behind it that are both made lead back to the same images, those that stand and those undone
+abbrev pub RedoGivesBack : (R A : Type 0) → (R → Option (List ℕ)) → Type 0
+RedoGivesBack R A remaining = (start undone after : Images) (k left changes : ℕ)
+    → StackStep {R = R} {A = A} remaining start (Undo k) (Undone left) undone
+    → StackStep {R = R} {A = A} remaining undone (Redo k) (Redone changes) after
+    → (after ≡ start) × (changes ≡ changes_of start.stack)

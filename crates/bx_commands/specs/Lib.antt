@@ -1,0 +1,11 @@
+pub mod Command
+pub mod Copy
+pub mod Fault
+pub mod Standing
+pub mod Run
+pub mod Obeys
+pub mod SessionRun
+pub mod Refusal
+pub mod Laws
+pub mod Listing
+pub mod inner

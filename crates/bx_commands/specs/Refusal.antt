@@ -1,0 +1,19 @@
+-- What a refused command leaves.
+use Rattle.std.specs.Prelude.{◌≡◌, ◌≢◌, ◌⊎◌}
+use Rattle.bx_read.specs.declared.fault.ReadFault.{ReadFault}
+use Rattle.bx_dd.specs.declared.fault.DdFault.{DdFault}
+use Rattle.bx_commands.specs.declared.command.Reply.{Reply}
+use Rattle.bx_commands.specs.declared.command.Reply.TheVariants.{Refused}
+use Rattle.bx_commands.specs.declared.fault.Fault.TheVariants.{NoMemory, SeekWithoutOutput, Interrupted}
+use Rattle.bx_commands.specs.Fault.{of_dd, of_read}
+
+-- the command was refused for a fault of its own
+abbrev pub IsOwnRefusal : Reply → Type 0
+IsOwnRefusal (Refused e) = (e ≢ NoMemory) × (e ≢ SeekWithoutOutput) × (((f : ReadFault) × (e ≡ of_read f)) ⊎ ((f : DdFault) × (e ≡ of_dd f)))
+IsOwnRefusal p = ⊥
+
+-- the command was refused, and no device stopped it in the middle of writing
+abbrev pub IsWholeRefusal : Reply → Type 0
+IsWholeRefusal (Refused Interrupted) = ⊥
+IsWholeRefusal (Refused e) = Unit {0}
+IsWholeRefusal p = ⊥

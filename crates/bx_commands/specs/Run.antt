@@ -1,0 +1,89 @@
+-- The machine of commands.
+use Rattle.std.specs.Prelude.{◌≡◌, ℕ, ◌⊎◌, Bool, true, false, Option, None, Some, Result, Ok, Err, List, [], ◌∷◌}
+use Rattle.bx_dd.specs.declared.stream.counts.Counts.{Counts}
+use Rattle.bx_dd.specs.declared.fault.DdFault.{DdFault}
+use Rattle.bx_image.specs.declared.change.Change.{Change}
+use Rattle.bx_read.specs.declared.fault.ReadFault.{ReadFault}
+use Rattle.bx_journal.specs.declared.session.fault.SessionFault.{SessionFault}
+use Rattle.bx_read.specs.Plain.{plain_answer}
+use Rattle.bx_read.specs.Text.{dump_pieces}
+use Rattle.bx_commands.specs.declared.command.Command.{Command}
+use Rattle.bx_commands.specs.declared.command.Command.TheVariants.{Revert, RevertPlain, Dd, Undo, Redo}
+use Rattle.bx_commands.specs.declared.command.Reply.{Reply}
+use Rattle.bx_commands.specs.declared.command.Reply.TheVariants.{Changed, Copied, Undone, Redone, Refused}
+use Rattle.bx_commands.specs.declared.fault.Fault.TheVariants.{NoMemory, DeviceFailed, Interrupted}
+use Rattle.bx_journal.specs.Images.{Images}
+use Rattle.bx_commands.specs.declared.changes.DdChange.{DdChange}
+use Rattle.bx_commands.specs.Command.{dump_change, plain_change}
+use Rattle.bx_commands.specs.Copy.{Makes}
+use Rattle.bx_commands.specs.Fault.{of_dd, of_read, of_session}
+use Rattle.bx_commands.specs.Standing.{Standing, CallFrom, PerformUp, RedoUp, UndoUp}
+
+-- the reply to a change that was made; dd's tells its counts too
+abbrev pub made_reply : Option Counts → ℕ → Reply
+made_reply None n = Changed n
+made_reply (Some counts) n = Copied n counts
+
+-- the reply that tells what the session answered; `made` tells what was done
+abbrev pub answered : (ℕ → Reply) → Result ℕ SessionFault → Reply
+answered made (Ok n) = made n
+answered made (Err e) = Refused (of_session e)
+
+-- a call of the session, and the reply to it
+abbrev pub CallStep : (ℕ → Reply) → (Images → Result ℕ SessionFault → Standing → Type 0) → Standing → Reply → Standing → Type 0
+CallStep made Call before reply after = (r : Result ℕ SessionFault) × (reply ≡ answered made r) × CallFrom Call before r after
+
+-- a change, and the reply to it
+abbrev pub ChangeStep : {A : Type 0} → Standing → Change A → Option Counts → Reply → Standing → Type 0
+ChangeStep before c counts reply after = CallStep (made_reply counts) (PerformUp c) before reply after
+
+-- A text that asks for a change, by what it reads as: a fault comes first
+abbrev pub ReadStep : {A B : Type 0} → Standing → (B → Change A) → Result B ReadFault → Reply → Standing → Type 0
+ReadStep before change (Ok read) reply after = ChangeStep before (change read) None reply after
+ReadStep before change (Err e) reply after = (reply ≡ Refused (of_read e)) × (after ≡ before)
+
+-- dd, by what its operands make of its input: a fault comes first
+abbrev pub DdStep : {A : Type 0} → Standing → Result (DdChange A) DdFault → Reply → Standing → Type 0
+DdStep before (Ok made) reply after = ChangeStep before made.change (Some made.counts) reply after
+DdStep before (Err e) reply after = (reply ≡ Refused (of_dd e)) × (after ≡ before)
+
+-- A text that asks for a change. Want of memory may take the place of reading it.
+abbrev pub TextStep : {A B : Type 0} → Standing → (B → Change A) → Result B ReadFault → Reply → Standing → Type 0
+TextStep before change read reply after = ((reply ≡ Refused NoMemory) × (after ≡ before)) ⊎ ReadStep before change read reply after
+
+-- One command, where `remaining` is what a reader gives. Want of memory may take the place of reading its text.
+abbrev pub CommandStep : {R A : Type 0} → (R → Option (List ℕ)) → Standing → Command R A → Reply → Standing → Type 0
+CommandStep {A = A} remaining before (Revert text offset) reply after = TextStep before (dump_change {A = A} offset) (dump_pieces text) reply after
+CommandStep {A = A} remaining before (RevertPlain text at) reply after = TextStep before (plain_change {A = A} at) (plain_answer text) reply after
+CommandStep {A = A} remaining before (Dd operands input) reply after =
+    (left : Option (List ℕ)) × ((r : Result (DdChange A) DdFault) × (Makes operands (remaining input) left r × DdStep before r reply after))
+CommandStep remaining before (Undo k) reply after = CallStep Undone (UndoUp k) before reply after
+CommandStep remaining before (Redo j) reply after = CallStep Redone (RedoUp j) before reply after
+
+-- a chain of states: one step for each command and its reply, in order
+abbrev pub Chain : {S C : Type 0} → (S → C → Reply → S → Type 0) → S → List C → List Reply → S → Type 0
+Chain Step old [] [] new = new ≡ old
+Chain {S = S} Step old (c ∷ list) (p ∷ replies) new = (now : S) × Step old c p now × Chain Step now list replies new
+Chain Step old list replies new = ⊥
+
+-- A list of commands: one reply each, in order; it goes on after a refusal
+abbrev pub CommandRun : {R A : Type 0} → (R → Option (List ℕ)) → Standing → List (Command R A) → List Reply → Standing → Type 0
+CommandRun remaining before list replies after = Chain (CommandStep remaining) before list replies after
+
+-- whether a device's failure refused the command
+abbrev pub is_failure : Reply → Bool
+is_failure (Refused DeviceFailed) = true
+is_failure (Refused Interrupted) = true
+is_failure p = false
+
+-- no device's failure refused the command
+abbrev pub Unfailed : Reply → Type 0
+Unfailed p = is_failure p ≡ false
+
+-- The same where no device fails: from images to images
+abbrev pub StackStep : {R A : Type 0} → (R → Option (List ℕ)) → Images → Command R A → Reply → Images → Type 0
+StackStep remaining before c reply after = CommandStep remaining (Standing.Up before) c reply (Standing.Up after) × Unfailed reply
+
+-- a list of commands from images to images: one reply each, in order; it goes on after a refusal
+abbrev pub StackRun : {R A : Type 0} → (R → Option (List ℕ)) → Images → List (Command R A) → List Reply → Images → Type 0
+StackRun remaining before list replies after = Chain (StackStep remaining) before list replies after

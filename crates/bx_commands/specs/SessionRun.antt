@@ -1,0 +1,34 @@
+-- What a list of commands makes of a session, one reply at a time.
+use Rattle.std.specs.Prelude.{◌≡◌, ℕ, Option, Result, List, [], ◌∷◌}
+use Rattle.bx_dd.specs.declared.fault.DdFault.{DdFault}
+use Rattle.bx_journal.specs.SessionView.{SessionView}
+use Rattle.bx_commands.specs.declared.changes.DdChange.{DdChange}
+use Rattle.bx_commands.specs.declared.command.Command.{Command}
+use Rattle.bx_commands.specs.declared.command.Command.TheVariants.{Dd, Revert, RevertPlain}
+use Rattle.bx_commands.specs.declared.command.Reply.{Reply}
+use Rattle.bx_commands.specs.Copy.{Makes}
+use Rattle.bx_commands.specs.Obeys.{Obeys}
+use Rattle.bx_commands.specs.Run.{CommandStep, DdStep}
+
+-- a command without the text that it reads, which is dropped before its change is made; of others all
+abbrev pub without_text : {R A : Type 0} → Command R A → Command R A
+without_text (Revert text offset) = Revert [] offset
+without_text (RevertPlain text at) = RevertPlain [] at
+without_text c = c
+
+-- One command on a session, and what is then left of the command: of dd the input that its operands left, of one that
+-- reads a text all but that text, of another all. Session and reply are as the command's step says.
+abbrev pub SessionStep : {D T R A : Type 0} → (D → Type 0) → (T → Type 0) → (D → List ℕ) → (T → List ℕ) → (D → ℕ) → (T → ℕ) → (R → Option (List ℕ))
+    → SessionView D T → Command R A → Command R A → Reply → SessionView D T → Type 0
+SessionStep {A = A} device_honest text_honest image text device_failures text_failures remaining old (Dd operands input) (Dd words left) reply new =
+    (words ≡ operands) × ((r : Result (DdChange A) DdFault) × Makes operands (remaining input) (remaining left) r
+    × Obeys device_honest text_honest image text device_failures text_failures old new reply (λ before. DdStep before r))
+SessionStep device_honest text_honest image text device_failures text_failures remaining old c left reply new =
+    (left ≡ without_text c) × Obeys device_honest text_honest image text device_failures text_failures old new reply (λ before. CommandStep remaining before c)
+
+-- A list of commands on a session, and what is then left of them: a chain of sessions, with one step for each reply, in
+-- order; it goes on after a refusal
+abbrev pub SessionRun : {S C : Type 0} → (S → C → C → Reply → S → Type 0) → S → List C → List C → List Reply → S → Type 0
+SessionRun Step old [] [] [] new = new ≡ old
+SessionRun {S = S} Step old (c ∷ list) (d ∷ left) (p ∷ replies) new = (now : S) × Step old c d p now × SessionRun Step now list left replies new
+SessionRun Step old list left replies new = ⊥

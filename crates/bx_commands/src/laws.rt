@@ -1,0 +1,30 @@
+//! Laws of commands, over their definitions alone.
+ghost use Rattle.bx_commands.specs.Laws.{RedoGivesBack, RunsJoin, StackRunsJoin, UndoGivesBack, UnfailedRuns};
+
+use std::alloc::Allocator;
+use std::io::Read;
+
+/// Undo is exact: behind k changes that were made, one after the other, an undo of k that is made leads back to the stack
+/// of whole images before them, so to the same image, its bytes and its length.
+pub fn undo_gives_back<R: Read, A: Allocator>()
+    ensures { UndoGivesBack R A R.remaining }
+{}
+
+/// Redo is exact: an undo of k and a redo of k behind it that are both made lead back to the same images, those that stand
+/// and those that were undone before, so to the same image, its bytes and its length.
+pub fn redo_gives_back<R: Read, A: Allocator>()
+    ensures { RedoGivesBack R A R.remaining }
+{}
+
+/// The runs of two lists, one from where the other ends, are a run of both: so it does not matter whether the session
+/// is closed and opened again between them. This holds of runs in which no device fails, from images to images, and of
+/// those in which devices fail.
+pub fn runs_join<R: Read, A: Allocator>()
+    ensures stacks { StackRunsJoin R A R.remaining }
+    ensures standings { RunsJoin R A R.remaining }
+{}
+
+/// A run in which no device fails goes from whole images to whole images.
+pub fn unfailed_runs<R: Read, A: Allocator>()
+    ensures { UnfailedRuns R A R.remaining }
+{}

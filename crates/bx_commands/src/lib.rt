@@ -1,0 +1,14 @@
+//! Commands and their runs on a session, and the faults of all crates; an inner part of `bx_cli`, which exports all of it.
+#![tactic(auto)]
+
+mod changes;
+mod command;
+mod fault;
+pub mod laws;
+mod listing;
+mod run;
+
+pub use command::{Command, Reply};
+pub use fault::Fault;
+pub use listing::log_text;
+pub use run::run_all;

@@ -1,0 +1,258 @@
+//! Lists of commands, run in order on a session.
+ghost use Rattle.std.specs.Prelude.{◌≡◌, ◌↔◌, ◌⊎◌, ◌+◌, ◌^◌, ◌≤◌, ◌<◌, List, ℕ, [], length, None, Some, IfOk, OnErr, All, count_by};
+ghost use Rattle.bx_journal.specs.Images.{Images};
+ghost use Rattle.bx_journal.specs.Session.{HasUndone, IsReady, IsRedoSame, IsSame, IsUnfailed};
+ghost use Rattle.bx_commands.specs.Obeys.{Obeys};
+ghost use Rattle.bx_commands.specs.Standing.{CountsBy, CountsOn, HoldsAt, Shows, Standing};
+ghost use Rattle.bx_commands.specs.Command.{IsNear};
+ghost use Rattle.bx_commands.specs.Refusal.{IsOwnRefusal, IsWholeRefusal};
+ghost use Rattle.bx_commands.specs.Run.{is_failure, made_reply, ChangeStep, ReadStep, DdStep, CommandRun, StackRun, Unfailed};
+ghost use Rattle.bx_commands.specs.inner.Run.{UndoesStep, RedoesStep, DumpStep, PlainStep};
+ghost use Rattle.bx_commands.specs.SessionRun.{SessionRun, SessionStep};
+
+use crate::changes::{DdChange, change_of_dd, change_of_dump, change_of_plain};
+use crate::{Command, Fault, Reply};
+use bx_dd::{Counts, DdFault};
+use bx_image::{Change, Device, NoMemory};
+use bx_journal::Session;
+use bx_read::ReadFault;
+use bx_store::TextStore;
+use bx_text::Bytes;
+use core::mem::replace_with;
+use std::alloc::Allocator;
+use std::io::Read;
+
+/// Makes the change; the counts are told beside its number.
+fn run_change<D: Device, T: TextStore, A: Allocator + Clone>(
+    session: &mut Session<D, T, A>,
+    change: &Change<A>,
+    counts: Option<Counts>,
+) -> Reply
+    requires device_countable { D.failures session.old.device < u64.MAX }
+    requires store_countable { T.failures session.old.store < u64.MAX }
+    requires redo_countable { T.failures session.old.redo_text < u64.MAX }
+    ensures obeys { Obeys D.honest T.honest D.image T.text D.failures T.failures session.old session.new result (λ s. ChangeStep s change.now counts) }
+{
+    match session.perform(change) {
+        Ok(number) => made_reply(counts, number),
+        Err(fault) => Reply::Refused(Fault::from(fault)),
+    }
+}
+
+/// The reply to a change that was made.
+fn made_reply(counts: Option<Counts>, number: u32) -> Reply
+    ensures { result ≡ made_reply counts number }
+{
+    match counts {
+        None => Reply::Changed { number },
+        Some(counts) => Reply::Copied { number, counts },
+    }
+}
+
+/// Takes changes back.
+fn run_undo<D: Device, T: TextStore, A: Allocator + Clone>(
+    session: &mut Session<D, T, A>,
+    k: u32,
+) -> Reply
+    requires device_countable { D.failures session.old.device < u64.MAX }
+    requires store_countable { T.failures session.old.store < u64.MAX }
+    requires redo_countable { T.failures session.old.redo_text < u64.MAX }
+    ensures obeys { Obeys D.honest T.honest D.image T.text D.failures T.failures session.old session.new result (λ s. UndoesStep s k) }
+{
+    match session.undo(k) {
+        Ok(left) => Reply::Undone { left },
+        Err(fault) => Reply::Refused(Fault::from(fault)),
+    }
+}
+
+/// Makes undone changes again.
+fn run_redo<D: Device, T: TextStore, A: Allocator + Clone>(
+    session: &mut Session<D, T, A>,
+    j: u32,
+) -> Reply
+    requires device_countable { D.failures session.old.device < u64.MAX }
+    requires store_countable { T.failures session.old.store < u64.MAX }
+    requires redo_countable { T.failures session.old.redo_text < u64.MAX }
+    ensures obeys { Obeys D.honest T.honest D.image T.text D.failures T.failures session.old session.new result (λ s. RedoesStep s j) }
+{
+    match session.redo(j) {
+        Ok(changes) => Reply::Redone { changes },
+        Err(fault) => Reply::Refused(Fault::from(fault)),
+    }
+}
+
+/// Reads the text that asks for a change, and makes the change.
+fn run_read<D: Device, T: TextStore, A: Allocator + Clone>(
+    session: &mut Session<D, T, A>,
+    read: Result<Change<A>, ReadFault>,
+) -> Reply
+    requires device_countable { D.failures session.old.device < u64.MAX }
+    requires store_countable { T.failures session.old.store < u64.MAX }
+    requires redo_countable { T.failures session.old.redo_text < u64.MAX }
+    ensures obeys { Obeys D.honest T.honest D.image T.text D.failures T.failures session.old session.new result (λ s. ReadStep s (λ c. c) read) }
+{
+    match read {
+        Ok(change) => run_change(session, &change, None),
+        Err(read_fault) => Reply::Refused(Fault::from(read_fault)),
+    }
+}
+
+/// Makes the change that dd asks for.
+fn run_dd<D: Device, T: TextStore, A: Allocator + Clone>(
+    session: &mut Session<D, T, A>,
+    made: Result<DdChange<A>, DdFault>,
+) -> Reply
+    requires device_countable { D.failures session.old.device < u64.MAX }
+    requires store_countable { T.failures session.old.store < u64.MAX }
+    requires redo_countable { T.failures session.old.redo_text < u64.MAX }
+    ensures obeys { Obeys D.honest T.honest D.image T.text D.failures T.failures session.old session.new result (λ s. DdStep s made) }
+{
+    match made {
+        Ok(made) => run_change(session, &made.change, Some(made.counts)),
+        Err(dd_fault) => Reply::Refused(Fault::from(dd_fault)),
+    }
+}
+
+/// Puts a dump onto the image. The whole text is read first, and dropped before the change is made.
+fn run_dump<D: Device, T: TextStore, A: Allocator + Clone>(
+    alloc: &A,
+    session: &mut Session<D, T, A>,
+    text: &mut Bytes<A>,
+    offset: u64,
+) -> Reply
+    requires device_countable { D.failures session.old.device < u64.MAX }
+    requires store_countable { T.failures session.old.store < u64.MAX }
+    requires redo_countable { T.failures session.old.redo_text < u64.MAX }
+    requires near { offset ≤ 2 ^ 62 }
+    ensures obeys { Obeys D.honest T.honest D.image T.text D.failures T.failures session.old session.new result (λ s. DumpStep A s text.old offset) }
+    ensures left { text.new ≡ [] }
+{
+    let change = change_of_dump(alloc, text.as_slice(), offset);
+    drop_text(text);
+    run_read(session, change)
+}
+
+/// Puts plain hexadecimal onto the image. The whole text is read first, and dropped before the change is made.
+fn run_plain<D: Device, T: TextStore, A: Allocator + Clone>(
+    alloc: &A,
+    session: &mut Session<D, T, A>,
+    text: &mut Bytes<A>,
+    at: u64,
+) -> Reply
+    requires device_countable { D.failures session.old.device < u64.MAX }
+    requires store_countable { T.failures session.old.store < u64.MAX }
+    requires redo_countable { T.failures session.old.redo_text < u64.MAX }
+    ensures obeys { Obeys D.honest T.honest D.image T.text D.failures T.failures session.old session.new result (λ s. PlainStep A s text.old at) }
+    ensures left { text.new ≡ [] }
+{
+    let change = change_of_plain(alloc, text.as_slice(), at);
+    drop_text(text);
+    run_read(session, change)
+}
+
+/// Gives the memory of a text back that was read, which leaves an empty one.
+fn drop_text<A: Allocator>(text: &mut Bytes<A>)
+    ensures { text.new ≡ [] }
+{
+    replace_with(text, (), emptied);
+}
+
+/// The bytes without any, and without their memory.
+fn emptied<A: Allocator>(bytes: Bytes<A>, _: ()) -> (Bytes<A>, ())
+    ensures { result.0 ≡ [] }
+{
+    let mut items = bytes.into_vec();
+    items.clear();
+    items.shrink_to_fit();
+    (Bytes::from_vec(items), ())
+}
+
+/// Runs one command: a fault of its own comes before the session's.
+fn run_one<D: Device, T: TextStore, R: Read, A: Allocator + Clone>(
+    alloc: &A,
+    session: &mut Session<D, T, A>,
+    command: &mut Command<R, A>,
+) -> Reply
+    requires device_countable { D.failures session.old.device < u64.MAX }
+    requires store_countable { T.failures session.old.store < u64.MAX }
+    requires redo_countable { T.failures session.old.redo_text < u64.MAX }
+    requires near { IsNear command.old }
+    ensures runs { SessionStep D.honest T.honest D.image T.text D.failures T.failures R.remaining session.old command.old command.new result session.new }
+{
+    match command {
+        Command::Revert { text, offset } => run_dump(alloc, session, text, *offset),
+        Command::RevertPlain { text, at } => run_plain(alloc, session, text, *at),
+        Command::Dd { operands, input } => {
+            let made = change_of_dd(alloc, operands, input);
+            run_dd(session, made)
+        }
+        Command::Undo { k } => run_undo(session, *k),
+        Command::Redo { j } => run_redo(session, *j),
+    }
+}
+
+/// Runs the commands in order, and goes on after a refusal. Room for all replies is made first: where it is refused, no
+/// command ran. The text of a revert is dropped once it is read, so its memory is free before the change is made.
+pub fn run_all<D: Device, T: TextStore, R: Read, A: Allocator + Clone>(
+    alloc: A,
+    session: &mut Session<D, T, A>,
+    list: &mut [Command<R, A>],
+) -> Result<Vec<Reply, A>, NoMemory>
+    requires device_countable { D.failures session.old.device + length list.old ≤ u64.MAX }
+    requires store_countable { T.failures session.old.store + length list.old ≤ u64.MAX }
+    requires redo_countable { T.failures session.old.redo_text + length list.old ≤ u64.MAX }
+    requires near { All IsNear list.old }
+
+    // Where no device fails, the replies and the final devices are a run of the machine, from the whole images that the
+    // first devices stand for to those that the final ones stand for.
+    ensures headline { D.honest session.old.device → T.honest session.old.store → T.honest session.old.redo_text → (start : Images)
+        → Shows D.image T.text session.old start → IsUnfailed D.failures T.failures session.old session.new
+        → IfOk result (λ replies. (top : Images) × Shows D.image T.text session.new top × StackRun R.remaining start list.old replies.items top) }
+
+    // From a sound journal it leaves a sound one.
+    ensures sound { D.honest session.old.device → T.honest session.old.store → T.honest session.old.redo_text → (start : Images)
+        → IsReady D.image T.text session.old start.stack → HasUndone D.image T.text session.old start.undone
+        → IsUnfailed D.failures T.failures session.old session.new → IfOk result (λ replies. (top : Images)
+        × IsReady D.image T.text session.new top.stack × HasUndone D.image T.text session.new top.undone
+        × StackRun R.remaining start list.old replies.items top) }
+
+    // Whatever devices fail: up to the first failure after a write it is a run in which a device may refuse a command, and
+    // then each reply is the command's own fault or says that the session is broken.
+    ensures run { (before : Standing) → HoldsAt D.honest T.honest D.image T.text session.old before → IfOk result (λ replies.
+        (after : Standing) × HoldsAt D.honest T.honest D.image T.text session.new after × CommandRun R.remaining before list.old replies.items after) }
+
+    // Each reply, in any list: a command that is refused for a fault of its own leaves the session as it was, and one that
+    // is refused, but by no interruption, leaves image, journal and redo text, byte for byte. What another makes of the
+    // session is its step. Of dd's input as much is read as its operands read, and nothing where they have a fault. The text of
+    // a revert is left empty, whatever became of it.
+    ensures each { IfOk result (λ replies. SessionRun (SessionStep D.honest T.honest D.image T.text D.failures T.failures R.remaining)
+        session.old list.old list.new replies.items session.new) }
+
+    // A device's failure raises its count, and as many replies tell of one as the three counts rose by.
+    ensures told { IfOk result (λ replies. CountsBy D.failures T.failures session.old session.new (count_by is_failure replies.items)) }
+    ensures unfailed { IsUnfailed D.failures T.failures session.old session.new → IfOk result (λ replies. All Unfailed replies.items) }
+
+    // No count of failures falls, and the three together rise by no more than one for each command.
+    ensures counts { CountsOn D.failures T.failures session.old session.new (length list.old) }
+
+    // So a list whose commands are all refused for faults of their own leaves the session. One whose commands are all
+    // refused, but by no interruption, leaves image and text, byte for byte, and the redo text with the count of what is undone.
+    ensures own { IfOk result (λ replies. All IsOwnRefusal replies.items → session.new ≡ session.old) }
+    ensures same { D.honest session.old.device → T.honest session.old.store
+        → IfOk result (λ replies. All IsWholeRefusal replies.items → IsSame D.image T.text session.old session.new) }
+    ensures redo_same { T.honest session.old.redo_text
+        → IfOk result (λ replies. All IsWholeRefusal replies.items → IsRedoSame T.text session.old session.new) }
+
+    // Where memory for the replies is refused, no command ran.
+    ensures refused { OnErr result (session.new ≡ session.old) }
+    ensures unread { OnErr result (list.new ≡ list.old) }
+{
+    let mut replies = Vec::with_capacity(alloc.clone().map_err(|_| NoMemory)?, list.len()).map_err(
+        |_| NoMemory,
+    )?;
+    for command in list.iter_mut() {
+        let reply = run_one(&alloc, session, command);
+        replies.push(reply).unwrap();
+    }
+    Ok(replies)
+}

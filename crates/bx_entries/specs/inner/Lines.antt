@@ -1,0 +1,30 @@
+-- A text that is read a window at a time: what is read of it so far.
+use Rattle.std.specs.Prelude.{◌≡◌, ◌≤◌, ℕ, List, length}
+use Rattle.bx_entries.specs.declared.read.lines.LinesRead.{LinesRead}
+use Rattle.bx_entries.specs.declared.read.types.EntryRead.{EntryRead}
+use Rattle.bx_entries.specs.declared.read.types.Front.{Front}
+use Rattle.bx_entries.specs.declared.read.types.StageRead.{StageRead}
+use Rattle.bx_entries.specs.Parsed.{told_by}
+use Rattle.bx_entries.specs.Text.{Between, Entry}
+use Rattle.bx_entries.specs.inner.Mark.{IsMark}
+use Rattle.bx_entries.specs.inner.Parsed.{IsMarked, reading_onto}
+
+-- the text is these older entries alone, the newest first, as a front tells
+pub record IsFront (text : List ℕ) (older : List Entry) (front : Front) : Type 0 where
+  pub mark : IsMark text front.at (record { entries = older; stage = Between })
+  pub long : length text ≡ front.at
+  pub count : front.count ≡ length older
+  pub told : front.told ≡ told_by older
+  pub few : front.count ≤ 65535
+
+-- the text is read up to a place behind a whole line, and of the entries those behind `older`
+pub record IsReadAt {A : Type 0} (text : List ℕ) (older : List Entry) (es : List (EntryRead A)) (stage : StageRead A) (at : ℕ) : Type 0 where
+  pub mark : IsMark text at (reading_onto older es stage)
+  pub marked : IsMarked text older es stage at
+
+-- all of a text of whole lines was read, behind a front of it that is these older entries
+pub record IsReadUpTo {A : Type 0} (text : List ℕ) (older : List Entry) (front : Front) (r : LinesRead A) : Type 0 where
+  pub count : front.count ≡ length older
+  pub told : front.told ≡ told_by older
+  pub long : length text ≡ r.at
+  pub read : IsReadAt text older r.entries.items r.stage r.at

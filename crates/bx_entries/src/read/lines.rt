@@ -1,0 +1,202 @@
+//! The whole lines of a window, read into entries: of a text that is read in windows no more than one is in memory.
+ghost use Rattle.std.specs.Prelude.{◌≡◌, ◌+◌, ◌-◌, ◌*◌, ◌^◌, ◌<◌, ◌≤◌, ◌++◌, List, ℕ, length, take, drop, IfOk, IfSome};
+ghost use Rattle.bx_entries.specs.declared.read.types.EntryRead.{EntryRead as Finished};
+ghost use Rattle.bx_entries.specs.inner.Lines.{IsFront, IsReadAt, IsReadUpTo};
+ghost use Rattle.bx_entries.specs.Text.{Entry};
+
+use crate::format::newline::line_end;
+use crate::read::full_lines::ENDED;
+use crate::read::gather::{Gathered, gather_last, trim_last};
+use crate::read::take_line::{MOST_CHANGES, take_line};
+use crate::{EntryRead, Front, StageRead};
+use bx_text::NoMemory;
+use std::alloc::{Allocator, Global};
+
+/// What was read behind a front up to the place `at`, and whether its last run has room for lines that come later.
+#[derive(Drop)]
+pub struct LinesRead<A: Allocator = Global> {
+    pub entries: Vec<EntryRead<A>, A>,
+    pub stage: StageRead<A>,
+    pub at: u64,
+    pub has_room: bool,
+}
+
+/// A stage, how many full lines led to it, and whether its last run has room for lines of the windows to come.
+#[derive(Drop)]
+struct GoneOn<A: Allocator = Global> {
+    stage: StageRead<A>,
+    gathered: Gathered,
+}
+
+/// Nothing is read yet behind a front.
+pub fn nothing_read<A: Allocator + Clone>(alloc: &A, front: Front) -> Result<LinesRead<A>, NoMemory>
+    ensures read { (text : List ℕ) (older : List Entry) → IsFront text older front → IfOk result (IsReadUpTo text older front) }
+    ensures at { IfOk result (λ r. r.at ≡ front.at) }
+{
+    let alloc = alloc.clone().map_err(|_| NoMemory)?;
+    Ok(LinesRead {
+        entries: Vec::new(alloc),
+        stage: StageRead::Between,
+        at: front.at,
+        has_room: false,
+    })
+}
+
+/// What isn't read yet of a window.
+#[inline(always)]
+fn rest_at(window: &[u8], from: usize) -> &[u8]
+    requires { from ≤ length window.now }
+    ensures { result.now ≡ drop from window.now }
+{
+    let (_, rest) = window.split_at(from);
+    rest
+}
+
+/// Goes on from a stage with the full lines at a place of a window, where they go on with its last run.
+fn go_on_in<A: Allocator>(
+    stage: StageRead<A>,
+    left: u64,
+    from: usize,
+    window: &mut [u8],
+) -> Result<GoneOn<A>, NoMemory>
+    requires within { from ≤ length window.old }
+    ensures within { IfOk result (λ g. from + 68 * g.gathered.count ≤ length window.old) }
+    ensures left { IfOk result (λ g. drop (from + 68 * g.gathered.count) window.new ≡ drop (from + 68 * g.gathered.count) window.old) }
+    ensures same_length { length window.new ≡ length window.old }
+    ensures read { (whole : List ℕ) (older : List Entry) (es : List (Finished A)) (at : ℕ) → IsReadAt whole older es stage at
+        → drop from window.old ≡ drop at whole → IfOk result (λ g. IsReadAt whole older es g.stage (at + 68 * g.gathered.count)) }
+{
+    match stage {
+        StageRead::Saving {
+            version,
+            len,
+            mut runs,
+            begins,
+        } => {
+            let gathered = gather_last(len, &mut runs, left, from, window)?;
+            let stage = StageRead::Saving {
+                version,
+                len,
+                runs,
+                begins,
+            };
+            Ok(GoneOn { stage, gathered })
+        }
+        StageRead::Between => {
+            let gathered = Gathered {
+                count: 0,
+                has_room: false,
+            };
+            Ok(GoneOn {
+                stage: StageRead::Between,
+                gathered,
+            })
+        }
+        StageRead::Ending {
+            version,
+            kept,
+            begins,
+            saved,
+        } => {
+            let stage = StageRead::Ending {
+                version,
+                kept,
+                begins,
+                saved,
+            };
+            let gathered = Gathered {
+                count: 0,
+                has_room: false,
+            };
+            Ok(GoneOn { stage, gathered })
+        }
+    }
+}
+
+/// The stage without the room that its last run has for lines that come later, where it has some.
+fn without_room<A: Allocator>(stage: StageRead<A>, has_room: bool) -> Result<StageRead<A>, NoMemory>
+    ensures { (text : List ℕ) (older : List Entry) (es : List (Finished A)) (at : ℕ) → IsReadAt text older es stage at
+        → IfOk result (λ s. IsReadAt text older es s at) }
+{
+    if !has_room {
+        return Ok(stage);
+    }
+    match stage {
+        StageRead::Saving {
+            version,
+            len,
+            mut runs,
+            begins,
+        } => {
+            trim_last(&mut runs)?;
+            Ok(StageRead::Saving {
+                version,
+                len,
+                runs,
+                begins,
+            })
+        }
+        StageRead::Between => Ok(StageRead::Between),
+        StageRead::Ending {
+            version,
+            kept,
+            begins,
+            saved,
+        } => Ok(StageRead::Ending {
+            version,
+            kept,
+            begins,
+            saved,
+        }),
+    }
+}
+
+/// Takes the whole lines at the start of a window, with which the text goes on behind what was read; `left` bytes of text
+/// are behind the window. It answers none where a line is out of place. The window's bytes may be other ones afterwards.
+pub fn read_lines<A: Allocator + Clone>(
+    alloc: &A,
+    front: Front,
+    read: LinesRead<A>,
+    left: u64,
+    window: &mut [u8],
+) -> Result<Option<LinesRead<A>>, NoMemory>
+    requires { read.at + length window.old < 2 ^ 64 }
+    ensures read { (text : List ℕ) (older : List Entry) → IsReadUpTo text older front read
+        → IfOk result (λ found. IfSome found (λ r. IsReadUpTo (text ++ take (r.at - read.at) window.old) older front r)) }
+    ensures forth { IfOk result (λ found. IfSome found (λ r. read.at ≤ r.at)) }
+    ensures within { IfOk result (λ found. IfSome found (λ r. r.at ≤ read.at + length window.old)) }
+{
+    let LinesRead {
+        mut entries,
+        stage,
+        at: start,
+        mut has_room,
+    } = read;
+    let first = go_on_in(stage, left, 0, window)?;
+    has_room = has_room || first.gathered.has_room;
+    let mut stage = first.stage;
+    let mut from = ENDED * first.gathered.count;
+    while let Some(i) = line_end(rest_at(window, from)) {
+        if front.count as usize + entries.len() > MOST_CHANGES as usize {
+            return Ok(None);
+        }
+        let old = without_room(stage, has_room)?;
+        let at = start + from as u64;
+        let after = at + i as u64 + 1;
+        let (line, _) = rest_at(window, from).split_at(i);
+        let taken = take_line(alloc, front, &mut entries, old, at, after, line)?;
+        let Some(next) = taken else {
+            return Ok(None);
+        };
+        let gone = go_on_in(next, left, from + i + 1, window)?;
+        from = from + i + 1 + ENDED * gone.gathered.count;
+        has_room = gone.gathered.has_room;
+        stage = gone.stage;
+    }
+    Ok(Some(LinesRead {
+        entries,
+        stage,
+        at: start + from as u64,
+        has_room,
+    }))
+}

@@ -1,0 +1,60 @@
+-- What undoing or redoing some entries leaves: as many as there are records of what is taken.
+use Rattle.std.specs.Prelude.{◌≡◌, ◌≤◌, ℕ, List, length, drop, Result, IfOk, OnOk, OnErr}
+use Rattle.bx_entries.specs.Finished.{IsFinished}
+use Rattle.bx_entries.specs.Text.{Entry}
+use Rattle.bx_journal.specs.Images.{Images, redo_of, undo_of}
+use Rattle.bx_journal.specs.Machine.{changes_of}
+use Rattle.bx_journal.specs.Phase.{IsAtRest}
+use Rattle.bx_journal.specs.Redo.{Finds}
+use Rattle.bx_journal.specs.Stack.{Recovers, StandsFor}
+use Rattle.bx_journal.specs.Undoing.{HasLeft}
+use Rattle.bx_journal.specs.inner.Turns.{AreAtRest, AreStanding}
+
+-- the text from which they were taken is a front, without them
+abbrev pub LeavesFront : {V E : Type 0} → List ℕ → ℕ → List ℕ → Result V E → Type 0
+LeavesFront text k new result = (all : List Entry) → IsFinished text all → OnOk result (HasLeft text new (drop k all))
+
+-- a pair at rest for a stack is so without the newest images
+abbrev pub DropsRest : {D T B V E : Type 0} → (D → List ℕ) → (T → List ℕ) → D → T → D → T → List B → Result V E → Type 0
+DropsRest image text d t d_new t_new takens result =
+    (stack : List (List ℕ)) → IsAtRest (text t) (image d) stack → OnOk result (IsAtRest (text t_new) (image d_new) (drop (length takens) stack))
+
+-- and so is one that stands for a stack
+abbrev pub DropsStand : {D T B V E : Type 0} → (D → List ℕ) → (T → List ℕ) → D → T → D → T → List B → Result V E → Type 0
+DropsStand image text d t d_new t_new takens result =
+    (stack : List (List ℕ)) → StandsFor (text t) (image d) stack → OnOk result (StandsFor (text t_new) (image d_new) (drop (length takens) stack))
+
+-- where it is stopped opening finds the stack without some of them
+abbrev pub DropsSome : {D T B V E : Type 0} → (D → List ℕ) → (T → List ℕ) → D → T → D → T → List B → Result V E → Type 0
+DropsSome image text d t d_new t_new takens result =
+    (stack : List (List ℕ)) → IsAtRest (text t) (image d) stack → OnErr result ((j : ℕ) × (j ≤ length takens) × Recovers (text t_new) (image d_new) (drop j stack))
+
+-- where all three are honest and stand for images, they stand for those behind the undo, and it answers how many are undone
+abbrev pub UndoAll : {D T B E : Type 0} → (D → Type 0) → (D → List ℕ) → (T → Type 0) → (T → List ℕ) → D → T → T → D → T → T → ℕ → List B → Result ℕ E → Type 0
+UndoAll honest image text_honest text d t u d_new t_new u_new undone takens result =
+    honest d → text_honest t → text_honest u → (s : Images) → AreStanding (text t) (image d) (text u) s → undone ≡ length s.undone
+    → IfOk result (λ n. (n ≡ length (undo_of (length takens) s).undone) × AreStanding (text t_new) (image d_new) (text u_new) (undo_of (length takens) s))
+
+-- and where it is stopped opening finds the images behind some of it
+abbrev pub UndoSome : {D T B V E : Type 0} → (D → Type 0) → (D → List ℕ) → (T → Type 0) → (T → List ℕ) → D → T → T → D → T → T → ℕ → List B → Result V E → Type 0
+UndoSome honest image text_honest text d t u d_new t_new u_new undone takens result =
+    honest d → text_honest t → text_honest u → (s : Images) → AreAtRest (text t) (image d) (text u) s → undone ≡ length s.undone
+    → OnErr result ((i : ℕ) × (i ≤ length takens) × Finds (text t_new) (image d_new) (text u_new) (undo_of i s))
+
+-- where all three are honest and at rest, they are so behind the redo
+abbrev pub RedoRests : {D T B V E : Type 0} → (D → Type 0) → (D → List ℕ) → (T → Type 0) → (T → List ℕ) → D → T → T → D → T → T → ℕ → List B → Result V E → Type 0
+RedoRests honest image text_honest text d t u d_new t_new u_new count takens result =
+    honest d → text_honest t → text_honest u → (s : Images) → AreAtRest (text t) (image d) (text u) s → count ≡ changes_of s.stack
+    → OnOk result (AreAtRest (text t_new) (image d_new) (text u_new) (redo_of (length takens) s))
+
+-- where they stand for images, they stand for those behind it
+abbrev pub RedoAll : {D T B V E : Type 0} → (D → Type 0) → (D → List ℕ) → (T → Type 0) → (T → List ℕ) → D → T → T → D → T → T → ℕ → List B → Result V E → Type 0
+RedoAll honest image text_honest text d t u d_new t_new u_new count takens result =
+    honest d → text_honest t → text_honest u → (s : Images) → AreStanding (text t) (image d) (text u) s → count ≡ changes_of s.stack
+    → OnOk result (AreStanding (text t_new) (image d_new) (text u_new) (redo_of (length takens) s))
+
+-- and where it is stopped opening finds the images behind some of it
+abbrev pub RedoSome : {D T B V E : Type 0} → (D → Type 0) → (D → List ℕ) → (T → Type 0) → (T → List ℕ) → D → T → T → D → T → T → ℕ → List B → Result V E → Type 0
+RedoSome honest image text_honest text d t u d_new t_new u_new count takens result =
+    honest d → text_honest t → text_honest u → (s : Images) → AreAtRest (text t) (image d) (text u) s → count ≡ changes_of s.stack
+    → OnErr result ((i : ℕ) × (i ≤ length takens) × Finds (text t_new) (image d_new) (text u_new) (redo_of i s))
