@@ -18,6 +18,10 @@ selected_by plan input = option_map_or (λ n. take (n * plan.ibs) (drop (plan.sk
 abbrev pub output_of : {A : Type 0} → Plan A → List ℕ → List ℕ
 output_of plan input = converted (form_of plan) (selected_by plan input)
 
+-- no more of an input was read than skip and count ask for
+abbrev pub ReadsWithin : {A : Type 0} → Plan A → Option (List ℕ) → Option (List ℕ) → Type 0
+ReadsWithin plan old new = (input : List ℕ) × Consumes old new input × IfSome plan.count (λ n. length input ≤ (plan.skip + n) * plan.ibs)
+
 -- Some input was read, up to its end or that of skip and count, and these bytes and counts are what the plan makes of it.
 pub record Copies {A : Type 0} (plan : Plan A) (old new : Option (List ℕ)) (bytes : List ℕ) (counts : Counts) : Type 0 where
   pub input : List ℕ

@@ -75,7 +75,7 @@ impl<'a> DumpLines<'a> {
         at: u64,
         bytes: &mut Vec<u8, A>,
     ) -> Result<(), ReadFault>
-        ensures run { IfOk result (λ _. runs_with at bytes.old.items (coming self.old) ≡ runs_with at bytes.new.items (coming self.new)) }
+        ensures run { IfOk result (λ _. runs_with (at, bytes.old.items) (coming self.old) ≡ runs_with (at, bytes.new.items) (coming self.new)) }
         ensures err { IfErr result (λ e. e ≡ ReadFault.NoMemory) }
         ensures fewer { IfOk result (λ _. length (coming self.new) ≤ length (coming self.old)) }
     {

@@ -1,9 +1,9 @@
 //! Whole dumps, in which lines that go on with one another are one run.
-ghost use Rattle.std.specs.Prelude.{◌≡◌, ◌⊎◌, ◌+◌, ◌^◌, ◌<◌, ◌≤◌, ◌==◌, ◌++◌, ℕ, List, length, Ok, Err, MatchResult, IfOk, All};
-ghost use Rattle.bx_read.specs.Text.{dump_pieces, contents, gathered, piece_then};
+ghost use Rattle.std.specs.Prelude.{◌≡◌, ◌⊎◌, ◌+◌, ◌^◌, ◌<◌, ◌≤◌, ◌==◌, ◌++◌, ℕ, List, length, Ok, Err, MatchResult, IfOk, IfErr, All};
+ghost use Rattle.bx_read.specs.Text.{dump_pieces, contents, gathered};
 ghost use Rattle.bx_read.specs.Runs.{joined};
 ghost use Rattle.bx_read.specs.Lines.{coming};
-ghost use Rattle.bx_read.specs.inner.NextLine.{piece_of, IsNextLine, taken_then, lines_left, joined_of};
+ghost use Rattle.bx_read.specs.inner.NextLine.{piece_of, IsNextLine, lines_left, joined_of, runs_with, runs_then};
 
 use crate::fault::ReadFault;
 use crate::full::{ENDED, FullLine};
@@ -16,9 +16,8 @@ use std::alloc::{Allocator, Global};
 /// piece. A line out of order, one that overlaps the line before it and one behind a gap each begin a piece of their own.
 pub fn read_runs<A: Allocator + Clone>(alloc: A, text: &[u8]) -> Result<Vec<Piece<A>, A>, ReadFault>
     // The runs of the pieces, or the fault that reading them gives.
-    ensures exact { MatchResult result
-        (λ v. (pieces : List (ℕ × List ℕ)) × (dump_pieces text.now ≡ Ok pieces) × (contents v.items ≡ joined pieces))
-        (λ e. (e ≡ ReadFault.NoMemory) ⊎ (dump_pieces text.now ≡ Err e)) }
+    ensures exact { IfOk result (λ v. (pieces : List (ℕ × List ℕ)) × (dump_pieces text.now ≡ Ok pieces) × (contents v.items ≡ joined pieces)) }
+    ensures fault { IfErr result (λ e. (e ≡ ReadFault.NoMemory) ⊎ (dump_pieces text.now ≡ Err e)) }
     // Each run begins below 2^62.
     ensures near { IfOk result (λ v. All (λ run. run.at < 2 ^ 62) v.items) }
 {
@@ -112,10 +111,8 @@ fn take_run<'a, A: Allocator>(
     first: DumpLine<'a>,
     room: usize,
 ) -> Result<TakenRun<'a, A>, ReadFault>
-    ensures run { MatchResult result
-        (λ t. joined_of (piece_then (piece_of first.entry) (gathered (coming lines.old)))
-        ≡ piece_then (t.run.at, t.run.bytes) (joined_of (taken_then t.next (coming lines.new))))
-        (λ e. (e ≡ ReadFault.NoMemory) ⊎ (gathered (coming lines.old) ≡ Err e)) }
+    ensures run { IfOk result (λ t. runs_with (piece_of first.entry) (coming lines.old) ≡ runs_then (t.run.at, t.run.bytes) t.next (coming lines.new)) }
+    ensures fault { IfErr result (λ e. (e ≡ ReadFault.NoMemory) ⊎ (gathered (coming lines.old) ≡ Err e)) }
     ensures fewer { IfOk result (λ t. lines_left t.next (coming lines.new) ≤ length (coming lines.old)) }
 {
     let at = first.at();
@@ -135,10 +132,8 @@ fn grow<'a, A: Allocator>(
     at: u64,
     bytes: &mut Vec<u8, A>,
 ) -> Result<Option<DumpLine<'a>>, ReadFault>
-    ensures run { MatchResult result
-        (λ next. joined_of (piece_then (at, bytes.old.items) (gathered (coming lines.old)))
-        ≡ piece_then (at, bytes.new.items) (joined_of (taken_then next (coming lines.new))))
-        (λ e. (e ≡ ReadFault.NoMemory) ⊎ (gathered (coming lines.old) ≡ Err e)) }
+    ensures run { IfOk result (λ next. runs_with (at, bytes.old.items) (coming lines.old) ≡ runs_then (at, bytes.new.items) next (coming lines.new)) }
+    ensures fault { IfErr result (λ e. (e ≡ ReadFault.NoMemory) ⊎ (gathered (coming lines.old) ≡ Err e)) }
     ensures fewer { IfOk result (λ next. lines_left next (coming lines.new) ≤ length (coming lines.old)) }
 {
     lines.take_row(at, bytes)?;

@@ -1,9 +1,9 @@
 //! Whole inputs, converted.
-ghost use Rattle.std.specs.Prelude.{◌≡◌, ℕ, ◌+◌, ◌-◌, ◌*◌, ◌^◌, ◌<◌, ◌≤◌, List, [], length, take, IfOk, IfErr, OnOk, OnErr, IfSome, ◌⊎◌};
+ghost use Rattle.std.specs.Prelude.{◌≡◌, ℕ, ◌+◌, ◌-◌, ◌*◌, ◌^◌, ◌<◌, ◌≤◌, [], length, take, IfOk, IfErr, OnOk, OnErr, ◌⊎◌};
 ghost use Rattle.std.specs.Io.KnownBytes.{Consumes, IsAtEnd};
 ghost use Rattle.bx_text.specs.Stream.{IsReadCause};
 ghost use Rattle.bx_dd.specs.Standing.{IsAfter};
-ghost use Rattle.bx_dd.specs.Transfer.{Copies, HasStopped, IsStopCause};
+ghost use Rattle.bx_dd.specs.Transfer.{Copies, HasStopped, IsStopCause, ReadsWithin};
 ghost use Rattle.bx_dd.specs.inner.Transfer.{ReadsBlocks, StopsWithin, TakesBlocks};
 
 use crate::convert::Convert;
@@ -28,8 +28,7 @@ pub fn transfer<R: Read, A: Allocator + Clone, P: Allocator>(
 ) -> Result<Transfer<A>, DdFault>
     ensures ok { IfOk result (λ t. Copies plan.now (R.remaining r.old) (R.remaining r.new) t.bytes t.counts) }
     ensures err { IfErr result (λ e. HasStopped (R.remaining r.old) (R.remaining r.new) (2 ^ 40) e) }
-    ensures within { OnErr result ((x : List ℕ) × Consumes (R.remaining r.old) (R.remaining r.new) x
-        × IfSome plan.now.count (λ n. length x ≤ (plan.now.skip + n) * plan.now.ibs)) }
+    ensures within { OnErr result (ReadsWithin plan.now (R.remaining r.old) (R.remaining r.new)) }
 {
     let mut block = vec![in alloc.clone()?; 0u8; plan.ibs as usize]?;
     let mut meter = Meter::new(LIMIT);

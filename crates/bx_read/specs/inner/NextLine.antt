@@ -35,5 +35,9 @@ joined_of (Ok pieces) = Ok (joined pieces)
 joined_of (Err fault) = Err fault
 
 -- the runs of a run so far and of the lines that come
-abbrev pub runs_with : ℕ → List ℕ → List (Result ReadLine ReadFault) → Result (List (ℕ × List ℕ)) ReadFault
-runs_with at bytes later = joined_of (piece_then (at, bytes) (gathered later))
+abbrev pub runs_with : ℕ × List ℕ → List (Result ReadLine ReadFault) → Result (List (ℕ × List ℕ)) ReadFault
+runs_with run later = joined_of (piece_then run (gathered later))
+
+-- a whole run, in front of the runs of a line that was taken and of those behind it
+abbrev pub runs_then : ℕ × List ℕ → Option DumpLine → List (Result ReadLine ReadFault) → Result (List (ℕ × List ℕ)) ReadFault
+runs_then run next later = piece_then run (joined_of (taken_then next later))
