@@ -3,7 +3,10 @@ ghost use Rattle.std.specs.Prelude.{◌≡◌, ◌≤◌, ◌≢◌, length, All
 ghost use Rattle.bx_read.specs.inner.Full.{IsFull};
 ghost use Rattle.bx_read.specs.Line.{line_piece};
 
-use crate::lanes::{columns_of, eight_of};
+mod lanes;
+pub(crate) mod rows;
+
+use crate::full::lanes::{columns_of, eight_of};
 
 /// A line with its newline, by what it gives.
 #[derive(Clone, Copy)]

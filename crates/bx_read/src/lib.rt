@@ -5,12 +5,10 @@ mod digits;
 mod dump;
 mod fault;
 mod full;
-mod lanes;
 pub mod laws;
 mod line;
 mod lines;
 mod plain;
-mod rows;
 mod runs;
 
 pub use dump::read_dump;

@@ -3,9 +3,9 @@ ghost use Rattle.std.specs.Prelude.{◌≡◌, ◌+◌, ◌^◌, ◌<◌, ◌≤
 ghost use Rattle.bx_read.specs.Text.{lines_of, is_skipped, answers};
 
 use crate::fault::ReadFault;
+use crate::full::rows::extend_run;
 use crate::full::{ENDED, FullLine, full_line};
 use crate::line::Line;
-use crate::rows::extend_run;
 use memchr::memchr;
 use std::alloc::Allocator;
 

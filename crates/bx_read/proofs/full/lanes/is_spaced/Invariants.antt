@@ -1,5 +1,5 @@
 use Rattle.std.proofs.Common.{◌≡◌, ℕ, ◌<◌, ◌+◌, ◌*◌, get_or}
-use Rattle.bx_read.proofs.lanes.is_spaced.Given as goal
+use Rattle.bx_read.proofs.full.lanes.is_spaced.Given as goal
 
 -- the spaces so far
 abbrev pub invariant-loop-k : goal.invariant-loop-k

@@ -1,7 +1,7 @@
 use Rattle.std.proofs.Common.{◌+◌, sym, ◌∙◌, subst}
 use Rattle.std.proofs.lemmas.Bool.{eqb-true}
 use Rattle.bx_read.specs.inner.Full.{IsFull}
-use Rattle.bx_read.proofs.rows.next_full.Goals as goal
+use Rattle.bx_read.proofs.full.rows.next_full.Goals as goal
 
 pub returns-clause-full : goal.returns-clause-full
 returns-clause-full c =

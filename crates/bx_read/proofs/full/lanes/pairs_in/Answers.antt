@@ -1,5 +1,5 @@
 use Rattle.bx_read.proofs.LaneLemmas.{pairs_are}
-use Rattle.bx_read.proofs.lanes.pairs_in.Goals as goal
+use Rattle.bx_read.proofs.full.lanes.pairs_in.Goals as goal
 
 pub returns : goal.returns
 returns c =

@@ -4,7 +4,7 @@ use Rattle.bx_read.specs.Digits.{pairs_of}
 use Rattle.bx_read.specs.Plain.{hex_bytes}
 use Rattle.bx_read.specs.inner.Lanes.{group_places}
 use Rattle.bx_read.proofs.LaneLemmas.{columns_are, some_weaker}
-use Rattle.bx_read.proofs.lanes.columns_of.Goals as goal
+use Rattle.bx_read.proofs.full.lanes.columns_of.Goals as goal
 
 pub returns : goal.returns
 returns c =

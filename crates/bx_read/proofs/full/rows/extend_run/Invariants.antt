@@ -1,6 +1,6 @@
 use Rattle.std.proofs.Common.{length}
 use Rattle.bx_read.specs.inner.Rows.{GoesOn}
-use Rattle.bx_read.proofs.rows.extend_run.Given as goal
+use Rattle.bx_read.proofs.full.rows.extend_run.Given as goal
 
 abbrev pub decreases-loop-more : goal.decreases-loop-more
 decreases-loop-more g l = length l.rest

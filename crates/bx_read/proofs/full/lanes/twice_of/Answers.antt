@@ -1,7 +1,7 @@
 use Rattle.std.proofs.Common.{◌≡◌, ◌++◌, length, take, length-append, ap, ◌∙◌, arith}
 use Rattle.std.proofs.lemmas.List.{take_all}
 use Rattle.std.proofs.lemmas.Simd.{pick_l_whole}
-use Rattle.bx_read.proofs.lanes.twice_of.Goals as goal
+use Rattle.bx_read.proofs.full.lanes.twice_of.Goals as goal
 
 pub returns : goal.returns
 returns c =

@@ -2,7 +2,7 @@ use Rattle.std.proofs.Common.{◌≡◌, ◌+◌, ◌++◌, length, subst, arith
 use Rattle.std.proofs.lemmas.Grind.{common_steps}
 use Rattle.bx_read.specs.inner.Full.{IsFull}
 use Rattle.bx_read.proofs.GoesOnLemmas.{goes_none, goes_more}
-use Rattle.bx_read.proofs.rows.extend_run.Goals as goal
+use Rattle.bx_read.proofs.full.rows.extend_run.Goals as goal
 
 pub loop-more-init : goal.loop-more-init
 loop-more-init g c = goes_none c.args.text.now c.args.at c.args.bytes.now.items
