@@ -1,6 +1,7 @@
 //! Bytes as a row of parts.
 use crate::fault::{CaseFault, Trouble};
 use crate::quoted::{digit, pair, push_quoted};
+use crate::values::small;
 use std::alloc::Global;
 
 /// The most times that a part is written.
@@ -15,8 +16,8 @@ fn times_of(line: u64, rest: &[u8]) -> Result<(u32, &[u8]), CaseFault> {
     let Some(part) = behind.strip_prefix(b"*") else {
         return Ok((1, rest));
     };
-    match str::from_utf8(digits).unwrap_or("").parse::<u32>() {
-        Ok(times) if times <= MOST_TIMES => Ok((times, part)),
+    match small(digits) {
+        Some(times) if times <= MOST_TIMES => Ok((times, part)),
         _ => Err(CaseFault::at(line, Trouble::BadNumber)),
     }
 }

@@ -1,8 +1,8 @@
 //! What a case file holds.
-use crate::commands::CommandsCase;
-use crate::reading::ReadingCase;
-use crate::texts::TextCase;
-use crate::words::WordsCase;
+use crate::kinds::commands::CommandsCase;
+use crate::kinds::reading::ReadingCase;
+use crate::kinds::texts::TextCase;
+use crate::kinds::words::WordsCase;
 
 /// Blocks in and out, whole and short ones, and records that were cut, as dd counts them.
 #[derive(Clone, Copy, Debug, PartialEq, Eq)]

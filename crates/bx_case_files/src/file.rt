@@ -1,13 +1,13 @@
 //! Whole case files.
 use crate::case::{Case, CaseFile, Test};
-use crate::commands::commands_case;
 use crate::cursor::Cursor;
 use crate::entries::entries;
 use crate::fault::{CaseFault, Trouble};
-use crate::reading::reading_case;
-use crate::texts::text_case;
+use crate::kinds::commands::commands_case;
+use crate::kinds::reading::reading_case;
+use crate::kinds::texts::text_case;
+use crate::kinds::words::words_case;
 use crate::values::text;
-use crate::words::words_case;
 use std::alloc::Global;
 
 /// What the cases of a file are.
@@ -20,7 +20,7 @@ enum Kind {
 }
 
 /// The words of lines.
-static KNOWN: [&str; 35] = [
+static KNOWN: [&str; 36] = [
     "kind",
     "case",
     "from",
@@ -51,6 +51,7 @@ static KNOWN: [&str; 35] = [
     "journal-left",
     "redo-left",
     "first",
+    "changes",
     "dump",
     "piece",
     "bytes",

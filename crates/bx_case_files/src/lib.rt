@@ -3,21 +3,18 @@
 
 mod bytes;
 mod case;
-mod commands;
 mod cursor;
 mod entries;
 mod fault;
 mod file;
+mod kinds;
 mod quoted;
-mod reading;
-mod texts;
 mod values;
-mod words;
 
 pub use case::{Case, CaseFile, Opening, Records, Test};
-pub use commands::{Answer, Ask, CommandsCase, Row, Write};
 pub use fault::{CaseFault, Trouble};
 pub use file::read_cases;
-pub use reading::{ReadingCase, Reads};
-pub use texts::{Found, TextCase};
-pub use words::{Refusal, WordsCase};
+pub use kinds::commands::{Answer, Ask, CommandsCase, Left, Row, Write};
+pub use kinds::reading::{ReadingCase, Reads};
+pub use kinds::texts::{Found, Outcome, TextCase};
+pub use kinds::words::{Refusal, WordsCase};

@@ -15,7 +15,7 @@ pub fn digit(byte: u8) -> Option<u8> {
 pub fn pair(high: u8, low: u8) -> Option<u8> {
     let high = digit(high)?;
     let low = digit(low)?;
-    Some((high & 15) * 16 + (low & 15))
+    Some(high.wrapping_mul(16).wrapping_add(low))
 }
 
 /// What a text in quotes goes on with.

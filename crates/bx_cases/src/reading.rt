@@ -1,26 +1,80 @@
 //! Cases of reading.
 use crate::report::compare::{Wrong, differs, no_fault, same_bytes, same_fault, same_number};
 use crate::report::tally::{Failure, at};
+use crate::sweep::hunt::{Call, each_growth};
+use bumpalo::Bump;
 use bx_case_files::{ReadingCase, Reads};
 use bx_cli::Fault;
-use bx_read::{read_dump, read_plain};
+use bx_ration::{squeeze, used};
+use bx_read::{ReadFault, read_dump, read_plain};
 use bx_text::Piece;
-use std::alloc::Global;
+use std::alloc::{Allocator, Global};
 
 /// The ways in which a case of reading is played.
-pub static SWEEPS: [&str; 1] = ["read"];
+pub static SWEEPS: [&str; 2] = ["read", "growths refused"];
 
-/// Plays a case. Tells how often.
-pub fn play_reading(alloc: Global, case: &ReadingCase) -> Result<u32, Failure> {
-    let played = if case.plain {
-        plain(alloc, case)
+/// Plays a case in one way. Tells how often.
+pub fn play_reading(alloc: Global, case: &ReadingCase, sweep: usize) -> Result<u32, Failure> {
+    let played = if sweep == 0 {
+        once(alloc, case)
     } else {
-        dump(alloc, case)
+        each_growth(alloc, case)
     };
     match played {
-        Ok(()) => Ok(1),
+        Ok(plays) => Ok(plays),
         Err(wrong) => Err(at(0, wrong)),
     }
+}
+
+/// Reads the text with memory enough.
+fn once(alloc: Global, case: &ReadingCase) -> Result<u32, Wrong> {
+    if reads(alloc, alloc, case)? {
+        return Ok(1);
+    }
+    Err(Wrong::NoMemory)
+}
+
+impl Call for ReadingCase {
+    fn squeezed<'a>(
+        &self,
+        alloc: Global,
+        bump: &'a Bump,
+        bytes: usize,
+    ) -> Result<Option<usize>, Wrong> {
+        squeeze(bump, bytes)?;
+        let has_room = reads(alloc, bump, self)?;
+        let taken = used(bump, bytes);
+        bump.set_allocation_limit(None);
+        if has_room {
+            return Ok(None);
+        }
+        if reads(alloc, bump, self)? {
+            return Ok(Some(taken));
+        }
+        Err(Wrong::NoMemory)
+    }
+}
+
+/// Whether there was memory of `memory` to read the text. What was read is what the case tells.
+fn reads<A: Allocator + Clone>(
+    alloc: Global,
+    memory: A,
+    case: &ReadingCase,
+) -> Result<bool, Wrong> {
+    if case.plain {
+        plain(alloc, memory, case)
+    } else {
+        dump(alloc, memory, case)
+    }
+}
+
+/// A text that can't be read: there was no memory, or the fault is the one that the case tells.
+fn unread(alloc: Global, case: &ReadingCase, fault: ReadFault) -> Result<bool, Wrong> {
+    if fault == ReadFault::NoMemory {
+        return Ok(false);
+    }
+    refused(alloc, &case.reads, Fault::from(fault))?;
+    Ok(true)
 }
 
 /// A fault is the one that the case tells.
@@ -32,10 +86,13 @@ fn refused(alloc: Global, reads: &Reads, fault: Fault) -> Result<(), Wrong> {
 }
 
 /// Reads plain hexadecimal.
-fn plain(alloc: Global, case: &ReadingCase) -> Result<(), Wrong> {
-    match read_plain(alloc, case.text.as_slice()) {
-        Ok(found) => same_plain(alloc, &case.reads, found.as_slice()),
-        Err(fault) => refused(alloc, &case.reads, Fault::from(fault)),
+fn plain<A: Allocator>(alloc: Global, memory: A, case: &ReadingCase) -> Result<bool, Wrong> {
+    match read_plain(memory, case.text.as_slice()) {
+        Ok(found) => {
+            same_plain(alloc, &case.reads, found.as_slice())?;
+            Ok(true)
+        }
+        Err(fault) => unread(alloc, case, fault),
     }
 }
 
@@ -49,15 +106,18 @@ fn same_plain(alloc: Global, reads: &Reads, found: &[u8]) -> Result<(), Wrong> {
 }
 
 /// Reads a dump.
-fn dump(alloc: Global, case: &ReadingCase) -> Result<(), Wrong> {
-    match read_dump(alloc, case.text.as_slice()) {
-        Ok(found) => same_dump(alloc, &case.reads, found.as_slice()),
-        Err(fault) => refused(alloc, &case.reads, Fault::from(fault)),
+fn dump<A: Allocator + Clone>(alloc: Global, memory: A, case: &ReadingCase) -> Result<bool, Wrong> {
+    match read_dump(memory, case.text.as_slice()) {
+        Ok(found) => {
+            same_dump(alloc, &case.reads, found.as_slice())?;
+            Ok(true)
+        }
+        Err(fault) => unread(alloc, case, fault),
     }
 }
 
 /// A dump reads as these pieces.
-fn same_dump(alloc: Global, reads: &Reads, found: &[Piece]) -> Result<(), Wrong> {
+fn same_dump<A: Allocator>(alloc: Global, reads: &Reads, found: &[Piece<A>]) -> Result<(), Wrong> {
     match reads {
         Reads::Pieces(wanted) => same_pieces(alloc, wanted.as_slice(), found),
         Reads::Fault(wanted) => Err(no_fault(alloc, wanted.as_str())),
@@ -66,7 +126,11 @@ fn same_dump(alloc: Global, reads: &Reads, found: &[Piece]) -> Result<(), Wrong>
 }
 
 /// These are the pieces.
-fn same_pieces(alloc: Global, wanted: &[(u64, Vec<u8>)], found: &[Piece]) -> Result<(), Wrong> {
+fn same_pieces<A: Allocator>(
+    alloc: Global,
+    wanted: &[(u64, Vec<u8>)],
+    found: &[Piece<A>],
+) -> Result<(), Wrong> {
     same_number(alloc, "pieces", wanted.len() as u64, found.len() as u64)?;
     for (wanted, found) in wanted.iter().zip(found.iter()) {
         same_piece(alloc, wanted, found)?;
@@ -74,7 +138,11 @@ fn same_pieces(alloc: Global, wanted: &[(u64, Vec<u8>)], found: &[Piece]) -> Res
     Ok(())
 }
 
-fn same_piece(alloc: Global, wanted: &(u64, Vec<u8>), found: &Piece) -> Result<(), Wrong> {
+fn same_piece<A: Allocator>(
+    alloc: Global,
+    wanted: &(u64, Vec<u8>),
+    found: &Piece<A>,
+) -> Result<(), Wrong> {
     same_number(alloc, "address", wanted.0, found.at)?;
     same_bytes(alloc, "piece", wanted.1.as_slice(), found.bytes.as_slice())
 }

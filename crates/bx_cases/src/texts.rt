@@ -9,10 +9,11 @@ use crate::session::devices::{Devices, Held, Texts, contents, held_of, in_memory
 use crate::session::open::open;
 use crate::session::places::{Files, Memory, Pages, Place};
 use crate::session::standing::{Standing, again};
+use crate::sweep::hunt::each_growth;
 use crate::sweep::images::{History, Images, history_of};
 use crate::sweep::recovery::openings;
 use crate::texts::damage::{changed_bytes, fronts};
-use crate::texts::growths::opening_growths;
+use crate::texts::growths::OpeningOf;
 use bx_case_files::TextCase;
 use bx_image::Device;
 use bx_journal::Session;
@@ -39,15 +40,21 @@ pub fn play_text(rt: &HostRuntime, case: &TextCase, sweep: usize) -> Result<u32,
         1 => opens(alloc, &Pages, case),
         2 => opens(alloc, &Files::new(rt), case),
         3 => all_undone(alloc, case),
-        4 => opening_growths(alloc, case, texts_of(case)),
+        4 => opening_growths(alloc, case),
         5 => stopped(alloc, case),
         6 => fronts(alloc, texts_of(case)),
-        _ => changed_bytes(alloc, texts_of(case)),
+        _ => changed_bytes(alloc, texts_of(case), case.all_changes),
     };
     match played {
         Ok(plays) => Ok(plays),
         Err(wrong) => Err(at(0, wrong)),
     }
+}
+
+/// Refuses each growth of the opening in turn.
+fn opening_growths(alloc: Global, case: &TextCase) -> Result<u32, Wrong> {
+    let texts = texts_of(case);
+    each_growth(alloc, &OpeningOf { case, texts })
 }
 
 /// What is opened.
@@ -69,11 +76,11 @@ fn or_before<'a>(told: &'a Option<Vec<u8>>, before: &'a Vec<u8>) -> &'a [u8] {
 
 /// This is left.
 fn same_left(alloc: Global, case: &TextCase, held: &Held) -> Result<(), Wrong> {
-    let image = or_before(&case.image_left, &case.image);
+    let image = or_before(&case.outcome.image, &case.image);
     same_bytes(alloc, "image left", image, held.image.as_slice())?;
-    let journal = or_before(&case.journal_left, &case.journal);
+    let journal = or_before(&case.outcome.journal, &case.journal);
     same_bytes(alloc, "journal left", journal, held.journal.as_slice())?;
-    let redo = or_before(&case.redo_left, &case.redo);
+    let redo = or_before(&case.outcome.redo, &case.redo);
     same_bytes(alloc, "redo text left", redo, held.redo.as_slice())
 }
 
@@ -85,11 +92,11 @@ fn opens<D: Device + Drop, T: TextStore + Drop, P: Place<D, T>>(
 ) -> Result<u32, Wrong> {
     match open(alloc, place.devices(alloc, texts_of(case))?) {
         Ok((session, found)) => {
-            found_so(alloc, &case.found, Ok(found))?;
+            found_so(alloc, &case.outcome.found, Ok(found))?;
             leaves(alloc, place, case, session)?;
         }
         Err((devices, fault)) => {
-            found_so(alloc, &case.found, Err(fault))?;
+            found_so(alloc, &case.outcome.found, Err(fault))?;
             left(alloc, case, devices)?;
         }
     }
@@ -139,7 +146,7 @@ fn same_first(alloc: Global, wanted: &[u8], history: &History) -> Result<(), Wro
 
 /// Undoes all that stands.
 fn all_undone(alloc: Global, case: &TextCase) -> Result<u32, Wrong> {
-    let Some(first) = &case.first else {
+    let Some(first) = &case.outcome.first else {
         return Ok(0);
     };
     match history(alloc, case)? {

@@ -1,4 +1,5 @@
-//! Cases of words: run whole, byte by byte, and with something that happens at each call in turn.
+//! Cases of words: run whole, byte by byte, and with something that happens at each call, or each growth refused, in turn.
+mod growths;
 mod job;
 mod outcome;
 mod run;
@@ -6,6 +7,9 @@ mod streams;
 
 use crate::report::compare::Wrong;
 use crate::report::tally::{Failure, at};
+use crate::sweep::hunt::each_growth;
+use crate::sweep::weight::is_small;
+use crate::words::growths::RunOf;
 use crate::words::job::same_job;
 use crate::words::outcome::{allowed, refused, right, turned_right};
 use crate::words::run::{run_freely, run_turned};
@@ -15,7 +19,7 @@ use bx_cli::{Job, plan_words};
 use std::alloc::Global;
 
 /// The ways in which a case of words is played.
-pub static SWEEPS: [&str; 11] = [
+pub static SWEEPS: [&str; 12] = [
     "planned",
     "run whole",
     "bytes one by one",
@@ -27,6 +31,7 @@ pub static SWEEPS: [&str; 11] = [
     "writes failing",
     "writes of nothing",
     "writes of half",
+    "growths refused",
 ];
 
 /// No play makes so many calls.
@@ -61,7 +66,8 @@ fn play_job(alloc: Global, case: &WordsCase, job: &Job, sweep: usize) -> Result<
         7 => calls(alloc, case, job, input, Act::Interrupt, false),
         8 => calls(alloc, case, job, input, Act::Fail, false),
         9 => calls(alloc, case, job, input, Act::Nothing, false),
-        _ => calls(alloc, case, job, input, Act::Half, false),
+        10 => calls(alloc, case, job, input, Act::Half, false),
+        _ => refused_growths(alloc, &RunOf { case, job, input }),
     }
 }
 
@@ -105,6 +111,17 @@ fn whole(
     let ran = run_freely(alloc, job, input, each);
     match right(alloc, case, ran.done, ran.output.as_slice()) {
         Ok(()) => Ok(1),
+        Err(wrong) => Err(at(0, wrong)),
+    }
+}
+
+/// Refuses each growth of a run in turn, where its case is small. Tells how many there are.
+fn refused_growths(alloc: Global, run: &RunOf<'_>) -> Result<u32, Failure> {
+    if !is_small(run.input, run.case.output.as_slice()) {
+        return Ok(0);
+    }
+    match each_growth(alloc, run) {
+        Ok(growths) => Ok(growths),
         Err(wrong) => Err(at(0, wrong)),
     }
 }

@@ -1,29 +1,17 @@
 //! Texts in memory, in files and behind fuses, and refused growths.
+//!
+//! A script has a call on each line: `reserve N`, `append TEXT`, `cut N`, and what is looked at: `len N`, `read N TEXT`, `text TEXT`,
+//! `faults N`. A `!` in front says that the call fails.
 ghost use Rattle.std.specs.Prelude.{◌≡◌, ◌↔◌};
 
-use crate::shared::new_file;
+use crate::shared::{Step, assert_told, new_file, step_of};
 use bx_image::{Part, SystemFile};
-use bx_store::{DeviceFailed, FileText, FuseText, MemText, NoMemory, TextFault, TextStore};
+use bx_store::{FileText, FuseText, MemText, TextFault, TextStore};
 use linked_list_allocator::LocalHeap;
 use std::alloc::{Allocator, Global};
 use std::fs::{self, File};
 use std::process::Abort;
 use std::test::Fail;
-
-fn assert_reserve<T: TextStore>(
-    rt: &impl Abort,
-    store: &mut T,
-    len: u64,
-    answer: Result<(), NoMemory>,
-) {
-    assert!(rt; store.reserve(len) == answer);
-}
-
-// A call that may fail asks at run time for what its contract requires.
-fn assert_len<T: TextStore>(rt: &impl Abort, store: &mut T, len: Result<u64, DeviceFailed>) {
-    assert!(rt; store.faults() < u64::MAX);
-    assert!(rt; store.len() == len);
-}
 
 // Whether the text is these bytes.
 fn has_text<T: TextStore, A: Allocator>(
@@ -42,89 +30,112 @@ fn has_text<T: TextStore, A: Allocator>(
     }
 }
 
-fn assert_text<T: TextStore>(rt: &impl Abort, alloc: Global, store: &mut T, bytes: &[u8]) {
-    assert!(rt; has_text(rt, alloc, store, bytes) == Ok(true));
+fn has_len<T: TextStore>(rt: &impl Abort, store: &mut T, wanted: u64) -> bool {
+    assert!(rt; store.faults() < u64::MAX);
+    match store.len() {
+        Ok(len) => {
+            assert!(rt; len == wanted);
+            true
+        }
+        Err(_) => false,
+    }
+}
+
+fn reads<T: TextStore>(rt: &impl Abort, alloc: Global, store: &mut T, wanted: &str) -> bool {
+    match has_text(rt, alloc, store, wanted.as_bytes()) {
+        Ok(right) => {
+            assert!(rt; right, "{wanted}");
+            true
+        }
+        Err(_) => false,
+    }
 }
 
 // The two bytes from a place on.
-fn assert_read<T: TextStore>(
-    rt: &impl Abort,
-    store: &mut T,
-    at: u64,
-    answer: Result<[u8; 2], DeviceFailed>,
-) {
+fn reads_two<T: TextStore>(rt: &impl Abort, store: &mut T, at: u64, wanted: &str) -> bool {
     assert!(rt; store.faults() < u64::MAX);
-    match store.len() {
-        Ok(len) => {
-            let mut bytes = [0; 2];
-            assert!(rt; len >= 2);
-            assert!(rt; at <= len - 2);
-            let read = match store.read_at(at, &mut bytes) {
-                Ok(()) => Ok(bytes),
-                Err(fault) => Err(fault),
-            };
-            assert!(rt; read == answer);
-        }
-        Err(_) => panic!(rt; "the length was not read"),
+    let Ok(len) = store.len() else {
+        return false;
+    };
+    assert!(rt; len >= 2);
+    assert!(rt; at <= len - 2);
+    let mut bytes = [0; 2];
+    if store.read_at(at, &mut bytes).is_err() {
+        return false;
     }
+    assert_told(rt, &bytes, wanted);
+    true
 }
 
-fn assert_append<T: TextStore>(
-    rt: &impl Abort,
-    store: &mut T,
-    bytes: &[u8],
-    answer: Result<(), DeviceFailed>,
-) {
+fn appends<T: TextStore>(rt: &impl Abort, store: &mut T, bytes: &[u8]) -> bool {
     assert!(rt; store.faults() < u64::MAX);
-    match store.len() {
-        Ok(len) => {
-            let room = store.reserved();
-            assert!(rt; len <= room);
-            assert!(rt; bytes.len() as u64 <= room - len);
-            assert!(rt; store.append(bytes) == answer);
-        }
-        Err(_) => panic!(rt; "the length was not read"),
-    }
+    let Ok(len) = store.len() else {
+        return false;
+    };
+    let room = store.reserved();
+    assert!(rt; len <= room);
+    assert!(rt; bytes.len() as u64 <= room - len);
+    store.append(bytes).is_ok()
 }
 
-fn assert_cut<T: TextStore>(
-    rt: &impl Abort,
-    store: &mut T,
-    len: u64,
-    answer: Result<(), DeviceFailed>,
-) {
+fn cuts<T: TextStore>(rt: &impl Abort, store: &mut T, len: u64) -> bool {
     assert!(rt; store.faults() < u64::MAX);
-    match store.len() {
-        Ok(old) => {
-            assert!(rt; len <= old);
-            assert!(rt; store.cut(len) == answer);
-        }
-        Err(_) => panic!(rt; "the length was not read"),
-    }
+    let Ok(old) = store.len() else {
+        return false;
+    };
+    assert!(rt; len <= old);
+    store.cut(len).is_ok()
 }
 
-fn assert_faults<T: TextStore>(rt: &impl Abort, store: &T, faults: u64) {
+fn has_faults<T: TextStore>(rt: &impl Abort, store: &T, faults: u64) -> bool {
     assert!(rt; store.faults() == faults);
+    true
 }
 
-fn assert_changes<T: TextStore>(rt: &impl Abort, alloc: Global, store: &mut T) {
-    assert_reserve(rt, store, 5, Ok(()));
-    assert!(rt; store.reserved() >= 5);
-    assert_append(rt, store, b"abc", Ok(()));
-    assert_append(rt, store, b"de", Ok(()));
-    assert_len(rt, store, Ok(5));
-    assert_read(rt, store, 2, Ok(*b"cd"));
-    assert_cut(rt, store, 4, Ok(()));
-    assert_text(rt, alloc, store, b"abcd");
+// Makes a call, or looks. Whether it succeeds.
+fn succeeds<T: TextStore>(rt: &impl Abort, alloc: Global, store: &mut T, step: Step<'_>) -> bool {
+    match step.word {
+        "reserve" => store.reserve(step.number).is_ok(),
+        "append" => appends(rt, store, step.value.as_bytes()),
+        "cut" => cuts(rt, store, step.number),
+        "len" => has_len(rt, store, step.number),
+        "read" => reads_two(rt, store, step.number, step.text),
+        "text" => reads(rt, alloc, store, step.value),
+        _ => has_faults(rt, store, step.number),
+    }
+}
+
+fn play_step<T: TextStore>(rt: &impl Abort, alloc: Global, store: &mut T, line: &str) {
+    let step = step_of(line);
+    let right = succeeds(rt, alloc, store, step) != step.fails;
+    assert!(rt; right, "{line}");
+}
+
+fn play<T: TextStore>(rt: &impl Abort, alloc: Global, store: &mut T, script: &str) {
+    for line in script.lines() {
+        play_step(rt, alloc, store, line);
+    }
 }
 
 #[test]
 fn text_in_memory(rt: HostRuntime) {
     let mut text = MemText::new(rt.alloc());
-    assert_changes(&rt, rt.alloc(), &mut text);
+    play(
+        &rt,
+        rt.alloc(),
+        &mut text,
+        "\
+reserve 5
+append abc
+append de
+len 5
+read 2 cd
+cut 4
+text abcd
+!reserve 4611686018427387905
+faults 0",
+    );
     assert!(rt; text.as_slice() == b"abcd".as_slice());
-    assert_reserve(&rt, &mut text, (1 << 62) + 1, Err(NoMemory));
-    assert_faults(&rt, &text, 0);
 }
 
 // Reading is refused where the answer has no room.
@@ -134,42 +145,34 @@ fn assert_no_room<T: TextStore>(rt: &impl Abort, alloc: Global, store: &mut T) -
     Ok(())
 }
 
-fn assert_refused<T: TextStore>(rt: &impl Abort, alloc: Global, store: &mut T) -> Result<(), Fail> {
-    assert_reserve(rt, store, 64, Ok(()));
+// A growth that is refused leaves the room.
+fn assert_refused<T: TextStore>(rt: &impl Abort, store: &mut T) {
     let room = store.reserved();
-    assert_append(rt, store, b"a text of some bytes", Ok(()));
-    assert_reserve(rt, store, 300, Err(NoMemory));
+    assert!(rt; room >= 64 && store.reserve(300).is_err());
     assert!(rt; store.reserved() == room);
-    assert_no_room(rt, alloc, store)?;
-    assert_append(rt, store, b", and more", Ok(()));
-    assert_text(rt, alloc, store, b"a text of some bytes, and more");
-    assert_faults(rt, store, 0);
-    Ok(())
 }
 
 #[test]
 fn refused_growths(rt: HostRuntime) -> Result<(), Fail> {
     let heap = LocalHeap::new(rt.alloc(), 256)?;
     let mut text = MemText::new(&heap);
-    assert_refused(&rt, rt.alloc(), &mut text)
+    let begun = "reserve 64\nappend a text of some bytes";
+    play(&rt, rt.alloc(), &mut text, begun);
+    assert_refused(&rt, &mut text);
+    assert_no_room(&rt, rt.alloc(), &mut text)?;
+    let ended = "append , and more\ntext a text of some bytes, and more\nfaults 0";
+    play(&rt, rt.alloc(), &mut text, ended);
+    Ok(())
 }
 
 fn leaves(text: FuseText<MemText>, bytes: &[u8]) -> bool {
     text.into_inner().as_slice() == bytes
 }
 
-fn append_thrice<T: TextStore>(rt: &impl Abort, store: &mut T) {
-    assert_reserve(rt, store, 9, Ok(()));
-    assert_append(rt, store, b"AB", Ok(()));
-    assert_append(rt, store, b"C", Ok(()));
-    assert_append(rt, store, b"xyzuv", Err(DeviceFailed));
-    assert_append(rt, store, b"!", Ok(()));
-    assert_faults(rt, store, 1);
-}
-
 fn assert_appended(rt: &impl Abort, alloc: Global, part: Part, left: &[u8]) {
     let mut text = FuseText::new(MemText::new(alloc), 2, part, true);
-    append_thrice(rt, &mut text);
+    let script = "reserve 9\nappend AB\nappend C\n!append xyzuv\nappend !\nfaults 1";
+    play(rt, alloc, &mut text, script);
     assert!(rt; leaves(text, left));
 }
 
@@ -180,25 +183,20 @@ fn part_of_a_failed_append(rt: HostRuntime) {
     assert_appended(&rt, rt.alloc(), Part::All, b"ABCxyzuv!");
 }
 
-fn cut_and_append<T: TextStore>(rt: &impl Abort, store: &mut T, left: u64) {
-    assert_cut(rt, store, 1, Err(DeviceFailed));
-    assert_len(rt, store, Ok(left));
-    assert_append(rt, store, b"", Err(DeviceFailed));
-    assert_faults(rt, store, 2);
-}
-
-fn assert_left(rt: &impl Abort, alloc: Global, part: Part, left: u64) -> Result<(), Fail> {
+fn assert_left(rt: &impl Abort, alloc: Global, part: Part, left: &str) -> Result<(), Fail> {
     let text = MemText::from_vec(b"ABCDEF".to_vec(alloc)?);
     let mut text = FuseText::new(text, 0, part, false);
-    cut_and_append(rt, &mut text, left);
+    play(rt, alloc, &mut text, "!cut 1");
+    play(rt, alloc, &mut text, left);
+    play(rt, alloc, &mut text, "!append \nfaults 2");
     Ok(())
 }
 
 #[test]
 fn part_of_a_failed_cut(rt: HostRuntime) -> Result<(), Fail> {
-    assert_left(&rt, rt.alloc(), Part::Nothing, 6)?;
-    assert_left(&rt, rt.alloc(), Part::Half, 4)?;
-    assert_left(&rt, rt.alloc(), Part::All, 1)
+    assert_left(&rt, rt.alloc(), Part::Nothing, "len 6")?;
+    assert_left(&rt, rt.alloc(), Part::Half, "len 4")?;
+    assert_left(&rt, rt.alloc(), Part::All, "len 1")
 }
 
 // A length and a text are read, and then reading fails, but the text is cut.
@@ -219,8 +217,7 @@ fn reads_fail_after_two(rt: HostRuntime) -> Result<(), Fail> {
     let text = MemText::from_vec(b"ABCD".to_vec(rt.alloc())?);
     let mut text = FuseText::on_reads(text, 2);
     assert_two_reads(&rt, rt.alloc(), &mut text);
-    assert_len(&rt, &mut text, Err(DeviceFailed));
-    assert_faults(&rt, &text, 2);
+    play(&rt, rt.alloc(), &mut text, "!len 0\nfaults 2");
     assert!(rt; leaves(text, b"ABC"));
     Ok(())
 }
@@ -229,40 +226,35 @@ fn reads_fail_after_two(rt: HostRuntime) -> Result<(), Fail> {
 fn places_fail_after_three(rt: HostRuntime) -> Result<(), Fail> {
     let text = MemText::from_vec(b"ABCD".to_vec(rt.alloc())?);
     let mut text = FuseText::on_reads(text, 3);
-    assert_read(&rt, &mut text, 1, Ok(*b"BC"));
-    assert_read(&rt, &mut text, 1, Err(DeviceFailed));
-    assert_faults(&rt, &text, 1);
+    let script = "read 1 BC\n!read 1 BC\nfaults 1";
+    play(&rt, rt.alloc(), &mut text, script);
     Ok(())
 }
 
-fn assert_written<T: TextStore>(rt: &impl Abort, alloc: Global, store: &mut T) {
-    assert_reserve(rt, store, 1 << 62, Ok(()));
-    assert_reserve(rt, store, (1 << 62) + 1, Err(NoMemory));
-    assert_append(rt, store, b"one\n", Ok(()));
-    assert_append(rt, store, b"two\n", Ok(()));
-    assert_text(rt, alloc, store, b"one\ntwo\n");
-    assert_read(rt, store, 6, Ok(*b"o\n"));
-    assert_cut(rt, store, 5, Ok(()));
-    assert_append(rt, store, b"!", Ok(()));
-    assert_len(rt, store, Ok(6));
-    assert_faults(rt, store, 0);
-}
-
-// The file is only open to be read.
-fn assert_closed<T: TextStore>(rt: &impl Abort, alloc: Global, store: &mut T) {
-    assert_text(rt, alloc, store, b"one\nt!");
-    assert_append(rt, store, b"x", Err(DeviceFailed));
-    assert_cut(rt, store, 0, Err(DeviceFailed));
-    assert_faults(rt, store, 2);
-}
-
+// In the end the file is only open to be read.
 #[test]
 fn text_in_a_file(rt: HostRuntime) -> Result<(), Fail> {
     let name = "bx_store_text_in_a_file.tmp";
     let mut text = FileText::new(SystemFile::new(new_file(&rt, name)?));
-    assert_written(&rt, rt.alloc(), &mut text);
+    play(
+        &rt,
+        rt.alloc(),
+        &mut text,
+        "\
+reserve 4611686018427387904
+!reserve 4611686018427387905
+append one;
+append two;
+text one;two;
+read 6 o;
+cut 5
+append !
+len 6
+faults 0",
+    );
     let mut closed = FileText::new(SystemFile::new(File::open(&rt, name)?));
-    assert_closed(&rt, rt.alloc(), &mut closed);
+    let script = "text one;t!\n!append x\n!cut 0\nfaults 2";
+    play(&rt, rt.alloc(), &mut closed, script);
     fs::remove_file(&rt, name)?;
     Ok(())
 }

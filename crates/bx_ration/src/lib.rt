@@ -21,15 +21,17 @@ pub fn arena(alloc: Global) -> Result<Bump, AllocError> {
 }
 
 /// From here on the arena hands out `bytes` bytes: each growth has a number at which it is the first to be refused.
+///
+/// A chunk has twice the bytes of the one before, so one of that many comes before twice as many were handed out.
 pub fn squeeze(bump: &Bump, bytes: usize) -> Result<(), AllocError> {
-    for _ in 0..128 {
+    for _ in 0..bytes / PAGE.len() * 2 + 128 {
         if bump.chunk_capacity() >= bytes {
             break;
         }
         let _ballast = bump.try_alloc_slice_copy(&PAGE)?;
     }
     bump.set_allocation_limit(Some(bump.allocated_bytes()));
-    for _ in 0..256 {
+    for _ in 0..bump.chunk_capacity() / PAGE.len() + 1 {
         let spare = bump.chunk_capacity().saturating_sub(bytes).min(PAGE.len());
         if spare == 0 {
             break;

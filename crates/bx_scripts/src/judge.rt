@@ -1,5 +1,4 @@
 //! What opening is to answer, by a slow reading of the format of journals and redo texts.
-use bx_journal::{How, Recovered, SessionFault};
 use std::alloc::{AllocError, Global};
 
 /// The greatest length of an image.
@@ -57,10 +56,32 @@ struct Reading {
     kept: usize,
 }
 
+/// How a journal's text ends.
+#[derive(Clone, Copy)]
+pub enum Ending {
+    /// Behind a finished entry, or before the first.
+    Clean,
+    /// In an entry of which the image has nothing.
+    Dropped,
+    /// In the entry of this number, which is taken back.
+    Restored { number: u32 },
+}
+
+/// Why opening is refused. Lines are counted from 1.
+#[derive(Clone, Copy)]
+pub enum Refusal {
+    Damaged { line: u64 },
+    LengthDiffers { expected: u64 },
+    RedoDamaged { line: u64 },
+}
+
 /// What opening finds and leaves.
 #[derive(Drop)]
 pub struct Finding {
-    pub recovered: Recovered,
+    pub ending: Ending,
+    /// How many changes stand, and how many undone ones can be made again.
+    pub changes: u32,
+    pub undone: u32,
     pub image: Vec<u8>,
     /// How many bytes of journal and redo text stay.
     pub kept: usize,
@@ -70,7 +91,7 @@ pub struct Finding {
 }
 
 /// What opening answers.
-pub type Verdict = Result<Finding, SessionFault>;
+pub type Verdict = Result<Finding, Refusal>;
 
 fn digit(byte: u8) -> Option<u64> {
     match byte {
@@ -107,6 +128,23 @@ fn start_head(alloc: Global, second: bool, n: usize) -> Result<String, AllocErro
 fn end_head(alloc: Global, second: bool, n: usize) -> Result<String, AllocError> {
     if second {
         format!(in alloc; "done2 {n:08x} ")
+    } else {
+        format!(in alloc; "done {n:08x}")
+    }
+}
+
+fn first_line(alloc: Global, second: bool, n: usize, len: u64) -> Result<String, AllocError> {
+    if second {
+        format!(in alloc; "change2 {n:08x} {len:016x}")
+    } else {
+        format!(in alloc; "change {n:08x} {len:08x}")
+    }
+}
+
+/// The least line that ends an entry.
+fn least_end(alloc: Global, second: bool, n: usize) -> Result<String, AllocError> {
+    if second {
+        format!(in alloc; "done2 {n:08x} 0000000000000000")
     } else {
         format!(in alloc; "done {n:08x}")
     }
@@ -310,24 +348,14 @@ impl Reading {
 
     /// Whether a line of this form that begins an entry may go on from this.
     fn may_start(&self, alloc: Global, rest: &[u8], second: bool) -> Result<bool, AllocError> {
-        let mut least = start_head(alloc, second, self.number())?;
-        let len = self.told.unwrap_or(0);
-        let digits = if second {
-            format!(in alloc; "{len:016x}")?
-        } else {
-            format!(in alloc; "{len:08x}")?
-        };
-        least.push_str(digits.as_str())?;
+        let least = first_line(alloc, second, self.number(), self.told.unwrap_or(0))?;
         let line = completed(alloc, rest, least.as_bytes())?;
         Ok(self.started(alloc, line.as_slice(), second)?.is_some())
     }
 
     /// Whether the line that ends the entry may go on from this.
     fn may_end(&self, alloc: Global, rest: &[u8]) -> Result<bool, AllocError> {
-        let mut least = end_head(alloc, self.open.second, self.number())?;
-        if self.open.second {
-            least.push_str("0000000000000000")?;
-        }
+        let least = least_end(alloc, self.open.second, self.number())?;
         let line = completed(alloc, rest, least.as_bytes())?;
         Ok(self.ended(alloc, line.as_slice())?.is_some())
     }
@@ -399,14 +427,14 @@ fn left_of(
     reading: &Reading,
     image: &[u8],
     rest: &[u8],
-) -> Result<(How, Vec<u8>), AllocError> {
+) -> Result<(Ending, Vec<u8>), AllocError> {
     match reading.stage {
-        Stage::Between if rest.is_empty() => Ok((How::Clean, image.to_vec(alloc)?)),
-        Stage::Between | Stage::Saving => Ok((How::Dropped, image.to_vec(alloc)?)),
+        Stage::Between if rest.is_empty() => Ok((Ending::Clean, image.to_vec(alloc)?)),
+        Stage::Between | Stage::Saving => Ok((Ending::Dropped, image.to_vec(alloc)?)),
         Stage::Ending => {
             let number = reading.number().min(MOST_ENTRIES) as u32;
             Ok((
-                How::Restored { number },
+                Ending::Restored { number },
                 restored(alloc, &reading.open, image)?,
             ))
         }
@@ -482,7 +510,7 @@ fn judge_redo(
     image: &[u8],
     redo: &[u8],
     changes: u32,
-) -> Result<Result<u32, SessionFault>, AllocError> {
+) -> Result<Result<u32, Refusal>, AllocError> {
     let mut reading = Reading::new(alloc);
     let (reads, rest) = read(alloc, &mut reading, redo)?;
     let refused = if reads {
@@ -491,7 +519,7 @@ fn judge_redo(
         Some(reading.line)
     };
     match refused {
-        Some(line) => Ok(Err(SessionFault::RedoDamaged { line })),
+        Some(line) => Ok(Err(Refusal::RedoDamaged { line })),
         None => Ok(Ok(count_of(&reading))),
     }
 }
@@ -504,13 +532,13 @@ fn count_of(reading: &Reading) -> u32 {
 fn found(
     alloc: Global,
     reading: &Reading,
-    how: How,
+    ending: Ending,
     image: Vec<u8>,
     redo: &[u8],
 ) -> Result<Verdict, AllocError> {
     let changes = count_of(reading);
-    let (undone, kept_redo) = match how {
-        How::Clean => match judge_redo(alloc, image.as_slice(), redo, changes)? {
+    let (undone, kept_redo) = match ending {
+        Ending::Clean => match judge_redo(alloc, image.as_slice(), redo, changes)? {
             Ok(undone) => (undone, redo.len()),
             Err(fault) => return Ok(Err(fault)),
         },
@@ -518,11 +546,9 @@ fn found(
     };
     let first = unwound(alloc, reading.finished.as_slice(), image.as_slice())?;
     Ok(Ok(Finding {
-        recovered: Recovered {
-            how,
-            changes,
-            undone,
-        },
+        ending,
+        changes,
+        undone,
         image,
         kept: reading.kept,
         kept_redo,
@@ -540,13 +566,13 @@ pub fn judge(
     let mut reading = Reading::new(alloc);
     let (reads, rest) = read(alloc, &mut reading, journal)?;
     if !reads {
-        return Ok(Err(SessionFault::Damaged { line: reading.line }));
+        return Ok(Err(Refusal::Damaged { line: reading.line }));
     }
-    let (how, left) = left_of(alloc, &reading, image, rest)?;
+    let (ending, left) = left_of(alloc, &reading, image, rest)?;
     match reading.told {
         Some(expected) if expected != left.len() as u64 => {
-            Ok(Err(SessionFault::LengthDiffers { expected }))
+            Ok(Err(Refusal::LengthDiffers { expected }))
         }
-        _ => found(alloc, &reading, how, left, redo),
+        _ => found(alloc, &reading, ending, left, redo),
     }
 }

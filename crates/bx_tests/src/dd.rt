@@ -168,34 +168,31 @@ fn replied(
     Ok(replies.first().copied())
 }
 
-// Two transfers by single bytes behind as many interruptions as there may be: of one block, behind which no byte is asked for,
-// and of a whole block and a part of one.
-fn goes_on(rt: &impl Abort, alloc: Global, session: &mut MemSession) -> Result<(), Fault> {
-    let line = "bs=2 skip=1 count=1 seek=1 conv=notrunc";
-    let reply = replied(alloc, session, line, trickling(b"abcde", 999, 4))?;
-    let one = counts(1, 0, 1, 0, 0);
-    assert!(rt;
-        reply
-            == Some(Reply::Copied {
-                number: 1,
-                counts: one
-            })
-    );
-    let reply = replied(
-        alloc,
-        session,
-        "bs=4 conv=sync",
-        trickling(b"abcde", 999, 100),
-    )?;
-    let two = counts(1, 1, 2, 0, 0);
-    assert!(rt;
-        reply
-            == Some(Reply::Copied {
-                number: 2,
-                counts: two
-            })
-    );
+// A transfer by single bytes behind as many interruptions as there may be.
+fn assert_copied(
+    rt: &impl Abort,
+    alloc: Global,
+    session: &mut MemSession,
+    line: &str,
+    fails_after: usize,
+    wanted: Reply,
+) -> Result<(), Fault> {
+    let reply = replied(alloc, session, line, trickling(b"abcde", 999, fails_after))?;
+    assert!(rt; reply == Some(wanted));
     Ok(())
+}
+
+fn copied(number: u32, counts: Counts) -> Reply {
+    Reply::Copied { number, counts }
+}
+
+// Of one block, behind which no byte is asked for, and of a whole block and a part of one.
+fn goes_on(rt: &impl Abort, alloc: Global, session: &mut MemSession) -> Result<(), Fault> {
+    let one = copied(1, counts(1, 0, 1, 0, 0));
+    let line = "bs=2 skip=1 count=1 seek=1 conv=notrunc";
+    assert_copied(rt, alloc, session, line, 4, one)?;
+    let two = copied(2, counts(1, 1, 2, 0, 0));
+    assert_copied(rt, alloc, session, "bs=4 conv=sync", 100, two)
 }
 
 // A failed read refuses the command, and nothing was changed; the next command goes on. Four bytes are enough for the first two

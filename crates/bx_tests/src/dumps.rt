@@ -1,52 +1,10 @@
-//! Dumps: flushes, runs of text however their bytes are split, and counts of every length.
+//! Dumps: runs of text however their bytes are split, and counts of every length.
 use crate::expected::{assert_bytes, run_line};
 use bx_cli::{Done, Fault};
 use std::alloc::Global;
-use std::io::{self, ErrorKind, Read, Write};
+use std::io::{self, Read};
 use std::process::Abort;
 use std::test::Fail;
-
-/// A writer that takes so many bytes, and then fails. It counts how often it is flushed.
-#[derive(Drop)]
-struct Counting {
-    room: usize,
-    flushes: u32,
-}
-
-impl Write for Counting {
-    fn write(&mut self, buf: &[u8]) -> io::Result<usize> {
-        if self.room == 0 {
-            return Err(io::Error::from(ErrorKind::Other));
-        }
-        let count = buf.len().min(self.room);
-        self.room = self.room.saturating_sub(count);
-        Ok(count)
-    }
-
-    fn flush(&mut self) -> io::Result<()> {
-        self.flushes = self.flushes.saturating_add(1);
-        Ok(())
-    }
-}
-
-/// What a dump of these bytes to a writer of so much room answers, and how often it flushes.
-fn flushes_of(alloc: Global, line: &str, room: usize) -> (Result<Done, Fault>, u32) {
-    let mut from = b"printable, and then not\n".as_slice();
-    let mut to = Counting { room, flushes: 0 };
-    let done = run_line(alloc, line, &mut from, &mut to);
-    (done, to.flushes)
-}
-
-#[test]
-fn no_dump_flushes(rt: HostRuntime) {
-    for line in ["xxd", "od -c", "hexdump -C", "strings"] {
-        let (done, flushes) = flushes_of(rt.alloc(), line, 4096);
-        assert!(rt; done == Ok(Done::Dumped(24)) && flushes == 0);
-        let (done, flushes) = flushes_of(rt.alloc(), line, 9);
-        let full = Fault::WriteFailed { written: 9 };
-        assert!(rt; done == Err(full) && flushes == 0);
-    }
-}
 
 /// A reader that gives so many bytes, then so many, and then the rest.
 #[derive(Drop)]

@@ -6,13 +6,11 @@ mod dd;
 #[cfg(test)]
 mod dumps;
 #[cfg(test)]
-mod each_byte;
-#[cfg(test)]
 mod expected;
 #[cfg(test)]
 mod faults;
 #[cfg(test)]
-mod growths;
+mod heaps;
 #[cfg(test)]
 mod program;
 #[cfg(test)]

@@ -40,7 +40,7 @@ fn stop_of(row: &Row) -> Stop<'_> {
     match &row.ask {
         Ask::Undo(k) => Stop::Undo(*k as usize),
         Ask::Redo(k) => Stop::Redo(*k as usize),
-        _ => Stop::Change(row.image.as_slice()),
+        _ => Stop::Change(row.left.image.as_slice()),
     }
 }
 
@@ -92,7 +92,7 @@ impl<'a> Follower<'a> {
     fn go_on(&mut self, row: &'a Row, reply: Reply) -> Result<(), AllocError> {
         match reply {
             Reply::Changed { .. } | Reply::Copied { .. } => {
-                self.images.change_to(row.image.as_slice())?;
+                self.images.change_to(row.left.image.as_slice())?;
             }
             Reply::Undone { left } => self.images.changes = left as usize,
             Reply::Redone { changes } => self.images.changes = changes as usize,

@@ -3,22 +3,22 @@ use crate::commands::rows::{begun, play_row};
 use crate::report::compare::{Wrong, same_bytes};
 use crate::report::tally::{Failure, at};
 use crate::session::answers::{refused, replied, same_reply};
-use crate::session::ask::{Limit, ask_for};
+use crate::session::ask::{Limit, ask_for, log_of, unwanted};
 use crate::session::devices::{MemDevices, Texts, in_memory, unchanged};
 use crate::session::open::{MemSession, close, open};
 use crate::session::places::Memory;
 use crate::session::standing::Standing;
-use crate::sweep::hunt::{Hunt, MOST_TRIES};
+use crate::sweep::hunt::{Call, each_growth};
 use crate::sweep::weight::is_swept;
 use bumpalo::Bump;
 use bx_case_files::{Ask, CommandsCase, Row};
 use bx_cli::{Fault, Reply};
 use bx_image::MemImage;
-use bx_ration::{arena, used};
+use bx_ration::{squeeze, used};
 use bx_store::MemText;
 use std::alloc::{Allocator, Global};
 
-/// Refuses each growth of each command of a case in turn. Tells how many they were.
+/// Refuses each growth of each command of a case in turn, and of each log. Tells how many they were.
 pub fn play_growths(alloc: Global, case: &CommandsCase) -> Result<u32, Failure> {
     let mut standing = match begun(alloc, &Memory, case) {
         Ok(standing) => standing,
@@ -26,17 +26,23 @@ pub fn play_growths(alloc: Global, case: &CommandsCase) -> Result<u32, Failure> 
     };
     let mut growths = 0u32;
     for (i, row) in case.rows.iter().enumerate() {
-        if is_swept(i, case.rows.len()) {
-            growths = more_growths(alloc, standing.held.texts(), row, growths)?;
+        let swept = is_swept(i, case.rows.len());
+        if swept {
+            let more = row_growths(alloc, standing.held.texts(), row);
+            growths = add(growths, more)?;
         }
         standing = next_row(alloc, standing, row, growths)?;
+        if swept {
+            let more = log_growths(alloc, standing.held.texts(), row);
+            growths = add(growths, more)?;
+        }
     }
     Ok(growths)
 }
 
-/// Refuses each growth of a command in turn. Tells how many they were, with so many before.
-fn more_growths(alloc: Global, texts: Texts<'_>, row: &Row, growths: u32) -> Result<u32, Failure> {
-    match each_growth(alloc, texts, row) {
+/// So many growths, and more.
+fn add(growths: u32, more: Result<u32, Wrong>) -> Result<u32, Failure> {
+    match more {
         Ok(more) => Ok(growths.saturating_add(more)),
         Err(wrong) => Err(at(growths, wrong)),
     }
@@ -56,33 +62,99 @@ fn next_row(
 }
 
 /// Refuses each growth of a command in turn. Tells how many they were.
-fn each_growth(alloc: Global, texts: Texts<'_>, row: &Row) -> Result<u32, Wrong> {
+fn row_growths(alloc: Global, texts: Texts<'_>, row: &Row) -> Result<u32, Wrong> {
     if matches!(&row.ask, Ask::Open) {
         return Ok(0);
     }
-    let Some(taken) = squeezed_once(alloc, texts, row, 0)? else {
-        return Ok(0);
-    };
-    let mut hunt = Hunt::new(taken);
-    for _ in 0..MOST_TRIES {
-        let bytes = hunt.bytes();
-        let taken = squeezed_once(alloc, texts, row, bytes)?;
-        if !hunt.goes_on(bytes, taken) {
-            return Ok(hunt.growths);
-        }
-    }
-    Err(Wrong::NoMemory)
+    each_growth(alloc, &Asking { texts, row })
 }
 
-/// One command with so many bytes, in an arena of its own.
-fn squeezed_once(
+/// A command on what devices hold.
+#[derive(Clone, Copy)]
+struct Asking<'a> {
+    texts: Texts<'a>,
+    row: &'a Row,
+}
+
+impl Call for Asking<'_> {
+    fn squeezed<'a>(
+        &self,
+        alloc: Global,
+        bump: &'a Bump,
+        bytes: usize,
+    ) -> Result<Option<usize>, Wrong> {
+        squeezed(alloc, bump, self.texts, self.row, bytes)
+    }
+}
+
+/// The log of what devices hold.
+#[derive(Clone, Copy)]
+struct Listing<'a> {
+    texts: Texts<'a>,
+    log: &'a [u8],
+}
+
+impl Call for Listing<'_> {
+    fn squeezed<'a>(
+        &self,
+        alloc: Global,
+        bump: &'a Bump,
+        bytes: usize,
+    ) -> Result<Option<usize>, Wrong> {
+        let session = opened_in(alloc, bump, self.texts)?;
+        listed(alloc, bump, session, self, bytes)
+    }
+}
+
+/// Lists the changes of a session with so many bytes, and where that is too little again with enough.
+fn listed<'a>(
     alloc: Global,
-    texts: Texts<'_>,
-    row: &Row,
+    bump: &'a Bump,
+    session: MemSession<&'a Bump>,
+    listing: &Listing<'_>,
     bytes: usize,
 ) -> Result<Option<usize>, Wrong> {
-    let bump = arena(alloc)?;
-    squeezed(alloc, &bump, texts, row, bytes)
+    let mut session = session;
+    squeeze(bump, bytes)?;
+    let has_room = lists(alloc, bump, &mut session, listing.log)?;
+    let taken = used(bump, bytes);
+    bump.set_allocation_limit(None);
+    if has_room {
+        return Ok(None);
+    }
+    if !lists(alloc, bump, &mut session, listing.log)? {
+        return Err(Wrong::NoMemory);
+    }
+    unchanged(alloc, listing.texts, &close(session))?;
+    Ok(Some(taken))
+}
+
+/// Whether there was memory for the log, which is this one.
+fn lists<'a>(
+    alloc: Global,
+    bump: &'a Bump,
+    session: &mut MemSession<&'a Bump>,
+    log: &[u8],
+) -> Result<bool, Wrong> {
+    match log_of(bump, session) {
+        Ok(found) => {
+            same_bytes(alloc, "log", log, found.as_slice())?;
+            Ok(true)
+        }
+        Err(Fault::NoMemory) => Ok(false),
+        Err(fault) => Err(unwanted(alloc, "log", fault)),
+    }
+}
+
+/// Refuses each growth of the log that a row tells in turn. Tells how many they were.
+fn log_growths(alloc: Global, texts: Texts<'_>, row: &Row) -> Result<u32, Wrong> {
+    match &row.left.log {
+        Some(log) => {
+            let log = log.as_slice();
+            each_growth(alloc, &Listing { texts, log })
+        }
+        None => Ok(0),
+    }
 }
 
 /// A session in an arena that has room.
@@ -153,7 +225,7 @@ fn same_image<A: Allocator>(
     same_bytes(
         alloc,
         "image",
-        row.image.as_slice(),
+        row.left.image.as_slice(),
         devices.image.as_slice(),
     )
 }

@@ -1,12 +1,13 @@
 //! Cases of commands, played row by row with nothing in their way.
 use crate::report::compare::{Wrong, same_bytes};
 use crate::session::answers::{replied, same_opening};
-use crate::session::ask::{ask_for, log_of};
+use crate::session::ask::{ask_for, log_of, unwanted};
 use crate::session::devices::{Held, Texts};
 use crate::session::open::found_again;
 use crate::session::places::Place;
 use crate::session::standing::{Standing, again, stand};
 use bx_case_files::{Answer, Ask, CommandsCase, Row};
+use bx_cli::Fault;
 use bx_image::Device;
 use bx_journal::Session;
 use bx_store::TextStore;
@@ -48,23 +49,32 @@ fn same_log<D: Device + Drop, T: TextStore + Drop>(
     session: &mut Session<D, T>,
     row: &Row,
 ) -> Result<(), Wrong> {
-    match &row.log {
-        Some(log) => {
-            let found = log_of(alloc, session)?;
-            same_bytes(alloc, "log", log.as_slice(), found.as_slice())
-        }
+    match &row.left.log {
+        Some(log) => same_listing(alloc, log.as_slice(), log_of(alloc, session)),
         None => Ok(()),
+    }
+}
+
+fn same_listing(alloc: Global, log: &[u8], found: Result<Vec<u8>, Fault>) -> Result<(), Wrong> {
+    match found {
+        Ok(found) => same_bytes(alloc, "log", log, found.as_slice()),
+        Err(fault) => Err(unwanted(alloc, "log", fault)),
     }
 }
 
 /// The devices hold what a row leaves. A fault leaves the texts as they were.
 fn same_held(alloc: Global, row: &Row, before: &Held, held: &Held) -> Result<(), Wrong> {
-    same_bytes(alloc, "image", row.image.as_slice(), held.image.as_slice())?;
+    same_bytes(
+        alloc,
+        "image",
+        row.left.image.as_slice(),
+        held.image.as_slice(),
+    )?;
     let kept = matches!(&row.answer, Answer::Refused(_));
-    if let Some(journal) = wanted_text(&row.journal, &before.journal, kept) {
+    if let Some(journal) = wanted_text(&row.left.journal, &before.journal, kept) {
         same_bytes(alloc, "journal", journal, held.journal.as_slice())?;
     }
-    match wanted_text(&row.redo, &before.redo, kept) {
+    match wanted_text(&row.left.redo, &before.redo, kept) {
         Some(redo) => same_bytes(alloc, "redo text", redo, held.redo.as_slice()),
         None => Ok(()),
     }
@@ -161,8 +171,13 @@ fn play_next<D: Device + Drop, T: TextStore + Drop, P: Place<D, T>>(
 
 /// The devices hold what a row tells.
 fn same_told(alloc: Global, row: &Row, held: &Held) -> Result<(), Wrong> {
-    same_bytes(alloc, "image", row.image.as_slice(), held.image.as_slice())?;
-    match &row.journal {
+    same_bytes(
+        alloc,
+        "image",
+        row.left.image.as_slice(),
+        held.image.as_slice(),
+    )?;
+    match &row.left.journal {
         Some(journal) => same_bytes(
             alloc,
             "journal",

@@ -8,7 +8,7 @@ use bumpalo::Bump;
 use bx_case_files::Ask;
 use bx_cli::{Command, Fault, Reply, log_text, run_all};
 use bx_image::{Change, Device};
-use bx_journal::{Session, SessionFault};
+use bx_journal::Session;
 use bx_ration::squeeze;
 use bx_store::TextStore;
 use bx_text::{Bytes, Piece, Pieces, Words};
@@ -177,25 +177,22 @@ fn run_one<D: Device, T: TextStore, A: Allocator + Clone>(
 }
 
 /// The log of a session, as a text.
-pub fn log_of<D: Device, T: TextStore>(
-    alloc: Global,
-    session: &mut Session<D, T>,
-) -> Result<Vec<u8>, Wrong> {
+pub fn log_of<D: Device, T: TextStore, A: Allocator + Clone>(
+    alloc: A,
+    session: &mut Session<D, T, A>,
+) -> Result<Vec<u8, A>, Fault> {
     if session.faults() > MANY {
-        return Err(Wrong::Unknown);
+        return Err(Fault::DeviceFailed);
     }
     match session.log() {
-        Ok(rows) => match log_text(alloc, rows.as_slice()) {
-            Ok(text) => Ok(text.into_bytes()),
-            Err(_) => Err(Wrong::NoMemory),
-        },
-        Err(fault) => Err(unwanted(alloc, "log", fault)),
+        Ok(rows) => Ok(log_text(alloc, rows.as_slice())?.into_bytes()),
+        Err(fault) => Err(Fault::from(fault)),
     }
 }
 
 /// A fault where none should be.
-fn unwanted(alloc: Global, what: &'static str, fault: SessionFault) -> Wrong {
-    match fault_text(alloc, Fault::from(fault)) {
+pub fn unwanted(alloc: Global, what: &'static str, fault: Fault) -> Wrong {
+    match fault_text(alloc, fault) {
         Ok(text) => differs(alloc, what, "no fault", text.as_str()),
         Err(_) => Wrong::NoMemory,
     }

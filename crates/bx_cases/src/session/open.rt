@@ -51,7 +51,7 @@ pub fn open<D: Device, T: TextStore, A: Allocator + Clone>(
 }
 
 /// What was found, as a case file says it.
-pub fn opening_of(found: Recovered) -> Opening {
+fn opening_of(found: Recovered) -> Opening {
     let changes = found.changes;
     match found.how {
         How::Clean => Opening::Clean {

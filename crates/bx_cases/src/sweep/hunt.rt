@@ -1,26 +1,42 @@
 //! The number of bytes at which each growth is the first to be refused.
+use crate::report::compare::Wrong;
+use bumpalo::Bump;
+use bx_ration::arena;
+use std::alloc::Global;
+
+/// A call that takes memory.
+pub trait Call {
+    /// Makes the call in an arena that hands out so many bytes from then on, and where that is too little again with enough.
+    /// Tells how many it had taken when it was refused, if it was.
+    fn squeezed<'a>(
+        &self,
+        alloc: Global,
+        bump: &'a Bump,
+        bytes: usize,
+    ) -> Result<Option<usize>, Wrong>;
+}
 
 /// No growth is smaller.
 const STEP: usize = 8;
 
 /// No search takes so many tries.
-pub const MOST_TRIES: u32 = 100_000;
+const MOST_TRIES: u32 = 100_000;
 
 /// What is known of a run that is tried with more and more bytes: with `low` the last growth that was found is refused.
 #[derive(Clone, Copy)]
-pub struct Hunt {
+struct Hunt {
     taken: usize,
     low: usize,
     gap: usize,
     /// Another growth is refused with so many bytes, or none is; and what was taken then.
     high: Option<(usize, Option<usize>)>,
     /// How many growths were found.
-    pub growths: u32,
+    growths: u32,
 }
 
 impl Hunt {
     /// With no bytes the first growth is refused, when so many were taken.
-    pub fn new(taken: usize) -> Self {
+    fn new(taken: usize) -> Self {
         Hunt {
             taken,
             low: 0,
@@ -31,7 +47,7 @@ impl Hunt {
     }
 
     /// How many bytes are tried next.
-    pub fn bytes(&self) -> usize {
+    fn bytes(&self) -> usize {
         match self.high {
             Some((high, _)) => {
                 let steps = high.saturating_sub(self.low) / STEP;
@@ -42,7 +58,7 @@ impl Hunt {
     }
 
     /// What came of so many bytes: how many were taken when a growth was refused, if one was. Tells whether any is left.
-    pub fn goes_on(&mut self, bytes: usize, taken: Option<usize>) -> bool {
+    fn goes_on(&mut self, bytes: usize, taken: Option<usize>) -> bool {
         if taken == Some(self.taken) {
             self.low = bytes;
             self.gap = self.gap.saturating_mul(2);
@@ -69,4 +85,26 @@ impl Hunt {
             None => false,
         }
     }
+}
+
+/// The call with so many bytes, in an arena of its own.
+fn once<C: Call>(alloc: Global, call: &C, bytes: usize) -> Result<Option<usize>, Wrong> {
+    let bump = arena(alloc)?;
+    call.squeezed(alloc, &bump, bytes)
+}
+
+/// Refuses each growth of a call in turn. Tells how many they were.
+pub fn each_growth<C: Call>(alloc: Global, call: &C) -> Result<u32, Wrong> {
+    let Some(taken) = once(alloc, call, 0)? else {
+        return Ok(0);
+    };
+    let mut hunt = Hunt::new(taken);
+    for _ in 0..MOST_TRIES {
+        let bytes = hunt.bytes();
+        let taken = once(alloc, call, bytes)?;
+        if !hunt.goes_on(bytes, taken) {
+            return Ok(hunt.growths);
+        }
+    }
+    Err(Wrong::NoMemory)
 }

@@ -19,6 +19,14 @@ const ROWS: usize = 16;
 /// Of the changes of a text's bytes about so many are made.
 const CHANGES: usize = 400;
 
+/// Runs of words whose input and output have at most so many bytes have their growths refused.
+const SMALL: usize = 4;
+
+/// Whether the growths of a run of words are refused.
+pub fn is_small(input: &[u8], output: &[u8]) -> bool {
+    input.len().saturating_add(output.len()) <= SMALL
+}
+
 /// A command, and the bytes that it is given and leaves.
 fn row_weight(row: &Row) -> usize {
     let given = match &row.ask {
@@ -28,7 +36,7 @@ fn row_weight(row: &Row) -> usize {
         _ => 0,
     };
     given
-        .saturating_add(row.image.len())
+        .saturating_add(row.left.image.len())
         .saturating_add(COMMAND)
 }
 

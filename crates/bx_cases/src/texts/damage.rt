@@ -3,13 +3,13 @@ use crate::report::compare::{Wrong, differs, same_bytes, same_faults};
 use crate::session::answers::{refused, same_opening};
 use crate::session::ask::undo;
 use crate::session::devices::{Held, MemDevices, Texts, in_memory, unchanged};
-use crate::session::open::{MemSession, close, open, opening_of};
+use crate::session::open::{MemSession, close, open};
 use crate::session::places::Memory;
 use crate::session::standing::{Standing, again};
 use crate::sweep::weight::change_step;
 use bx_case_files::Opening;
 use bx_cli::Fault;
-use bx_scripts::judge::{Finding, Verdict, judge};
+use bx_scripts::judge::{Ending, Finding, Refusal, Verdict, judge};
 use std::alloc::Global;
 
 /// Undoes all, and closes the session.
@@ -46,6 +46,28 @@ fn same_left(alloc: Global, texts: Texts<'_>, wanted: &Finding, held: &Held) -> 
     same_bytes(alloc, "redo text", redo, held.redo.as_slice())
 }
 
+/// How the judge finds it.
+fn opening_by(wanted: &Finding) -> Opening {
+    let changes = wanted.changes;
+    match wanted.ending {
+        Ending::Clean => Opening::Clean {
+            changes,
+            undone: wanted.undone,
+        },
+        Ending::Dropped => Opening::Dropped { changes },
+        Ending::Restored { number } => Opening::Restored { number, changes },
+    }
+}
+
+/// The fault for which the judge refuses.
+fn fault_by(refusal: Refusal) -> Fault {
+    match refusal {
+        Refusal::Damaged { line } => Fault::Damaged { line },
+        Refusal::LengthDiffers { expected } => Fault::LengthDiffers { expected },
+        Refusal::RedoDamaged { line } => Fault::RedoDamaged { line },
+    }
+}
+
 /// What is left agrees with what the judge said.
 fn agrees(
     alloc: Global,
@@ -54,7 +76,7 @@ fn agrees(
     texts: Texts<'_>,
     wanted: &Finding,
 ) -> Result<(), Wrong> {
-    same_opening(alloc, opening_of(wanted.recovered), found)?;
+    same_opening(alloc, opening_by(wanted), found)?;
     let Standing { session, held } = again(alloc, &Memory, session)?;
     same_left(alloc, texts, wanted, &held)?;
     match &wanted.first {
@@ -66,7 +88,7 @@ fn agrees(
 /// A refusal is the one that the judge said.
 fn refused_so(alloc: Global, verdict: &Verdict, found: Fault) -> Result<(), Wrong> {
     match verdict {
-        Err(wanted) => same_faults(alloc, Fault::from(*wanted), found),
+        Err(wanted) => same_faults(alloc, fault_by(*wanted), found),
         Ok(_) => Err(refused(alloc, found)),
     }
 }
@@ -152,21 +174,21 @@ pub fn fronts(alloc: Global, texts: Texts<'_>) -> Result<u32, Wrong> {
 }
 
 /// Opens the text with each byte changed, in all 255 ways or one in so many. Tells how often.
-pub fn changed_bytes(alloc: Global, texts: Texts<'_>) -> Result<u32, Wrong> {
+pub fn changed_bytes(alloc: Global, texts: Texts<'_>, all: bool) -> Result<u32, Wrong> {
+    let len = text_of(texts).len();
+    let step = if all { 1 } else { change_step(len) };
     let mut count = 0u32;
-    for place in 0..text_of(texts).len() {
-        count = count.saturating_add(changed_byte(alloc, texts, place)?);
+    for place in 0..len {
+        count = count.saturating_add(changed_byte(alloc, texts, place, step)?);
     }
     Ok(count)
 }
 
-/// Opens the text with one byte changed. Tells how often.
-fn changed_byte(alloc: Global, texts: Texts<'_>, place: usize) -> Result<u32, Wrong> {
+/// Opens the text with one byte changed, in one of so many ways. Tells how often.
+fn changed_byte(alloc: Global, texts: Texts<'_>, place: usize, step: usize) -> Result<u32, Wrong> {
     let mut count = 0u32;
-    let text = text_of(texts);
-    let step = change_step(text.len());
     let first = place.checked_rem(step).unwrap_or(0);
-    let mut changed = text.to_vec(alloc)?;
+    let mut changed = text_of(texts).to_vec(alloc)?;
     for turn in 1..=255u8 {
         if (turn as usize).checked_rem(step).unwrap_or(0) == first {
             turn_byte(&mut changed, place, turn);

@@ -3,43 +3,34 @@ use crate::report::compare::Wrong;
 use crate::session::answers::found_so;
 use crate::session::devices::{MemDevices, Texts, in_memory, unchanged};
 use crate::session::open::{Opened, open};
-use crate::sweep::hunt::{Hunt, MOST_TRIES};
+use crate::sweep::hunt::Call;
 use bumpalo::Bump;
 use bx_case_files::{Opening, TextCase};
 use bx_cli::Fault;
 use bx_image::MemImage;
-use bx_ration::{arena, squeeze, used};
+use bx_ration::{squeeze, used};
 use bx_store::MemText;
 use std::alloc::Global;
 
 /// What opening devices in an arena came to.
 type OpenedIn<'a> = Opened<MemImage<&'a Bump>, MemText<&'a Bump>, &'a Bump>;
 
-/// Refuses each growth of an opening in turn. Tells how many they were.
-pub fn opening_growths(alloc: Global, case: &TextCase, texts: Texts<'_>) -> Result<u32, Wrong> {
-    let Some(taken) = opening_once(alloc, case, texts, 0)? else {
-        return Ok(0);
-    };
-    let mut hunt = Hunt::new(taken);
-    for _ in 0..MOST_TRIES {
-        let bytes = hunt.bytes();
-        let taken = opening_once(alloc, case, texts, bytes)?;
-        if !hunt.goes_on(bytes, taken) {
-            return Ok(hunt.growths);
-        }
-    }
-    Err(Wrong::NoMemory)
+/// The opening of a case.
+#[derive(Clone, Copy)]
+pub struct OpeningOf<'a> {
+    pub case: &'a TextCase,
+    pub texts: Texts<'a>,
 }
 
-/// Opening with so many bytes, in an arena of its own.
-fn opening_once(
-    alloc: Global,
-    case: &TextCase,
-    texts: Texts<'_>,
-    bytes: usize,
-) -> Result<Option<usize>, Wrong> {
-    let bump = arena(alloc)?;
-    squeezed_opening(alloc, &bump, case, texts, bytes)
+impl Call for OpeningOf<'_> {
+    fn squeezed<'a>(
+        &self,
+        alloc: Global,
+        bump: &'a Bump,
+        bytes: usize,
+    ) -> Result<Option<usize>, Wrong> {
+        squeezed_opening(alloc, bump, self.case, self.texts, bytes)
+    }
 }
 
 /// Opening with so many bytes, and where that is too little again with enough. Tells how many it had taken when it was
@@ -71,7 +62,7 @@ fn answered(
     case: &TextCase,
     found: Result<Opening, Fault>,
 ) -> Result<Option<usize>, Wrong> {
-    found_so(alloc, &case.found, found)?;
+    found_so(alloc, &case.outcome.found, found)?;
     Ok(None)
 }
 
@@ -97,7 +88,7 @@ fn opens_so<'a>(
     devices: MemDevices<&'a Bump>,
 ) -> Result<(), Wrong> {
     match open(bump, devices) {
-        Ok((_, found)) => found_so(alloc, &case.found, Ok(found)),
-        Err((_, fault)) => found_so(alloc, &case.found, Err(fault)),
+        Ok((_, found)) => found_so(alloc, &case.outcome.found, Ok(found)),
+        Err((_, fault)) => found_so(alloc, &case.outcome.found, Err(fault)),
     }
 }

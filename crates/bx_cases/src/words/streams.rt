@@ -127,8 +127,9 @@ impl Write for Output {
         self.taken.write(&buf[..count])
     }
 
-    // No dump flushes.
+    // No dump flushes: one that did would lose what it wrote.
     fn flush(&mut self) -> io::Result<()> {
+        self.taken.clear();
         Err(io::Error::from(ErrorKind::Other))
     }
 }

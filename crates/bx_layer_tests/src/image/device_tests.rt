@@ -1,10 +1,7 @@
 //! Fuses: what a failed call leaves, and which calls a change and its saving make.
 ghost use Rattle.std.specs.Prelude.{◌≡◌, IfOk};
 
-use crate::image::guarded::{
-    applied, assert_countable, assert_failed, assert_faults, assert_length, change, cut, length,
-    reserve, saved, write,
-};
+use crate::image::guarded::{applied, change, play, saved};
 use crate::shared::assert_bytes;
 use bx_image::{Change, Device, FuseImage, MemImage, Part};
 use std::alloc::{AllocError, Global};
@@ -33,16 +30,6 @@ fn fused_reads(alloc: Global, bytes: &[u8], pass: u64) -> Result<FuseImage<MemIm
 }
 
 // The second write fails.
-fn write_thrice<D: Device>(rt: &impl Abort, device: &mut D) -> Result<(), Fail> {
-    reserve(device, 6)?;
-    write(rt, device, 0, b"x")?;
-    assert_failed(rt, write(rt, device, 2, b"yzw"));
-    assert_length(rt, device, 6)?;
-    write(rt, device, 5, b"!")?;
-    assert_faults(rt, device, 1);
-    Ok(())
-}
-
 fn assert_part_of_write(
     rt: &impl Abort,
     alloc: Global,
@@ -50,7 +37,8 @@ fn assert_part_of_write(
     left: &[u8],
 ) -> Result<(), Fail> {
     let mut image = fused(alloc, 1, part, true)?;
-    write_thrice(rt, &mut image)?;
+    let script = "reserve 6\nwrite 0 x\n!write 2 yzw\nlen 6\nwrite 5 !\nfaults 1";
+    play(rt, &mut image, script);
     assert_bytes(rt, image.into_inner().as_slice(), left);
     Ok(())
 }
@@ -63,65 +51,40 @@ fn part_of_a_failed_write(rt: HostRuntime) -> Result<(), Fail> {
 }
 
 // The change of the length fails, and so does the write.
-fn cut_and_write<D: Device>(rt: &impl Abort, device: &mut D, n: u64, len: u64) -> Result<(), Fail> {
-    reserve(device, 9)?;
-    assert_failed(rt, cut(rt, device, n));
-    assert_length(rt, device, len)?;
-    assert_failed(rt, write(rt, device, 0, b"?"));
-    assert_faults(rt, device, 2);
-    Ok(())
-}
-
-fn assert_part_of_cut(
-    rt: &impl Abort,
-    alloc: Global,
-    part: Part,
-    n: u64,
-    len: u64,
-) -> Result<(), Fail> {
+fn assert_part_of_cut(rt: &impl Abort, alloc: Global, part: Part, cut: &str) -> Result<(), Fail> {
     let mut image = fused(alloc, 0, part, false)?;
-    cut_and_write(rt, &mut image, n, len)
+    play(rt, &mut image, "reserve 9");
+    play(rt, &mut image, cut);
+    play(rt, &mut image, "!write 0 ?\nfaults 2");
+    Ok(())
 }
 
 #[test]
 fn part_of_a_failed_cut(rt: HostRuntime) -> Result<(), Fail> {
-    let cases = [(Part::Nothing, 6, 6), (Part::Half, 4, 7), (Part::All, 1, 9)];
-    for (part, shorter, longer) in cases {
-        assert_part_of_cut(&rt, rt.alloc(), part, 1, shorter)?;
-        assert_part_of_cut(&rt, rt.alloc(), part, 9, longer)?;
+    for (part, shorter, longer) in [
+        (Part::Nothing, "!cut 1\nlen 6", "!cut 9\nlen 6"),
+        (Part::Half, "!cut 1\nlen 4", "!cut 9\nlen 7"),
+        (Part::All, "!cut 1\nlen 1", "!cut 9\nlen 9"),
+    ] {
+        assert_part_of_cut(&rt, rt.alloc(), part, shorter)?;
+        assert_part_of_cut(&rt, rt.alloc(), part, longer)?;
     }
     Ok(())
 }
 
-// Asks for the length, and reads twice: the second read fails.
-fn read_twice(rt: &impl Abort, image: &mut FuseImage<MemImage>) -> Result<(), Fail> {
-    assert_countable(rt, image);
-    let len = image.len()?;
-    assert!(rt; len == 4);
-    let mut bytes = [0; 2];
-    image.read_at(1, &mut bytes)?;
-    assert_bytes(rt, &bytes, b"BC");
-    assert_failed(rt, image.read_at(0, &mut bytes));
-    Ok(())
-}
-
-// Writes pass where reads fail.
-fn write_and_cut<D: Device>(rt: &impl Abort, device: &mut D) -> Result<(), Fail> {
-    reserve(device, 4)?;
-    write(rt, device, 0, b"x")?;
-    cut(rt, device, 3)?;
-    assert!(rt; length(rt, device).is_err());
-    assert_faults(rt, device, 2);
+// The second of two bytes that are read fails, or the length before them. Writes pass where reads fail.
+fn assert_reads_fail(rt: &impl Abort, alloc: Global, pass: u64) -> Result<(), Fail> {
+    let mut image = fused_reads(alloc, b"ABCD", pass)?;
+    let script = "read 1 BC\n!read 0 AB\nreserve 4\nwrite 0 x\ncut 3\n!len 0\nfaults 2";
+    play(rt, &mut image, script);
+    assert_bytes(rt, image.into_inner().as_slice(), b"xBC");
     Ok(())
 }
 
 #[test]
-fn reads_fail_after_two(rt: HostRuntime) -> Result<(), Fail> {
-    let mut image = fused_reads(rt.alloc(), b"ABCD", 2)?;
-    read_twice(&rt, &mut image)?;
-    write_and_cut(&rt, &mut image)?;
-    assert_bytes(&rt, image.into_inner().as_slice(), b"xBC");
-    Ok(())
+fn reads_fail_after_two_or_three(rt: HostRuntime) -> Result<(), Fail> {
+    assert_reads_fail(&rt, rt.alloc(), 2)?;
+    assert_reads_fail(&rt, rt.alloc(), 3)
 }
 
 // Does the change go through where so many calls that write pass?

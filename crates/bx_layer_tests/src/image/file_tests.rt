@@ -1,12 +1,9 @@
 //! Images in files: short and interrupted calls, files open for reading alone, and addresses past 4 GiB.
 ghost use Rattle.std.specs.Prelude.{[]};
 
-use crate::image::guarded::{
-    assert_countable, assert_failed, assert_faults, assert_length, cut, length, reserve, write,
-};
-use crate::shared::{assert_bytes, new_file};
+use crate::image::guarded::{assert_countable, assert_failed, play};
+use crate::shared::new_file;
 use bx_image::{Device, DeviceFailed, FileImage, RandomAccess, Stop, SystemFile};
-use std::alloc::Global;
 use std::fs::{self, File};
 use std::process::Abort;
 use std::test::Fail;
@@ -88,42 +85,22 @@ fn read_slow(
     image.read_at(at, buf)
 }
 
-// The calls go through.
-fn short_calls(rt: &impl Abort, image: &mut FileImage<Slow>) -> Result<(), Fail> {
-    assert_length(rt, image, 16)?;
-    write(rt, image, 4, b"ABCDEFGH")?;
-    let mut bytes = [0; 10];
-    read_slow(rt, image, 3, &mut bytes)?;
-    assert_bytes(rt, &bytes, b"3ABCDEFGHc");
-    cut(rt, image, 16)?;
-    assert_faults(rt, image, 0);
-    Ok(())
-}
-
-// No step goes past the end, and the file keeps its length.
-fn calls_past_the_end(rt: &impl Abort, image: &mut FileImage<Slow>) {
-    assert_failed(rt, read_slow(rt, image, 10, &mut [0; 10]));
-    assert_failed(rt, write(rt, image, 14, b"xyz"));
-    assert_failed(rt, cut(rt, image, 3));
-    assert_faults(rt, image, 3);
-}
-
+// The calls go through, but no step goes past the end, and the file keeps its length.
 #[test]
-fn short_and_interrupted_calls(rt: HostRuntime) -> Result<(), Fail> {
+fn short_and_interrupted_calls(rt: HostRuntime) {
     let mut image = slow_image(999);
-    short_calls(&rt, &mut image)?;
-    calls_past_the_end(&rt, &mut image);
-    Ok(())
+    let script = "len 16\nwrite 4 ABCDEFGH\nread 3 3ABCDEFGHc\ncut 16\nfaults 0";
+    play(&rt, &mut image, script);
+    assert_failed(&rt, read_slow(&rt, &mut image, 10, &mut [0; 10]));
+    play(&rt, &mut image, "!write 14 xyz\n!cut 3\nfaults 3");
 }
 
 #[test]
 fn a_thousand_interruptions(rt: HostRuntime) {
-    let mut image = slow_image(1000);
-    assert!(rt; length(&rt, &mut image).is_err());
-    assert_faults(&rt, &image, 1);
+    play(&rt, &mut slow_image(1000), "!len 0\nfaults 1");
     assert_failed(&rt, read_slow(&rt, &mut slow_image(1000), 0, &mut [0; 1]));
-    assert_failed(&rt, write(&rt, &mut slow_image(1000), 0, b"x"));
-    assert_failed(&rt, cut(&rt, &mut slow_image(1000), 16));
+    play(&rt, &mut slow_image(1000), "!write 0 x");
+    play(&rt, &mut slow_image(1000), "!cut 16");
 }
 
 fn read(
@@ -136,73 +113,49 @@ fn read(
     image.read_at(at, buf)
 }
 
-fn assert_reads(
-    rt: &impl Abort,
-    alloc: Global,
-    image: &mut FileImage,
-    at: u64,
-    wanted: &[u8],
-) -> Result<(), Fail> {
-    let mut bytes = vec![in alloc; 9u8; wanted.len()]?;
-    read(rt, image, at, bytes.as_mut_slice())?;
-    assert_bytes(rt, bytes.as_slice(), wanted);
-    Ok(())
-}
-
-fn write_and_cut(rt: &impl Abort, alloc: Global, image: &mut FileImage) -> Result<(), Fail> {
-    assert_length(rt, image, 0)?;
-    reserve(image, 1 << 63)?;
-    write(rt, image, 2, b"xyz")?;
-    assert_reads(rt, alloc, image, 0, b"\0\0xyz")?;
-    cut(rt, image, 3)?;
-    cut(rt, image, 5)?;
-    assert_reads(rt, alloc, image, 0, b"\0\0x\0\0")?;
-    assert_failed(rt, read(rt, image, 1, &mut [9; 5]));
-    assert_faults(rt, image, 1);
-    Ok(())
-}
-
-// A file that is open for reading alone.
-fn refuse_writes(rt: &impl Abort, image: &mut FileImage) {
-    assert_failed(rt, write(rt, image, 0, b"A"));
-    assert_failed(rt, cut(rt, image, 0));
-    assert_faults(rt, image, 2);
-}
-
 #[test]
 fn image_in_a_file(rt: HostRuntime) -> Result<(), Fail> {
     let name = "bx_image_in_a_file.tmp";
     let mut image = FileImage::new(SystemFile::new(new_file(&rt, name)?));
-    write_and_cut(&rt, rt.alloc(), &mut image)?;
-    let file = SystemFile::new(File::open(&rt, name)?);
-    refuse_writes(&rt, &mut FileImage::new(file));
+    play(
+        &rt,
+        &mut image,
+        "\
+len 0
+reserve 9223372036854775808
+write 2 xyz
+read 0 ~~xyz
+cut 3
+cut 5
+read 0 ~~x~~",
+    );
+    assert_failed(&rt, read(&rt, &mut image, 1, &mut [9; 5]));
+    play(&rt, &mut image, "faults 1");
+    let closed = SystemFile::new(File::open(&rt, name)?);
+    let script = "!write 0 A\n!cut 0\nfaults 2";
+    play(&rt, &mut FileImage::new(closed), script);
     fs::remove_file(&rt, name)?;
     Ok(())
 }
 
-// Five gibibytes.
-const FAR: u64 = 0x1_4000_0000;
-
-// Eight gibibytes and a byte.
-const FARTHER: u64 = 0x2_0000_0001;
-
-fn write_far(rt: &impl Abort, alloc: Global, image: &mut FileImage) -> Result<(), Fail> {
-    write(rt, image, FAR, b"far")?;
-    assert_length(rt, image, FAR + 3)?;
-    assert_reads(rt, alloc, image, FAR - 1, b"\0far")?;
-    cut(rt, image, FAR + 1)?;
-    cut(rt, image, FARTHER)?;
-    assert_length(rt, image, FARTHER)?;
-    assert_reads(rt, alloc, image, FAR, b"f\0\0\0")?;
-    assert_faults(rt, image, 0);
-    Ok(())
-}
-
+// A write at 5 GiB; then the file is cut behind its first byte, and made to end a byte behind 8 GiB.
 #[test]
 fn past_four_gibibytes(rt: HostRuntime) -> Result<(), Fail> {
     let name = "bx_image_past_four_gibibytes.tmp";
     let mut image = FileImage::new(SystemFile::new(new_file(&rt, name)?));
-    write_far(&rt, rt.alloc(), &mut image)?;
+    play(
+        &rt,
+        &mut image,
+        "\
+write 5368709120 far
+len 5368709123
+read 5368709119 ~far
+cut 5368709121
+cut 8589934593
+len 8589934593
+read 5368709120 f~~~
+faults 0",
+    );
     fs::remove_file(&rt, name)?;
     Ok(())
 }

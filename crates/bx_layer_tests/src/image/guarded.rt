@@ -1,6 +1,7 @@
 //! Calls of any device that look first whether they may be made. So a test carries no facts about its device.
 ghost use Rattle.std.specs.Prelude.{◌<◌};
 
+use crate::shared::{Step, assert_told, step_of};
 use bx_image::{Change, Device, DeviceFailed, ImageFault, NoMemory, Saved, apply, check, save};
 use bx_text::{Bytes, Piece, Pieces};
 use std::alloc::{AllocError, Allocator, Global};
@@ -30,7 +31,7 @@ pub fn assert_countable<D: Device>(rt: &impl Abort, device: &D)
 }
 
 /// How long the image is.
-pub fn length<D: Device>(rt: &impl Abort, device: &mut D) -> Result<u64, DeviceFailed> {
+fn length<D: Device>(rt: &impl Abort, device: &mut D) -> Result<u64, DeviceFailed> {
     assert_countable(rt, device);
     device.len()
 }
@@ -50,7 +51,7 @@ pub fn write<D: Device>(
 }
 
 /// Sets a length within the room that there is.
-pub fn cut<D: Device>(rt: &impl Abort, device: &mut D, n: u64) -> Result<(), DeviceFailed> {
+fn cut<D: Device>(rt: &impl Abort, device: &mut D, n: u64) -> Result<(), DeviceFailed> {
     assert_countable(rt, device);
     assert!(rt; n <= device.reserved());
     device.set_len(n)
@@ -102,16 +103,62 @@ pub fn assert_number(rt: &impl Abort, found: u64, wanted: u64) {
     assert_eq!(rt; found, wanted);
 }
 
-pub fn assert_length<D: Device>(rt: &impl Abort, device: &mut D, len: u64) -> Result<(), Fail> {
-    assert_number(rt, length(rt, device)?, len);
-    Ok(())
-}
-
-pub fn assert_faults<D: Device>(rt: &impl Abort, device: &D, count: u64) {
-    assert_number(rt, device.faults(), count);
-}
-
 /// A call of a device failed.
 pub fn assert_failed(rt: &impl Abort, outcome: Result<(), DeviceFailed>) {
     assert!(rt; outcome.is_err());
+}
+
+fn has_length<D: Device>(rt: &impl Abort, device: &mut D, wanted: u64) -> bool {
+    match length(rt, device) {
+        Ok(len) => {
+            assert_number(rt, len, wanted);
+            true
+        }
+        Err(_) => false,
+    }
+}
+
+/// Reads at most 16 bytes, which lie within the image.
+fn reads<D: Device>(rt: &impl Abort, device: &mut D, at: u64, wanted: &str) -> bool {
+    assert_countable(rt, device);
+    let Ok(len) = device.len() else {
+        return false;
+    };
+    let count = wanted.len();
+    assert!(rt; count <= 16 && at <= len && count as u64 <= len - at);
+    let mut bytes = [0; 16];
+    if device.read_at(at, &mut bytes[..count]).is_err() {
+        return false;
+    }
+    assert_told(rt, &bytes[..count], wanted);
+    true
+}
+
+/// Makes a call, or looks. Whether it succeeds.
+fn succeeds<D: Device>(rt: &impl Abort, device: &mut D, step: Step<'_>) -> bool {
+    match step.word {
+        "reserve" => reserve(device, step.number).is_ok(),
+        "write" => write(rt, device, step.number, step.text.as_bytes()).is_ok(),
+        "cut" => cut(rt, device, step.number).is_ok(),
+        "len" => has_length(rt, device, step.number),
+        "read" => reads(rt, device, step.number, step.text),
+        _ => {
+            assert_number(rt, device.faults(), step.number);
+            true
+        }
+    }
+}
+
+fn play_step<D: Device>(rt: &impl Abort, device: &mut D, line: &str) {
+    let step = step_of(line);
+    let right = succeeds(rt, device, step) != step.fails;
+    assert!(rt; right, "{line}");
+}
+
+/// Plays a script: on each line a call, `reserve N`, `write N TEXT`, `cut N`, or what is looked at, `len N`, `read N TEXT` (the
+/// length too), `faults N`. A `!` in front says that the call fails.
+pub fn play<D: Device>(rt: &impl Abort, device: &mut D, script: &str) {
+    for line in script.lines() {
+        play_step(rt, device, line);
+    }
 }

@@ -1,6 +1,5 @@
 //! Texts of as many entries as there may be.
 use crate::journal::reads::{Ask, Held, NO_STEP, Opened, assert_held, found, held, sit};
-use crate::shared::front;
 use bx_journal::{How, SessionFault};
 use std::alloc::{AllocError, Global};
 use std::process::Abort;
@@ -31,58 +30,36 @@ fn undone(alloc: Global, count: u32) -> Result<Vec<u8>, AllocError> {
     Ok(text)
 }
 
-/// Opening the empty image with these texts finds this.
+/// Opening the empty image with so many changes, and so many undone ones, finds this.
 fn assert_found(
     rt: &impl Abort,
     alloc: Global,
-    journal: &[u8],
-    redo: &[u8],
+    counts: (u32, u32),
     wanted: Opened,
 ) -> Result<(), AllocError> {
-    let _left = sit(
-        alloc,
-        rt,
-        held(alloc, (b"", journal, redo))?,
-        wanted,
-        NO_STEP,
-    );
+    let journal = made(alloc, counts.0)?;
+    let redo = undone(alloc, counts.1)?;
+    let start: Held<'_> = (b"", journal.as_slice(), redo.as_slice());
+    let _left = sit(alloc, rt, held(alloc, start)?, wanted, NO_STEP);
     Ok(())
-}
-
-/// The bytes of one entry of a journal of nothing.
-const ENTRY: usize = 53;
-
-fn refused_at(line: u64) -> Opened {
-    Err(SessionFault::RedoDamaged { line })
 }
 
 // The first entry that makes more than 65,535 changes and undone ones in all is refused.
 #[test]
 fn redo_text_beside_too_many(rt: HostRuntime) -> Result<(), Fail> {
-    let alloc = rt.alloc();
-    let full = made(alloc, MOST)?;
-    let less = front(full.as_slice(), full.len().saturating_sub(ENTRY));
-    let two = undone(alloc, 2)?;
-    let one = front(two.as_slice(), two.len() / 2);
-    assert_found(&rt, alloc, full.as_slice(), one, refused_at(1))?;
-    assert_found(&rt, alloc, less, one, found(How::Clean, MOST - 1, 1))?;
-    assert_found(&rt, alloc, less, two.as_slice(), refused_at(4))?;
+    for (counts, line) in [((MOST, 1), 1), ((MOST - 1, 2), 4), ((1, MOST), 196_603)] {
+        let refused = Err(SessionFault::RedoDamaged { line });
+        assert_found(&rt, rt.alloc(), counts, refused)?;
+    }
     Ok(())
 }
 
 #[test]
-fn redo_text_of_too_many(rt: HostRuntime) -> Result<(), Fail> {
-    let alloc = rt.alloc();
-    let full = undone(alloc, MOST)?;
-    let one = made(alloc, 1)?;
-    assert_found(&rt, alloc, b"", full.as_slice(), found(How::Clean, 0, MOST))?;
-    assert_found(
-        &rt,
-        alloc,
-        one.as_slice(),
-        full.as_slice(),
-        refused_at(196_603),
-    )?;
+fn as_many_as_there_may_be(rt: HostRuntime) -> Result<(), Fail> {
+    for (changes, undone) in [(MOST - 1, 1), (0, MOST)] {
+        let clean = found(How::Clean, changes, undone);
+        assert_found(&rt, rt.alloc(), (changes, undone), clean)?;
+    }
     Ok(())
 }
 

@@ -13,7 +13,7 @@ pub const PATCHED: &[u8] =
     b"change2 00000001 0000000000000008\n00000002: 4344                                     CD\nsave 00000001\ndone2 00000001 0000000000000008\n";
 
 /// The redo text of the same patch, once it is taken back.
-pub const UNDONE: &[u8] =
+const UNDONE: &[u8] =
     b"change2 00000001 0000000000000008\n00000002: 7879                                     xy\nsave 00000001\ndone2 00000001 0000000000000008\n";
 
 /// The journal of one byte at 0, from `A` over `a` to `b`.
@@ -150,11 +150,23 @@ pub fn sit<D: Device, T: TextStore>(
 
 pub type MemTrio<A = Global> = Trio<MemImage<A>, MemText<A>>;
 
+fn text_of<A: Allocator>(alloc: A, bytes: &[u8]) -> Result<MemText<A>, AllocError> {
+    Ok(MemText::from_vec(bytes.to_vec(alloc)?))
+}
+
+fn texts_of<A: Allocator + Clone>(
+    alloc: A,
+    bytes: Held<'_>,
+) -> Result<(MemText<A>, MemText<A>), AllocError> {
+    let journal = text_of(alloc.clone()?, bytes.1)?;
+    Ok((journal, text_of(alloc, bytes.2)?))
+}
+
 /// Three of these bytes, in memory.
 pub fn held<A: Allocator + Clone>(alloc: A, bytes: Held<'_>) -> Result<MemTrio<A>, AllocError> {
     let image = MemImage::from_vec(bytes.0.to_vec(alloc.clone()?)?);
-    let journal = MemText::from_vec(bytes.1.to_vec(alloc.clone()?)?);
-    Ok((image, journal, MemText::from_vec(bytes.2.to_vec(alloc)?)))
+    let (journal, redo_text) = texts_of(alloc, bytes)?;
+    Ok((image, journal, redo_text))
 }
 
 /// Three devices of which so many reads pass.

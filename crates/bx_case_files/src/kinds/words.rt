@@ -2,6 +2,7 @@
 use crate::case::Records;
 use crate::cursor::Cursor;
 use crate::fault::{CaseFault, Trouble};
+use crate::kinds::told::some_bytes;
 use crate::values::records;
 use bx_text::Words;
 use std::alloc::Global;
@@ -32,20 +33,38 @@ pub struct WordsCase {
     pub job: Option<Words>,
 }
 
-/// The case whose lines follow.
-pub fn words_case(alloc: Global, cursor: &mut Cursor<'_>) -> Result<WordsCase, CaseFault> {
+/// The words, and what is read.
+fn given(alloc: Global, cursor: &mut Cursor<'_>) -> Result<(Words, Option<Vec<u8>>), CaseFault> {
     let Some(words) = cursor.words(alloc, "words")? else {
         return Err(cursor.next_trouble(Trouble::MissingLine("words")));
     };
-    let input = cursor.bytes(alloc, "input")?;
-    let output = match cursor.bytes(alloc, "output")? {
-        Some(output) => output,
-        None => Vec::new(alloc),
-    };
+    Ok((words, cursor.bytes(alloc, "input")?))
+}
+
+/// What is written, and what is counted.
+fn written(
+    alloc: Global,
+    cursor: &mut Cursor<'_>,
+) -> Result<(Vec<u8>, Option<u64>, Option<Records>), CaseFault> {
+    let output = some_bytes(alloc, cursor, "output")?;
     let count = cursor.number("count")?;
-    let records = counted(cursor)?;
+    Ok((output, count, counted(cursor)?))
+}
+
+/// What stops it, and what is planned.
+fn planned(
+    alloc: Global,
+    cursor: &mut Cursor<'_>,
+) -> Result<(Option<Refusal>, Option<Words>), CaseFault> {
     let fault = refusal_of(alloc, cursor)?;
-    let job = cursor.words(alloc, "job")?;
+    Ok((fault, cursor.words(alloc, "job")?))
+}
+
+/// The case whose lines follow.
+pub fn words_case(alloc: Global, cursor: &mut Cursor<'_>) -> Result<WordsCase, CaseFault> {
+    let (words, input) = given(alloc, cursor)?;
+    let (output, count, records) = written(alloc, cursor)?;
+    let (fault, job) = planned(alloc, cursor)?;
     Ok(WordsCase {
         words,
         input,

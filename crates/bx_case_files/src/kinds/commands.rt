@@ -2,9 +2,8 @@
 use crate::case::{Opening, Records};
 use crate::cursor::Cursor;
 use crate::fault::{CaseFault, Trouble};
-use crate::reading::placed;
-use crate::texts::{needed_bytes, some_bytes};
-use crate::values::{number, opening, records, small, split_space};
+use crate::kinds::told::{begun_with, needed_bytes, opening_of, placed, two_told};
+use crate::values::{number, records, small, split_space};
 use bx_text::Words;
 use std::alloc::Global;
 
@@ -58,17 +57,23 @@ pub enum Answer {
     Refused(String),
 }
 
-/// A command, its answer, and what it leaves. Where something is none, it isn't told.
+/// What a command leaves. Where something is none, it isn't told.
+#[derive(Drop)]
+pub struct Left {
+    pub image: Vec<u8>,
+    pub journal: Option<Vec<u8>>,
+    pub redo: Option<Vec<u8>>,
+    pub log: Option<Vec<u8>>,
+}
+
+/// A command, its answer, and what it leaves.
 #[derive(Drop)]
 pub struct Row {
     /// The line of the command.
     pub line: u64,
     pub ask: Ask,
     pub answer: Answer,
-    pub image: Vec<u8>,
-    pub journal: Option<Vec<u8>>,
-    pub redo: Option<Vec<u8>>,
-    pub log: Option<Vec<u8>>,
+    pub left: Left,
 }
 
 /// A first image, and commands on it.
@@ -80,17 +85,6 @@ pub struct CommandsCase {
     pub redo: Vec<u8>,
     pub opening: Opening,
     pub rows: Vec<Row>,
-}
-
-/// What an opening finds, if the next line tells it.
-pub fn opening_of(cursor: &mut Cursor<'_>) -> Result<Option<Opening>, CaseFault> {
-    let Some(value) = cursor.value("open")? else {
-        return Ok(None);
-    };
-    match opening(value) {
-        Some(opening) => Ok(Some(opening)),
-        None => Err(cursor.trouble(Trouble::BadAnswer)),
-    }
 }
 
 /// A reply; none where it is bad.
@@ -198,6 +192,38 @@ fn next_ask(
     }
 }
 
+/// A command and its answer, if the next lines tell them.
+fn asked(alloc: Global, cursor: &mut Cursor<'_>) -> Result<Option<(Ask, Answer)>, CaseFault> {
+    let Some((ask, opening)) = next_ask(alloc, cursor)? else {
+        return Ok(None);
+    };
+    match opening {
+        Some(opening) => Ok(Some((ask, Answer::Opened(opening)))),
+        None => Ok(Some((ask, answer_of(alloc, cursor)?))),
+    }
+}
+
+/// The image that a command leaves: the one before where the next line doesn't tell it.
+fn image_left(alloc: Global, cursor: &mut Cursor<'_>, before: &[u8]) -> Result<Vec<u8>, CaseFault> {
+    match cursor.bytes(alloc, "image")? {
+        Some(image) => Ok(image),
+        None => Ok(before.to_vec(alloc)?),
+    }
+}
+
+/// What a command leaves.
+fn left_of(alloc: Global, cursor: &mut Cursor<'_>, before: &[u8]) -> Result<Left, CaseFault> {
+    let image = image_left(alloc, cursor, before)?;
+    let (journal, redo) = two_told(alloc, cursor, "journal", "redo-text")?;
+    let log = cursor.bytes(alloc, "log")?;
+    Ok(Left {
+        image,
+        journal,
+        redo,
+        log,
+    })
+}
+
 /// The command that the next lines tell, with what it gives, if they tell one.
 fn next_row(
     alloc: Global,
@@ -205,25 +231,15 @@ fn next_row(
     before: &[u8],
 ) -> Result<Option<Row>, CaseFault> {
     let line = cursor.next_line();
-    let Some((ask, opening)) = next_ask(alloc, cursor)? else {
+    let Some((ask, answer)) = asked(alloc, cursor)? else {
         return Ok(None);
     };
-    let answer = match opening {
-        Some(opening) => Answer::Opened(opening),
-        None => answer_of(alloc, cursor)?,
-    };
-    let image = match cursor.bytes(alloc, "image")? {
-        Some(image) => image,
-        None => before.to_vec(alloc)?,
-    };
+    let left = left_of(alloc, cursor, before)?;
     Ok(Some(Row {
         line,
         ask,
         answer,
-        image,
-        journal: cursor.bytes(alloc, "journal")?,
-        redo: cursor.bytes(alloc, "redo-text")?,
-        log: cursor.bytes(alloc, "log")?,
+        left,
     }))
 }
 
@@ -232,7 +248,7 @@ fn rows(alloc: Global, cursor: &mut Cursor<'_>, first: &[u8]) -> Result<Vec<Row>
     let mut list: Vec<Row> = Vec::new(alloc);
     for _ in 0..cursor.len() {
         let before = match list.last() {
-            Some(row) => row.image.as_slice(),
+            Some(row) => row.left.image.as_slice(),
             None => first,
         };
         let Some(row) = next_row(alloc, cursor, before)? else {
@@ -245,17 +261,8 @@ fn rows(alloc: Global, cursor: &mut Cursor<'_>, first: &[u8]) -> Result<Vec<Row>
 
 /// The case whose lines follow.
 pub fn commands_case(alloc: Global, cursor: &mut Cursor<'_>) -> Result<CommandsCase, CaseFault> {
-    let image = needed_bytes(alloc, cursor, "image")?;
-    let journal = some_bytes(alloc, cursor, "journal")?;
-    let redo = some_bytes(alloc, cursor, "redo-text")?;
-    let opening = match opening_of(cursor)? {
-        Some(opening) => opening,
-        None => Opening::Clean {
-            changes: 0,
-            undone: 0,
-        },
-    };
-    let rows = rows(alloc, cursor, image.as_slice())?;
+    let (image, journal, redo) = begun_with(alloc, cursor, false)?;
+    let (opening, rows) = played(alloc, cursor, image.as_slice())?;
     Ok(CommandsCase {
         image,
         journal,
@@ -263,4 +270,20 @@ pub fn commands_case(alloc: Global, cursor: &mut Cursor<'_>) -> Result<CommandsC
         opening,
         rows,
     })
+}
+
+/// What is opened, and the commands on it.
+fn played(
+    alloc: Global,
+    cursor: &mut Cursor<'_>,
+    first: &[u8],
+) -> Result<(Opening, Vec<Row>), CaseFault> {
+    let opening = match opening_of(cursor)? {
+        Some(opening) => opening,
+        None => Opening::Clean {
+            changes: 0,
+            undone: 0,
+        },
+    };
+    Ok((opening, rows(alloc, cursor, first)?))
 }

@@ -1,7 +1,7 @@
 //! Cases of reading.
 use crate::cursor::Cursor;
 use crate::fault::{CaseFault, Trouble};
-use crate::values::{number, split_space};
+use crate::kinds::told::{needed_bytes, placed};
 use std::alloc::Global;
 
 /// What a text that is read gives.
@@ -24,23 +24,32 @@ pub struct ReadingCase {
     pub reads: Reads,
 }
 
+/// Whether a text is plain hexadecimal, and the text.
+fn read_text(alloc: Global, cursor: &mut Cursor<'_>) -> Result<(bool, Vec<u8>), CaseFault> {
+    if let Some(text) = cursor.bytes(alloc, "dump")? {
+        return Ok((false, text));
+    }
+    match cursor.bytes(alloc, "plain")? {
+        Some(text) => Ok((true, text)),
+        None => Err(cursor.next_trouble(Trouble::MissingLine("dump"))),
+    }
+}
+
+/// What a text gives.
+fn reads_of(alloc: Global, cursor: &mut Cursor<'_>, plain: bool) -> Result<Reads, CaseFault> {
+    if let Some(text) = cursor.text(alloc, "fault")? {
+        return Ok(Reads::Fault(text));
+    }
+    if plain {
+        return Ok(Reads::Bytes(needed_bytes(alloc, cursor, "bytes")?));
+    }
+    Ok(Reads::Pieces(pieces(alloc, cursor)?))
+}
+
 /// The case whose lines follow.
 pub fn reading_case(alloc: Global, cursor: &mut Cursor<'_>) -> Result<ReadingCase, CaseFault> {
-    let (plain, text) = match cursor.bytes(alloc, "dump")? {
-        Some(text) => (false, text),
-        None => match cursor.bytes(alloc, "plain")? {
-            Some(text) => (true, text),
-            None => return Err(cursor.next_trouble(Trouble::MissingLine("dump"))),
-        },
-    };
-    let reads = match cursor.text(alloc, "fault")? {
-        Some(text) => Reads::Fault(text),
-        None if plain => match cursor.bytes(alloc, "bytes")? {
-            Some(bytes) => Reads::Bytes(bytes),
-            None => return Err(cursor.next_trouble(Trouble::MissingLine("bytes"))),
-        },
-        None => Reads::Pieces(pieces(alloc, cursor)?),
-    };
+    let (plain, text) = read_text(alloc, cursor)?;
+    let reads = reads_of(alloc, cursor, plain)?;
     Ok(ReadingCase { plain, text, reads })
 }
 
@@ -54,18 +63,4 @@ fn pieces(alloc: Global, cursor: &mut Cursor<'_>) -> Result<Vec<(u64, Vec<u8>)>,
         list.push(placed(alloc, cursor, value)?)?;
     }
     Ok(list)
-}
-
-/// An address, and the bytes at it.
-pub fn placed(
-    alloc: Global,
-    cursor: &mut Cursor<'_>,
-    value: &[u8],
-) -> Result<(u64, Vec<u8>), CaseFault> {
-    let (at, parts) = split_space(value);
-    let Some(at) = number(at) else {
-        return Err(cursor.trouble(Trouble::BadNumber));
-    };
-    let bytes = cursor.parts(alloc, parts.unwrap_or(b""))?;
-    Ok((at, bytes))
 }

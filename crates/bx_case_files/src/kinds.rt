@@ -1,0 +1,6 @@
+//! The four kinds of cases, and what they share.
+pub mod commands;
+pub mod reading;
+pub mod texts;
+pub mod told;
+pub mod words;
