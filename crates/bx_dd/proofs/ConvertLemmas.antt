@@ -5,16 +5,17 @@ use Rattle.bx_dd.proofs.BlockLemmas.{length-swapped}
 use Rattle.bx_text.proofs.PiecesLemmas.{in_pieces-none, in_pieces-more}
 use Rattle.bx_dd.specs.declared.convert.form.Form.{Form}
 use Rattle.bx_dd.specs.Counting.{counts_of}
-use Rattle.bx_dd.specs.Output.{converted, cut_records, joined, block_of, padded, swapped, cased, filler}
+use Rattle.bx_dd.specs.Output.{converted, cut_records, joined, padded, swapped, cased, filler}
+use Rattle.bx_dd.specs.inner.Output.{block_of}
 
 pub joined_none : (form : Form) → 0 < form.ibs → joined form [] ≡ []
-unfolding joined
+unfolding joined block_of
 joined_none form pos = in_pieces-none (block_of form) form.ibs pos
 
 -- one block more
 pub joined_more : (form : Form) (input block : List ℕ) → 0 < form.ibs → length input % form.ibs ≡ 0 → 0 < length block → length block ≤ form.ibs →
     joined form (input ++ block) ≡ joined form input ++ block_of form block
-unfolding joined
+unfolding joined block_of
 joined_more form input block pos whole some fits = in_pieces-more (block_of form) form.ibs input block pos whole some fits
 
 length-padded : (fill n : ℕ) (xs : List ℕ) → length xs ≤ n → length (padded fill n xs) ≡ n

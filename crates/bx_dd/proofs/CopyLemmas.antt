@@ -224,11 +224,12 @@ module _ {A : Type 0} (plan : Plan A) (skipped input : List ℕ) (len : length s
   asked None fits = tt
   asked (Some n) fits = omega (arith, length-append skipped input, len, fits)
 
-  read_out : (r : Option (List ℕ)) (count : Option ℕ) → (length input ≡ most_of count plan.ibs) ⊎ IsAtEnd r → length input ≤ 2 ^ 40 → IsReadOut r plan.ibs plan.skip count (skipped ++ input)
-  read_out r None (inl all) small = absurd (omega arith)
-  read_out r None (inr end) small = end
-  read_out r (Some n) (inl all) small = inl (omega (arith, length-append skipped input, len, all))
-  read_out r (Some n) (inr end) small = inr end
+  read_out : (r : Option (List ℕ)) (count : Option ℕ) → length input ≤ most_of count plan.ibs → (length input ≡ most_of count plan.ibs) ⊎ IsAtEnd r → length input ≤ 2 ^ 40 →
+      IsReadOut r plan.ibs plan.skip count (skipped ++ input)
+  read_out r None fits (inl all) small = absurd (omega arith)
+  read_out r None fits (inr end) small = end
+  read_out r (Some n) fits (inl all) small = (asked (Some n) fits, inr (omega (arith, length-append skipped input, len, all)))
+  read_out r (Some n) fits (inr end) small = (asked (Some n) fits, inl end)
 
   pub copied : (r0 r1 r2 w0 w1 : Option (List ℕ)) (counts : Counts) → Consumes r0 r1 skipped → Consumes r1 r2 input → (length input ≡ most_of plan.count plan.ibs) ⊎ IsAtEnd r2 →
       plan.skip * plan.ibs + length input ≤ 2 ^ 40 → Appends w0 w1 (converted (form_of plan) input) → counts ≡ counts_of (form_of plan) input → IsCopy plan r0 r2 w0 w1 counts
@@ -238,8 +239,7 @@ module _ {A : Type 0} (plan : Plan A) (skipped input : List ℕ) (len : length s
     record {
       input = skipped ++ input;
       consumed = Consumes-trans r0 r1 r2 skipped input skips reads;
-      all = read_out r2 plan.count ends (omega arith);
-      within = asked plan.count few;
+      ends = read_out r2 plan.count few ends (omega arith);
       few = omega (arith, length-append skipped input, len);
       made = ap (converted (form_of plan)) (sym selects);
       counted = counted ∙ ap (counts_of (form_of plan)) (sym selects);
@@ -275,7 +275,7 @@ module _ {A : Type 0} (plan : Plan A) (input : List ℕ) (few : length input ≤
 
   read_short : (r : Option (List ℕ)) (count : Option ℕ) → IsAtEnd r → IsReadOut r plan.ibs plan.skip count input
   read_short r None end = end
-  read_short r (Some n) end = inr end
+  read_short r (Some n) end = (asked_skip plan.ibs plan.skip (length input) (Some n) few, inl end)
 
   pub copied_none : (r0 r1 w : Option (List ℕ)) (counts : Counts) → HasSizes (form_of plan) → Consumes r0 r1 input → IsAtEnd r1 → length input ≤ 2 ^ 40 → counts ≡ counts_of (form_of plan) [] →
       IsCopy plan r0 r1 w w counts
@@ -285,8 +285,7 @@ module _ {A : Type 0} (plan : Plan A) (input : List ℕ) (few : length input ≤
     record {
       input = input;
       consumed = reads;
-      all = read_short r1 plan.count end;
-      within = asked_skip plan.ibs plan.skip (length input) plan.count few;
+      ends = read_short r1 plan.count end;
       few = small;
       made = sym (ap (converted (form_of plan)) (nothing plan.count) ∙ converted_none (form_of plan) sizes);
       counted = counted ∙ ap (counts_of (form_of plan)) (sym (nothing plan.count));

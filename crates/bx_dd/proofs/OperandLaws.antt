@@ -18,9 +18,9 @@ use Rattle.bx_dd.specs.declared.fault.DdFault.{DdFault}
 use Rattle.bx_dd.specs.declared.fault.DdFault.TheVariants.{UnknownOperand, BadNumber, NumberTooLarge, ZeroSize, Repeated}
 use Rattle.bx_dd.specs.declared.operands.Kind.{Kind}
 use Rattle.bx_dd.specs.declared.operands.Kind.TheVariants.{File, Size, Number, Conversions}
-use Rattle.bx_dd.specs.Number.{number_of}
-use Rattle.bx_dd.specs.Operands.{is_operand, name_of, value_of, kind_of, is_conversion, value_fault, is_named, is_given, kind_fault, operand_fault, first_fault, given, number_given, converts}
-use Rattle.bx_dd.specs.inner.Operands.{parts_of, is_equals, number_fault, size_fault}
+use Rattle.bx_dd.specs.inner.Number.{number_of}
+use Rattle.bx_dd.specs.Operands.{is_operand, name_of, value_of, kind_of, is_conversion, value_fault, is_given, operand_fault, first_fault, given, number_given, converts}
+use Rattle.bx_dd.specs.inner.Operands.{parts_of, is_equals, is_named, kind_fault, number_fault, size_fault}
 use Rattle.bx_dd.specs.OperandGrammar.{IsOperand, IsAmong, AreConversions, IsSoundValue, IsValueFault, IsSoundBehind, IsFaultBehind, OperandHasForm, AreSoundBehind, OperandsHaveForm, Says, WordsAreAskedFor}
 
 and_true : (a b : Bool) → (a && b) ≡ true → (a ≡ true) × (b ≡ true)
@@ -178,21 +178,17 @@ given_false name words never = ⊎_elim (λ yes_it. absurd (never yes_it.1)) (λ
 -- ---- numbers
 
 number_ok : (value : List ℕ) (n : ℕ) → IsProduct value n → n ≤ 2 ^ 40 - 1 → number_of value ≡ Ok n
-unfolding number_of
 number_ok value n is few = ((size_has_form Product value).0 n).1 (is, few)
 
 number_large : (value : List ℕ) (n : ℕ) → IsProduct value n → 2 ^ 40 - 1 < n → number_of value ≡ Err TooLarge
-unfolding number_of
 number_large value n is many = (size_has_form Product value).1.1 (n, is, many)
 
 number_bad : (value : List ℕ) → ((n : ℕ) → IsProduct value n → ⊥) → number_of value ≡ Err Bad
-unfolding number_of
 number_bad value never = (size_has_form Product value).2.1 never
 
 number_is : (value : List ℕ) (r : Result ℕ SizeFault) → number_of value ≡ r →
     ((n : ℕ) × (r ≡ Ok n) × IsProduct value n × (n ≤ 2 ^ 40 - 1))
     ⊎ (((n : ℕ) × (r ≡ Err TooLarge) × IsProduct value n × (2 ^ 40 - 1 < n)) ⊎ ((r ≡ Err Bad) × ((n : ℕ) → IsProduct value n → ⊥)))
-unfolding number_of
 number_is value (Ok n) e = let is = ((size_has_form Product value).0 n).0 e in inl (n, refl, is.0, is.1)
 number_is value (Err TooLarge) e = let is = (size_has_form Product value).1.0 e in inr (inl (is.0, refl, is.1, is.2))
 number_is value (Err Bad) e = inr (inr (refl, (size_has_form Product value).2.0 e))
@@ -327,8 +323,7 @@ operand_unknown before word never = go (is_operand word) refl
     known (Some kind) e is = absurd (never (name_of word) (value_of word) kind (operand_of word is) e)
 
     go : (b : Bool) → is_operand word ≡ b →
-        cond b (kind_fault (length before + 1) (kind_of (name_of word)) (is_given (name_of word) before) (value_of word)) (Some (UnknownOperand (length before + 1)))
-        ≡ Some (UnknownOperand (length before + 1))
+        kind_fault (length before + 1) (cond b (kind_of (name_of word)) None) (is_given (name_of word) before) (value_of word) ≡ Some (UnknownOperand (length before + 1))
     go false e = refl
     go true e = known (kind_of (name_of word)) refl e
 

@@ -17,19 +17,15 @@ use Rattle.bx_dd.specs.declared.operands.Kind.TheVariants.{Size}
 use Rattle.bx_text.specs.declared.number.size.SizeStyle.TheVariants.{Product}
 use Rattle.bx_text.specs.Number.{size_value}
 use Rattle.bx_text.specs.inner.Number.{within}
-use Rattle.bx_dd.specs.Number.{number_of}
-use Rattle.bx_dd.specs.Operands.{is_operand, name_of, value_of, kind_of, is_named, is_given, value_fault, kind_fault, operand_fault, first_fault, given, number_given, number_or, converts, later_fault, fault_of}
-use Rattle.bx_dd.specs.inner.Operands.{ibs_of, obs_of, shape_of, is_conflict, is_cbs_missing, size_fault}
+use Rattle.bx_dd.specs.inner.Number.{number_of}
+use Rattle.bx_dd.specs.Operands.{is_operand, name_of, value_of, kind_of, is_given, value_fault, operand_fault, first_fault, given, number_given, number_or, converts, fault_of}
+use Rattle.bx_dd.specs.inner.Operands.{ibs_of, obs_of, shape_of, is_named, kind_fault, is_conflict, is_cbs_missing, later_fault, size_fault}
 
 -- ---- options and tests
 
 pub or_none : (a b : Option DdFault) → option_or a b ≡ None → (a ≡ None) × (b ≡ None)
 or_none None b e = (refl, e)
 or_none (Some x) b e = absurd (let wrong : Some x ≡ None = e in cc)
-
-cond_none : (c : Bool) (x y : Option DdFault) → c ≡ true → cond c x y ≡ None → x ≡ None
-cond_none true x y is e = e
-cond_none false x y is e = absurd (cc)
 
 -- a test that no fault follows from
 test_none : (c : Bool) (f : DdFault) (y : Option DdFault) → cond c (Some f) y ≡ None → (c ≡ false) × (y ≡ None)
@@ -77,8 +73,8 @@ value_sound name kind words value none is found =
     let is_name = named name w passes in
     let one = sound [] words none k w got.1 in
     let at = length one.0 + 1 in
-    let kinds = cond_none (is_operand w) _ _ is_name.0 one.1 in
-    (at, subst (λ (v : List ℕ). value_fault at kind v ≡ None) got.2 (kind_sound at (kind_of (name_of w)) kind _ (value_of w) (ap kind_of is_name.1 ∙ is) kinds))
+    let known : cond (is_operand w) (kind_of (name_of w)) None ≡ Some kind = rw (is_name.0, is_name.1) is in
+    (at, subst (λ (v : List ℕ). value_fault at kind v ≡ None) got.2 (kind_sound at (cond (is_operand w) (kind_of (name_of w)) None) kind _ (value_of w) known one.1))
 
 some : (n : ℕ) → (n ≡ 0 → ⊥) → 0 < n
 some n other = omega arith
@@ -112,7 +108,6 @@ within_limit n None is = absurd (cc)
 within_limit n (Some m) is = low_limit m n (leb m 1099511627775) refl is
 
 number_limit : (value : List ℕ) (n : ℕ) → number_of value ≡ Ok n → n ≤ 1099511627775
-unfolding number_of
 number_limit value n is = within_limit n (size_value Product value) is
 
 pub number_few : (name : List ℕ) (words : List (List ℕ)) (n : ℕ) → number_given name words ≡ Some n → n ≤ 1099511627775

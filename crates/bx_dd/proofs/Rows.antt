@@ -4,8 +4,8 @@ use Rattle.bx_text.specs.InPieces.{in_pieces}
 use Rattle.bx_dd.specs.declared.convert.form.Form.{Form}
 use Rattle.bx_dd.specs.declared.convert.form.Letters.TheVariants.{Keep, Upper}
 use Rattle.bx_dd.specs.declared.convert.form.Shape.TheVariants.{Flat, Block, Unblock}
-use Rattle.bx_dd.specs.Output.{converted, cut_records, joined, block_of, swapped, padded, records, shaped, unfinished}
-use Rattle.bx_dd.specs.inner.Output.{fitted, line_of}
+use Rattle.bx_dd.specs.Output.{converted, cut_records, joined, swapped, padded, records, shaped, unfinished}
+use Rattle.bx_dd.specs.inner.Output.{block_of, fitted, line_of}
 use Rattle.bx_dd.specs.inner.Transfer.{selected}
 use Rattle.bx_dd.specs.inner.Counting.{parts_in}
 use Rattle.bx_dd.specs.inner.Standing.{rest_of}

@@ -8,14 +8,12 @@ use Rattle.bx_text.specs.declared.stream.State.{State}
 use Rattle.bx_text.specs.declared.stream.State.TheVariants.{Open, Ended}
 use Rattle.bx_dd.specs.declared.fault.DdFault.{DdFault}
 use Rattle.bx_dd.specs.declared.fault.DdFault.TheVariants.{NoMemory, ReadFailed, InputTooLong}
-use Rattle.bx_dd.specs.Transfer.{HasStopped, IsStopCause}
-use Rattle.bx_dd.specs.inner.Transfer.{IsReadOut, IsWithin, HasRead, StopsWithin, selected}
+use Rattle.bx_dd.specs.Transfer.{HasStopped}
+use Rattle.bx_dd.specs.inner.Transfer.{IsReadOut, IsStopCause, IsWithin, HasRead, StopsWithin, selected}
 
 cause_more : (e : DdFault) (room n m : ℕ) → n ≤ room → IsStopCause e (room - n) m → IsStopCause e room (n + m)
-cause_more NoMemory room n m few h = omega arith
-cause_more ReadFailed room n m few h = omega arith
-cause_more InputTooLong room n m few h = omega arith
-cause_more _ room n m few h = h
+cause_more e room n m few (inl long) = inl (long.0, omega (arith, long.1))
+cause_more e room n m few (inr other) = inr (other.0, omega (arith, other.1))
 
 -- bytes were read, and then reading stopped
 pub stopped_more : (a b c : Option (List ℕ)) (input : List ℕ) (room now less most : ℕ) (e : DdFault) → Consumes a b input → now ≡ room - length input → length input ≤ room →
@@ -31,15 +29,11 @@ stopped_more a b c input room now less most e read is few all more =
 
 -- bytes were read, and then memory was wanted
 pub stopped_memory : (a b : Option (List ℕ)) (input : List ℕ) (room : ℕ) (e : DdFault) → Consumes a b input → length input ≤ room → e ≡ NoMemory → HasStopped a b room e
-stopped_memory a b input room e read few is =
-    let P : DdFault → Type 0 = λ f. IsStopCause f room (length input) in
-    (input, read, subst P (sym is) few)
+stopped_memory a b input room e read few is = (input, read, inr (inl is, few))
 
 pub within_memory : (a b : Option (List ℕ)) (input : List ℕ) (room most : ℕ) (e : DdFault) → Consumes a b input → length input ≤ room → length input ≤ most → e ≡ NoMemory →
     StopsWithin most a b room e
-within_memory a b input room most e read few all is =
-    let P : DdFault → Type 0 = λ f. IsStopCause f room (length input) in
-    (input, read, subst P (sym is) few, all)
+within_memory a b input room most e read few all is = (input, read, inr (inl is, few), all)
 
 -- what stops within some bytes stops
 pub has_stopped : (most : ℕ) (a b : Option (List ℕ)) (room : ℕ) (e : DdFault) → StopsWithin most a b room e → HasStopped a b room e
@@ -98,7 +92,7 @@ module _ (old mid new : Option (List ℕ)) (ibs skip turns : ℕ) (first second 
   selected_both None is = after_skip
   selected_both (Some n) is = ap (take (n * ibs)) after_skip ∙ take_all (n * ibs) input (subst (λ (k : ℕ). length input ≤ k * ibs) is takes.within)
 
-  pub within_both : (count : Option ℕ) → turns ≡ unwrap_or count (2 ^ 64 - 1) → IsWithin ibs skip count (skipped ++ input)
+  within_both : (count : Option ℕ) → turns ≡ unwrap_or count (2 ^ 64 - 1) → IsWithin ibs skip count (skipped ++ input)
   within_both None is = tt
   within_both (Some n) is = omega (arith, length-append skipped input, skips.within, subst (λ (k : ℕ). length input ≤ k * ibs) is takes.within)
 
@@ -109,13 +103,14 @@ module _ (old mid new : Option (List ℕ)) (ibs skip turns : ℕ) (first second 
         | inr ended ↦ ended.1
       ]
   read_out_both (Some n) is some few =
-      elim takes.extent [
+      let ends : IsAtEnd new ⊎ (length (skipped ++ input) ≡ (skip + n) * ibs) = elim takes.extent [
         | inl whole ↦ elim skips.extent [
-          | inl all ↦ inl (omega (arith, length-append skipped input, all.1, subst (λ (k : ℕ). length input ≡ k * ibs) is whole.1))
+          | inl all ↦ inr (omega (arith, length-append skipped input, all.1, subst (λ (k : ℕ). length input ≡ k * ibs) is whole.1))
           | inr ended ↦ absurd (let wrong : Open ≡ Ended = sym whole.0 ∙ (none ended.0).1 in cc)
         ]
-        | inr ended ↦ inr ended.1
-      ]
+        | inr ended ↦ inl ended.1
+      ] in
+      (within_both (Some n) is, ends)
 
 pub IfOk-both : {T E : Type 0} (r : Result T E) (P Q R : T → Type 0) → ((t : T) → P t → Q t → R t) → IfOk r P → IfOk r Q → IfOk r R
 IfOk-both (Ok t) P Q R f p q = f t p q

@@ -8,7 +8,8 @@ use borrow.Rule.Slice.PartMut.{put_mid, post_of}
 use Rattle.bx_text.specs.InPieces.{in_pieces}
 use Rattle.bx_text.proofs.PiecesLemmas.{in_pieces-append, in_pieces-none, in_pieces-one}
 use Rattle.bx_dd.specs.declared.convert.form.Form.{Form}
-use Rattle.bx_dd.specs.Output.{block_of, cased, filler, joined, padded, swapped}
+use Rattle.bx_dd.specs.Output.{cased, filler, joined, padded, swapped}
+use Rattle.bx_dd.specs.inner.Output.{block_of}
 use Rattle.bx_dd.specs.inner.Streaming.{unit_of}
 use Rattle.bx_dd.proofs.ConvertLemmas.{joined_none, joined_more}
 
@@ -46,7 +47,7 @@ unfolding block_of
 block_letters form b e = let none = neither form e in rw (none.0, none.1) refl
 
 letters_all : (form : Form) (k : ℕ) (xs : List ℕ) → (form.swab || form.sync) ≡ false → 0 < form.ibs → length xs ≤ k → joined form xs ≡ map (cased form.letters) xs
-unfolding joined
+unfolding joined block_of
 letters_all form k [] e pos few = in_pieces-none (block_of form) form.ibs pos
 letters_all form zero (x ∷ xs) e pos few = absurd (omega arith)
 letters_all form (suc k) (x ∷ xs) e pos few =
@@ -71,7 +72,7 @@ pub joined_letters : (form : Form) (xs : List ℕ) → (form.swab || form.sync) 
 joined_letters form xs e pos = letters_all form (length xs) xs e pos (omega arith)
 
 blocks_joined : (form : Form) (a b : List ℕ) → 0 < form.ibs → length a % form.ibs ≡ 0 → joined form (a ++ b) ≡ joined form a ++ joined form b
-unfolding joined
+unfolding joined block_of
 blocks_joined form a b pos whole =
     let count : length a ≡ form.ibs * (length a / form.ibs) = omega (arith, div-add-mod (length a) form.ibs) in
     in_pieces-append (block_of form) form.ibs (length a / form.ibs) a b pos count
@@ -109,7 +110,7 @@ drop_behind buf part d k n within len same =
 
 -- one block
 pub joined_one : (form : Form) (b : List ℕ) → 0 < length b → length b ≤ form.ibs → joined form b ≡ block_of form b
-unfolding joined
+unfolding joined block_of
 joined_one form b some fits = in_pieces-one (block_of form) form.ibs b some fits
 
 -- letters alone

@@ -4,7 +4,6 @@ pub mod Standing
 pub mod Plan
 pub mod Transfer
 pub mod Streaming
-pub mod Number
 pub mod Operands
 pub mod Parsing
 pub mod Laws

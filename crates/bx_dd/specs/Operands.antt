@@ -1,16 +1,17 @@
 -- What dd's operands ask for, and which of them is faulty.
 use Rattle.std.specs.Prelude.{ℕ, ◌+◌, ◌*◌, ◌^◌, Bool, not, ◌==◌, ◌&&◌, ◌||◌, nat_lt, if◌then◌else◌, List, [], ◌∷◌, ◌++◌, length, slice_get, Option, None, Some, option_and_then, unwrap_or, Result, Ok, Err, codes}
 use Rattle.std.specs.List.{slice_split, position_or_len, before_first, after_first, list_any, list_all}
-use Rattle.std.specs.Option.{option_map, option_or}
+use Rattle.std.specs.Option.{option_map, option_map_or, option_or}
 use Rattle.std.specs.Result.{result_ok}
 use Rattle.std.specs.Str.{bytes_eq}
 use Rattle.bx_dd.specs.declared.fault.DdFault.{DdFault}
 use Rattle.bx_dd.specs.declared.fault.DdFault.TheVariants.{UnknownOperand, BadNumber, NumberTooLarge, ZeroSize, Repeated, Conflict, MissingCbs}
 use Rattle.bx_text.specs.declared.number.size.SizeFault.{SizeFault}
 use Rattle.bx_text.specs.declared.number.size.SizeFault.TheVariants.{Bad, TooLarge}
+use Rattle.bx_text.specs.declared.number.size.SizeStyle.TheVariants.{Product}
+use Rattle.bx_text.specs.Number.{read_size}
 use Rattle.bx_dd.specs.declared.operands.Kind.{Kind}
 use Rattle.bx_dd.specs.declared.operands.Kind.TheVariants.{File, Size, Number, Conversions}
-use Rattle.bx_dd.specs.Number.{number_of}
 
 -- ---- one operand: the name in front of the first `=`, and the value behind it
 
@@ -47,31 +48,27 @@ checked at check (Ok n) = check n
 checked at check (Err Bad) = Some (BadNumber at)
 checked at check (Err TooLarge) = Some (NumberTooLarge at)
 
--- the fault of a value; a size is 1 to `most`
+-- the fault of a value; a number is a product of factors, and a size is 1 to `most`
 abbrev pub value_fault : ℕ → Kind → List ℕ → Option DdFault
 value_fault at File value = if length value == 0 then Some (UnknownOperand at) else None
 value_fault at (Size most) value =
-    checked at (λ n. if nat_lt most n then Some (NumberTooLarge at) else if n == 0 then Some (ZeroSize at) else None) (number_of value)
-value_fault at Number value = checked at (λ n. None) (number_of value)
+    checked at (λ n. if nat_lt most n then Some (NumberTooLarge at) else if n == 0 then Some (ZeroSize at) else None) (read_size Product value)
+value_fault at Number value = checked at (λ n. None) (read_size Product value)
 value_fault at Conversions value = if list_all is_conversion (slice_split (λ b. b == 44) value) then None else Some (UnknownOperand at)
 
--- whether the word is an operand of this name
-abbrev pub is_named : List ℕ → List ℕ → Bool
-is_named name word = is_operand word && bytes_eq (name_of word) name
+-- the place of the first word that is an operand of this name, counted from 0, or how many words there are
+abbrev pub place_of : List ℕ → List (List ℕ) → ℕ
+place_of name words = position_or_len (λ word. is_operand word && bytes_eq (name_of word) name) words
 
 -- whether one of the words is
 abbrev pub is_given : List ℕ → List (List ℕ) → Bool
-is_given name words = nat_lt (position_or_len (is_named name) words) (length words)
+is_given name words = nat_lt (place_of name words) (length words)
 
--- the fault of an operand of this kind that may have been given before
-abbrev pub kind_fault : ℕ → Option Kind → Bool → List ℕ → Option DdFault
-kind_fault at None before value = Some (UnknownOperand at)
-kind_fault at (Some kind) before value = if before then Some (Repeated at) else value_fault at kind value
-
--- the fault of a word behind others
+-- the fault of a word behind others: its name isn't known, or was given before, or its value is at fault
 abbrev pub operand_fault : List (List ℕ) → List ℕ → Option DdFault
-operand_fault before word = if is_operand word then kind_fault (length before + 1) (kind_of (name_of word)) (is_given (name_of word) before) (value_of word)
-    else Some (UnknownOperand (length before + 1))
+operand_fault before word = let at = length before + 1 in option_map_or
+    (λ kind. if is_given (name_of word) before then Some (Repeated at) else value_fault at kind (value_of word))
+    (if is_operand word then kind_of (name_of word) else None) (Some (UnknownOperand at))
 
 -- the fault of the first faulty word
 abbrev pub first_fault : List (List ℕ) → List (List ℕ) → Option DdFault
@@ -82,11 +79,11 @@ first_fault before (word ∷ words) = option_or (operand_fault before word) (fir
 
 -- the value of the operand of this name
 abbrev pub given : List ℕ → List (List ℕ) → Option (List ℕ)
-given name words = option_map value_of (slice_get words (position_or_len (is_named name) words))
+given name words = option_map value_of (slice_get words (place_of name words))
 
 -- the number of an operand that is given and has one
 abbrev pub number_given : List ℕ → List (List ℕ) → Option ℕ
-number_given name words = option_and_then (λ value. result_ok (number_of value)) (given name words)
+number_given name words = option_and_then (λ value. result_ok (read_size Product value)) (given name words)
 
 -- the same, or another number
 abbrev pub number_or : ℕ → List ℕ → List (List ℕ) → ℕ
@@ -100,20 +97,13 @@ block_size name words = number_or (number_or 512 name words) (codes "bs") words
 abbrev pub converts : List ℕ → List (List ℕ) → Bool
 converts part words = list_any (λ p. bytes_eq p part) (slice_split (λ b. b == 44) (unwrap_or (given (codes "conv") words) []))
 
--- ---- faults of operands that each are sound
-
--- A fault of the operands together: conversions that exclude each other, records that are asked for without a size of them,
--- and skip or seek past 2^48 bytes, in this order.
-abbrev pub later_fault : List (List ℕ) → Option DdFault
-later_fault words =
+-- The fault of dd's operands: the first that one has by itself, and then one of them together: conversions that exclude each other,
+-- records that are asked for without a size of them, and skip or seek past 2^48 bytes, in this order.
+abbrev pub fault_of : List (List ℕ) → Option DdFault
+fault_of words = option_or (first_fault [] words) (
     if (converts (codes "lcase") words && converts (codes "ucase") words) || (converts (codes "block") words && converts (codes "unblock") words)
     then Some Conflict else
     if (converts (codes "block") words || converts (codes "unblock") words) && not (is_given (codes "cbs") words) then Some MissingCbs else
-    if nat_lt (2 ^ 48) (number_or 0 (codes "skip") words * block_size (codes "ibs") words)
-    then Some (NumberTooLarge (position_or_len (is_named (codes "skip")) words + 1)) else
-    if nat_lt (2 ^ 48) (number_or 0 (codes "seek") words * block_size (codes "obs") words)
-    then Some (NumberTooLarge (position_or_len (is_named (codes "seek")) words + 1)) else None
-
--- the fault of dd's operands
-abbrev pub fault_of : List (List ℕ) → Option DdFault
-fault_of words = option_or (first_fault [] words) (later_fault words)
+    if nat_lt (2 ^ 48) (number_or 0 (codes "skip") words * block_size (codes "ibs") words) then Some (NumberTooLarge (place_of (codes "skip") words + 1)) else
+    if nat_lt (2 ^ 48) (number_or 0 (codes "seek") words * block_size (codes "obs") words) then Some (NumberTooLarge (place_of (codes "seek") words + 1))
+    else None)

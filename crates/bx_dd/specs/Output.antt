@@ -30,14 +30,10 @@ cased Keep b = b
 cased Upper b = to_ascii_uppercase b
 cased Lower b = to_ascii_lowercase b
 
--- one block: padded, then swapped, then in one case
-unfoldable pub block_of : Form → List ℕ → List ℕ
-block_of form block = let full = if form.sync then padded (filler form.shape) form.ibs block else block in
-    map (cased form.letters) (if form.swab then swapped full else full)
-
--- the blocks, joined
+-- the blocks, joined: each is padded, then swapped, then in one case
 unfoldable pub joined : Form → List ℕ → List ℕ
-joined form input = in_pieces (block_of form) form.ibs input
+joined form input = in_pieces (λ block. let full = if form.sync then padded (filler form.shape) form.ibs block else block in
+    map (cased form.letters) (if form.swab then swapped full else full)) form.ibs input
 
 -- the parts at newlines; after the last newline there is one only if bytes follow
 unfoldable pub records : List ℕ → List (List ℕ)

@@ -10,5 +10,4 @@ form_of plan = record { ibs = plan.ibs; obs = plan.obs; cbs = plan.cbs; swab = p
 
 -- the change that puts these bytes in their place: the image ends there first, unless it is to keep its tail
 abbrev pub change_of : {A P : Type 0} → Plan P → List ℕ → Change A
-change_of plan bytes =
-    record { base = if plan.notrunc then None else Some (plan.seek * plan.obs); writes = record { at = plan.seek * plan.obs; bytes = bytes } ∷ [] }
+change_of plan out = let at = plan.seek * plan.obs in record { base = if plan.notrunc then None else Some at; writes = record { at = at; bytes = out } ∷ [] }

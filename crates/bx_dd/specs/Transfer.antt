@@ -23,22 +23,15 @@ abbrev pub ReadsWithin : {A : Type 0} → Plan A → Option (List ℕ) → Optio
 ReadsWithin plan old new = (input : List ℕ) × Consumes old new input × IfSome plan.count (λ n. length input ≤ (plan.skip + n) * plan.ibs)
 
 -- Some input was read, up to its end or that of skip and count, and these bytes and counts are what the plan makes of it.
-pub record Copies {A : Type 0} (plan : Plan A) (old new : Option (List ℕ)) (bytes : List ℕ) (counts : Counts) : Type 0 where
+pub record Copies {A : Type 0} (plan : Plan A) (r0 r1 : Option (List ℕ)) (bytes : List ℕ) (counts : Counts) : Type 0 where
   pub input : List ℕ
-  pub consumed : Consumes old new input
-  pub all : MatchOption plan.count (IsAtEnd new) (λ n. (length input ≡ (plan.skip + n) * plan.ibs) ⊎ IsAtEnd new)
-  pub within : IfSome plan.count (λ n. length input ≤ (plan.skip + n) * plan.ibs)
+  pub consumed : Consumes r0 r1 input
+  pub ends : MatchOption plan.count (IsAtEnd r1) (λ n. (length input ≤ (plan.skip + n) * plan.ibs) × (IsAtEnd r1 ⊎ (length input ≡ (plan.skip + n) * plan.ibs)))
   pub few : length input ≤ 2 ^ 40
   pub made : bytes ≡ output_of plan input
   pub counted : counts ≡ counts_of (form_of plan) (selected_by plan input)
 
--- why a transfer stopped after n bytes where there was room for `room` of them: too long is one byte more
-abbrev pub IsStopCause : DdFault → ℕ → ℕ → Type 0
-IsStopCause NoMemory room n = n ≤ room
-IsStopCause ReadFailed room n = n ≤ room
-IsStopCause InputTooLong room n = n ≡ room + 1
-IsStopCause _ room n = ⊥
-
--- some bytes were read before the fault
+-- some bytes were read before the fault, where there was room for `room` of them: too long is one byte more
 abbrev pub HasStopped : Option (List ℕ) → Option (List ℕ) → ℕ → DdFault → Type 0
-HasStopped old new room fault = (bytes : List ℕ) × Consumes old new bytes × IsStopCause fault room (length bytes)
+HasStopped old new room fault = (bytes : List ℕ) × Consumes old new bytes
+    × (((fault ≡ InputTooLong) × (length bytes ≡ room + 1)) ⊎ (((fault ≡ NoMemory) ⊎ (fault ≡ ReadFailed)) × (length bytes ≤ room)))

@@ -6,3 +6,4 @@ pub mod Transfer
 pub mod Operands
 pub mod Output
 pub mod Counting
+pub mod Number

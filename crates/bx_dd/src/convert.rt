@@ -1,7 +1,8 @@
 //! Blocks converted one by one.
 ghost use Rattle.std.specs.Prelude.{◌≡◌, ◌≢◌, ℕ, ◌+◌, ◌-◌, ◌*◌, ◌%◌, ◌^◌, ◌<◌, ◌≤◌, List, [], ◌++◌, length, min, take, vec_capacity, IfOk, OnOk, IsOkUnless};
 ghost use Rattle.bx_dd.specs.Counting.{counts_of};
-ghost use Rattle.bx_dd.specs.Output.{block_of, converted, joined, unfinished};
+ghost use Rattle.bx_dd.specs.Output.{converted, joined, unfinished};
+ghost use Rattle.bx_dd.specs.inner.Output.{block_of};
 ghost use Rattle.bx_dd.specs.Plan.{form_of};
 ghost use Rattle.bx_dd.specs.Standing.{IsAfter};
 ghost use Rattle.bx_dd.specs.inner.Paged.{Takes, TakesWithin};

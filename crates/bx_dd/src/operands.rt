@@ -3,9 +3,9 @@ ghost use Rattle.std.specs.Prelude.{◌≡◌, ℕ, ◌+◌, ◌-◌, ◌*◌, �
 ghost use Rattle.std.specs.Option.{option_copied};
 ghost use Rattle.std.specs.List.{list_all, list_any, position_or_len};
 ghost use Rattle.std.specs.Str.{bytes_eq};
-ghost use Rattle.bx_dd.specs.Number.{number_of};
-ghost use Rattle.bx_dd.specs.Operands.{is_operand, name_of, value_of, kind_of, is_conversion, is_named, value_fault, operand_fault, first_fault, given, number_given, converts, block_size, number_or, is_given, later_fault, fault_of};
-ghost use Rattle.bx_dd.specs.inner.Operands.{parts_of, place_of, is_conflict, is_cbs_missing, letters_of, shape_of, number_fault, size_fault};
+ghost use Rattle.bx_dd.specs.inner.Number.{number_of};
+ghost use Rattle.bx_dd.specs.Operands.{is_operand, name_of, value_of, kind_of, is_conversion, value_fault, operand_fault, first_fault, given, number_given, converts, block_size, number_or, is_given, place_of, fault_of};
+ghost use Rattle.bx_dd.specs.inner.Operands.{parts_of, is_named, is_conflict, is_cbs_missing, later_fault, letters_of, shape_of, number_fault, size_fault};
 
 mod number;
 pub(crate) mod parse;
@@ -289,7 +289,7 @@ fn later_fault<W: Allocator>(words: &Words<W>) -> Option<DdFault>
 /// The fault of an operand that goes too far.
 fn too_large<W: Allocator>(words: &Words<W>, name: &str) -> DdFault
     requires { is_given name.now words.now ≡ true }
-    ensures { result ≡ DdFault.NumberTooLarge (place_of name.now words.now) }
+    ensures { result ≡ DdFault.NumberTooLarge (place_of name.now words.now + 1) }
 {
     DdFault::NumberTooLarge(place_of(words, words.len(), name) as u64 + 1)
 }

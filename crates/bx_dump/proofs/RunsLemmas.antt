@@ -10,7 +10,8 @@ use Rattle.std.proofs.lemmas.List.Sums.{prefix_len-le-length, prefix_len_passes,
 use Rattle.std.proofs.lemmas.List.Elements.{All-nil, All-cons, All-head, All-tail, All-append, All-weaker, Contains-append_left, Contains-append_right, Contains-push}
 use Rattle.bx_dump.specs.declared.od.options.Address.{Address}
 use Rattle.bx_text.specs.Ascii.{is_printable}
-use Rattle.bx_dump.specs.Strings.{place_text, is_run_start, run_at, line_at}
+use Rattle.bx_dump.specs.Strings.{place_text, is_run_start, line_at}
+use Rattle.bx_dump.specs.inner.Strings.{run_at}
 use Rattle.bx_dump.specs.Runs.{IsPrintableRun, IsRising, run_line, ShowsRuns}
 use Rattle.bx_dump.proofs.ScanLemmas.{both}
 

@@ -2,7 +2,7 @@
 use Rattle.std.specs.Prelude.{◌≡◌, ℕ, ◌^◌, ◌<◌, ◌≤◌, ◌⊎◌, List, length, Option}
 use Rattle.std.specs.Io.KnownBytes.{Consumes, IsAtEnd}
 use Rattle.bx_text.specs.declared.fault.IoFault.{IoFault}
-use Rattle.bx_text.specs.declared.fault.IoFault.TheVariants.{WriteFailed, SkipPastEnd}
+use Rattle.bx_text.specs.declared.fault.IoFault.TheVariants.{SkipPastEnd}
 use Rattle.bx_dump.specs.Od.{od_text}
 use Rattle.bx_dump.specs.Pages.{Dump, WritesFrontOf}
 use Rattle.bx_dump.specs.declared.od.options.OdOptions.{OdOptions}
@@ -10,11 +10,6 @@ use Rattle.bx_dump.specs.declared.od.options.OdOptions.{OdOptions}
 -- at least so many bytes were read
 abbrev pub Reaches : ℕ → Option (List ℕ) → Option (List ℕ) → Type 0
 Reaches count r0 r1 = (input : List ℕ) × Consumes r0 r1 input × (count ≤ length input)
-
--- A write fails only where so many bytes were read; where another fault comes before, nothing was written.
-abbrev pub FailsBehind : ℕ → Option (List ℕ) → Option (List ℕ) → Option (List ℕ) → Option (List ℕ) → IoFault → Type 0
-FailsBehind count r0 r1 w0 w1 (WriteFailed written) = Reaches count r0 r1
-FailsBehind count r0 r1 w0 w1 fault = (w1 ≡ w0) ⊎ Reaches count r0 r1
 
 -- the dump that the options ask for
 abbrev pub od_of : OdOptions → Dump

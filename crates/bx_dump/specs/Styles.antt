@@ -1,11 +1,11 @@
 -- The text of xxd in each style.
-use Rattle.std.specs.Prelude.{ℕ, ◌+◌, ◌^◌, ◌≤◌, ◌==◌, false, if◌then◌else◌, List, [], ◌∷◌, ◌++◌, map, length, slice_index, codes, None, Some}
+use Rattle.std.specs.Prelude.{ℕ, ◌+◌, ◌^◌, ◌≤◌, ◌==◌, false, if◌then◌else◌, List, [], ◌++◌, map, length, slice_index, codes, None, Some}
 use Rattle.std.specs.Char.{is_ascii_alphanumeric, is_ascii_digit}
 use Rattle.std.specs.Fmt.{digits}
-use Rattle.bx_text.specs.Dump.{dump_line}
+use Rattle.std.specs.List.{flat_map, join_by}
+use Rattle.bx_text.specs.Dump.{dump_line, pair_of}
 use Rattle.bx_dump.specs.Lines.{in_lines}
 use Rattle.bx_dump.specs.Pages.{Dump}
-use Rattle.bx_dump.specs.Rows.{plain_line, include_line}
 use Rattle.bx_dump.specs.Xxd.{bits_line}
 use Rattle.bx_dump.specs.declared.xxd.options.XxdStyle.{XxdStyle}
 use Rattle.bx_dump.specs.declared.xxd.options.XxdStyle.TheVariants.{Normal, Plain, Bits, Include}
@@ -15,27 +15,25 @@ use Rattle.bx_dump.specs.declared.xxd.options.XxdOptions.{XxdOptions}
 abbrev pub c_name : List ℕ → List ℕ
 c_name name = (if is_ascii_digit (slice_index name 0) then codes "__" else []) ++ map (λ b. if is_ascii_alphanumeric b then b else 95) name
 
--- all items: lines with a comma between two, and a newline at the end
+-- All items: in a line there is a comma between two. Behind each line stand a comma and a newline, and behind the last a newline alone;
+-- nothing where there is no byte.
 abbrev pub include_items : ℕ → List ℕ → List ℕ
-include_items cols [] = []
-include_items cols (b ∷ bs) = in_lines include_line cols 0 (b ∷ bs) ++ codes "\n"
-
--- a whole declaration: its head, the items, the end of the array, and its length under the name
-abbrev pub named_text : List ℕ → ℕ → List ℕ → List ℕ
-named_text name cols bytes = (codes "unsigned char " ++ c_name name ++ codes "[] = {\n") ++ include_items cols bytes
-    ++ (codes "};\nunsigned int " ++ c_name name ++ codes "_len = " ++ (digits 10 false (length bytes) ++ codes ";\n"))
+include_items cols bytes = if length bytes == 0 then [] else in_lines (λ at line. (if at == 0 then codes "  " else codes ",\n  ")
+    ++ join_by (λ byte. codes "0x" ++ pair_of false byte) (codes ", ") line) cols 0 bytes ++ codes "\n"
 
 -- bytes a group, where 0 stands for all of a line
 abbrev pub group_of : ℕ → ℕ → ℕ
 group_of cols group = if group == 0 then cols else group
 
--- the text of the bytes of a part; the address of a line begins where the part does
+-- The text of the bytes of a part; the address of a line begins where the part does. A name stands in a whole declaration: its
+-- head, the items, the end of the array, and its length under the name.
 abbrev pub styled : XxdStyle → XxdOptions → List ℕ → List ℕ
 styled Normal o bytes = in_lines (dump_line o.upper o.cols (group_of o.cols o.group)) o.cols (o.seek + o.shift) bytes
 styled Bits o bytes = in_lines (bits_line o.cols (group_of o.cols o.group)) o.cols (o.seek + o.shift) bytes
-styled Plain o bytes = in_lines (plain_line o.upper) o.cols 0 bytes
+styled Plain o bytes = in_lines (λ at line. flat_map (pair_of o.upper) line ++ codes "\n") o.cols 0 bytes
 styled (Include None) o bytes = include_items o.cols bytes
-styled (Include (Some name)) o bytes = named_text name.now o.cols bytes
+styled (Include (Some name)) o bytes = (codes "unsigned char " ++ c_name name.now ++ codes "[] = {\n") ++ include_items o.cols bytes
+    ++ (codes "};\nunsigned int " ++ c_name name.now ++ codes "_len = " ++ (digits 10 false (length bytes) ++ codes ";\n"))
 
 -- the dump that style and options ask for
 abbrev pub xxd_of : XxdStyle → XxdOptions → Dump

@@ -6,6 +6,5 @@ use Rattle.bx_dump.specs.Cells.{bits_of}
 
 -- A line in binary: the address, the digits of the bytes, one space after each group, in a field for `cols` bytes, and the bytes as text.
 abbrev pub bits_line : ℕ → ℕ → ℕ → List ℕ → List ℕ
-bits_line cols group at bytes = hex_text false 8 at ++ codes ": "
-    ++ laid_out (λ i. 8 * i + i / group) (λ i. bits_of (slice_index bytes i)) (length bytes) (8 * cols + (cols + group - 1) / group)
-    ++ codes " " ++ map shown_byte bytes ++ codes "\n"
+bits_line cols group at bytes = hex_text false 8 at ++ codes ": " ++ laid_out (λ i. 8 * i + i / group) (λ i. bits_of (slice_index bytes i)) (length bytes)
+    (8 * cols + (cols + group - 1) / group) ++ codes " " ++ map shown_byte bytes ++ codes "\n"

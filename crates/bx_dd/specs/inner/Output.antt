@@ -1,7 +1,13 @@
--- What proofs alone need: the bytes that end a record, and those that fill it up.
-use Rattle.std.specs.Prelude.{ℕ, ◌-◌, Bool, not, ◌==◌, List, [], ◌∷◌, ◌++◌, length, take}
+-- What proofs alone need: one block, the bytes that end a record, and those that fill it up.
+use Rattle.std.specs.Prelude.{ℕ, ◌-◌, Bool, not, ◌==◌, if◌then◌else◌, List, [], ◌∷◌, ◌++◌, length, map, take}
 use Rattle.std.specs.List.{suffix_len}
-use Rattle.bx_dd.specs.Output.{padded}
+use Rattle.bx_dd.specs.declared.convert.form.Form.{Form}
+use Rattle.bx_dd.specs.Output.{cased, filler, padded, swapped}
+
+-- one block: padded, then swapped, then in one case
+unfoldable pub block_of : Form → List ℕ → List ℕ
+block_of form block = let full = if form.sync then padded (filler form.shape) form.ibs block else block in
+    map (cased form.letters) (if form.swab then swapped full else full)
 
 -- the byte that records are filled up with
 abbrev pub is_space : ℕ → Bool

@@ -1,6 +1,6 @@
 -- What proofs alone need: what a copy to a writer reads and writes, and where it stands in between.
 -- ---- a whole copy
-use Rattle.std.specs.Prelude.{◌≡◌, ℕ, ◌+◌, ◌-◌, ◌*◌, ◌%◌, ◌^◌, ◌≤◌, ◌⊎◌, Bool, true, false, ◌||◌, if◌then◌else◌, List, ◌++◌, length, take, Option, None, Some}
+use Rattle.std.specs.Prelude.{◌≡◌, ◌≢◌, ℕ, ◌+◌, ◌-◌, ◌*◌, ◌%◌, ◌^◌, ◌≤◌, ◌⊎◌, Bool, true, false, ◌||◌, if◌then◌else◌, List, [], ◌++◌, length, take, Option, None, Some}
 use Rattle.std.specs.Io.KnownBytes.{Appends, Consumes, IsAtEnd}
 use Rattle.bx_text.specs.declared.fault.IoFault.{IoFault}
 use Rattle.bx_text.specs.Stream.{IsReadCause}
@@ -8,6 +8,8 @@ use Rattle.bx_text.specs.Writing.{WritesFront}
 use Rattle.bx_dd.specs.declared.stream.counts.Counts.{Counts}
 use Rattle.bx_dd.specs.declared.convert.form.Form.{Form}
 use Rattle.bx_dd.specs.declared.convert.form.Shape.{Shape}
+use Rattle.bx_dd.specs.declared.convert.form.Shape.TheVariants.{Flat}
+use Rattle.bx_dd.specs.inner.Standing.{HasSizes}
 use Rattle.bx_dd.specs.Counting.{counts_of}
 use Rattle.bx_dd.specs.Output.{converted, joined, shaped}
 use Rattle.bx_dd.specs.Standing.{Stands}
@@ -46,6 +48,14 @@ pub record Stage (form : Form) (start now : Option (List ℕ)) (input pending wa
 -- whatever is read behind this input, a front of what is written of it all went out, as the fault says
 abbrev pub StopsStage : Form → Option (List ℕ) → Option (List ℕ) → List ℕ → IoFault → Type 0
 StopsStage form start now input fault = (more : List ℕ) → WritesFront 0 start now (converted form (input ++ more)) fault
+
+-- A copy may begin: a unit has room in the buffer, a record in what is kept, and nothing is kept or waits.
+pub record IsFresh (form : Form) (limit : ℕ) (buf kept : List ℕ) (space : ℕ) (waits : List ℕ) (written : ℕ) : Type 0 where
+  pub sizes : HasSizes form
+  pub most : limit ≡ 2 ^ 40
+  pub inside : unit_of form ≤ length buf
+  pub none : (kept ≡ []) × (waits ≡ []) × (written ≡ 0)
+  pub room : form.shape ≢ Flat → form.cbs ≤ space
 
 -- The rest of an input was read after so many bytes, at most so many of it, and stands converted.
 pub record Passes (form : Form) (most before after : ℕ) (r0 r1 start now : Option (List ℕ)) (pending waits : List ℕ) (written : ℕ) (kept : List ℕ) (was_cut : Bool) (count : ℕ) : Type 0 where

@@ -6,20 +6,24 @@ use Rattle.bx_text.specs.declared.stream.Meter.{Meter}
 use Rattle.bx_text.specs.declared.stream.State.{State}
 use Rattle.bx_text.specs.declared.stream.State.TheVariants.{Open, Ended}
 use Rattle.bx_dd.specs.declared.fault.DdFault.{DdFault}
+use Rattle.bx_dd.specs.declared.fault.DdFault.TheVariants.{NoMemory, ReadFailed, InputTooLong}
 use Rattle.bx_dd.specs.Standing.{IsAfter, Progress}
-use Rattle.bx_dd.specs.Transfer.{IsStopCause}
 
 -- what follows `skip` blocks, at most `count` blocks of it
 abbrev pub selected : ℕ → ℕ → Option ℕ → List ℕ → List ℕ
 selected ibs skip count input = option_map_or (λ n. take (n * ibs) (drop (skip * ibs) input)) count (drop (skip * ibs) input)
 
--- the input's end was reached, or that of skip and count
+-- the input's end was reached, or that of skip and count, and no more was read
 abbrev pub IsReadOut : Option (List ℕ) → ℕ → ℕ → Option ℕ → List ℕ → Type 0
-IsReadOut new ibs skip count input = MatchOption count (IsAtEnd new) (λ n. (length input ≡ (skip + n) * ibs) ⊎ IsAtEnd new)
+IsReadOut new ibs skip count input = MatchOption count (IsAtEnd new) (λ n. (length input ≤ (skip + n) * ibs) × (IsAtEnd new ⊎ (length input ≡ (skip + n) * ibs)))
 
 -- no more was read than skip and count ask for
 abbrev pub IsWithin : ℕ → ℕ → Option ℕ → List ℕ → Type 0
 IsWithin ibs skip count input = IfSome count (λ n. length input ≤ (skip + n) * ibs)
+
+-- why a transfer stopped after n bytes where there was room for `room` of them
+abbrev pub IsStopCause : DdFault → ℕ → ℕ → Type 0
+IsStopCause fault room n = ((fault ≡ InputTooLong) × (n ≡ room + 1)) ⊎ (((fault ≡ NoMemory) ⊎ (fault ≡ ReadFailed)) × (n ≤ room))
 
 -- some bytes were read before the fault, no more than `most` of them bytes were read
 abbrev pub StopsWithin : ℕ → Option (List ℕ) → Option (List ℕ) → ℕ → DdFault → Type 0

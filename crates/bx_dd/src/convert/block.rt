@@ -1,12 +1,13 @@
 //! One block of the input.
 ghost use Rattle.std.specs.Prelude.{◌≡◌, ℕ, ◌+◌, ◌-◌, ◌<◌, ◌≤◌, List, ◌++◌, length, map, replicate, OnOk, IfOk, OnErr, if◌then◌else◌};
-ghost use Rattle.bx_dd.specs.Output.{block_of, cased, filler, swapped};
+ghost use Rattle.bx_dd.specs.Output.{cased, filler, swapped};
+ghost use Rattle.bx_dd.specs.inner.Output.{block_of};
 
 use crate::convert::form::{Form, Letters, Shape};
 use std::alloc::{AllocError, Allocator};
 
 /// The block, padded, swapped and in one case.
-#[tactic(auto, unfolding(crate::specs::Output::block_of, crate::specs::Output::padded))]
+#[tactic(auto, unfolding(crate::specs::inner::Output::block_of, crate::specs::Output::padded))]
 pub fn ready_block<A: Allocator>(
     alloc: A,
     block: &[u8],

@@ -1,11 +1,10 @@
 //! Numbers as dd reads them.
 ghost use Rattle.std.specs.Prelude.{◌≡◌};
-ghost use Rattle.bx_dd.specs.Number.{number_of};
+ghost use Rattle.bx_dd.specs.inner.Number.{number_of};
 
 use bx_text::{SizeFault, SizeStyle, read_size};
 
 /// A product of factors.
-#[tactic(auto, unfolding(crate::specs::Number::number_of))]
 pub fn read_number(text: &[u8]) -> Result<u64, SizeFault>
     ensures { result ≡ number_of text.now }
 {

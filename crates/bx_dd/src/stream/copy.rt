@@ -5,7 +5,7 @@ ghost use Rattle.bx_dd.specs.Plan.{form_of};
 ghost use Rattle.bx_dd.specs.inner.Standing.{HasSizes};
 ghost use Rattle.bx_dd.specs.Streaming.{IsCopy, StopsCopy};
 ghost use Rattle.bx_dd.specs.inner.Paged.{CountsAll, Finishes, Flushes, GoesOn, PassesBy, StopsFinish, StopsFlush, StopsStageOf};
-ghost use Rattle.bx_dd.specs.inner.Streaming.{CopiesRest, StopsPass, Skips, StopsSkip, most_of, unit_of};
+ghost use Rattle.bx_dd.specs.inner.Streaming.{CopiesRest, IsFresh, StopsPass, Skips, StopsSkip, most_of, unit_of};
 ghost use Rattle.bx_dd.specs.declared.convert.form.Shape.TheVariants.{Flat, Unblock};
 
 use crate::convert::form::Form;
@@ -143,11 +143,7 @@ fn copy_rest<R: Read, W: Write, A: Allocator, B: Allocator>(
     form: Form,
 ) -> Result<Counts, IoFault>
     requires open { meter.old.state ≡ State.Open }
-    requires limit { meter.old.limit ≡ 2 ^ 40 }
-    requires sizes { HasSizes form }
-    requires inside { unit_of form ≤ length buf.old }
-    requires none { (held.old.items ≡ []) × (page.old.bytes.items ≡ []) × (page.old.written ≡ 0) }
-    requires space { form.shape ≢ Flat → form.cbs ≤ vec_capacity held.old }
+    requires fresh { IsFresh form meter.old.limit buf.old held.old.items (vec_capacity held.old) page.old.bytes.items page.old.written }
     ensures ok { IfOk result (CopiesRest form most meter.old.taken (R.remaining r.old) (R.remaining r.new) (W.contents w.old) (W.contents w.new)) }
     ensures err { IfErr result (StopsPass form most meter.old.taken (R.remaining r.old) (R.remaining r.new) (W.contents w.old) (W.contents w.new)) }
 {
@@ -317,11 +313,7 @@ fn copy_units<R: Read, W: Write, A: Allocator, B: Allocator>(
     form: Form,
 ) -> Result<Turn, IoFault>
     requires open { most ≢ 0 → meter.old.state ≡ State.Open }
-    requires limit { meter.old.limit ≡ 2 ^ 40 }
-    requires sizes { HasSizes form }
-    requires inside { unit_of form ≤ length buf.old }
-    requires none { (held.old.items ≡ []) × (page.old.bytes.items ≡ []) × (page.old.written ≡ 0) }
-    requires space { form.shape ≢ Flat → form.cbs ≤ vec_capacity held.old }
+    requires fresh { IsFresh form meter.old.limit buf.old held.old.items (vec_capacity held.old) page.old.bytes.items page.old.written }
     ensures within { IfOk result (λ t. (length held.new.items ≤ form.cbs) × (t.tail.cut ≤ 2 ^ 40) × (t.have < unit_of form)) }
     ensures part { IfOk result (λ t. form.shape ≡ Unblock → length held.new.items < form.cbs) }
     ensures space { vec_capacity held.old ≤ vec_capacity held.new }

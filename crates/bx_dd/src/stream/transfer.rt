@@ -3,8 +3,8 @@ ghost use Rattle.std.specs.Prelude.{◌≡◌, ℕ, ◌+◌, ◌-◌, ◌*◌, �
 ghost use Rattle.std.specs.Io.KnownBytes.{Consumes, IsAtEnd};
 ghost use Rattle.bx_text.specs.Stream.{IsReadCause};
 ghost use Rattle.bx_dd.specs.Standing.{IsAfter};
-ghost use Rattle.bx_dd.specs.Transfer.{Copies, HasStopped, IsStopCause, ReadsWithin};
-ghost use Rattle.bx_dd.specs.inner.Transfer.{ReadsBlocks, StopsWithin, TakesBlocks};
+ghost use Rattle.bx_dd.specs.Transfer.{Copies, HasStopped, ReadsWithin};
+ghost use Rattle.bx_dd.specs.inner.Transfer.{IsStopCause, ReadsBlocks, StopsWithin, TakesBlocks};
 
 use crate::convert::Convert;
 use crate::fault::DdFault;

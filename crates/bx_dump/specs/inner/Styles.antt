@@ -1,11 +1,11 @@
 -- What proofs alone need: the parts of a declaration, and lines of plain digits.
-use Rattle.std.specs.Prelude.{ℕ, ◌+◌, false, if◌then◌else◌, List, [], ◌++◌, slice_index, codes}
+use Rattle.std.specs.Prelude.{ℕ, ◌+◌, false, if◌then◌else◌, List, [], ◌++◌, length, slice_index, codes}
 use Rattle.std.specs.Char.{is_ascii_alphanumeric, is_ascii_digit}
 use Rattle.std.specs.Fmt.{digits}
 use Rattle.bx_dump.specs.Lines.{in_lines}
-use Rattle.bx_dump.specs.Rows.{plain_line}
+use Rattle.bx_dump.specs.inner.Rows.{plain_line}
 use Rattle.bx_dump.specs.declared.xxd.options.XxdOptions.{XxdOptions}
-use Rattle.bx_dump.specs.Styles.{c_name, group_of}
+use Rattle.bx_dump.specs.Styles.{c_name, group_of, include_items}
 use Rattle.bx_dump.specs.declared.xxd.columns.Digits.{Digits}
 use Rattle.bx_dump.specs.inner.Xxd.{columns_line}
 
@@ -24,6 +24,10 @@ include_head name = codes "unsigned char " ++ c_name name ++ codes "[] = {\n"
 -- the end of the array, and its length under the name
 abbrev pub include_tail : List ℕ → ℕ → List ℕ
 include_tail name n = codes "};\nunsigned int " ++ c_name name ++ codes "_len = " ++ (digits 10 false n ++ codes ";\n")
+
+-- a whole declaration: its head, the items, the end of the array, and its length under the name
+abbrev pub named_text : List ℕ → ℕ → List ℕ → List ℕ
+named_text name cols bytes = include_head name ++ include_items cols bytes ++ include_tail name (length bytes)
 
 -- lines with columns of digits, the first at the address where the part begins
 abbrev pub columns_text : Digits → XxdOptions → List ℕ → List ℕ

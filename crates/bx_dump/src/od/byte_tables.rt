@@ -2,7 +2,8 @@
 ghost use Rattle.std.specs.Prelude.{◌≡◌, false, ◌∷◌, [], length};
 ghost use Rattle.std.specs.Fmt.{digits};
 ghost use Rattle.bx_text.specs.Field.{left_filled};
-ghost use Rattle.bx_dump.specs.Od.{char_text, signed_text};
+ghost use Rattle.bx_dump.specs.Od.{char_text};
+ghost use Rattle.bx_dump.specs.inner.Od.{signed_text};
 
 /// Each byte as a character, with a space in front.
 #[rattlefmt::skip]

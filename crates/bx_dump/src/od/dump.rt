@@ -1,6 +1,6 @@
 //! od's dump.
-ghost use Rattle.std.specs.Prelude.{◌≡◌, ◌+◌, ◌^◌, ◌<◌, ◌≤◌, true, length, IfOk, IfErr, OnOk};
-ghost use Rattle.bx_dump.specs.OdDump.{FailsBehind, Reaches, StopsOd, od_of};
+ghost use Rattle.std.specs.Prelude.{◌≡◌, ◌⊎◌, ℕ, ◌+◌, ◌^◌, ◌<◌, ◌≤◌, true, length, Err, IfOk, IfErr, OnOk, OnErr};
+ghost use Rattle.bx_dump.specs.OdDump.{Reaches, StopsOd, od_of};
 ghost use Rattle.bx_dump.specs.inner.OdDump.{StopsOdLines, StopsShort, WritesOdLines};
 ghost use Rattle.bx_dump.specs.Pages.{WritesAll};
 ghost use Rattle.bx_dump.specs.inner.Pages.{Skips};
@@ -64,7 +64,8 @@ fn dump_lines<R: Read, W: Write>(
 pub fn od<R: Read, W: Write>(r: &mut R, w: &mut W, o: &OdOptions) -> Result<u64, IoFault>
     ensures ok { IfOk result (WritesAll (od_of o.now) (R.remaining r.old) (R.remaining r.new) (W.contents w.old) (W.contents w.new)) }
     ensures reached { OnOk result (Reaches o.now.skip (R.remaining r.old) (R.remaining r.new)) }
-    ensures behind { IfErr result (FailsBehind o.now.skip (R.remaining r.old) (R.remaining r.new) (W.contents w.old) (W.contents w.new)) }
+    ensures behind { OnErr result ((W.contents w.new ≡ W.contents w.old) ⊎ Reaches o.now.skip (R.remaining r.old) (R.remaining r.new)) }
+    ensures write { (n : ℕ) → result ≡ Err (IoFault.WriteFailed n) → Reaches o.now.skip (R.remaining r.old) (R.remaining r.new) }
     ensures err { IfErr result (StopsOd o.now (R.remaining r.old) (R.remaining r.new) (W.contents w.old) (W.contents w.new)) }
 {
     let mut meter = Meter::new(LIMIT);

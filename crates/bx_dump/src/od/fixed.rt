@@ -2,8 +2,7 @@
 ghost use Rattle.std.specs.Prelude.{◌≡◌, false, ◌&&◌, nat_le, if◌then◌else◌, ℕ, ◌+◌, ◌-◌, ◌*◌, ◌^◌, ◌<◌, ◌≤◌, List, [], ◌∷◌, ◌++◌, length, take, IfSome, None};
 ghost use Rattle.std.specs.Fmt.{digits};
 ghost use Rattle.bx_text.specs.Field.{left_filled};
-ghost use Rattle.bx_dump.specs.Od.{number_text, signed_text, char_text};
-ghost use Rattle.bx_dump.specs.inner.Od.{size_of, number_width};
+ghost use Rattle.bx_dump.specs.inner.Od.{size_of, number_text, number_width};
 
 use crate::od::byte_tables::{octal_of, signed_of, unsigned_of};
 use crate::od::decimal::{

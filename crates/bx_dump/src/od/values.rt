@@ -34,7 +34,7 @@ fn value_of(bytes: &[u8]) -> u64
 fn put_value(text: &mut [u8], kind: Kind, bytes: &[u8])
     requires room { length text.old ≡ field_width kind + 1 }
     requires fits { length bytes.now ≤ width_of kind }
-    ensures { text.new ≡ 32 ∷ field_text kind bytes.now }
+    ensures { text.new ≡ 32 ∷ field_text kind (value_of bytes.now) }
 {
     let value = value_of(bytes);
     match kind {

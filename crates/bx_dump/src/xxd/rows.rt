@@ -3,8 +3,7 @@ ghost use Rattle.std.specs.Prelude.{◌≡◌, ℕ, ◌+◌, ◌-◌, ◌*◌, �
 ghost use Rattle.std.specs.List.{flat_map};
 ghost use Rattle.bx_text.specs.Dump.{pair_of};
 ghost use Rattle.bx_dump.specs.Lines.{in_lines};
-ghost use Rattle.bx_dump.specs.Rows.{plain_line, include_line};
-ghost use Rattle.bx_dump.specs.inner.Rows.{next_item};
+ghost use Rattle.bx_dump.specs.inner.Rows.{include_line, next_item, plain_line};
 
 use crate::xxd::cells::put_pairs;
 use crate::xxd::lines::{LineForm, Put};

@@ -43,8 +43,7 @@ returns-clause-after g c input after =
     let whole = subst W (sym c.next.view_is) c.requires.whole in
     let F : Progress → Type 0 = λ p. length b ≤ p.form.ibs in
     let fits = subst F (sym c.next.view_is) c.requires.fits in
-    let so_far : length input % i.form.ibs ≡ 0 = ap (λ n. n % i.form.ibs) (sym was.taken) ∙ whole in
-    record {
-      taken = ap (λ n. n + length b) was.taken ∙ sym (length-append input b);
-      stands = rw (joined_more i.form input b inv.0.some_ibs so_far c.requires.some fits) (c.in_ok-tail.ensures.next (joined i.form input) was.stands);
-    }
+    let so_far : length input % i.form.ibs ≡ 0 = ap (λ n. n % i.form.ibs) (sym was.0) ∙ whole in (
+      ap (λ n. n + length b) was.0 ∙ sym (length-append input b),
+      rw (joined_more i.form input b inv.0.some_ibs so_far c.requires.some fits) (c.in_ok-tail.ensures.next (joined i.form input) was.1),
+    )

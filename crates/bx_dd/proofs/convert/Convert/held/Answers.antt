@@ -11,4 +11,4 @@ returns-clause-kept g c input after =
     let was = subst P (sym c.self.view_is) after in
     let Q : Progress → Type 0 = λ p. c.len.result ≡ min p.form.cbs (unfinished p.form.shape p.form.cbs (joined p.form input)) in
     let size : c.len.result ≡ length i.held.items = omega arith in
-    subst Q c.self.view_is (size ∙ held_is i.form.shape i.form.cbs (joined i.form input) i.out.items i.held.items i.over i.cut was.stands)
+    subst Q c.self.view_is (size ∙ held_is i.form.shape i.form.cbs (joined i.form input) i.out.items i.held.items i.over i.cut was.1)

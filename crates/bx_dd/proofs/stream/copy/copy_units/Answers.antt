@@ -13,19 +13,19 @@ use Rattle.bx_dd.proofs.stream.copy.copy_units.Goals as goal
 pub loop-left-init : goal.loop-left-init
 loop-left-init g c = record {
   open_now = c.requires.open;
-  limit = c.requires.limit;
+  limit = c.requires.fresh.most;
   few = omega arith;
-  room = omega (arith, ap length c.requires.none.0);
+  room = omega (arith, ap length c.requires.fresh.none.0);
   space = omega arith;
-  part = λ is. omega (arith, ap length c.requires.none.0, c.requires.sizes.some_cbs (λ e. let wrong : Unblock ≡ Flat = sym is ∙ e in cc));
-  pending = unit_some c.args.form c.requires.sizes.some_ibs;
+  part = λ is. omega (arith, ap length c.requires.fresh.none.0, c.requires.fresh.sizes.some_cbs (λ e. let wrong : Unblock ≡ Flat = sym is ∙ e in cc));
+  pending = unit_some c.args.form c.requires.fresh.sizes.some_ibs;
   so_far = (
     [],
     omega arith,
     omega arith,
     omega arith,
     Consumes-nil (g.R.Read.remaining c.args.r.now),
-    stage_start c.args.form (g.W.Write.contents c.args.w.now) c.args.page.now.bytes.items c.args.held.now.items c.args.page.now.written c.requires.sizes c.requires.none.1 c.requires.none.0 c.requires.none.2,
+    stage_start c.args.form (g.W.Write.contents c.args.w.now) c.args.page.now.bytes.items c.args.held.now.items c.args.page.now.written c.requires.fresh.sizes c.requires.fresh.none.1 c.requires.fresh.none.0 c.requires.fresh.none.2,
   );
 }
 
@@ -37,10 +37,10 @@ returns-in-Err-clause-err g c =
     let want = c.min-want.result in
     let buf = c.loop-left.buf in
     let same : have + want - have ≡ want = omega arith in
-    let fits : have + want ≤ length buf = omega (arith, c.min-want.ensures, before.pending, c.requires.inside, c.loop-left.auto.buf) in
+    let fits : have + want ≤ length buf = omega (arith, c.min-want.ensures, before.pending, c.requires.fresh.inside, c.loop-left.auto.buf) in
     let size : length (take (have + want - have) (drop have buf)) ≡ want = length-take-le (have + want - have) (drop have buf) (omega (arith, length-drop have buf)) ∙ same in
     let open_now : c.loop-left.meter.state ≡ Open = before.open_now (omega arith) in
-    read_stops c.args.form _ _ _ _ _ now.0 _ _ _ _ _ c.args.most c.args.meter.now.taken _ _ _ c.in-Err.fault c.requires.sizes now.5 now.4 (c.in-Err.ensures.stopped open_now)
+    read_stops c.args.form _ _ _ _ _ now.0 _ _ _ _ _ c.args.most c.args.meter.now.taken _ _ _ c.in-Err.fault c.requires.fresh.sizes now.5 now.4 (c.in-Err.ensures.stopped open_now)
     (omega (arith, size, now.1, c.min-want.ensures)) (omega (arith, now.2, before.limit, c.loop-left.meter.within))
 
 pub returns-in-Err-pass-clause-err : goal.returns-in-Err-pass-clause-err
@@ -53,7 +53,7 @@ returns-in-Err-pass-clause-err g c =
     let n = c.in-Ok.n in
     let read = c.in-Ok.ensures in
     let same : have + want - have ≡ want = omega arith in
-    let fits : have + want ≤ length buf = omega (arith, c.min-want.ensures, before.pending, c.requires.inside, c.loop-left.auto.buf) in
+    let fits : have + want ≤ length buf = omega (arith, c.min-want.ensures, before.pending, c.requires.fresh.inside, c.loop-left.auto.buf) in
     let size : length c.read.new.buf ≡ want = c.read.auto.buf ∙ length-take-le (have + want - have) (drop have buf) (omega (arith, length-drop have buf)) ∙ same in
     let chunk = take n c.read.new.buf in
     let long : length chunk ≡ n = length-take-le n c.read.new.buf read.bound.0 in
@@ -74,7 +74,7 @@ returns-in-Err-pause-clause-err g c =
     let n = c.in-Ok.n in
     let read = c.in-Ok.ensures in
     let same : have + want - have ≡ want = omega arith in
-    let fits : have + want ≤ length buf = omega (arith, c.min-want.ensures, before.pending, c.requires.inside, c.loop-left.auto.buf) in
+    let fits : have + want ≤ length buf = omega (arith, c.min-want.ensures, before.pending, c.requires.fresh.inside, c.loop-left.auto.buf) in
     let size : length c.read.new.buf ≡ want = c.read.auto.buf ∙ length-take-le (have + want - have) (drop have buf) (omega (arith, length-drop have buf)) ∙ same in
     let chunk = take n c.read.new.buf in
     let long : length chunk ≡ n = length-take-le n c.read.new.buf read.bound.0 in
@@ -83,7 +83,7 @@ returns-in-Err-pause-clause-err g c =
     let stop = c.in-Err-pause.ensures.err (g.W.Write.contents c.args.w.now) stage.flows.text stage.flows.goes in
     write_stops c.args.form _ _ _ _ (now.0 ++ chunk) c.args.most c.args.meter.now.taken c.in-Err-pause.fault (Consumes-trans _ _ _ _ _ now.4 read.bytes)
     (omega (arith, both, now.1, size, read.bound.0, c.min-want.ensures)) (omega (arith, both, now.2, read.taken, read.limit, before.limit, c.read.new.self.within))
-    (stage_unsent stage _ c.in-Err-pause.fault c.requires.sizes stop)
+    (stage_unsent stage _ c.in-Err-pause.fault c.requires.fresh.sizes stop)
 
 pub loop-left-preserved : goal.loop-left-preserved
 loop-left-preserved g c =
@@ -96,7 +96,7 @@ loop-left-preserved g c =
     let read = c.in-Ok.ensures in
     let passed = c.in-Ok-pass.ensures in
     let same : have + want - have ≡ want = omega arith in
-    let fits : have + want ≤ length buf = omega (arith, c.min-want.ensures, before.pending, c.requires.inside, c.loop-left.auto.buf) in
+    let fits : have + want ≤ length buf = omega (arith, c.min-want.ensures, before.pending, c.requires.fresh.inside, c.loop-left.auto.buf) in
     let size : length c.read.new.buf ≡ want = c.read.auto.buf ∙ length-take-le (have + want - have) (drop have buf) (omega (arith, length-drop have buf)) ∙ same in
     let chunk = take n c.read.new.buf in
     let long : length chunk ≡ n = length-take-le n c.read.new.buf read.bound.0 in

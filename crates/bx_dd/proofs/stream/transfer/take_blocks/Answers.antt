@@ -20,7 +20,7 @@ pub block-requires-clause-whole : goal.block-requires-clause-whole
 block-requires-clause-whole g c =
     let read = c.loop-i.invariant.read in
     let size : length c.loop-i.block ≡ c.loop-i.convert.form.ibs = c.loop-i.auto.block ∙ c.requires.size ∙ ap (λ f. f.ibs) (sym c.loop-i.invariant.form) in
-    whole_blocks c.loop-i._i c.loop-i.convert.taken c.loop-i.convert.form.ibs (read.1.taken ∙ read.2 ∙ ap (λ n. c.loop-i._i * n) size)
+    whole_blocks c.loop-i._i c.loop-i.convert.taken c.loop-i.convert.form.ibs (read.1.0 ∙ read.2 ∙ ap (λ n. c.loop-i._i * n) size)
 
 pub returns-in_err-convert-clause-stopped : goal.returns-in_err-convert-clause-stopped
 returns-in_err-convert-clause-stopped g c =

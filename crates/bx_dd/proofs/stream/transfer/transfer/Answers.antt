@@ -7,7 +7,7 @@ use Rattle.bx_dd.specs.Counting.{counts_of}
 use Rattle.bx_dd.specs.Output.{converted}
 use Rattle.bx_dd.specs.Plan.{form_of}
 use Rattle.bx_dd.specs.inner.Transfer.{HasRead}
-use Rattle.bx_dd.proofs.TransferLemmas.{stopped_more, stopped_memory, has_stopped, asked_skip, asked_all, consumed_both, selected_both, within_both, read_out_both, IfOk-both}
+use Rattle.bx_dd.proofs.TransferLemmas.{stopped_more, stopped_memory, has_stopped, asked_skip, asked_all, consumed_both, selected_both, read_out_both, IfOk-both}
 use Rattle.bx_dd.proofs.stream.transfer.transfer.Goals as goal
 
 pub returns-in_err-convert-2-clause-err : goal.returns-in_err-convert-2-clause-err
@@ -79,7 +79,7 @@ returns-clause-ok g c =
     let size-2 : length c.as_mut_slice-2.result.now ≡ plan.ibs = omega (arith, c.in_ok-block.ensures.len, ap length c.as_mut_slice-2.ensures.value) in
     let skips = subst (λ (k : ℕ). HasRead old mid plan.skip k c.skip_blocks.new.meter.state first.0) size first.1 in
     let takes = subst (λ (k : ℕ). HasRead mid new turns k c.take_blocks.new.meter.state second.0) size-2 second.2 in
-    let none : c.skip_blocks.new.meter.state ≡ Ended → (length second.0 ≡ 0) × (c.take_blocks.new.meter.state ≡ Ended) = λ e. (sym second.1.taken ∙ (c.in_ok-convert-2.ensures.none_left e).0, (c.in_ok-convert-2.ensures.none_left e).1) in
+    let none : c.skip_blocks.new.meter.state ≡ Ended → (length second.0 ≡ 0) × (c.take_blocks.new.meter.state ≡ Ended) = λ e. (sym second.1.0 ∙ (c.in_ok-convert-2.ensures.none_left e).0, (c.in_ok-convert-2.ensures.none_left e).1) in
     let is = c.unwrap_or-count.ensures in
     let selects = selected_both old mid new plan.ibs plan.skip turns c.skip_blocks.new.meter.state c.take_blocks.new.meter.state first.0 second.0 skips takes none plan.count is in
     let form : c.in_ok-convert-2.convert.form ≡ form_of plan = c.in_ok-convert-2.ensures.form ∙ c.in_ok-convert.ensures.form in
@@ -89,8 +89,7 @@ returns-clause-ok g c =
     (λ t bytes counts. record {
       input = first.0 ++ second.0;
       consumed = consumed_both old mid new plan.ibs plan.skip turns c.skip_blocks.new.meter.state c.take_blocks.new.meter.state first.0 second.0 skips takes none;
-      all = read_out_both old mid new plan.ibs plan.skip turns c.skip_blocks.new.meter.state c.take_blocks.new.meter.state first.0 second.0 skips takes none plan.count is plan.some_ibs some;
-      within = within_both old mid new plan.ibs plan.skip turns c.skip_blocks.new.meter.state c.take_blocks.new.meter.state first.0 second.0 skips takes none plan.count is;
+      ends = read_out_both old mid new plan.ibs plan.skip turns c.skip_blocks.new.meter.state c.take_blocks.new.meter.state first.0 second.0 skips takes none plan.count is plan.some_ibs some;
       few = few;
       made = bytes ∙ ap (λ f. converted f second.0) form ∙ ap (converted (form_of plan)) (sym selects);
       counted = counts ∙ ap (λ f. counts_of f second.0) form ∙ ap (counts_of (form_of plan)) (sym selects);

@@ -4,7 +4,7 @@ use Rattle.std.specs.Fmt.{digits}
 use Rattle.std.proofs.lemmas.Bool.{agree_below_at}
 use Rattle.std.proofs.lemmas.Slice.Eq.{bytes_eq-Decides}
 use Rattle.bx_text.specs.Field.{left_filled}
-use Rattle.bx_dump.specs.Od.{signed_text}
+use Rattle.bx_dump.specs.inner.Od.{signed_text}
 use Rattle.bx_dump.specs.declared.od.byte_tables.TheConstants.{SIGNED}
 use Rattle.bx_dump.proofs.od.byte_tables.signed_of.Goals as goal
 

@@ -1,12 +1,13 @@
-use Rattle.std.proofs.Common.{◌≡◌, ℕ, ◌+◌, ◌^◌, true, Option, List, [], ◌++◌, length, arith, refl, ap, inl, inr}
+use Rattle.std.proofs.Common.{◌≡◌, ℕ, ◌+◌, ◌^◌, true, Option, Result, Err, List, [], ◌++◌, length, arith, refl, sym, ap, ◌∙◌, subst, inl, inr}
 use Rattle.std.proofs.lemmas.List.{length-append}
 use Rattle.bx_text.proofs.KnownLemmas.{Consumes-trans}
 use Rattle.bx_text.specs.Fold.{folded}
 use Rattle.bx_dump.specs.Od.{od_line, od_end, od_text}
 use Rattle.std.specs.Io.KnownBytes.{Consumes}
 use Rattle.bx_text.specs.declared.fault.IoFault.{IoFault}
-use Rattle.bx_text.specs.declared.fault.IoFault.TheVariants.{NoMemory, ReadFailed, WriteFailed, InputTooLong, SkipPastEnd}
-use Rattle.bx_dump.specs.OdDump.{FailsBehind, Reaches, od_of}
+use Rattle.bx_text.specs.declared.fault.IoFault.TheVariants.{WriteFailed, SkipPastEnd}
+use Rattle.bx_text.specs.Stream.{IsReadCause}
+use Rattle.bx_dump.specs.OdDump.{Reaches, od_of}
 use Rattle.bx_dump.specs.inner.OdDump.{StopsShort}
 use Rattle.bx_dump.specs.Pages.{part_of}
 use Rattle.bx_dump.specs.inner.Pages.{Skips}
@@ -14,22 +15,13 @@ use Rattle.bx_dump.proofs.EndLemmas.{od_end_few}
 use Rattle.bx_dump.proofs.PagesLemmas.{all_of, front_of, part_whole, part_then, stop_then, front_then, front_behind}
 use Rattle.bx_dump.proofs.od.dump.od.Goals as goal
 
--- whatever fails behind so many bytes
-behind : (count : ℕ) (r0 r1 w0 w1 : Option (List ℕ)) (fault : IoFault) → Reaches count r0 r1 → FailsBehind count r0 r1 w0 w1 fault
-behind count r0 r1 w0 w1 (WriteFailed written) reaches = reaches
-behind count r0 r1 w0 w1 NoMemory reaches = inr reaches
-behind count r0 r1 w0 w1 ReadFailed reaches = inr reaches
-behind count r0 r1 w0 w1 InputTooLong reaches = inr reaches
-behind count r0 r1 w0 w1 SkipPastEnd reaches = inr reaches
+same_fault : (a b : IoFault) → ◌≡◌ {A = Result ℕ IoFault} (Err a) (Err b) → a ≡ b
+same_fault a b e = cc
 
--- whatever fails among them, with nothing written
-among : (count : ℕ) (r0 r1 w : Option (List ℕ)) (fault : IoFault) → StopsShort count r0 r1 fault → FailsBehind count r0 r1 w w fault
-among count r0 r1 w (WriteFailed written) (inl short) = absurd (cc short.0)
-among count r0 r1 w (WriteFailed written) (inr stop) = absurd stop.cause
-among count r0 r1 w NoMemory short = inl refl
-among count r0 r1 w ReadFailed short = inl refl
-among count r0 r1 w InputTooLong short = inl refl
-among count r0 r1 w SkipPastEnd short = inl refl
+-- no write fails among them
+short_reads : (count n : ℕ) (r0 r1 : Option (List ℕ)) (fault : IoFault) → fault ≡ WriteFailed n → StopsShort count r0 r1 fault → ⊥
+short_reads count n r0 r1 fault is (inl short) = let wrong : WriteFailed n ≡ SkipPastEnd = sym is ∙ short.0 in cc
+short_reads count n r0 r1 fault is (inr stop) = subst (λ (f : IoFault). IsReadCause f count (2 ^ 40) (length stop.input)) is stop.cause
 
 -- the bytes to skip, and then more
 reaches_behind : (count : ℕ) (r0 r1 r2 : Option (List ℕ)) (input : List ℕ) → Skips true count r0 r1 → Consumes r1 r2 input → Reaches count r0 r2
@@ -87,14 +79,27 @@ returns-clause-reached g c =
     reaches_behind _ _ _ _ rest.input c.in_default.ensures.ok rest.consumed
 
 pub returns-in-Err-clause-behind : goal.returns-in-Err-clause-behind
-returns-in-Err-clause-behind g c = among _ _ _ _ c.in-Err.fault c.in-Err.ensures.err
+returns-in-Err-clause-behind g c = inl refl
 
 pub returns-in-Err-dump_lines-clause-behind : goal.returns-in-Err-dump_lines-clause-behind
 returns-in-Err-dump_lines-clause-behind g c =
     let rest = c.in-Err-dump_lines.ensures.err in
-    behind _ _ _ _ _ c.in-Err-dump_lines.fault (reaches_behind _ _ _ _ rest.input c.in_default.ensures.ok rest.consumed)
+    inr (reaches_behind _ _ _ _ rest.input c.in_default.ensures.ok rest.consumed)
 
 pub returns-in-Err-emit_after-clause-behind : goal.returns-in-Err-emit_after-clause-behind
 returns-in-Err-emit_after-clause-behind g c =
     let rest = c.in-Ok.ensures.ok in
-    behind _ _ _ _ _ c.in-Err-emit_after.fault (reaches_behind _ _ _ _ rest.input c.in_default.ensures.ok rest.consumed)
+    inr (reaches_behind _ _ _ _ rest.input c.in_default.ensures.ok rest.consumed)
+
+pub returns-in-Err-clause-write : goal.returns-in-Err-clause-write
+returns-in-Err-clause-write g c = λ n e. absurd (short_reads _ n _ _ c.in-Err.fault (same_fault _ _ e) c.in-Err.ensures.err)
+
+pub returns-in-Err-dump_lines-clause-write : goal.returns-in-Err-dump_lines-clause-write
+returns-in-Err-dump_lines-clause-write g c = λ n e.
+    let rest = c.in-Err-dump_lines.ensures.err in
+    reaches_behind _ _ _ _ rest.input c.in_default.ensures.ok rest.consumed
+
+pub returns-in-Err-emit_after-clause-write : goal.returns-in-Err-emit_after-clause-write
+returns-in-Err-emit_after-clause-write g c = λ n e.
+    let rest = c.in-Ok.ensures.ok in
+    reaches_behind _ _ _ _ rest.input c.in_default.ensures.ok rest.consumed

@@ -4,7 +4,7 @@ use Rattle.bx_text.proofs.KnownLemmas.{Appends-nil}
 use Rattle.bx_dump.proofs.LinesLemmas.{in_lines-none}
 use Rattle.bx_dump.specs.Lines.{in_lines}
 use Rattle.bx_dump.specs.Pages.{part_of}
-use Rattle.bx_dump.specs.Rows.{include_line}
+use Rattle.bx_dump.specs.inner.Rows.{include_line}
 use Rattle.bx_dump.specs.Styles.{include_items}
 use Rattle.bx_dump.proofs.PagesLemmas.{part_empty, part_then, stop_then, front_then}
 use Rattle.bx_dump.proofs.xxd.dump.dump_items.Goals as goal

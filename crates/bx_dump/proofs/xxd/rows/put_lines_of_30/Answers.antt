@@ -3,7 +3,7 @@ use Rattle.std.specs.List.{flat_map}
 use Rattle.std.proofs.lemmas.Slice.{take-put_mid}
 use Rattle.std.proofs.lemmas.List.{length-take-le, length-drop}
 use Rattle.bx_text.specs.Dump.{pair_of}
-use Rattle.bx_dump.specs.Rows.{plain_line}
+use Rattle.bx_dump.specs.inner.Rows.{plain_line}
 use Rattle.bx_dump.proofs.LinesLemmas.{cells_part, lines_next_at}
 use Rattle.bx_dump.proofs.xxd.rows.put_lines_of_30.Goals as goal
 

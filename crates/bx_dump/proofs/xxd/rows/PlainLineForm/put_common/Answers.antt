@@ -1,4 +1,4 @@
-use Rattle.bx_dump.specs.Rows.{plain_line}
+use Rattle.bx_dump.specs.inner.Rows.{plain_line}
 use Rattle.bx_dump.proofs.LinesLemmas.{lines_zero}
 use Rattle.bx_dump.proofs.xxd.rows.PlainLineForm.put_common.Goals as goal
 
