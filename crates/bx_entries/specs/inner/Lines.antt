@@ -38,7 +38,7 @@ pub record IsReadUpTo {A : Type 0} (text : List ℕ) (older : List Entry) (front
   pub long : length text ≡ r.at
   pub read : IsReadAt text older r.entries.items r.stage r.at
 
--- where a text is read behind these entries, a window that goes on with it is read on up to the place where the answer says, if it is one
+-- where a text was read behind a front, and a window goes on with it: both are read up to the place that the answer tells, if there is one
 abbrev pub ReadsOn : {A E : Type 0} → Front → LinesRead A → List ℕ → Result (Option (LinesRead A)) E → Type 0
 ReadsOn front old window result =
     (text : List ℕ) (older : List Entry) → IsReadUpTo text older front old → IfOk result (λ found. IfSome found (λ r. IsReadUpTo (text ++ take (r.at - old.at) window) older front r))
