@@ -5,15 +5,12 @@ ghost use Rattle.bx_journal.specs.Machine.{top};
 
 pub(crate) mod answers;
 mod close;
-mod entries;
 pub(crate) mod fault;
 mod log;
 mod open;
 mod prepare;
 pub(crate) mod read;
-mod records;
 mod redo;
-mod rows;
 mod undo;
 
 use crate::SessionFault;

@@ -9,8 +9,8 @@ ghost use Rattle.bx_entries.specs.Finished.{IsFinished};
 ghost use Rattle.bx_journal.specs.inner.Undoing.{IsLastFrom, RedoAgainFault, redo_fault};
 
 use crate::protocol::redo_entry::redo_entries;
-use crate::session::entries::{FinishedRead, read_last_of};
-use crate::session::records::prepare_takens;
+use crate::session::prepare::records::prepare_takens;
+use crate::session::read::entries::{FinishedRead, read_last_of};
 use crate::{Session, SessionFault};
 use bx_image::Device;
 use bx_store::TextStore;

@@ -7,8 +7,8 @@ ghost use Rattle.bx_journal.specs.Undoing.{HasCount, HasLeft};
 ghost use Rattle.bx_entries.specs.Finished.{IsFinished};
 
 use crate::protocol::undo_entry::undo_entries;
-use crate::session::entries::read_last_of;
-use crate::session::records::prepare_takens;
+use crate::session::prepare::records::prepare_takens;
+use crate::session::read::entries::read_last_of;
 use crate::{Session, SessionFault};
 use bx_image::Device;
 use bx_store::TextStore;
