@@ -1,10 +1,9 @@
 //! What some undos, or some redos, take before their first write: records of what they will overwrite, a page and room.
-ghost use Rattle.std.specs.Prelude.{◌≡◌, ◌↔◌, ◌+◌, ◌-◌, ◌^◌, ◌<◌, ◌≤◌, [], List, ℕ, length, drop, min, reverse, vec_capacity, All, IfOk, IfErr, OnOk};
+ghost use Rattle.std.specs.Prelude.{◌≡◌, ◌↔◌, ◌+◌, ◌-◌, ◌^◌, ◌<◌, ◌≤◌, [], length, drop, min, reverse, vec_capacity, All, IfOk, IfErr, OnOk};
 ghost use Rattle.bx_image.specs.Change.{AllWithin};
-ghost use Rattle.bx_journal.specs.Opening.{ThreeCounts};
-ghost use Rattle.bx_entries.specs.inner.Parsed.{AllKept};
+ghost use Rattle.bx_journal.specs.inner.Devices.{AreCounted, AreUnfailed};
 ghost use Rattle.bx_journal.specs.inner.Takens.{AreZeros, AreReady, AllShaped, IsZeros, TakenFault, length_at, entries_len as entries_long};
-ghost use Rattle.bx_journal.specs.inner.Undoing.{IsReadLast};
+ghost use Rattle.bx_journal.specs.inner.Undoing.{HasRoomFor};
 
 use crate::SessionFault;
 use crate::protocol::fill::fill_last;
@@ -118,8 +117,7 @@ fn make_room<D: Device, T: TextStore, A: Allocator>(
     more: u64,
 ) -> Result<(), NoMemory>
     requires few { k ≤ length read.now.entries.items }
-    ensures kept { (text : List ℕ) (count : ℕ) → IsReadLast text read.now.entries.items count
-        → OnOk result (AllKept (D.room device.new) (drop (length read.now.entries.items - k) read.now.entries.items)) }
+    ensures kept { HasRoomFor (D.room device.new) read.now.entries.items k result }
     ensures roomed { OnOk result (min (to_len + more) (2 ^ 64 - 1) ≤ T.room to.new) }
     ensures limit { OnOk result (min (to_len + more) (2 ^ 64 - 1) ≤ 2 ^ 62) }
     ensures image { D.honest device.old → D.image device.new ≡ D.image device.old }
@@ -153,8 +151,7 @@ pub fn prepare_takens<D: Device, T: TextStore, A: Allocator + Clone>(
     requires device_countable { D.failures device.old < u64.MAX }
     requires to_countable { T.failures to.old < u64.MAX }
     requires few { k ≤ length read.now.entries.items }
-    ensures kept { (text : List ℕ) (count : ℕ) → IsReadLast text read.now.entries.items count
-        → OnOk result (AllKept (D.room device.new) (drop (length read.now.entries.items - k) read.now.entries.items)) }
+    ensures kept { HasRoomFor (D.room device.new) read.now.entries.items k result }
     ensures filled { D.honest device.old → IfOk result (λ o. AreReady (D.image device.old) (reverse read.now.entries.items) (reverse o.takens.items)) }
     ensures shaped { IfOk result (λ o. AllShaped o.takens.items) }
     ensures count { IfOk result (λ o. length o.takens.items ≡ k) }
@@ -168,10 +165,8 @@ pub fn prepare_takens<D: Device, T: TextStore, A: Allocator + Clone>(
     ensures device_honesty { D.honest device.new ↔ D.honest device.old }
     ensures from_honesty { T.honest from.new ↔ T.honest from.old }
     ensures to_honesty { T.honest to.new ↔ T.honest to.old }
-    ensures no_failure { OnOk result ((D.failures device.new ≡ D.failures device.old)
-        × (T.failures from.new ≡ T.failures from.old) × (T.failures to.new ≡ T.failures to.old)) }
-    ensures counts { IfErr result (λ e. ThreeCounts e (D.failures device.old) (T.failures from.old) (T.failures to.old)
-        (D.failures device.new) (T.failures from.new) (T.failures to.new)) }
+    ensures no_failure { AreUnfailed D.failures T.failures device.old from.old to.old device.new from.new to.new result }
+    ensures counts { AreCounted D.failures T.failures device.old from.old to.old device.new from.new to.new result }
 {
     let len = device.len()?;
     let to_len = to.len()?;

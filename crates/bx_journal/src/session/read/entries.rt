@@ -1,12 +1,9 @@
 //! The journal of an open session, read once more: all of it, or its last entries alone.
-ghost use Rattle.std.specs.Prelude.{◌≡◌, ◌↔◌, ◌⊎◌, ◌+◌, ◌<◌, ◌≤◌, List, ℕ, false, length, drop, IfOk, IfErr, IfSome, IfNone, OnOk};
-ghost use Rattle.bx_entries.specs.Text.{Entry};
-ghost use Rattle.bx_entries.specs.declared.read.types.Front.{Front as Counted};
+ghost use Rattle.std.specs.Prelude.{◌≡◌, ◌↔◌, ◌⊎◌, ◌<◌, ◌≤◌, List, ℕ, false, length, IfOk, IfErr, IfSome, IfNone, OnOk};
 ghost use Rattle.bx_entries.specs.inner.Journal.{HasRead};
-ghost use Rattle.bx_entries.specs.inner.Lines.{IsReadUpTo};
 ghost use Rattle.bx_journal.specs.Opening.{FaultCounts};
 ghost use Rattle.bx_journal.specs.Undoing.{AgainFault, HasCount};
-ghost use Rattle.bx_journal.specs.inner.Undoing.{IsLastFrom, IsReadAgain, IsReadBehind, IsReadFrom, IsReadLast, IsReadOn};
+ghost use Rattle.bx_journal.specs.inner.Undoing.{FindsLast, IsLastFrom, IsReadAgain, IsReadBehind, IsReadFrom, IsReadOn};
 ghost use Rattle.bx_journal.specs.inner.Windows.{IsFrontCounted};
 
 use crate::SessionFault;
@@ -158,8 +155,7 @@ fn last_of<A: Allocator>(
     k: u32,
     count: u32,
 ) -> Option<FinishedRead<A>>
-    ensures some { (text : List ℕ) (older : List Entry) (front : Counted) → IsReadUpTo text older front read → first ≡ front.count → read.at ≡ len
-        → IfSome result (λ o. IsReadLast text o.entries.items count) }
+    ensures some { FindsLast read first len count result }
     ensures len { IfSome result (λ o. o.len ≡ len) }
     ensures few { IfSome result (λ o. k ≤ length o.entries.items) }
 {
