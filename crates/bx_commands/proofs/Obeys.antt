@@ -26,8 +26,8 @@ use Rattle.bx_commands.specs.Obeys.{Obeys}
 use Rattle.bx_commands.specs.Refusal.{IsWholeRefusal}
 use Rattle.bx_commands.specs.inner.Refusal.{IsOwnFault}
 use Rattle.bx_commands.specs.Run.{answered, is_failure, CallStep, Unfailed, ReadStep, DdStep}
-use Rattle.bx_commands.specs.inner.Run.{made_reply, ChangeStep, UndoesStep, RedoesStep}
-use Rattle.bx_commands.specs.Standing.{CountsBy, HoldsAt, PerformUp, RedoUp, Shows, Standing, UndoUp}
+use Rattle.bx_commands.specs.inner.Run.{made_reply, ChangeStep, RedoUp, RedoesStep, UndoUp, UndoesStep}
+use Rattle.bx_commands.specs.Standing.{CountsBy, HoldsAt, PerformUp, Shows, Standing}
 use Rattle.bx_commands.proofs.Refusals.{IsNoRefusal, after_same, is_interrupted, made_no_refusal, no_failure, no_own, no_whole, redo_same_here, same_here, session_not_own, unfailed_whole, whole_goes_on}
 use Rattle.bx_commands.proofs.Stays.{holds_same, ready_shows, shows_same}
 use Rattle.bx_commands.proofs.Steps.{refusal, perform_stays, redo_stays, undo_stays, counts_least, counts_rise}
@@ -311,7 +311,7 @@ module _ {D T : Type 0} (hd : D → Type 0) (ht : T → Type 0) (image : D → L
       call_accepted Redone (RedoUp j) (redo_of j) old new n (Redone n) refl tt accepted
       (λ images device store redo shows.
       let made = makes device store redo images shows.0 shows.1 in
-      ((made.1, made.2), (redo_of j images, refl, made.0)))
+      ((made.1, made.2), (redo_of j images, refl, made.0, refl)))
       (λ images device store redo ready has. (sound device store redo images ready has).0)
 
   -- a change that was refused, or stopped

@@ -10,12 +10,12 @@ use Rattle.bx_commands.specs.declared.command.Reply.{Reply}
 use Rattle.bx_commands.specs.declared.command.Reply.TheVariants.{Undone, Redone}
 use Rattle.bx_journal.specs.Images.{Images}
 use Rattle.bx_journal.specs.SessionView.{SessionView}
-use Rattle.bx_commands.specs.Standing.{Standing, HoldsAt, PerformUp, RedoUp, RestsAt, UndoUp}
+use Rattle.bx_commands.specs.Standing.{Standing, HoldsAt, PerformUp, RestsAt}
 use Rattle.bx_dd.specs.declared.stream.counts.Counts.{Counts}
 use Rattle.bx_dd.specs.declared.fault.DdFault.{DdFault}
 use Rattle.bx_commands.specs.declared.changes.DdChange.{DdChange}
 use Rattle.bx_commands.specs.Run.{answered, ReadStep, DdStep, CommandStep, CommandRun, StackRun, Unfailed}
-use Rattle.bx_commands.specs.inner.Run.{made_reply, ChangeStep}
+use Rattle.bx_commands.specs.inner.Run.{made_reply, ChangeStep, RedoUp, UndoUp}
 use Rattle.bx_commands.specs.Command.{dump_change, plain_change}
 use Rattle.bx_read.specs.Plain.{plain_answer}
 use Rattle.bx_read.specs.Text.{dump_pieces}

@@ -11,14 +11,15 @@ use Rattle.bx_commands.specs.declared.command.Command.TheVariants.{Revert, Rever
 use Rattle.bx_commands.specs.declared.command.Reply.{Reply}
 use Rattle.bx_commands.specs.declared.command.Reply.TheVariants.{Changed, Copied, Undone, Redone, Refused}
 use Rattle.bx_commands.specs.declared.fault.Fault.TheVariants.{NoMemory, DeviceFailed, Interrupted, Broken}
-use Rattle.bx_journal.specs.Images.{Images}
+use Rattle.bx_journal.specs.Images.{Images, redo_of, undo_of}
+use Rattle.bx_journal.specs.Machine.{RedoStep, UndoStep}
 use Rattle.bx_journal.specs.Session.{IsUnfailed}
 use Rattle.bx_journal.specs.SessionView.{SessionView}
 use Rattle.bx_commands.specs.declared.changes.DdChange.{DdChange}
 use Rattle.bx_commands.specs.Command.{dump_change, plain_change}
 use Rattle.bx_commands.specs.Copy.{Makes}
 use Rattle.bx_commands.specs.Fault.{of_dd, of_read, of_session}
-use Rattle.bx_commands.specs.Standing.{Standing, Leads, PerformUp, RedoUp, UndoUp}
+use Rattle.bx_commands.specs.Standing.{Standing, Leads, MovesUp, PerformUp}
 
 -- the reply that tells what the session answered; `made` tells what was done
 abbrev pub answered : (ℕ → Reply) → Result ℕ SessionFault → Reply
@@ -50,8 +51,8 @@ CommandStep {A = A} remaining before (Revert text offset) reply after = TextStep
 CommandStep {A = A} remaining before (RevertPlain text at) reply after = TextStep before (plain_change {A = A} at) (plain_answer text) reply after
 CommandStep {A = A} remaining before (Dd operands input) reply after =
     (left : Option (List ℕ)) × ((r : Result (DdChange A) DdFault) × (Makes operands (remaining input) left r × DdStep before r reply after))
-CommandStep remaining before (Undo k) reply after = CallStep Undone (UndoUp k) before reply after
-CommandStep remaining before (Redo j) reply after = CallStep Redone (RedoUp j) before reply after
+CommandStep remaining before (Undo k) reply after = CallStep Undone (MovesUp (λ s k r t. UndoStep s.stack k r t.stack) undo_of k) before reply after
+CommandStep remaining before (Redo j) reply after = CallStep Redone (MovesUp RedoStep redo_of j) before reply after
 
 -- a chain of states: one step for each command and its reply, in order
 abbrev pub Chain : {S C : Type 0} → (S → C → Reply → S → Type 0) → S → List C → List Reply → S → Type 0

@@ -21,9 +21,9 @@ without_text c = c
 -- reads a text all but that text, of another all. Session and reply are as the command's step says.
 abbrev pub SessionStep : {S R A : Type 0} → (S → S → Reply → (Standing → Reply → Standing → Type 0) → Type 0) → (R → Option (List ℕ))
     → S → Command R A → Command R A → Reply → S → Type 0
-SessionStep {A = A} Obeying remaining old (Dd operands input) (Dd words left) reply new =
-    (words ≡ operands) × ((r : Result (DdChange A) DdFault) × Makes operands (remaining input) (remaining left) r × Obeying old new reply (λ before. DdStep before r))
-SessionStep Obeying remaining old c left reply new = (left ≡ without_text c) × Obeying old new reply (λ before. CommandStep remaining before c)
+SessionStep {A = A} Obey remaining old (Dd operands input) (Dd words left) reply new =
+    (words ≡ operands) × ((r : Result (DdChange A) DdFault) × Makes operands (remaining input) (remaining left) r × Obey old new reply (λ s. DdStep s r))
+SessionStep Obey remaining old c left reply new = (left ≡ without_text c) × Obey old new reply (λ s. CommandStep remaining s c)
 
 -- A list of commands on a session, and what is then left of them: a chain of sessions, with one step for each reply, in
 -- order; it goes on after a refusal
@@ -35,4 +35,5 @@ SessionRun Step old list left replies new = ⊥
 -- each command of a list, in order, is obeyed, with what is then left of it
 abbrev pub AllObey : {D T R A : Type 0} → (D → Type 0) → (T → Type 0) → (D → List ℕ) → (T → List ℕ) → (D → ℕ) → (T → ℕ) → (R → Option (List ℕ))
     → SessionView D T → List (Command R A) → List (Command R A) → List Reply → SessionView D T → Type 0
-AllObey honest text_honest image text failures text_failures remaining = SessionRun (SessionStep (Obeys honest text_honest image text failures text_failures) remaining)
+AllObey honest text_honest image text failures text_failures remaining =
+    SessionRun (SessionStep (Obeys honest text_honest image text failures text_failures) remaining)

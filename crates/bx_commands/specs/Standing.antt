@@ -2,11 +2,11 @@
 use Rattle.std.specs.Prelude.{◌≡◌, ◌⊎◌, ◌≤◌, ℕ, ◌+◌, true, Result, Ok, Err, List, []}
 use Rattle.bx_image.specs.declared.change.Change.{Change}
 use Rattle.bx_image.specs.Change.{effect}
-use Rattle.bx_journal.specs.Images.{Images, change_to, redo_of, undo_of}
+use Rattle.bx_journal.specs.Images.{Images, change_to}
 use Rattle.bx_journal.specs.SessionView.{SessionView}
 use Rattle.bx_journal.specs.declared.session.fault.SessionFault.{SessionFault}
 use Rattle.bx_journal.specs.declared.session.fault.SessionFault.TheVariants.{DeviceFailed, JournalFull, Interrupted}
-use Rattle.bx_journal.specs.Machine.{PerformStep, RedoStep, UndoStep, top, changes_of}
+use Rattle.bx_journal.specs.Machine.{PerformStep, top, changes_of}
 use Rattle.bx_journal.specs.Session.{HasUndone, IsReady, SessionFinds}
 use Rattle.bx_journal.specs.Standing.{IsStanding}
 
@@ -42,19 +42,13 @@ PerformUp c old (Err JournalFull) after = (65535 ≤ changes_of old.stack) × (a
 PerformUp c old (Err Interrupted) after = (after ≡ Down old) ⊎ (after ≡ Down (change_to (effect c (top old.stack)) old))
 PerformUp c old (Err e) after = (after ≡ Up old) × PerformStep old.stack c (Err e) old.stack
 
--- An undo. Where a device stops it, opening finds what an undo of some of the changes leaves.
-abbrev pub UndoUp : ℕ → Images → Result ℕ SessionFault → Standing → Type 0
-UndoUp k old (Ok left) after = (new : Images) × (after ≡ Up new) × UndoStep old.stack k (Ok left) new.stack × (new ≡ undo_of k old)
-UndoUp k old (Err DeviceFailed) after = after ≡ Up old
-UndoUp k old (Err Interrupted) after = (i : ℕ) × (i ≤ k) × (after ≡ Down (undo_of i old))
-UndoUp k old (Err e) after = (after ≡ Up old) × UndoStep old.stack k (Err e) old.stack
-
--- A redo. Where a device stops it, opening finds what a redo of some of the changes leaves.
-abbrev pub RedoUp : ℕ → Images → Result ℕ SessionFault → Standing → Type 0
-RedoUp j old (Ok n) after = (new : Images) × (after ≡ Up new) × RedoStep old j (Ok n) new
-RedoUp j old (Err DeviceFailed) after = after ≡ Up old
-RedoUp j old (Err Interrupted) after = (i : ℕ) × (i ≤ j) × (after ≡ Down (redo_of i old))
-RedoUp j old (Err e) after = (after ≡ Up old) × RedoStep old j (Err e) old
+-- An undo or a redo of k: `Step` is its step, and `moved` tells the images behind it. A device that fails before the first
+-- write refuses it; where one stops it, opening finds what an undo, or a redo, of some of the changes leaves.
+abbrev pub MovesUp : (Images → ℕ → Result ℕ SessionFault → Images → Type 0) → (ℕ → Images → Images) → ℕ → Images → Result ℕ SessionFault → Standing → Type 0
+MovesUp Step moved k old (Ok n) after = (new : Images) × (after ≡ Up new) × Step old k (Ok n) new × (new ≡ moved k old)
+MovesUp Step moved k old (Err DeviceFailed) after = after ≡ Up old
+MovesUp Step moved k old (Err Interrupted) after = (i : ℕ) × (i ≤ k) × (after ≡ Down (moved i old))
+MovesUp Step moved k old (Err e) after = (after ≡ Up old) × Step old k (Err e) old
 
 -- No count of failed calls falls, and the three together rise by exactly so many
 pub record CountsBy {D T : Type 0} (failures : D → ℕ) (text_failures : T → ℕ) (old new : SessionView D T) (failed : ℕ) : Type 0 where

@@ -1,8 +1,11 @@
 -- What proofs alone need: the steps of single calls.
-use Rattle.std.specs.Prelude.{◌≡◌, ◌<◌, ◌≤◌, ℕ, Option, None, Some, List}
+use Rattle.std.specs.Prelude.{◌≡◌, ◌<◌, ◌≤◌, ℕ, Option, None, Some, Result, List}
 use Rattle.bx_dd.specs.declared.stream.counts.Counts.{Counts}
 use Rattle.bx_image.specs.declared.change.Change.{Change}
+use Rattle.bx_journal.specs.Images.{Images, redo_of, undo_of}
+use Rattle.bx_journal.specs.Machine.{RedoStep, UndoStep}
 use Rattle.bx_journal.specs.SessionView.{SessionView}
+use Rattle.bx_journal.specs.declared.session.fault.SessionFault.{SessionFault}
 use Rattle.bx_read.specs.declared.fault.ReadFault.{ReadFault}
 use Rattle.bx_read.specs.Plain.{plain_answer}
 use Rattle.bx_read.specs.Text.{dump_pieces}
@@ -11,7 +14,7 @@ use Rattle.bx_commands.specs.declared.command.Reply.TheVariants.{Changed, Copied
 use Rattle.bx_commands.specs.Command.{dump_change, plain_change}
 use Rattle.bx_commands.specs.Fault.{of_read}
 use Rattle.bx_commands.specs.Run.{CallStep, TextStep}
-use Rattle.bx_commands.specs.Standing.{CountsBy, Standing, PerformUp, RedoUp, UndoUp}
+use Rattle.bx_commands.specs.Standing.{CountsBy, MovesUp, PerformUp, Standing}
 
 -- how many calls of each of a session's devices failed is below a limit
 abbrev pub CountsBelow : {D T : Type 0} → ℕ → (D → ℕ) → (T → ℕ) → SessionView D T → Type 0
@@ -29,6 +32,14 @@ ChangeStep before c counts reply after = CallStep (made_reply counts) (PerformUp
 -- nothing is done for this fault of the command's own
 abbrev pub RefusesStep : Standing → ReadFault → Reply → Standing → Type 0
 RefusesStep before e reply after = (reply ≡ Refused (of_read e)) × (after ≡ before)
+
+-- an undo of k, from images
+abbrev pub UndoUp : ℕ → Images → Result ℕ SessionFault → Standing → Type 0
+UndoUp k old r after = MovesUp (λ s k r t. UndoStep s.stack k r t.stack) undo_of k old r after
+
+-- a redo of j, from images
+abbrev pub RedoUp : ℕ → Images → Result ℕ SessionFault → Standing → Type 0
+RedoUp j old r after = MovesUp RedoStep redo_of j old r after
 
 -- an undo, and the reply to it
 abbrev pub UndoesStep : Standing → ℕ → Reply → Standing → Type 0
