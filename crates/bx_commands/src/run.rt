@@ -186,8 +186,8 @@ pub fn run_all<D: Device, T: TextStore, R: Read, A: Allocator + Clone>(
     requires redo_countable { T.failures session.old.redo_text + length list.old ≤ u64.MAX }
     requires near { All IsNear list.old }
 
-    // Where no honest device fails, the replies and the final devices are a run of the machine, from the whole images that
-    // the first devices stand for to those that the final ones stand for.
+    // Where the devices are honest and none fails, the replies and the final devices are a run of the machine, from the whole
+    // images that the first devices stand for to those that the final ones stand for.
     ensures headline { IfOk result (λ p. Runs D.honest T.honest D.failures T.failures (Shows D.image T.text) R.remaining session.old list.old p.items session.new) }
 
     // From a sound journal it leaves a sound one.
