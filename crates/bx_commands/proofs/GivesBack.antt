@@ -12,12 +12,13 @@ use Rattle.bx_commands.specs.declared.command.Command.TheVariants.{Revert, Rever
 use Rattle.bx_commands.specs.declared.command.Reply.{Reply}
 use Rattle.bx_commands.specs.declared.command.Reply.TheVariants.{Undone, Redone, Refused}
 use Rattle.bx_commands.specs.declared.fault.Fault.{Fault}
-use Rattle.bx_commands.specs.Standing.{Standing, PerformUp, RedoUp, UndoUp}
+use Rattle.bx_commands.specs.Standing.{Standing, PerformUp}
 use Rattle.bx_dd.specs.declared.stream.counts.Counts.{Counts}
 use Rattle.bx_dd.specs.declared.fault.DdFault.{DdFault}
 use Rattle.bx_commands.specs.declared.changes.DdChange.{DdChange}
 use Rattle.bx_commands.specs.Fault.{of_dd, of_read}
-use Rattle.bx_commands.specs.Run.{answered, made_reply, ChangeStep, ReadStep, DdStep, CommandStep, StackStep, StackRun}
+use Rattle.bx_commands.specs.Run.{answered, ReadStep, DdStep, CommandStep, StackStep, StackRun}
+use Rattle.bx_commands.specs.inner.Run.{made_reply, ChangeStep, RedoUp, UndoUp}
 use Rattle.bx_commands.specs.Command.{dump_change, plain_change}
 use Rattle.bx_read.specs.Plain.{plain_answer}
 use Rattle.bx_read.specs.Text.{dump_pieces}

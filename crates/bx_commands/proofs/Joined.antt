@@ -1,6 +1,6 @@
 -- A dump whose lines were joined makes the change that its lines make.
 use Rattle.std.proofs.Common.{◌≡◌, ◌⊎◌, ⊎_elim, inl, inr, ℕ, ◌+◌, Bool, true, false, eqb, Result, Ok, Err, List, [], ◌∷◌, ◌++◌, length, map, refl, ap, sym, ◌∙◌, subst, arith}
-use Rattle.std.specs.Prelude.{MatchResult}
+use Rattle.std.specs.Prelude.{IfOk, IfErr}
 use Rattle.std.proofs.lemmas.Bool.{eqb-true}
 use Rattle.bx_text.specs.declared.owned.pieces.Piece.{Piece}
 use Rattle.bx_image.specs.declared.change.Change.{Change}
@@ -19,8 +19,8 @@ use Rattle.bx_journal.specs.declared.session.fault.SessionFault.{SessionFault}
 use Rattle.bx_journal.specs.declared.session.fault.SessionFault.TheVariants.{NoMemory, TooLarge, DeviceFailed, Damaged, TooFew, JournalFull, Interrupted, Broken, LengthDiffers, NothingToRedo, RedoDamaged}
 use Rattle.bx_commands.specs.declared.command.Reply.{Reply}
 use Rattle.bx_commands.specs.Command.{dump_change}
-use Rattle.bx_commands.specs.Run.{ChangeStep, ReadStep}
-use Rattle.bx_commands.specs.inner.Run.{DumpStep}
+use Rattle.bx_commands.specs.Run.{ReadStep}
+use Rattle.bx_commands.specs.inner.Run.{ChangeStep, DumpStep}
 use Rattle.bx_commands.specs.Standing.{Standing, PerformUp}
 use Rattle.bx_commands.proofs.Stands.{read_step}
 
@@ -77,9 +77,10 @@ read_same make other (Err e) before after reply same step = step
 
 -- a dump that was read as runs, or refused
 pub dump_step : {A : Type 0} (text : List ℕ) (offset : ℕ) (read : Result (Change A) ReadFault) (before after : Standing) (reply : Reply) →
-    MatchResult read (λ c. (pieces : List (ℕ × List ℕ)) × (dump_pieces text ≡ Ok pieces) × (c ≡ dump_change offset (joined pieces))) (λ e. (e ≡ ReadNoMemory) ⊎ (dump_pieces text ≡ Err e)) →
+    IfOk read (λ c. (pieces : List (ℕ × List ℕ)) × (dump_pieces text ≡ Ok pieces) × (c ≡ dump_change offset (joined pieces))) →
+    IfErr read (λ e. (e ≡ ReadNoMemory) ⊎ (dump_pieces text ≡ Err e)) →
     ReadStep before (λ c. c) read reply after → DumpStep A before text offset reply after
-dump_step {A = A} text offset read before after reply is step = ⊎_elim
+dump_step {A = A} text offset read before after reply made fault step = ⊎_elim
     (λ none. inl none)
-    (λ made. inr (read_same (λ pieces. dump_change {A = A} offset (joined pieces)) (dump_change {A = A} offset) (dump_pieces text) before after reply (dump_joined A offset) made))
-    (read_step (λ pieces. dump_change {A = A} offset (joined pieces)) (dump_pieces text) read before after reply is step)
+    (λ same. inr (read_same (λ pieces. dump_change {A = A} offset (joined pieces)) (dump_change {A = A} offset) (dump_pieces text) before after reply (dump_joined A offset) same))
+    (read_step (λ pieces. dump_change {A = A} offset (joined pieces)) (dump_pieces text) read before after reply made fault step)

@@ -25,9 +25,9 @@ use Rattle.bx_commands.specs.Fault.{of_dd, of_read, of_session}
 use Rattle.bx_commands.specs.Obeys.{Obeys}
 use Rattle.bx_commands.specs.Refusal.{IsWholeRefusal}
 use Rattle.bx_commands.specs.inner.Refusal.{IsOwnFault}
-use Rattle.bx_commands.specs.Run.{answered, made_reply, is_failure, Unfailed, ChangeStep, ReadStep, DdStep}
-use Rattle.bx_commands.specs.inner.Run.{UndoesStep, RedoesStep}
-use Rattle.bx_commands.specs.Standing.{CallFrom, CountsBy, HoldsAt, PerformUp, RedoUp, Shows, Standing, UndoUp}
+use Rattle.bx_commands.specs.Run.{answered, is_failure, CallStep, Unfailed, ReadStep, DdStep}
+use Rattle.bx_commands.specs.inner.Run.{made_reply, ChangeStep, RedoUp, RedoesStep, UndoUp, UndoesStep}
+use Rattle.bx_commands.specs.Standing.{CountsBy, HoldsAt, PerformUp, Shows, Standing}
 use Rattle.bx_commands.proofs.Refusals.{IsNoRefusal, after_same, is_interrupted, made_no_refusal, no_failure, no_own, no_whole, redo_same_here, same_here, session_not_own, unfailed_whole, whole_goes_on}
 use Rattle.bx_commands.proofs.Stays.{holds_same, ready_shows, shows_same}
 use Rattle.bx_commands.proofs.Steps.{refusal, perform_stays, redo_stays, undo_stays, counts_least, counts_rise}
@@ -55,6 +55,16 @@ dd_unfailed dd.Conflict = refl
 dd_unfailed dd.MissingCbs = refl
 dd_unfailed (dd.Repeated place) = refl
 dd_unfailed dd.SeekWithoutOutput = refl
+
+-- a call of a session, from where it stands: a stopped session refuses it
+abbrev CallFrom : (Images → Result ℕ SessionFault → Standing → Type 0) → Standing → Result ℕ SessionFault → Standing → Type 0
+CallFrom Call (Standing.Up old) r after = Call old r after
+CallFrom Call (Standing.Down old) r after = (r ≡ Err Broken) × (after ≡ Standing.Down old)
+
+called : (made : ℕ → Reply) (Call : Images → Result ℕ SessionFault → Standing → Type 0) (before : Standing) (r : Result ℕ SessionFault) (reply : Reply) (after : Standing)
+    → reply ≡ answered made r → CallFrom Call before r after → CallStep made Call before reply after
+called made Call (Standing.Up old) r reply after is from = (r, is, from)
+called made Call (Standing.Down old) r reply after is from = (is ∙ ap (answered made) from.0, from.1)
 
 -- what each call that the session refuses says of the session
 pub record IsRefused {D T : Type 0} (hd : D → Type 0) (ht : T → Type 0) (image : D → List ℕ) (text : T → List ℕ) (old new : SessionView D T) (e : SessionFault) : Type 0 where
@@ -100,8 +110,8 @@ module _ {D T : Type 0} (hd : D → Type 0) (ht : T → Type 0) (image : D → L
       → Obeys hd ht image text fd ft old new reply Step → Obeys hd ht image text fd ft old new reply Next
   obeys_next next obeys = record {
     step = λ before h. let made = obeys.step before h in (made.0, made.1, next before made.0 made.2);
-    stands = λ device store redo images shows unfailed.
-        let made = obeys.stands device store redo images shows unfailed in
+    stands = λ device store redo unfailed images shows.
+        let made = obeys.stands device store redo unfailed images shows in
         (made.0, made.1, next (Standing.Up images) (Standing.Up made.0) made.2);
     device_honesty = obeys.device_honesty;
     store_honesty = obeys.store_honesty;
@@ -117,13 +127,13 @@ module _ {D T : Type 0} (hd : D → Type 0) (ht : T → Type 0) (image : D → L
       → Unfailed reply → ((before : Standing) → Step before reply before) → Obeys hd ht image text fd ft s s reply Step
   obeys_refused Step s reply unfailed refuses = record {
     step = λ before h. (before, h, refuses before);
-    stands = λ device store redo images shows whole. (images, shows, refuses (Standing.Up images));
+    stands = λ device store redo whole images shows. (images, shows, refuses (Standing.Up images));
     device_honesty = ((λ h. h), (λ h. h));
     store_honesty = ((λ h. h), (λ h. h));
     redo_honesty = ((λ h. h), (λ h. h));
     counts = unfailed_counts s s reply unfailed (refl, refl, refl);
     own = λ own. refl;
-    same = λ device store whole. same_here image text s;
+    same = λ whole device store. same_here image text s;
     redo_same = λ redo whole. redo_same_here text s;
   }
 
@@ -159,27 +169,27 @@ module _ {D T : Type 0} (hd : D → Type 0) (ht : T → Type 0) (image : D → L
       let bad : Ok n ≡ Err Broken = accepted.broken.0 h.3.0 in absurd (cc)
 
   -- a call that was accepted
-  call_accepted : (told : Result ℕ SessionFault → Reply) (From : Standing → Result ℕ SessionFault → Standing → Type 0) (next : Images → Images)
-      (old new : SessionView D T) (n : ℕ) (reply : Reply) → reply ≡ told (Ok n) → IsNoRefusal reply
+  call_accepted : (made : ℕ → Reply) (Call : Images → Result ℕ SessionFault → Standing → Type 0) (next : Images → Images)
+      (old new : SessionView D T) (n : ℕ) (reply : Reply) → reply ≡ answered made (Ok n) → IsNoRefusal reply
       → IsAccepted hd ht fd ft old new n
       → ((images : Images) → hd old.device → ht old.store → ht old.redo_text → Shows image text old images
-      → Shows image text new (next images) × From (Standing.Up images) (Ok n) (Standing.Up (next images)))
+      → Shows image text new (next images) × Call images (Ok n) (Standing.Up (next images)))
       → ((images : Images) → hd old.device → ht old.store → ht old.redo_text → IsReady image text old images.stack → HasUndone image text old images.undone
       → IsReady image text new (next images).stack)
-      → Obeys hd ht image text fd ft old new reply (λ before reply after. (r : Result ℕ SessionFault) × (reply ≡ told r) × From before r after)
-  call_accepted told From next old new n reply is no_refusal accepted shows sound = record {
+      → Obeys hd ht image text fd ft old new reply (λ before. CallStep made Call before)
+  call_accepted made Call next old new n reply is no_refusal accepted shows sound = record {
     step = λ before h.
-        let made = accepted_step From next old new n accepted shows sound before h in
-        (made.0, made.1, (Ok n, is, made.2));
-    stands = λ device store redo images shown unfailed.
-        let made = shows images device store redo shown in
-        (next images, made.0, (Ok n, is, made.1));
+        let stands = accepted_step (CallFrom Call) next old new n accepted shows sound before h in
+        (stands.0, stands.1, called made Call before (Ok n) reply stands.0 is stands.2);
+    stands = λ device store redo unfailed images shown.
+        let stands = shows images device store redo shown in
+        (next images, stands.0, (Ok n, is, stands.1));
     device_honesty = accepted.device_honesty;
     store_honesty = accepted.store_honesty;
     redo_honesty = accepted.redo_honesty;
     counts = unfailed_counts old new reply (no_failure reply no_refusal) accepted.unfailed;
     own = λ own. absurd (no_own reply no_refusal own);
-    same = λ device store whole. absurd (no_whole reply no_refusal whole);
+    same = λ whole device store. absurd (no_whole reply no_refusal whole);
     redo_same = λ redo whole. absurd (no_whole reply no_refusal whole);
   }
 
@@ -224,26 +234,25 @@ module _ {D T : Type 0} (hd : D → Type 0) (ht : T → Type 0) (image : D → L
       )
 
   -- a call that was refused, or stopped
-  call_refused : (told : Result ℕ SessionFault → Reply) (From : Standing → Result ℕ SessionFault → Standing → Type 0) (Left : Images → Type 0)
-      (old new : SessionView D T) (e : SessionFault) (f : Fault) → f ≡ of_session e → told (Err e) ≡ Refused (of_session e)
+  call_refused : (made : ℕ → Reply) (Call : Images → Result ℕ SessionFault → Standing → Type 0) (Left : Images → Type 0)
+      (old new : SessionView D T) (e : SessionFault) (f : Fault) → f ≡ of_session e
       → IsRefused hd ht image text old new e → SessionCounts fd ft old new e
       → ((images : Images) → hd old.device → ht old.store → ht old.redo_text → Shows image text old images → (e ≡ Interrupted → ⊥)
-      → From (Standing.Up images) (Err e) (Standing.Up images))
+      → Call images (Err e) (Standing.Up images))
       → (hd old.device → ht old.store → ht old.redo_text → (images : Images) → IsReady image text old images.stack → HasUndone image text old images.undone
       → AfterFault e (Left images) (Unit {0}))
-      → ((images : Images) → Left images → (found : Images) × SessionFinds image text new found × From (Standing.Up images) (Err Interrupted) (Standing.Down found))
-      → ((images : Images) → From (Standing.Down images) (Err Broken) (Standing.Down images))
-      → Obeys hd ht image text fd ft old new (Refused f) (λ before reply after. (r : Result ℕ SessionFault) × (reply ≡ told r) × From before r after)
-  call_refused told From Left old new e f is says refused counts stays finds stops down =
+      → ((images : Images) → Left images → (found : Images) × SessionFinds image text new found × Call images (Err Interrupted) (Standing.Down found))
+      → Obeys hd ht image text fd ft old new (Refused f) (λ before. CallStep made Call before)
+  call_refused made Call Left old new e f is refused counts stays finds stops =
       let By : Fault → Type 0 = λ f. CountsBy fd ft old new (cond (is_failure (Refused f)) 1 0) in
       let Whole : Fault → Type 0 = λ f. IsWholeRefusal (Refused f) in
       let Goes : Fault → Type 0 = λ f. Unfailed (Refused f) in
-      let reply_is : Refused f ≡ told (Err e) = ap Refused is ∙ sym says in
+      let reply_is : Refused f ≡ answered made (Err e) = ap Refused is in
       record {
         step = λ before h.
-            let made = refused_step From Left old new e refused stays finds stops down before h in
-            (made.0, made.1, (Err e, reply_is, made.2));
-        stands = λ device store redo images shows unfailed.
+            let stands = refused_step (CallFrom Call) Left old new e refused stays finds stops (λ images. (refl, refl)) before h in
+            (stands.0, stands.1, called made Call before (Err e) (Refused f) stands.0 reply_is stands.2);
+        stands = λ device store redo unfailed images shows.
             let whole = unfailed_whole e (subst Goes is unfailed) in
             let same = after_same (IsSame image text old new) e (refused.same device store) whole in
             let redo_same = after_same (IsRedoSame text old new) e (refused.redo_same redo) whole in
@@ -253,7 +262,7 @@ module _ {D T : Type 0} (hd : D → Type 0) (ht : T → Type 0) (image : D → L
         redo_honesty = refused.redo_honesty;
         counts = subst By (sym is) (fault_counts old new e counts);
         own = λ own. absurd (session_not_own e (subst IsOwnFault is own));
-        same = λ device store whole. after_same (IsSame image text old new) e (refused.same device store) (whole_goes_on e (subst Whole is whole));
+        same = λ whole device store. after_same (IsSame image text old new) e (refused.same device store) (whole_goes_on e (subst Whole is whole));
         redo_same = λ redo whole. after_same (IsRedoSame text old new) e (refused.redo_same redo) (whole_goes_on e (subst Whole is whole));
       }
 
@@ -267,7 +276,7 @@ module _ {D T : Type 0} (hd : D → Type 0) (ht : T → Type 0) (image : D → L
       → Obeys hd ht image text fd ft old new reply (λ before. ChangeStep before c counts)
   perform_obeys old new c counts n reply is accepted makes sound undone =
       let next : Images → Images = λ images. change_to (effect c (top images.stack)) images in
-      call_accepted (answered (made_reply counts)) (CallFrom (PerformUp c)) next old new n reply is
+      call_accepted (made_reply counts) (PerformUp c) next old new n reply is
       (subst IsNoRefusal (sym is) (made_no_refusal counts n)) accepted
       (λ images device store redo shows.
       let made = makes device store images.stack shows.0 in
@@ -284,7 +293,7 @@ module _ {D T : Type 0} (hd : D → Type 0) (ht : T → Type 0) (image : D → L
       → HasUndone image text new (undone_by k s.stack s.undone))
       → Obeys hd ht image text fd ft old new (Undone left) (λ before. UndoesStep before k)
   undo_obeys old new k left accepted makes sound keeps =
-      call_accepted (answered Undone) (CallFrom (UndoUp k)) (undo_of k) old new left (Undone left) refl tt accepted
+      call_accepted Undone (UndoUp k) (undo_of k) old new left (Undone left) refl tt accepted
       (λ images device store redo shows.
       let made = makes device store images.stack shows.0 in
       ((made.1, keeps device store redo images shows.0 shows.1), (undo_of k images, refl, made.0, refl)))
@@ -299,10 +308,10 @@ module _ {D T : Type 0} (hd : D → Type 0) (ht : T → Type 0) (image : D → L
       → IsReady image text new (redo_of j s).stack × HasUndone image text new (redo_of j s).undone)
       → Obeys hd ht image text fd ft old new (Redone n) (λ before. RedoesStep before j)
   redo_obeys old new j n accepted makes sound =
-      call_accepted (answered Redone) (CallFrom (RedoUp j)) (redo_of j) old new n (Redone n) refl tt accepted
+      call_accepted Redone (RedoUp j) (redo_of j) old new n (Redone n) refl tt accepted
       (λ images device store redo shows.
       let made = makes device store redo images shows.0 shows.1 in
-      ((made.1, made.2), (redo_of j images, refl, made.0)))
+      ((made.1, made.2), (redo_of j images, refl, made.0, refl)))
       (λ images device store redo ready has. (sound device store redo images ready has).0)
 
   -- a change that was refused, or stopped
@@ -317,14 +326,13 @@ module _ {D T : Type 0} (hd : D → Type 0) (ht : T → Type 0) (image : D → L
   unperformed_obeys old new c counts e f is refused failures full large kind finds =
       let Made : Images → Images = λ s. change_to (effect c (top s.stack)) s in
       let Found : Images → Type 0 = λ s. (found : Images) × SessionFinds image text new found × PerformUp c s (Err Interrupted) (Standing.Down found) in
-      call_refused (answered (made_reply counts)) (CallFrom (PerformUp c)) (λ s. FindsEither image text new s (Made s)) old new e f is refl refused failures
+      call_refused (made_reply counts) (PerformUp c) (λ s. FindsEither image text new s (Made s)) old new e f is refused failures
       (λ images device store redo shows whole. perform_stays hd image text old c e refused.broken full large kind device images shows whole)
       finds
       (λ images either. elim either as (λ _. Found images) [
         | inl before ↦ (images, before, inl refl)
         | inr made ↦ (Made images, made, inr refl)
       ])
-      (λ images. (refl, refl))
 
   -- an undo that was refused, or stopped
   pub kept_obeys : (old new : SessionView D T) (k : ℕ) (e : SessionFault) (f : Fault) → f ≡ of_session e
@@ -336,11 +344,10 @@ module _ {D T : Type 0} (hd : D → Type 0) (ht : T → Type 0) (image : D → L
       → AfterFault e ((i : ℕ) × (i ≤ k) × SessionFinds image text new (undo_of i s)) (Unit {0}))
       → Obeys hd ht image text fd ft old new (Refused f) (λ before. UndoesStep before k)
   kept_obeys old new k e f is refused failures few kind undamaged finds =
-      call_refused (answered Undone) (CallFrom (UndoUp k)) (λ s. (i : ℕ) × (i ≤ k) × SessionFinds image text new (undo_of i s)) old new e f is refl refused failures
+      call_refused Undone (UndoUp k) (λ s. (i : ℕ) × (i ≤ k) × SessionFinds image text new (undo_of i s)) old new e f is refused failures
       (λ images device store redo shows whole. undo_stays ht image text old k e refused.broken few kind undamaged store images shows whole)
       finds
       (λ images left. (undo_of left.0 images, left.2, (left.0, left.1, refl)))
-      (λ images. (refl, refl))
 
   -- a redo that was refused, or stopped
   pub unredone_obeys : (old new : SessionView D T) (j : ℕ) (e : SessionFault) (f : Fault) → f ≡ of_session e
@@ -352,8 +359,7 @@ module _ {D T : Type 0} (hd : D → Type 0) (ht : T → Type 0) (image : D → L
       → AfterFault e ((i : ℕ) × (i ≤ j) × SessionFinds image text new (redo_of i s)) (Unit {0}))
       → Obeys hd ht image text fd ft old new (Refused f) (λ before. RedoesStep before j)
   unredone_obeys old new j e f is refused failures nothing kind undamaged finds =
-      call_refused (answered Redone) (CallFrom (RedoUp j)) (λ s. (i : ℕ) × (i ≤ j) × SessionFinds image text new (redo_of i s)) old new e f is refl refused failures
+      call_refused Redone (RedoUp j) (λ s. (i : ℕ) × (i ≤ j) × SessionFinds image text new (redo_of i s)) old new e f is refused failures
       (λ images device store redo shows whole. redo_stays ht image text old j e refused.broken nothing kind undamaged redo images shows whole)
       finds
       (λ images left. (redo_of left.0 images, left.2, (left.0, left.1, refl)))
-      (λ images. (refl, refl))

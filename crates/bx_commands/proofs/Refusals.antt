@@ -1,5 +1,5 @@
 -- What refused commands leave.
-use Rattle.std.proofs.Common.{◌≡◌, ◌≢◌, ◌∙◌, ◌⊎◌, inl, inr, ℕ, List, Option, None, Some, refl, sym, subst}
+use Rattle.std.proofs.Common.{◌≡◌, ◌≢◌, ◌∙◌, ◌⊎◌, inl, inr, ℕ, List, Option, None, Some, refl, sym, ap, subst}
 use Rattle.bx_dd.specs.declared.stream.counts.Counts.{Counts}
 use Rattle.bx_journal.specs.Calls.{AfterFault}
 use Rattle.bx_journal.specs.Session.{IsRedoSame, IsSame}
@@ -17,7 +17,8 @@ use Rattle.bx_commands.specs.declared.fault.Fault.TheVariants as fault
 use Rattle.bx_commands.specs.Fault.{of_dd, of_read, of_session}
 use Rattle.bx_commands.specs.Refusal.{IsOwnRefusal, IsWholeRefusal}
 use Rattle.bx_commands.specs.inner.Refusal.{IsOwnFault, IsListedFault}
-use Rattle.bx_commands.specs.Run.{Unfailed, made_reply}
+use Rattle.bx_commands.specs.Run.{Unfailed}
+use Rattle.bx_commands.specs.inner.Run.{made_reply}
 use Rattle.bx_commands.proofs.Steps.{true_is_not_false}
 
 -- no fault of the session's is a listed one
@@ -132,9 +133,7 @@ after_same S (RedoDamaged line) same whole = same
 
 -- a refusal that tells of no device in the middle of writing, and one that tells of no device at all, is no interruption
 pub whole_goes_on : (e : SessionFault) → IsWholeRefusal (Refused (of_session e)) → e ≡ Interrupted → ⊥
-whole_goes_on e whole stopped =
-    let Whole : SessionFault → Type 0 = λ f. IsWholeRefusal (Refused (of_session f)) in
-    subst Whole stopped whole
+whole_goes_on e whole stopped = whole (ap of_session stopped)
 
 pub unfailed_whole : (e : SessionFault) → Unfailed (Refused (of_session e)) → e ≡ Interrupted → ⊥
 unfailed_whole e unfailed stopped =

@@ -5,16 +5,17 @@ use Rattle.std.proofs.lemmas.List.{append_assoc, append-nil, drop_more, drop-set
 use Rattle.std.proofs.lemmas.List.Elements.{All-cons, All-nil}
 use Rattle.std.proofs.lemmas.List.Sums.{sum_by-cons}
 use Rattle.bx_journal.specs.Images.{Images}
-use Rattle.bx_journal.specs.Session.{IsRedoSame, IsSame, IsUnfailed}
+use Rattle.bx_journal.specs.Session.{IsRedoSame, IsUnfailed}
 use Rattle.bx_journal.specs.SessionView.{SessionView}
 use Rattle.bx_commands.specs.declared.command.Command.{Command}
 use Rattle.bx_commands.specs.declared.command.Command.TheVariants.{Revert, RevertPlain, Dd, Undo, Redo}
 use Rattle.bx_commands.specs.declared.command.Reply.{Reply}
 use Rattle.bx_commands.specs.Obeys.{Obeys}
-use Rattle.bx_commands.specs.Refusal.{IsOwnRefusal, IsWholeRefusal}
+use Rattle.bx_commands.specs.Refusal.{IsOwnRefusal, IsWholeRefusal, KeepsPair}
 use Rattle.bx_commands.specs.Run.{is_failure, CommandRun, CommandStep, StackRun, Unfailed}
+use Rattle.bx_commands.specs.inner.Run.{CountsOn}
 use Rattle.bx_commands.specs.SessionRun.{SessionRun, SessionStep}
-use Rattle.bx_commands.specs.Standing.{CountsBy, CountsOn, HoldsAt, Shows, Standing}
+use Rattle.bx_commands.specs.Standing.{CountsBy, HoldsAt, Leads, Shows, Standing}
 use Rattle.bx_commands.proofs.Obeys.{obeys_next}
 use Rattle.bx_commands.proofs.Refusals.{redo_same_here, redo_same_on, same_here, same_on}
 use Rattle.bx_commands.proofs.Unfailed.{all_tail}
@@ -128,7 +129,7 @@ module _ {D T : Type 0} (fd : D → ℕ) (ft : T → ℕ) where
 
 module _ {D T R A : Type 0} (hd : D → Type 0) (ht : T → Type 0) (image : D → List ℕ) (text : T → List ℕ) (fd : D → ℕ) (ft : T → ℕ) (remaining : R → Option (List ℕ)) where
   -- whatever is left of it, a command obeys its step
-  obeys_command : (old new : SessionView D T) (c left : Command R A) (reply : Reply) → SessionStep hd ht image text fd ft remaining old c left reply new
+  obeys_command : (old new : SessionView D T) (c left : Command R A) (reply : Reply) → SessionStep (Obeys hd ht image text fd ft) remaining old c left reply new
       → Obeys hd ht image text fd ft old new reply (λ before. CommandStep remaining before c)
   obeys_command old new (Dd operands input) (Dd words rest) reply step =
       obeys_next hd ht image text fd ft (λ before after dd. (remaining rest, (step.1.0, (step.1.1, dd)))) step.1.2
@@ -142,18 +143,16 @@ module _ {D T R A : Type 0} (hd : D → Type 0) (ht : T → Type 0) (image : D �
   obeys_command old new (Redo j) left reply step = step.1
 
   abbrev Step : SessionView D T → Command R A → Command R A → Reply → SessionView D T → Type 0
-  Step old c left reply new = SessionStep hd ht image text fd ft remaining old c left reply new
+  Step old c left reply new = SessionStep (Obeys hd ht image text fd ft) remaining old c left reply new
 
   abbrev Runs : SessionView D T → List (Command R A) → List (Command R A) → List Reply → SessionView D T → Type 0
   Runs old list left replies new = SessionRun Step old list left replies new
 
   -- from where the session stands
   pub run_of : (old new : SessionView D T) (list left : List (Command R A)) (replies : List Reply) → Runs old list left replies new
-      → (start : Standing) → HoldsAt hd ht image text old start
-      → (after : Standing) × HoldsAt hd ht image text new after × CommandRun remaining start list replies after
+      → Leads (HoldsAt hd ht image text) (λ start. CommandRun remaining start list replies) old new
   run_of = run_induction Step
-      (λ old list replies new. (start : Standing) → HoldsAt hd ht image text old start
-      → (after : Standing) × HoldsAt hd ht image text new after × CommandRun remaining start list replies after)
+      (λ old list replies new. Leads (HoldsAt hd ht image text) (λ start. CommandRun remaining start list replies) old new)
       (λ s start h. (start, h, refl))
       (λ old now new c left list p replies step later start h.
       let made = (obeys_command old now c left p step).step start h in
@@ -162,20 +161,18 @@ module _ {D T R A : Type 0} (hd : D → Type 0) (ht : T → Type 0) (image : D �
 
   -- from the images that honest devices stand for, where no reply tells of a failure
   pub stacks_of : (old new : SessionView D T) (list left : List (Command R A)) (replies : List Reply) → Runs old list left replies new
-      → AreHonest hd ht old → (start : Images) → Shows image text old start → All Unfailed replies
-      → (top : Images) × Shows image text new top × StackRun remaining start list replies top
+      → AreHonest hd ht old → All Unfailed replies → Leads (Shows image text) (λ start. StackRun remaining start list replies) old new
   stacks_of = run_induction Step
-      (λ old list replies new. AreHonest hd ht old → (start : Images) → Shows image text old start → All Unfailed replies
-      → (top : Images) × Shows image text new top × StackRun remaining start list replies top)
-      (λ s honest start shows all. (start, shows, refl))
-      (λ old now new c left list p replies step later honest start shows all.
+      (λ old list replies new. AreHonest hd ht old → All Unfailed replies → Leads (Shows image text) (λ start. StackRun remaining start list replies) old new)
+      (λ s honest all start shows. (start, shows, refl))
+      (λ old now new c left list p replies step later honest all start shows.
       let obeys = obeys_command old now c left p step in
       let unfailed = all_head Unfailed p replies all in
-      let made = obeys.stands honest.0 honest.1 honest.2 start shows unfailed in
-      let rest = later (obeys.device_honesty.1 honest.0, obeys.store_honesty.1 honest.1, obeys.redo_honesty.1 honest.2) made.0 made.1 (all_tail Unfailed p replies all) in
+      let made = obeys.stands honest.0 honest.1 honest.2 unfailed start shows in
+      let rest = later (obeys.device_honesty.1 honest.0, obeys.store_honesty.1 honest.1, obeys.redo_honesty.1 honest.2) (all_tail Unfailed p replies all) made.0 made.1 in
       (rest.0, rest.1, (made.0, (made.2, unfailed), rest.2)))
 
-  pub counts_once : (old new : SessionView D T) (c left : Command R A) (reply : Reply) → SessionStep hd ht image text fd ft remaining old c left reply new
+  pub counts_once : (old new : SessionView D T) (c left : Command R A) (reply : Reply) → SessionStep (Obeys hd ht image text fd ft) remaining old c left reply new
       → CountsBy fd ft old new (weight reply)
   counts_once old new c left reply step = (obeys_command old new c left reply step).counts
 
@@ -203,13 +200,13 @@ module _ {D T R A : Type 0} (hd : D → Type 0) (ht : T → Type 0) (image : D �
       later (all_tail IsOwnRefusal p replies all) ∙ (obeys_command old now c left p step).own (all_head IsOwnRefusal p replies all))
 
   pub same_of : (old new : SessionView D T) (list left : List (Command R A)) (replies : List Reply) → Runs old list left replies new
-      → hd old.device → ht old.store → All IsWholeRefusal replies → IsSame image text old new
-  same_of = run_induction Step (λ old list replies new. hd old.device → ht old.store → All IsWholeRefusal replies → IsSame image text old new)
-      (λ s device store all. same_here image text s)
-      (λ old now new c left list p replies step later device store all.
+      → All IsWholeRefusal replies → KeepsPair hd ht image text old new
+  same_of = run_induction Step (λ old list replies new. All IsWholeRefusal replies → KeepsPair hd ht image text old new)
+      (λ s all device store. same_here image text s)
+      (λ old now new c left list p replies step later all device store.
       let obeys = obeys_command old now c left p step in
-      same_on image text old now new (obeys.same device store (all_head IsWholeRefusal p replies all))
-      (later (obeys.device_honesty.1 device) (obeys.store_honesty.1 store) (all_tail IsWholeRefusal p replies all)))
+      same_on image text old now new (obeys.same (all_head IsWholeRefusal p replies all) device store)
+      (later (all_tail IsWholeRefusal p replies all) (obeys.device_honesty.1 device) (obeys.store_honesty.1 store)))
 
   pub redo_same_of : (old new : SessionView D T) (list left : List (Command R A)) (replies : List Reply) → Runs old list left replies new
       → ht old.redo_text → All IsWholeRefusal replies → IsRedoSame text old new

@@ -18,7 +18,8 @@ use Rattle.bx_journal.proofs.Ready.{top_of}
 use Rattle.bx_commands.specs.declared.command.Reply.TheVariants.{Refused}
 use Rattle.bx_commands.specs.Fault.{of_session}
 use Rattle.bx_commands.specs.Run.{is_failure}
-use Rattle.bx_commands.specs.Standing.{Standing, PerformUp, RedoUp, Shows, UndoUp}
+use Rattle.bx_commands.specs.Standing.{Standing, PerformUp, Shows}
+use Rattle.bx_commands.specs.inner.Run.{RedoUp, UndoUp}
 
 pub true_is_not_false : true ≡ false → ⊥
 true_is_not_false e = cc

@@ -10,12 +10,12 @@ use Rattle.bx_commands.specs.declared.command.Reply.{Reply}
 use Rattle.bx_commands.specs.declared.command.Reply.TheVariants.{Undone, Redone}
 use Rattle.bx_journal.specs.Images.{Images}
 use Rattle.bx_journal.specs.SessionView.{SessionView}
-use Rattle.bx_journal.specs.Session.{HasUndone, IsReady}
-use Rattle.bx_commands.specs.Standing.{Standing, HoldsAt, PerformUp, RedoUp, UndoUp}
+use Rattle.bx_commands.specs.Standing.{Standing, HoldsAt, PerformUp, RestsAt}
 use Rattle.bx_dd.specs.declared.stream.counts.Counts.{Counts}
 use Rattle.bx_dd.specs.declared.fault.DdFault.{DdFault}
 use Rattle.bx_commands.specs.declared.changes.DdChange.{DdChange}
-use Rattle.bx_commands.specs.Run.{answered, made_reply, ChangeStep, ReadStep, DdStep, CommandStep, CommandRun, StackRun, Unfailed}
+use Rattle.bx_commands.specs.Run.{answered, ReadStep, DdStep, CommandStep, CommandRun, StackRun, Unfailed}
+use Rattle.bx_commands.specs.inner.Run.{made_reply, ChangeStep, RedoUp, UndoUp}
 use Rattle.bx_commands.specs.Command.{dump_change, plain_change}
 use Rattle.bx_read.specs.Plain.{plain_answer}
 use Rattle.bx_read.specs.Text.{dump_pieces}
@@ -119,9 +119,9 @@ unfailed_runs remaining start after (c ∷ list) (p ∷ replies) (now, step, res
 pub stands_at_top : {D T R A : Type 0} (remaining : R → Option (List ℕ)) (hd : D → Type 0) (ht : T → Type 0) (image : D → List ℕ) (text : T → List ℕ) (new : SessionView D T) (start : Images) (list : List (Command R A)) (replies : List Reply)
     → ((after : Standing) × HoldsAt hd ht image text new after × CommandRun remaining (Standing.Up start) list replies after)
     → All Unfailed replies
-    → (top : Images) × IsReady image text new top.stack × HasUndone image text new top.undone × StackRun remaining start list replies top
+    → (top : Images) × RestsAt image text new top × StackRun remaining start list replies top
 stands_at_top remaining hd ht image text new start list replies run unfailed =
     let ends = unfailed_runs remaining start run.0 list replies run.2 unfailed in
     let Holds : Standing → Type 0 = λ s. HoldsAt hd ht image text new s in
     let stands = (subst Holds ends.1 run.1).3 in
-    (ends.0, stands.0, stands.1, ends.2)
+    (ends.0, stands, ends.2)

@@ -1,26 +1,24 @@
 -- What one command makes of a session.
 use Rattle.std.specs.Prelude.{◌≡◌, ◌↔◌, ℕ, cond, List}
-use Rattle.bx_journal.specs.Images.{Images}
-use Rattle.bx_journal.specs.Session.{IsRedoSame, IsSame}
+use Rattle.bx_journal.specs.Session.{IsRedoSame}
 use Rattle.bx_journal.specs.SessionView.{SessionView}
 use Rattle.bx_commands.specs.declared.command.Reply.{Reply}
-use Rattle.bx_commands.specs.Refusal.{IsOwnRefusal, IsWholeRefusal}
+use Rattle.bx_commands.specs.Refusal.{IsOwnRefusal, IsWholeRefusal, KeepsPair}
 use Rattle.bx_commands.specs.Run.{is_failure, Unfailed}
-use Rattle.bx_commands.specs.Standing.{CountsBy, HoldsAt, Shows, Standing}
+use Rattle.bx_commands.specs.Standing.{CountsBy, HoldsAt, Leads, Shows, Standing}
 
 -- The session and the reply behind a command are as the step says, from where the session stood: on any devices, up to a
 -- failure, and without one from any images that the devices stand for. A command that is refused for a fault of its own
 -- leaves the session, and one that is refused, but by no interruption, leaves image, journal and redo text, byte for byte.
-pub record Obeys {D T : Type 0} (device_honest : D → Type 0) (text_honest : T → Type 0) (image : D → List ℕ) (text : T → List ℕ)
-    (device_failures : D → ℕ) (text_failures : T → ℕ) (old new : SessionView D T) (reply : Reply) (Step : Standing → Reply → Standing → Type 0) : Type 0 where
-  pub step : (before : Standing) → HoldsAt device_honest text_honest image text old before
-      → (after : Standing) × HoldsAt device_honest text_honest image text new after × Step before reply after
-  pub stands : device_honest old.device → text_honest old.store → text_honest old.redo_text → (images : Images) → Shows image text old images → Unfailed reply
-      → (top : Images) × Shows image text new top × Step (Standing.Up images) reply (Standing.Up top)
-  pub device_honesty : device_honest new.device ↔ device_honest old.device
+pub record Obeys {D T : Type 0} (honest : D → Type 0) (text_honest : T → Type 0) (image : D → List ℕ) (text : T → List ℕ)
+    (failures : D → ℕ) (text_failures : T → ℕ) (old new : SessionView D T) (reply : Reply) (Step : Standing → Reply → Standing → Type 0) : Type 0 where
+  pub step : Leads (HoldsAt honest text_honest image text) (λ before. Step before reply) old new
+  pub stands : honest old.device → text_honest old.store → text_honest old.redo_text → Unfailed reply
+      → Leads (Shows image text) (λ before after. Step (Standing.Up before) reply (Standing.Up after)) old new
+  pub device_honesty : honest new.device ↔ honest old.device
   pub store_honesty : text_honest new.store ↔ text_honest old.store
   pub redo_honesty : text_honest new.redo_text ↔ text_honest old.redo_text
-  pub counts : CountsBy device_failures text_failures old new (cond (is_failure reply) 1 0)
+  pub counts : CountsBy failures text_failures old new (cond (is_failure reply) 1 0)
   pub own : IsOwnRefusal reply → new ≡ old
-  pub same : device_honest old.device → text_honest old.store → IsWholeRefusal reply → IsSame image text old new
+  pub same : IsWholeRefusal reply → KeepsPair honest text_honest image text old new
   pub redo_same : text_honest old.redo_text → IsWholeRefusal reply → IsRedoSame text old new

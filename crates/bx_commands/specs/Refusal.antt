@@ -1,7 +1,9 @@
 -- What a refused command leaves.
-use Rattle.std.specs.Prelude.{◌≡◌, ◌≢◌, ◌⊎◌}
+use Rattle.std.specs.Prelude.{◌≡◌, ◌≢◌, ◌⊎◌, ℕ, List}
 use Rattle.bx_read.specs.declared.fault.ReadFault.{ReadFault}
 use Rattle.bx_dd.specs.declared.fault.DdFault.{DdFault}
+use Rattle.bx_journal.specs.Session.{IsSame}
+use Rattle.bx_journal.specs.SessionView.{SessionView}
 use Rattle.bx_commands.specs.declared.command.Reply.{Reply}
 use Rattle.bx_commands.specs.declared.command.Reply.TheVariants.{Refused}
 use Rattle.bx_commands.specs.declared.fault.Fault.TheVariants.{NoMemory, SeekWithoutOutput, Interrupted}
@@ -14,6 +16,9 @@ IsOwnRefusal p = ⊥
 
 -- the command was refused, and no device stopped it in the middle of writing
 abbrev pub IsWholeRefusal : Reply → Type 0
-IsWholeRefusal (Refused Interrupted) = ⊥
-IsWholeRefusal (Refused e) = Unit {0}
+IsWholeRefusal (Refused e) = e ≢ Interrupted
 IsWholeRefusal p = ⊥
+
+-- image, journal and count are as they were, where the two devices are honest
+abbrev pub KeepsPair : {D T : Type 0} → (D → Type 0) → (T → Type 0) → (D → List ℕ) → (T → List ℕ) → SessionView D T → SessionView D T → Type 0
+KeepsPair honest text_honest image text old new = honest old.device → text_honest old.store → IsSame image text old new

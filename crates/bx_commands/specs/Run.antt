@@ -1,6 +1,5 @@
 -- The machine of commands.
-use Rattle.std.specs.Prelude.{◌≡◌, ℕ, ◌⊎◌, Bool, true, false, Option, None, Some, Result, Ok, Err, List, [], ◌∷◌}
-use Rattle.bx_dd.specs.declared.stream.counts.Counts.{Counts}
+use Rattle.std.specs.Prelude.{◌≡◌, ℕ, ◌⊎◌, Bool, true, false, Option, Result, Ok, Err, List, [], ◌∷◌}
 use Rattle.bx_dd.specs.declared.fault.DdFault.{DdFault}
 use Rattle.bx_image.specs.declared.change.Change.{Change}
 use Rattle.bx_read.specs.declared.fault.ReadFault.{ReadFault}
@@ -11,40 +10,35 @@ use Rattle.bx_commands.specs.declared.command.Command.{Command}
 use Rattle.bx_commands.specs.declared.command.Command.TheVariants.{Revert, RevertPlain, Dd, Undo, Redo}
 use Rattle.bx_commands.specs.declared.command.Reply.{Reply}
 use Rattle.bx_commands.specs.declared.command.Reply.TheVariants.{Changed, Copied, Undone, Redone, Refused}
-use Rattle.bx_commands.specs.declared.fault.Fault.TheVariants.{NoMemory, DeviceFailed, Interrupted}
-use Rattle.bx_journal.specs.Images.{Images}
+use Rattle.bx_commands.specs.declared.fault.Fault.TheVariants.{NoMemory, DeviceFailed, Interrupted, Broken}
+use Rattle.bx_journal.specs.Images.{Images, redo_of, undo_of}
+use Rattle.bx_journal.specs.Machine.{RedoStep, UndoStep}
+use Rattle.bx_journal.specs.Session.{IsUnfailed}
+use Rattle.bx_journal.specs.SessionView.{SessionView}
 use Rattle.bx_commands.specs.declared.changes.DdChange.{DdChange}
 use Rattle.bx_commands.specs.Command.{dump_change, plain_change}
 use Rattle.bx_commands.specs.Copy.{Makes}
 use Rattle.bx_commands.specs.Fault.{of_dd, of_read, of_session}
-use Rattle.bx_commands.specs.Standing.{Standing, CallFrom, PerformUp, RedoUp, UndoUp}
-
--- the reply to a change that was made; dd's tells its counts too
-abbrev pub made_reply : Option Counts → ℕ → Reply
-made_reply None n = Changed n
-made_reply (Some counts) n = Copied n counts
+use Rattle.bx_commands.specs.Standing.{Standing, Leads, MovesUp, PerformUp}
 
 -- the reply that tells what the session answered; `made` tells what was done
 abbrev pub answered : (ℕ → Reply) → Result ℕ SessionFault → Reply
 answered made (Ok n) = made n
 answered made (Err e) = Refused (of_session e)
 
--- a call of the session, and the reply to it
+-- A call of the session, and the reply to it: `Call` says what it makes of images, and a stopped session refuses it
 abbrev pub CallStep : (ℕ → Reply) → (Images → Result ℕ SessionFault → Standing → Type 0) → Standing → Reply → Standing → Type 0
-CallStep made Call before reply after = (r : Result ℕ SessionFault) × (reply ≡ answered made r) × CallFrom Call before r after
-
--- a change, and the reply to it
-abbrev pub ChangeStep : {A : Type 0} → Standing → Change A → Option Counts → Reply → Standing → Type 0
-ChangeStep before c counts reply after = CallStep (made_reply counts) (PerformUp c) before reply after
+CallStep made Call (Standing.Up old) reply after = (r : Result ℕ SessionFault) × (reply ≡ answered made r) × Call old r after
+CallStep made Call (Standing.Down old) reply after = (reply ≡ Refused Broken) × (after ≡ Standing.Down old)
 
 -- A text that asks for a change, by what it reads as: a fault comes first
 abbrev pub ReadStep : {A B : Type 0} → Standing → (B → Change A) → Result B ReadFault → Reply → Standing → Type 0
-ReadStep before change (Ok read) reply after = ChangeStep before (change read) None reply after
+ReadStep before change (Ok read) reply after = CallStep Changed (PerformUp (change read)) before reply after
 ReadStep before change (Err e) reply after = (reply ≡ Refused (of_read e)) × (after ≡ before)
 
--- dd, by what its operands make of its input: a fault comes first
+-- dd, by what its operands make of its input: a fault comes first, and the reply to its change tells the counts
 abbrev pub DdStep : {A : Type 0} → Standing → Result (DdChange A) DdFault → Reply → Standing → Type 0
-DdStep before (Ok made) reply after = ChangeStep before made.change (Some made.counts) reply after
+DdStep before (Ok made) reply after = CallStep (λ n. Copied n made.counts) (PerformUp made.change) before reply after
 DdStep before (Err e) reply after = (reply ≡ Refused (of_dd e)) × (after ≡ before)
 
 -- A text that asks for a change. Want of memory may take the place of reading it.
@@ -57,8 +51,8 @@ CommandStep {A = A} remaining before (Revert text offset) reply after = TextStep
 CommandStep {A = A} remaining before (RevertPlain text at) reply after = TextStep before (plain_change {A = A} at) (plain_answer text) reply after
 CommandStep {A = A} remaining before (Dd operands input) reply after =
     (left : Option (List ℕ)) × ((r : Result (DdChange A) DdFault) × (Makes operands (remaining input) left r × DdStep before r reply after))
-CommandStep remaining before (Undo k) reply after = CallStep Undone (UndoUp k) before reply after
-CommandStep remaining before (Redo j) reply after = CallStep Redone (RedoUp j) before reply after
+CommandStep remaining before (Undo k) reply after = CallStep Undone (MovesUp (λ s k r t. UndoStep s.stack k r t.stack) undo_of k) before reply after
+CommandStep remaining before (Redo j) reply after = CallStep Redone (MovesUp RedoStep redo_of j) before reply after
 
 -- a chain of states: one step for each command and its reply, in order
 abbrev pub Chain : {S C : Type 0} → (S → C → Reply → S → Type 0) → S → List C → List Reply → S → Type 0
@@ -87,3 +81,11 @@ StackStep remaining before c reply after = CommandStep remaining (Standing.Up be
 -- a list of commands from images to images: one reply each, in order; it goes on after a refusal
 abbrev pub StackRun : {R A : Type 0} → (R → Option (List ℕ)) → Images → List (Command R A) → List Reply → Images → Type 0
 StackRun remaining before list replies after = Chain (StackStep remaining) before list replies after
+
+-- From honest devices of which no call fails: wherever the first session stands, by `Stands`, the replies are a run to images
+-- that the last one stands for
+abbrev pub Runs : {D T R A : Type 0} → (D → Type 0) → (T → Type 0) → (D → ℕ) → (T → ℕ) → (SessionView D T → Images → Type 0) → (R → Option (List ℕ))
+    → SessionView D T → List (Command R A) → List Reply → SessionView D T → Type 0
+Runs honest text_honest failures text_failures Stands remaining old list replies new =
+    honest old.device → text_honest old.store → text_honest old.redo_text → IsUnfailed failures text_failures old new
+    → Leads Stands (λ start. StackRun remaining start list replies) old new

@@ -9,6 +9,7 @@ use Rattle.bx_commands.specs.declared.command.Reply.{Reply}
 use Rattle.bx_commands.specs.Copy.{Makes}
 use Rattle.bx_commands.specs.Obeys.{Obeys}
 use Rattle.bx_commands.specs.Run.{CommandStep, DdStep}
+use Rattle.bx_commands.specs.Standing.{Standing}
 
 -- a command without the text that it reads, which is dropped before its change is made; of others all
 abbrev pub without_text : {R A : Type 0} → Command R A → Command R A
@@ -18,13 +19,11 @@ without_text c = c
 
 -- One command on a session, and what is then left of the command: of dd the input that its operands left, of one that
 -- reads a text all but that text, of another all. Session and reply are as the command's step says.
-abbrev pub SessionStep : {D T R A : Type 0} → (D → Type 0) → (T → Type 0) → (D → List ℕ) → (T → List ℕ) → (D → ℕ) → (T → ℕ) → (R → Option (List ℕ))
-    → SessionView D T → Command R A → Command R A → Reply → SessionView D T → Type 0
-SessionStep {A = A} device_honest text_honest image text device_failures text_failures remaining old (Dd operands input) (Dd words left) reply new =
-    (words ≡ operands) × ((r : Result (DdChange A) DdFault) × Makes operands (remaining input) (remaining left) r
-    × Obeys device_honest text_honest image text device_failures text_failures old new reply (λ before. DdStep before r))
-SessionStep device_honest text_honest image text device_failures text_failures remaining old c left reply new =
-    (left ≡ without_text c) × Obeys device_honest text_honest image text device_failures text_failures old new reply (λ before. CommandStep remaining before c)
+abbrev pub SessionStep : {S R A : Type 0} → (S → S → Reply → (Standing → Reply → Standing → Type 0) → Type 0) → (R → Option (List ℕ))
+    → S → Command R A → Command R A → Reply → S → Type 0
+SessionStep {A = A} Obey remaining old (Dd operands input) (Dd words left) reply new =
+    (words ≡ operands) × ((r : Result (DdChange A) DdFault) × Makes operands (remaining input) (remaining left) r × Obey old new reply (λ s. DdStep s r))
+SessionStep Obey remaining old c left reply new = (left ≡ without_text c) × Obey old new reply (λ s. CommandStep remaining s c)
 
 -- A list of commands on a session, and what is then left of them: a chain of sessions, with one step for each reply, in
 -- order; it goes on after a refusal
@@ -32,3 +31,9 @@ abbrev pub SessionRun : {S C : Type 0} → (S → C → C → Reply → S → Ty
 SessionRun Step old [] [] [] new = new ≡ old
 SessionRun {S = S} Step old (c ∷ list) (d ∷ left) (p ∷ replies) new = (now : S) × Step old c d p now × SessionRun Step now list left replies new
 SessionRun Step old list left replies new = ⊥
+
+-- each command of a list, in order, is obeyed, with what is then left of it
+abbrev pub AllObey : {D T R A : Type 0} → (D → Type 0) → (T → Type 0) → (D → List ℕ) → (T → List ℕ) → (D → ℕ) → (T → ℕ) → (R → Option (List ℕ))
+    → SessionView D T → List (Command R A) → List (Command R A) → List Reply → SessionView D T → Type 0
+AllObey honest text_honest image text failures text_failures remaining =
+    SessionRun (SessionStep (Obeys honest text_honest image text failures text_failures) remaining)

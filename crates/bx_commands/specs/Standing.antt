@@ -2,11 +2,11 @@
 use Rattle.std.specs.Prelude.{◌≡◌, ◌⊎◌, ◌≤◌, ℕ, ◌+◌, true, Result, Ok, Err, List, []}
 use Rattle.bx_image.specs.declared.change.Change.{Change}
 use Rattle.bx_image.specs.Change.{effect}
-use Rattle.bx_journal.specs.Images.{Images, change_to, redo_of, undo_of}
+use Rattle.bx_journal.specs.Images.{Images, change_to}
 use Rattle.bx_journal.specs.SessionView.{SessionView}
 use Rattle.bx_journal.specs.declared.session.fault.SessionFault.{SessionFault}
-use Rattle.bx_journal.specs.declared.session.fault.SessionFault.TheVariants.{DeviceFailed, JournalFull, Interrupted, Broken}
-use Rattle.bx_journal.specs.Machine.{PerformStep, RedoStep, UndoStep, top, changes_of}
+use Rattle.bx_journal.specs.declared.session.fault.SessionFault.TheVariants.{DeviceFailed, JournalFull, Interrupted}
+use Rattle.bx_journal.specs.Machine.{PerformStep, top, changes_of}
 use Rattle.bx_journal.specs.Session.{HasUndone, IsReady, SessionFinds}
 use Rattle.bx_journal.specs.Standing.{IsStanding}
 
@@ -19,20 +19,19 @@ pub data Standing : Type 0 where
 abbrev pub Shows : {D T : Type 0} → (D → List ℕ) → (T → List ℕ) → SessionView D T → Images → Type 0
 Shows image text s images = IsStanding image text s images.stack × HasUndone image text s images.undone
 
--- the session goes on and its devices are at rest for the images, or it is broken and opening finds them
-abbrev pub StandsAt : {D T : Type 0} → (D → List ℕ) → (T → List ℕ) → SessionView D T → Standing → Type 0
-StandsAt image text s (Up images) = IsReady image text s images.stack × HasUndone image text s images.undone
-StandsAt image text s (Down images) = (s.is_broken ≡ true) × SessionFinds image text s images
+-- the session goes on, its devices stand for the images, and the journal is sound
+abbrev pub RestsAt : {D T : Type 0} → (D → List ℕ) → (T → List ℕ) → SessionView D T → Images → Type 0
+RestsAt image text s images = IsReady image text s images.stack × HasUndone image text s images.undone
 
--- the three devices are honest, and the session stands there
+-- The three devices are honest, and the session rests at the images, or it is broken and opening finds them
 abbrev pub HoldsAt : {D T : Type 0} → (D → Type 0) → (T → Type 0) → (D → List ℕ) → (T → List ℕ) → SessionView D T → Standing → Type 0
-HoldsAt device_honest text_honest image text s standing =
-    device_honest s.device × text_honest s.store × text_honest s.redo_text × StandsAt image text s standing
+HoldsAt honest text_honest image text s (Up images) = honest s.device × text_honest s.store × text_honest s.redo_text × RestsAt image text s images
+HoldsAt honest text_honest image text s (Down images) =
+    honest s.device × text_honest s.store × text_honest s.redo_text × ((s.is_broken ≡ true) × SessionFinds image text s images)
 
--- A call of a session, from where it stands: `Call` says what it makes of images, and a stopped session refuses it
-abbrev pub CallFrom : (Images → Result ℕ SessionFault → Standing → Type 0) → Standing → Result ℕ SessionFault → Standing → Type 0
-CallFrom Call (Up old) r after = Call old r after
-CallFrom Call (Down old) r after = (r ≡ Err Broken) × (after ≡ Down old)
+-- wherever the first session stands, the last one stands where the step leads from there
+abbrev pub Leads : {S X : Type 0} → (S → X → Type 0) → (X → X → Type 0) → S → S → Type 0
+Leads {X = X} Stands Step old new = (before : X) → Stands old before → (after : X) × Stands new after × Step before after
 
 -- A change gives up what was undone. A device that fails before the first write refuses it; one that fails later stops the
 -- session, and opening finds the images before or after the change.
@@ -43,31 +42,18 @@ PerformUp c old (Err JournalFull) after = (65535 ≤ changes_of old.stack) × (a
 PerformUp c old (Err Interrupted) after = (after ≡ Down old) ⊎ (after ≡ Down (change_to (effect c (top old.stack)) old))
 PerformUp c old (Err e) after = (after ≡ Up old) × PerformStep old.stack c (Err e) old.stack
 
--- An undo. Where a device stops it, opening finds what an undo of some of the changes leaves.
-abbrev pub UndoUp : ℕ → Images → Result ℕ SessionFault → Standing → Type 0
-UndoUp k old (Ok left) after = (new : Images) × (after ≡ Up new) × UndoStep old.stack k (Ok left) new.stack × (new ≡ undo_of k old)
-UndoUp k old (Err DeviceFailed) after = after ≡ Up old
-UndoUp k old (Err Interrupted) after = (i : ℕ) × (i ≤ k) × (after ≡ Down (undo_of i old))
-UndoUp k old (Err e) after = (after ≡ Up old) × UndoStep old.stack k (Err e) old.stack
-
--- A redo. Where a device stops it, opening finds what a redo of some of the changes leaves.
-abbrev pub RedoUp : ℕ → Images → Result ℕ SessionFault → Standing → Type 0
-RedoUp j old (Ok n) after = (new : Images) × (after ≡ Up new) × RedoStep old j (Ok n) new
-RedoUp j old (Err DeviceFailed) after = after ≡ Up old
-RedoUp j old (Err Interrupted) after = (i : ℕ) × (i ≤ j) × (after ≡ Down (redo_of i old))
-RedoUp j old (Err e) after = (after ≡ Up old) × RedoStep old j (Err e) old
-
--- how many calls of the three devices failed
-abbrev pub failures_of : {D T : Type 0} → (D → ℕ) → (T → ℕ) → SessionView D T → ℕ
-failures_of device_failures text_failures s = device_failures s.device + text_failures s.store + text_failures s.redo_text
+-- An undo or a redo of k: `Step` is its step, and `moved` tells the images behind it. A device that fails before the first
+-- write refuses it; where one stops it, opening finds what an undo, or a redo, of some of the changes leaves.
+abbrev pub MovesUp : (Images → ℕ → Result ℕ SessionFault → Images → Type 0) → (ℕ → Images → Images) → ℕ → Images → Result ℕ SessionFault → Standing → Type 0
+MovesUp Step moved k old (Ok n) after = (new : Images) × (after ≡ Up new) × Step old k (Ok n) new × (new ≡ moved k old)
+MovesUp Step moved k old (Err DeviceFailed) after = after ≡ Up old
+MovesUp Step moved k old (Err Interrupted) after = (i : ℕ) × (i ≤ k) × (after ≡ Down (moved i old))
+MovesUp Step moved k old (Err e) after = (after ≡ Up old) × Step old k (Err e) old
 
 -- No count of failed calls falls, and the three together rise by exactly so many
-pub record CountsBy {D T : Type 0} (device_failures : D → ℕ) (text_failures : T → ℕ) (old new : SessionView D T) (failed : ℕ) : Type 0 where
-  pub device_least : device_failures old.device ≤ device_failures new.device
+pub record CountsBy {D T : Type 0} (failures : D → ℕ) (text_failures : T → ℕ) (old new : SessionView D T) (failed : ℕ) : Type 0 where
+  pub device_least : failures old.device ≤ failures new.device
   pub store_least : text_failures old.store ≤ text_failures new.store
   pub redo_least : text_failures old.redo_text ≤ text_failures new.redo_text
-  pub rise : failures_of device_failures text_failures new ≡ failures_of device_failures text_failures old + failed
-
--- The same, by no more than so many
-abbrev pub CountsOn : {D T : Type 0} → (D → ℕ) → (T → ℕ) → SessionView D T → SessionView D T → ℕ → Type 0
-CountsOn device_failures text_failures old new calls = (failed : ℕ) × (failed ≤ calls) × CountsBy device_failures text_failures old new failed
+  pub rise : failures new.device + text_failures new.store + text_failures new.redo_text
+      ≡ failures old.device + text_failures old.store + text_failures old.redo_text + failed

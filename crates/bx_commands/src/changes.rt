@@ -1,5 +1,5 @@
 //! From the texts of commands to changes.
-ghost use Rattle.std.specs.Prelude.{◌≡◌, ◌⊎◌, ◌+◌, ◌^◌, ◌<◌, ◌≤◌, ℕ, List, [], ◌∷◌, map, None, Ok, Err, IfOk, IfErr, All, MatchResult};
+ghost use Rattle.std.specs.Prelude.{◌≡◌, ◌⊎◌, ◌+◌, ◌^◌, ◌<◌, ◌≤◌, ℕ, List, [], ◌∷◌, map, None, Ok, Err, IfOk, IfErr, All};
 ghost use Rattle.bx_commands.specs.Command.{dump_change, plain_change};
 ghost use Rattle.bx_commands.specs.inner.Command.{moved};
 ghost use Rattle.bx_commands.specs.Copy.{Makes};
@@ -24,9 +24,8 @@ pub fn change_of_dump<A: Allocator + Clone>(
     offset: u64,
 ) -> Result<Change<A>, ReadFault>
     requires { offset ≤ 2 ^ 62 }
-    ensures { MatchResult result
-        (λ c. (pieces : List (ℕ × List ℕ)) × (dump_pieces text.now ≡ Ok pieces) × (c ≡ dump_change offset (joined pieces)))
-        (λ e. (e ≡ ReadFault.NoMemory) ⊎ (dump_pieces text.now ≡ Err e)) }
+    ensures change { IfOk result (λ c. (pieces : List (ℕ × List ℕ)) × (dump_pieces text.now ≡ Ok pieces) × (c ≡ dump_change offset (joined pieces))) }
+    ensures fault { IfErr result (λ e. (e ≡ ReadFault.NoMemory) ⊎ (dump_pieces text.now ≡ Err e)) }
 {
     let mut runs = read_runs(alloc.clone()?, text)?;
     move_pieces(runs.as_mut_slice(), offset);
@@ -52,8 +51,8 @@ pub fn change_of_plain<A: Allocator + Clone>(
     text: &[u8],
     at: u64,
 ) -> Result<Change<A>, ReadFault>
-    ensures { MatchResult result (λ c. (bytes : List ℕ) × (plain_answer text.now ≡ Ok bytes) × (c ≡ plain_change at bytes))
-        (λ e. (e ≡ ReadFault.NoMemory) ⊎ (plain_answer text.now ≡ Err e)) }
+    ensures change { IfOk result (λ c. (bytes : List ℕ) × (plain_answer text.now ≡ Ok bytes) × (c ≡ plain_change at bytes)) }
+    ensures fault { IfErr result (λ e. (e ≡ ReadFault.NoMemory) ⊎ (plain_answer text.now ≡ Err e)) }
 {
     let bytes = read_plain(alloc.clone()?, text)?;
     let mut writes = Vec::new(alloc.clone()?);

@@ -1,6 +1,7 @@
 //! The log of a session as text.
 ghost use Rattle.std.specs.Prelude.{◌≡◌, ◌++◌, IfOk, OnOk, IsOkUnless, string_bytes};
-ghost use Rattle.bx_commands.specs.Listing.{log_line, log_lines};
+ghost use Rattle.std.specs.List.{flat_map};
+ghost use Rattle.bx_commands.specs.Listing.{log_line};
 
 use crate::Fault;
 use bx_journal::LogRow;
@@ -10,7 +11,7 @@ use std::fmt::Write;
 /// A line for each change: its number, the length before it, and how many bytes were saved, in decimal. The one fault is
 /// want of memory.
 pub fn log_text<A: Allocator>(alloc: A, rows: &[LogRow]) -> Result<String<A>, Fault>
-    ensures text { IfOk result (λ text. string_bytes text ≡ log_lines rows.now) }
+    ensures text { IfOk result (λ text. string_bytes text ≡ flat_map log_line rows.now) }
     ensures fault { IsOkUnless result Fault.NoMemory }
 {
     let mut text = String::new(alloc);

@@ -1,14 +1,13 @@
 //! Lists of commands, run in order on a session.
-ghost use Rattle.std.specs.Prelude.{◌≡◌, ◌↔◌, ◌⊎◌, ◌+◌, ◌^◌, ◌≤◌, ◌<◌, List, ℕ, [], length, None, Some, IfOk, OnErr, All, count_by};
-ghost use Rattle.bx_journal.specs.Images.{Images};
-ghost use Rattle.bx_journal.specs.Session.{HasUndone, IsReady, IsRedoSame, IsSame, IsUnfailed};
+ghost use Rattle.std.specs.Prelude.{◌≡◌, ◌+◌, ◌^◌, ◌≤◌, List, ℕ, [], length, IfOk, OnErr, All, count_by};
+ghost use Rattle.bx_journal.specs.Session.{IsRedoSame, IsUnfailed};
 ghost use Rattle.bx_commands.specs.Obeys.{Obeys};
-ghost use Rattle.bx_commands.specs.Standing.{CountsBy, CountsOn, HoldsAt, Shows, Standing};
+ghost use Rattle.bx_commands.specs.Standing.{CountsBy, HoldsAt, Leads, RestsAt, Shows};
 ghost use Rattle.bx_commands.specs.Command.{IsNear};
-ghost use Rattle.bx_commands.specs.Refusal.{IsOwnRefusal, IsWholeRefusal};
-ghost use Rattle.bx_commands.specs.Run.{is_failure, made_reply, ChangeStep, ReadStep, DdStep, CommandRun, StackRun, Unfailed};
-ghost use Rattle.bx_commands.specs.inner.Run.{UndoesStep, RedoesStep, DumpStep, PlainStep};
-ghost use Rattle.bx_commands.specs.SessionRun.{SessionRun, SessionStep};
+ghost use Rattle.bx_commands.specs.Refusal.{IsOwnRefusal, IsWholeRefusal, KeepsPair};
+ghost use Rattle.bx_commands.specs.Run.{is_failure, ReadStep, DdStep, CommandRun, Runs, Unfailed};
+ghost use Rattle.bx_commands.specs.inner.Run.{made_reply, CountsBelow, ChangeStep, UndoesStep, RedoesStep, DumpStep, PlainStep};
+ghost use Rattle.bx_commands.specs.SessionRun.{AllObey, SessionStep};
 
 use crate::changes::{DdChange, change_of_dd, change_of_dump, change_of_plain};
 use crate::{Command, Fault, Reply};
@@ -28,9 +27,7 @@ fn run_change<D: Device, T: TextStore, A: Allocator + Clone>(
     change: &Change<A>,
     counts: Option<Counts>,
 ) -> Reply
-    requires device_countable { D.failures session.old.device < u64.MAX }
-    requires store_countable { T.failures session.old.store < u64.MAX }
-    requires redo_countable { T.failures session.old.redo_text < u64.MAX }
+    requires countable { CountsBelow u64.MAX D.failures T.failures session.old }
     ensures obeys { Obeys D.honest T.honest D.image T.text D.failures T.failures session.old session.new result (λ s. ChangeStep s change.now counts) }
 {
     match session.perform(change) {
@@ -54,9 +51,7 @@ fn run_undo<D: Device, T: TextStore, A: Allocator + Clone>(
     session: &mut Session<D, T, A>,
     k: u32,
 ) -> Reply
-    requires device_countable { D.failures session.old.device < u64.MAX }
-    requires store_countable { T.failures session.old.store < u64.MAX }
-    requires redo_countable { T.failures session.old.redo_text < u64.MAX }
+    requires countable { CountsBelow u64.MAX D.failures T.failures session.old }
     ensures obeys { Obeys D.honest T.honest D.image T.text D.failures T.failures session.old session.new result (λ s. UndoesStep s k) }
 {
     match session.undo(k) {
@@ -70,9 +65,7 @@ fn run_redo<D: Device, T: TextStore, A: Allocator + Clone>(
     session: &mut Session<D, T, A>,
     j: u32,
 ) -> Reply
-    requires device_countable { D.failures session.old.device < u64.MAX }
-    requires store_countable { T.failures session.old.store < u64.MAX }
-    requires redo_countable { T.failures session.old.redo_text < u64.MAX }
+    requires countable { CountsBelow u64.MAX D.failures T.failures session.old }
     ensures obeys { Obeys D.honest T.honest D.image T.text D.failures T.failures session.old session.new result (λ s. RedoesStep s j) }
 {
     match session.redo(j) {
@@ -86,9 +79,7 @@ fn run_read<D: Device, T: TextStore, A: Allocator + Clone>(
     session: &mut Session<D, T, A>,
     read: Result<Change<A>, ReadFault>,
 ) -> Reply
-    requires device_countable { D.failures session.old.device < u64.MAX }
-    requires store_countable { T.failures session.old.store < u64.MAX }
-    requires redo_countable { T.failures session.old.redo_text < u64.MAX }
+    requires countable { CountsBelow u64.MAX D.failures T.failures session.old }
     ensures obeys { Obeys D.honest T.honest D.image T.text D.failures T.failures session.old session.new result (λ s. ReadStep s (λ c. c) read) }
 {
     match read {
@@ -102,9 +93,7 @@ fn run_dd<D: Device, T: TextStore, A: Allocator + Clone>(
     session: &mut Session<D, T, A>,
     made: Result<DdChange<A>, DdFault>,
 ) -> Reply
-    requires device_countable { D.failures session.old.device < u64.MAX }
-    requires store_countable { T.failures session.old.store < u64.MAX }
-    requires redo_countable { T.failures session.old.redo_text < u64.MAX }
+    requires countable { CountsBelow u64.MAX D.failures T.failures session.old }
     ensures obeys { Obeys D.honest T.honest D.image T.text D.failures T.failures session.old session.new result (λ s. DdStep s made) }
 {
     match made {
@@ -120,9 +109,7 @@ fn run_dump<D: Device, T: TextStore, A: Allocator + Clone>(
     text: &mut Bytes<A>,
     offset: u64,
 ) -> Reply
-    requires device_countable { D.failures session.old.device < u64.MAX }
-    requires store_countable { T.failures session.old.store < u64.MAX }
-    requires redo_countable { T.failures session.old.redo_text < u64.MAX }
+    requires countable { CountsBelow u64.MAX D.failures T.failures session.old }
     requires near { offset ≤ 2 ^ 62 }
     ensures obeys { Obeys D.honest T.honest D.image T.text D.failures T.failures session.old session.new result (λ s. DumpStep A s text.old offset) }
     ensures left { text.new ≡ [] }
@@ -139,9 +126,7 @@ fn run_plain<D: Device, T: TextStore, A: Allocator + Clone>(
     text: &mut Bytes<A>,
     at: u64,
 ) -> Reply
-    requires device_countable { D.failures session.old.device < u64.MAX }
-    requires store_countable { T.failures session.old.store < u64.MAX }
-    requires redo_countable { T.failures session.old.redo_text < u64.MAX }
+    requires countable { CountsBelow u64.MAX D.failures T.failures session.old }
     ensures obeys { Obeys D.honest T.honest D.image T.text D.failures T.failures session.old session.new result (λ s. PlainStep A s text.old at) }
     ensures left { text.new ≡ [] }
 {
@@ -173,11 +158,9 @@ fn run_one<D: Device, T: TextStore, R: Read, A: Allocator + Clone>(
     session: &mut Session<D, T, A>,
     command: &mut Command<R, A>,
 ) -> Reply
-    requires device_countable { D.failures session.old.device < u64.MAX }
-    requires store_countable { T.failures session.old.store < u64.MAX }
-    requires redo_countable { T.failures session.old.redo_text < u64.MAX }
+    requires countable { CountsBelow u64.MAX D.failures T.failures session.old }
     requires near { IsNear command.old }
-    ensures runs { SessionStep D.honest T.honest D.image T.text D.failures T.failures R.remaining session.old command.old command.new result session.new }
+    ensures runs { SessionStep (Obeys D.honest T.honest D.image T.text D.failures T.failures) R.remaining session.old command.old command.new result session.new }
 {
     match command {
         Command::Revert { text, offset } => run_dump(alloc, session, text, *offset),
@@ -203,43 +186,34 @@ pub fn run_all<D: Device, T: TextStore, R: Read, A: Allocator + Clone>(
     requires redo_countable { T.failures session.old.redo_text + length list.old ≤ u64.MAX }
     requires near { All IsNear list.old }
 
-    // Where no device fails, the replies and the final devices are a run of the machine, from the whole images that the
-    // first devices stand for to those that the final ones stand for.
-    ensures headline { D.honest session.old.device → T.honest session.old.store → T.honest session.old.redo_text → (start : Images)
-        → Shows D.image T.text session.old start → IsUnfailed D.failures T.failures session.old session.new
-        → IfOk result (λ replies. (top : Images) × Shows D.image T.text session.new top × StackRun R.remaining start list.old replies.items top) }
+    // Where no honest device fails, the replies and the final devices are a run of the machine, from the whole images that
+    // the first devices stand for to those that the final ones stand for.
+    ensures headline { IfOk result (λ p. Runs D.honest T.honest D.failures T.failures (Shows D.image T.text) R.remaining session.old list.old p.items session.new) }
 
     // From a sound journal it leaves a sound one.
-    ensures sound { D.honest session.old.device → T.honest session.old.store → T.honest session.old.redo_text → (start : Images)
-        → IsReady D.image T.text session.old start.stack → HasUndone D.image T.text session.old start.undone
-        → IsUnfailed D.failures T.failures session.old session.new → IfOk result (λ replies. (top : Images)
-        × IsReady D.image T.text session.new top.stack × HasUndone D.image T.text session.new top.undone
-        × StackRun R.remaining start list.old replies.items top) }
+    ensures sound { IfOk result (λ p. Runs D.honest T.honest D.failures T.failures (RestsAt D.image T.text) R.remaining session.old list.old p.items session.new) }
 
     // Whatever devices fail: up to the first failure after a write it is a run in which a device may refuse a command, and
     // then each reply is the command's own fault or says that the session is broken.
-    ensures run { (before : Standing) → HoldsAt D.honest T.honest D.image T.text session.old before → IfOk result (λ replies.
-        (after : Standing) × HoldsAt D.honest T.honest D.image T.text session.new after × CommandRun R.remaining before list.old replies.items after) }
+    ensures run { IfOk result (λ p. Leads (HoldsAt D.honest T.honest D.image T.text) (λ s. CommandRun R.remaining s list.old p.items) session.old session.new) }
 
     // Each reply, in any list: a command that is refused for a fault of its own leaves the session as it was, and one that
     // is refused, but by no interruption, leaves image, journal and redo text, byte for byte. What another makes of the
     // session is its step. Of dd's input as much is read as its operands read, and nothing where they have a fault. The text of
     // a revert is left empty, whatever became of it.
-    ensures each { IfOk result (λ replies. SessionRun (SessionStep D.honest T.honest D.image T.text D.failures T.failures R.remaining)
-        session.old list.old list.new replies.items session.new) }
+    ensures each { IfOk result (λ p. AllObey D.honest T.honest D.image T.text D.failures T.failures R.remaining session.old list.old list.new p.items session.new) }
 
     // A device's failure raises its count, and as many replies tell of one as the three counts rose by.
     ensures told { IfOk result (λ replies. CountsBy D.failures T.failures session.old session.new (count_by is_failure replies.items)) }
     ensures unfailed { IsUnfailed D.failures T.failures session.old session.new → IfOk result (λ replies. All Unfailed replies.items) }
 
     // No count of failures falls, and the three together rise by no more than one for each command.
-    ensures counts { CountsOn D.failures T.failures session.old session.new (length list.old) }
+    ensures counts { (failed : ℕ) × (failed ≤ length list.old) × CountsBy D.failures T.failures session.old session.new failed }
 
     // So a list whose commands are all refused for faults of their own leaves the session. One whose commands are all
     // refused, but by no interruption, leaves image and text, byte for byte, and the redo text with the count of what is undone.
     ensures own { IfOk result (λ replies. All IsOwnRefusal replies.items → session.new ≡ session.old) }
-    ensures same { D.honest session.old.device → T.honest session.old.store
-        → IfOk result (λ replies. All IsWholeRefusal replies.items → IsSame D.image T.text session.old session.new) }
+    ensures same { IfOk result (λ p. All IsWholeRefusal p.items → KeepsPair D.honest T.honest D.image T.text session.old session.new) }
     ensures redo_same { T.honest session.old.redo_text
         → IfOk result (λ replies. All IsWholeRefusal replies.items → IsRedoSame T.text session.old session.new) }
 

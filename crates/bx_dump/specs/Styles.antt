@@ -1,5 +1,5 @@
 -- The text of xxd in each style.
-use Rattle.std.specs.Prelude.{ℕ, ◌+◌, ◌^◌, ◌≤◌, ◌==◌, false, if◌then◌else◌, List, [], ◌++◌, map, length, slice_index, codes, None, Some}
+use Rattle.std.specs.Prelude.{ℕ, ◌+◌, ◌^◌, ◌≤◌, ◌==◌, false, if◌then◌else◌, List, [], ◌∷◌, ◌++◌, map, length, slice_index, codes, None, Some}
 use Rattle.std.specs.Char.{is_ascii_alphanumeric, is_ascii_digit}
 use Rattle.std.specs.Fmt.{digits}
 use Rattle.std.specs.List.{flat_map, join_by}
@@ -18,8 +18,9 @@ c_name name = (if is_ascii_digit (slice_index name 0) then codes "__" else []) +
 -- All items: in a line there is a comma between two. Behind each line stand a comma and a newline, and behind the last a newline alone;
 -- nothing where there is no byte.
 abbrev pub include_items : ℕ → List ℕ → List ℕ
-include_items cols bytes = if length bytes == 0 then [] else in_lines (λ at line. (if at == 0 then codes "  " else codes ",\n  ")
-    ++ join_by (λ byte. codes "0x" ++ pair_of false byte) (codes ", ") line) cols 0 bytes ++ codes "\n"
+include_items cols [] = []
+include_items cols (b ∷ bs) = in_lines (λ at line. (if at == 0 then codes "  " else codes ",\n  ")
+    ++ join_by (λ byte. codes "0x" ++ pair_of false byte) (codes ", ") line) cols 0 (b ∷ bs) ++ codes "\n"
 
 -- bytes a group, where 0 stands for all of a line
 abbrev pub group_of : ℕ → ℕ → ℕ

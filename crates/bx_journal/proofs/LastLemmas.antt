@@ -11,7 +11,7 @@ use Rattle.bx_entries.specs.inner.Lines.{IsFront, IsReadUpTo}
 use Rattle.bx_entries.specs.inner.Parsed.{entries_onto, reading_onto, AreMarked, IsMarked}
 use Rattle.bx_entries.specs.inner.Mark.{IsMark}
 use Rattle.bx_entries.specs.inner.Tally.{IsCounted}
-use Rattle.bx_journal.specs.declared.session.entries.FinishedRead.{FinishedRead}
+use Rattle.bx_journal.specs.declared.session.read.entries.FinishedRead.{FinishedRead}
 use Rattle.bx_journal.specs.declared.session.fault.SessionFault.{SessionFault}
 use Rattle.bx_journal.specs.declared.session.fault.SessionFault.TheVariants.{NoMemory, TooLarge, DeviceFailed, Damaged, TooFew, JournalFull, Interrupted, Broken, LengthDiffers, NothingToRedo, RedoDamaged}
 use Rattle.bx_journal.specs.Undoing.{AgainFault, IsOutOfStep}

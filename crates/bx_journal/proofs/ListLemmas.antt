@@ -16,7 +16,7 @@ use Rattle.bx_journal.specs.Undoing.{AgainFault, IsOutOfStep}
 use Rattle.bx_journal.specs.declared.session.answers.LogRow.{LogRow}
 use Rattle.bx_journal.specs.declared.session.fault.SessionFault.{SessionFault}
 use Rattle.bx_journal.specs.declared.session.fault.SessionFault.TheVariants.{NoMemory, TooLarge, DeviceFailed, Damaged, TooFew, JournalFull, Interrupted, Broken, LengthDiffers, NothingToRedo, RedoDamaged}
-use Rattle.bx_journal.specs.declared.session.rows.Listed.{Listed}
+use Rattle.bx_journal.specs.declared.session.log.windows.Listed.{Listed}
 use Rattle.bx_journal.specs.inner.Rows.{AreListed, AreListedTo, AreRowsOf, IsListed, IsListedAt, ended_row}
 
 -- a line adds a row where it ends an entry

@@ -1,13 +1,14 @@
 -- What a session's calls answer.
-use Rattle.std.specs.Prelude.{◌≡◌, ◌≤◌, ℕ, suc, Some, List, [], ◌∷◌, ◌++◌, length, drop, sum, map}
+use Rattle.std.specs.Prelude.{◌≡◌, ℕ, suc, Some, List, [], ◌∷◌, ◌++◌, length, sum, map}
 use Rattle.bx_entries.specs.Kept.{Run}
 use Rattle.bx_journal.specs.declared.session.answers.LogRow.{LogRow}
 use Rattle.bx_journal.specs.declared.session.answers.How.{How}
 use Rattle.bx_journal.specs.declared.session.answers.How.TheVariants.{Clean, Dropped, Restored}
 use Rattle.bx_journal.specs.declared.session.fault.SessionFault.{SessionFault}
-use Rattle.bx_journal.specs.declared.session.fault.SessionFault.TheVariants.{NoMemory, DeviceFailed, Interrupted, LengthDiffers, RedoDamaged}
+use Rattle.bx_journal.specs.declared.session.fault.SessionFault.TheVariants.{Interrupted, LengthDiffers, RedoDamaged}
+use Rattle.bx_journal.specs.Fault.{DeviceFault}
 use Rattle.bx_entries.specs.Text.{Entry, Stage, Between, Saving, Ending, Reading}
-use Rattle.bx_journal.specs.Stack.{image_at, Recovers}
+use Rattle.bx_journal.specs.Stack.{image_at}
 
 -- a row for each entry, the oldest first
 abbrev pub rows_of : List Entry → List LogRow
@@ -31,16 +32,10 @@ Differs (e ∷ entries) x expected = (e.after ≡ Some expected) × (length x �
 
 -- which fault opening may answer to a reading of the text
 abbrev pub OpenFault : Reading → List ℕ → SessionFault → Type 0
-OpenFault r x NoMemory = Unit {0}
-OpenFault r x DeviceFailed = Unit {0}
 OpenFault r x Interrupted = Unit {0}
 OpenFault r x (LengthDiffers expected) = Differs r.entries (image_at r.stage x) expected
 OpenFault r x (RedoDamaged line) = r.stage ≡ Between
-OpenFault r x e = ⊥
-
--- after an undo that was interrupted: some of the images are off the stack
-abbrev pub RecoversBelow : List ℕ → List ℕ → List (List ℕ) → ℕ → Type 0
-RecoversBelow text x stack k = (j : ℕ) × (j ≤ k) × Recovers text x (drop j stack)
+OpenFault r x e = DeviceFault e
 
 -- an interruption leaves the one, each other fault the other
 abbrev pub AfterFault : SessionFault → Type 0 → Type 0 → Type 0

@@ -1,11 +1,10 @@
 -- Whether a text is a redo text, and at which line it isn't.
 use Rattle.std.specs.Prelude.{◌≡◌, ℕ}
 use Rattle.bx_journal.specs.declared.session.fault.SessionFault.{SessionFault}
-use Rattle.bx_journal.specs.declared.session.fault.SessionFault.TheVariants.{NoMemory, DeviceFailed, RedoDamaged}
+use Rattle.bx_journal.specs.declared.session.fault.SessionFault.TheVariants.{RedoDamaged}
+use Rattle.bx_journal.specs.Fault.{DeviceFault}
 
 -- which fault a redo text that is refused at a line makes, where no other came before
 abbrev pub RefusesRedo : ℕ → SessionFault → Type 0
-RefusesRedo line NoMemory = Unit {0}
-RefusesRedo line DeviceFailed = Unit {0}
 RefusesRedo line (RedoDamaged m) = m ≡ line
-RefusesRedo line e = ⊥
+RefusesRedo line e = DeviceFault e

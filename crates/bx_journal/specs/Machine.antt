@@ -12,14 +12,17 @@ abbrev pub top : List (List ℕ) → List ℕ
 top [] = []
 top (x ∷ stack) = x
 
+-- the stack behind a change: what it makes of the newest image stands above the others
+abbrev pub changed : {A : Type 0} → Change A → List (List ℕ) → List (List ℕ)
+changed c stack = effect c (top stack) ∷ stack
+
 -- how many changes a stack has
 abbrev pub changes_of : List (List ℕ) → ℕ
 changes_of stack = length stack - 1
 
 -- a change: 42 comes before 30, and want of memory may take its place
 abbrev pub PerformStep : {A : Type 0} → List (List ℕ) → Change A → Result ℕ SessionFault → List (List ℕ) → Type 0
-PerformStep old c (Ok n) new =
-    (changes_of old < 65535) × Fits c (length (top old)) MAX_LEN × (n ≡ changes_of old + 1) × (new ≡ effect c (top old) ∷ old)
+PerformStep old c (Ok n) new = (changes_of old < 65535) × Fits c (length (top old)) MAX_LEN × (n ≡ changes_of old + 1) × (new ≡ changed c old)
 PerformStep old c (Err NoMemory) new = new ≡ old
 PerformStep old c (Err JournalFull) new = (changes_of old ≡ 65535) × (new ≡ old)
 PerformStep old c (Err TooLarge) new = (changes_of old < 65535) × (Fits c (length (top old)) MAX_LEN → ⊥) × (new ≡ old)

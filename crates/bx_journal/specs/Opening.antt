@@ -2,10 +2,11 @@
 use Rattle.std.specs.Prelude.{◌≡◌, ◌≤◌, ℕ, ◌+◌, List, length}
 use Rattle.bx_journal.specs.declared.session.answers.How.{How}
 use Rattle.bx_journal.specs.declared.session.fault.SessionFault.{SessionFault}
-use Rattle.bx_journal.specs.declared.session.fault.SessionFault.TheVariants.{NoMemory, DeviceFailed, Damaged, Interrupted, LengthDiffers}
+use Rattle.bx_journal.specs.declared.session.fault.SessionFault.TheVariants.{DeviceFailed, Damaged, Interrupted, LengthDiffers}
 use Rattle.bx_entries.specs.Text.{Reading, split}
 use Rattle.bx_journal.specs.Stack.{StandsFor, recovered}
 use Rattle.bx_journal.specs.Calls.{how_of}
+use Rattle.bx_journal.specs.Fault.{DeviceFault}
 
 -- what opening leaves stands for what was found
 pub record IsOpened (text x : List ℕ) (r : Reading) (new y : List ℕ) (how : How) (changes : ℕ) : Type 0 where
@@ -15,17 +16,13 @@ pub record IsOpened (text x : List ℕ) (r : Reading) (new y : List ℕ) (how : 
 
 -- which fault a text that isn't accepted makes, where reading met no other
 abbrev pub RefusesText : SessionFault → Type 0
-RefusesText NoMemory = Unit {0}
-RefusesText DeviceFailed = Unit {0}
 RefusesText (Damaged line) = Unit {0}
-RefusesText e = ⊥
+RefusesText e = DeviceFault e
 
 -- which fault a length that differs makes, where no other came before
 abbrev pub RefusesLength : ℕ → SessionFault → Type 0
-RefusesLength n NoMemory = Unit {0}
-RefusesLength n DeviceFailed = Unit {0}
 RefusesLength n (LengthDiffers m) = m ≡ n
-RefusesLength n e = ⊥
+RefusesLength n e = DeviceFault e
 
 -- one more failed call on one of two devices: no count falls, and both together rise by one
 abbrev pub OneMore : ℕ → ℕ → ℕ → ℕ → Type 0

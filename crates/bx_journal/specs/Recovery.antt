@@ -1,13 +1,12 @@
 -- What opening finds in a journal's text, and what it leaves of the redo text.
 use Rattle.bx_journal.specs.declared.session.fault.SessionFault.{SessionFault}
-use Rattle.bx_journal.specs.declared.session.fault.SessionFault.TheVariants.{NoMemory, DeviceFailed, Damaged, Interrupted, LengthDiffers, RedoDamaged}
+use Rattle.bx_journal.specs.declared.session.fault.SessionFault.TheVariants.{Damaged, Interrupted, LengthDiffers, RedoDamaged}
+use Rattle.bx_journal.specs.Fault.{DeviceFault}
 
 -- which fault opening may answer at all
 abbrev pub OpenKind : SessionFault → Type 0
-OpenKind NoMemory = Unit {0}
-OpenKind DeviceFailed = Unit {0}
 OpenKind (Damaged line) = Unit {0}
 OpenKind (LengthDiffers expected) = Unit {0}
 OpenKind Interrupted = Unit {0}
 OpenKind (RedoDamaged line) = Unit {0}
-OpenKind e = ⊥
+OpenKind e = DeviceFault e

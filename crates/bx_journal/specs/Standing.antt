@@ -1,7 +1,8 @@
 -- A session whose pair stands for a stack, be it sound or not.
 use Rattle.std.specs.Prelude.{◌≡◌, ℕ, suc, false, List, length}
 use Rattle.bx_journal.specs.declared.session.fault.SessionFault.{SessionFault}
-use Rattle.bx_journal.specs.declared.session.fault.SessionFault.TheVariants.{NoMemory, TooLarge, DeviceFailed, JournalFull, Interrupted, Broken}
+use Rattle.bx_journal.specs.declared.session.fault.SessionFault.TheVariants.{TooLarge, JournalFull}
+use Rattle.bx_journal.specs.Fault.{WritingFault}
 use Rattle.bx_journal.specs.SessionView.{SessionView}
 use Rattle.bx_journal.specs.Stack.{StandsFor}
 
@@ -13,10 +14,6 @@ pub record IsStanding {D T : Type 0} (image : D → List ℕ) (text : T → List
 
 -- which fault a change may meet
 abbrev pub PerformFault : SessionFault → Type 0
-PerformFault NoMemory = Unit {0}
 PerformFault TooLarge = Unit {0}
-PerformFault DeviceFailed = Unit {0}
 PerformFault JournalFull = Unit {0}
-PerformFault Interrupted = Unit {0}
-PerformFault Broken = Unit {0}
-PerformFault e = ⊥
+PerformFault e = WritingFault e

@@ -1,19 +1,16 @@
 //! A session: changes to an image, each with its entry in the journal.
-ghost use Rattle.std.specs.Prelude.{◌≡◌, ◌↔◌, ◌+◌, ◌<◌, ◌≤◌, [], ◌∷◌, length, true, false, IfOk, IfErr, OnOk, IsErrOf};
-ghost use Rattle.bx_image.specs.Change.{effect, Fits};
-ghost use Rattle.bx_journal.specs.Machine.{top};
+ghost use Rattle.std.specs.Prelude.{◌≡◌, ◌↔◌, ◌+◌, ◌<◌, ◌≤◌, [], length, true, false, IfOk, IfErr, OnOk, IsErrOf};
+ghost use Rattle.bx_image.specs.Change.{Fits};
+ghost use Rattle.bx_journal.specs.Machine.{PerformStep, changed};
 
 pub(crate) mod answers;
 mod close;
-mod entries;
 pub(crate) mod fault;
 mod log;
 mod open;
 mod prepare;
 pub(crate) mod read;
-mod records;
 mod redo;
-mod rows;
 mod undo;
 
 use crate::SessionFault;
@@ -50,7 +47,7 @@ impl<D: Device, T: TextStore, A: Allocator> Model for Session<D, T, A> {
 
 impl<D: Device, T: TextStore, A: Allocator + Clone> Session<D, T, A> {
     ghost use Rattle.bx_journal.specs.Calls.{AfterFault};
-    ghost use Rattle.bx_journal.specs.Performing.{AppendsEntry, FindsOne, Performs, StaysReady, StopsPerform};
+    ghost use Rattle.bx_journal.specs.Performing.{AppendsEntry, FindsOne, StaysReady, Steps, StopsPerform};
     ghost use Rattle.bx_journal.specs.Session.{Breaks, HasSameDevices, HasUndone, IsRedoSame, IsSame, IsUnfailed, IsUnmoved, SessionCounts};
     ghost use Rattle.bx_journal.specs.Standing.{PerformFault};
 
@@ -66,9 +63,8 @@ impl<D: Device, T: TextStore, A: Allocator + Clone> Session<D, T, A> {
         requires redo_countable { T.failures self.old.redo_text < u64.MAX }
 
         // Accepted, it makes the machine's step, and the session goes on.
-        ensures accepted { D.honest self.old.device → T.honest self.old.store → Performs D.image T.text change.now self.old self.new result }
-        ensures sound { D.honest self.old.device → T.honest self.old.store
-            → StaysReady D.image T.text self.old self.new (λ s. effect change.now (top s) ∷ s) result }
+        ensures accepted { D.honest self.old.device → T.honest self.old.store → Steps D.image T.text self.old self.new PerformStep change.now changed result }
+        ensures sound { D.honest self.old.device → T.honest self.old.store → StaysReady D.image T.text self.old self.new (changed change.now) result }
         ensures number { IfOk result (λ n. (n ≡ self.old.count + 1) × (self.new.count ≡ n) × (self.new.undone ≡ 0) × (self.new.is_broken ≡ false)) }
         ensures entry { D.honest self.old.device → T.honest self.old.store
             → IfOk result (AppendsEntry D.image T.text change.now self.old self.new) }

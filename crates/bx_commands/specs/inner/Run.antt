@@ -1,18 +1,45 @@
--- The steps of single calls.
-use Rattle.std.specs.Prelude.{◌≡◌, ℕ, List}
+-- What proofs alone need: the steps of single calls.
+use Rattle.std.specs.Prelude.{◌≡◌, ◌<◌, ◌≤◌, ℕ, Option, None, Some, Result, List}
+use Rattle.bx_dd.specs.declared.stream.counts.Counts.{Counts}
+use Rattle.bx_image.specs.declared.change.Change.{Change}
+use Rattle.bx_journal.specs.Images.{Images, redo_of, undo_of}
+use Rattle.bx_journal.specs.Machine.{RedoStep, UndoStep}
+use Rattle.bx_journal.specs.SessionView.{SessionView}
+use Rattle.bx_journal.specs.declared.session.fault.SessionFault.{SessionFault}
 use Rattle.bx_read.specs.declared.fault.ReadFault.{ReadFault}
 use Rattle.bx_read.specs.Plain.{plain_answer}
 use Rattle.bx_read.specs.Text.{dump_pieces}
 use Rattle.bx_commands.specs.declared.command.Reply.{Reply}
-use Rattle.bx_commands.specs.declared.command.Reply.TheVariants.{Undone, Redone, Refused}
+use Rattle.bx_commands.specs.declared.command.Reply.TheVariants.{Changed, Copied, Undone, Redone, Refused}
 use Rattle.bx_commands.specs.Command.{dump_change, plain_change}
 use Rattle.bx_commands.specs.Fault.{of_read}
 use Rattle.bx_commands.specs.Run.{CallStep, TextStep}
-use Rattle.bx_commands.specs.Standing.{Standing, RedoUp, UndoUp}
+use Rattle.bx_commands.specs.Standing.{CountsBy, MovesUp, PerformUp, Standing}
+
+-- how many calls of each of a session's devices failed is below a limit
+abbrev pub CountsBelow : {D T : Type 0} → ℕ → (D → ℕ) → (T → ℕ) → SessionView D T → Type 0
+CountsBelow limit failures text_failures s = (failures s.device < limit) × (text_failures s.store < limit) × (text_failures s.redo_text < limit)
+
+-- the reply to a change that was made; dd's tells its counts too
+abbrev pub made_reply : Option Counts → ℕ → Reply
+made_reply None = Changed
+made_reply (Some counts) = λ n. Copied n counts
+
+-- a change, and the reply to it
+abbrev pub ChangeStep : {A : Type 0} → Standing → Change A → Option Counts → Reply → Standing → Type 0
+ChangeStep before c counts reply after = CallStep (made_reply counts) (PerformUp c) before reply after
 
 -- nothing is done for this fault of the command's own
 abbrev pub RefusesStep : Standing → ReadFault → Reply → Standing → Type 0
 RefusesStep before e reply after = (reply ≡ Refused (of_read e)) × (after ≡ before)
+
+-- an undo of k, from images
+abbrev pub UndoUp : ℕ → Images → Result ℕ SessionFault → Standing → Type 0
+UndoUp k old r after = MovesUp (λ s k r t. UndoStep s.stack k r t.stack) undo_of k old r after
+
+-- a redo of j, from images
+abbrev pub RedoUp : ℕ → Images → Result ℕ SessionFault → Standing → Type 0
+RedoUp j old r after = MovesUp RedoStep redo_of j old r after
 
 -- an undo, and the reply to it
 abbrev pub UndoesStep : Standing → ℕ → Reply → Standing → Type 0
@@ -29,3 +56,7 @@ DumpStep A before text offset reply after = TextStep before (dump_change {A = A}
 -- plain hexadecimal that is put onto the image from a place on
 abbrev pub PlainStep : (A : Type 0) → Standing → List ℕ → ℕ → Reply → Standing → Type 0
 PlainStep A before text at reply after = TextStep before (plain_change {A = A} at) (plain_answer text) reply after
+
+-- No count of failed calls falls, and the three together rise by no more than so many
+abbrev pub CountsOn : {D T : Type 0} → (D → ℕ) → (T → ℕ) → SessionView D T → SessionView D T → ℕ → Type 0
+CountsOn failures text_failures old new calls = (failed : ℕ) × (failed ≤ calls) × CountsBy failures text_failures old new failed

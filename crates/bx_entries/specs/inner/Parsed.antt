@@ -1,5 +1,5 @@
 -- What proofs alone need: what the reader has in hand, as a reading.
-use Rattle.std.specs.Prelude.{◌≡◌, ◌≤◌, ◌<◌, ◌+◌, ℕ, suc, Option, None, Some, List, [], ◌∷◌, length, take, map}
+use Rattle.std.specs.Prelude.{◌≡◌, ◌≤◌, ◌<◌, ◌+◌, ◌*◌, ℕ, suc, Option, None, Some, List, [], ◌∷◌, length, take, drop, map}
 use Rattle.bx_entries.specs.Kept.{run_of, kept_of}
 use Rattle.bx_entries.specs.declared.read.types.EntryRead.{EntryRead}
 use Rattle.bx_entries.specs.declared.read.types.StageRead.{StageRead}
@@ -63,6 +63,12 @@ pub record IsReadTo {A : Type 0} (text : List ℕ) (older : List Entry) (es : Li
   pub mark : IsMark text at (reading_onto older es stage)
   pub marked : IsMarked text older es stage at
   pub counted : line ≡ suc (length (split (take at text)).lines)
+
+-- so many full lines, with which a text goes on, lead from one stage to another and count among its lines, whatever entries are before
+abbrev pub ReadingGoesOnBy : {A : Type 0} → List ℕ → StageRead A → StageRead A → ℕ → Type 0
+ReadingGoesOnBy {A = A} rest old new count =
+    (text : List ℕ) (older : List Entry) (es : List (EntryRead A)) (at line : ℕ) → IsReadTo text older es old at line → rest ≡ drop at text
+    → IsReadTo text older es new (at + 68 * count) (line + count)
 
 -- the runs of each entry end within its length, which is at most a limit
 abbrev pub AllKept : {A : Type 0} → ℕ → List (EntryRead A) → Type 0

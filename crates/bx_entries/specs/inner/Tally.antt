@@ -1,8 +1,9 @@
 -- Entries that are counted, and not kept.
-use Rattle.std.specs.Prelude.{◌≡◌, ℕ, Bool, IsTrue, Option, Some, List, [], length}
+use Rattle.std.specs.Prelude.{◌≡◌, ◌+◌, ◌++◌, ℕ, Bool, IsTrue, Option, Some, List, [], length, take}
 use Rattle.bx_entries.specs.declared.read.count.Place.{Place}
 use Rattle.bx_entries.specs.declared.read.count.Place.TheVariants.{Between as BetweenPlace, Saving as SavingPlace, Ending as EndingPlace}
 use Rattle.bx_entries.specs.declared.read.count.Tally.{Tally}
+use Rattle.bx_entries.specs.declared.read.window.Passed.{Passed}
 use Rattle.bx_entries.specs.Text.{Entry, Stage, Between, Saving, Ending, Reading, next, next_at, split, start, after_lines}
 use Rattle.bx_entries.specs.Parsed.{told_by}
 use Rattle.bx_entries.specs.Finished.{AllTell, IsFinished}
@@ -43,6 +44,10 @@ pub record IsTallied (only_second : Bool) (text : List ℕ) (t : Tally) (lines :
   pub many : lines ≡ length (split text).lines
   pub is : tally_of reading ≡ t
   pub tell : IsTrue only_second → AllTell reading.entries
+
+-- the lines at the start of a window that were passed are counted, behind a front of so many lines
+abbrev pub IsPassed : Bool → List ℕ → ℕ → List ℕ → Passed → Type 0
+IsPassed only_second front n window p = IsTallied only_second (front ++ take p.taken window) p.tally (n + p.lines)
 
 -- a text that is counted, with the number of its lines; where only entries that tell their lengths are taken, all of them do
 pub record IsCountedAll (only_second : Bool) (text : List ℕ) (count : ℕ) (told : Option ℕ) (lines : ℕ) : Type 0 where

@@ -1,12 +1,11 @@
 //! The whole lines of a window, read into entries: of a text that is read in windows no more than one is in memory.
-ghost use Rattle.std.specs.Prelude.{◌≡◌, ◌+◌, ◌-◌, ◌*◌, ◌^◌, ◌<◌, ◌≤◌, ◌++◌, List, ℕ, length, take, drop, IfOk, IfSome};
-ghost use Rattle.bx_entries.specs.declared.read.types.EntryRead.{EntryRead as Finished};
-ghost use Rattle.bx_entries.specs.inner.Lines.{IsFront, IsReadAt, IsReadUpTo};
+ghost use Rattle.std.specs.Prelude.{◌≡◌, ◌+◌, ◌*◌, ◌^◌, ◌<◌, ◌≤◌, List, ℕ, length, drop, IfOk, IfSome};
+ghost use Rattle.bx_entries.specs.inner.Lines.{IsFront, IsReadAlike, IsReadUpTo, ReadsOn, StageGoesOnBy};
 ghost use Rattle.bx_entries.specs.Text.{Entry};
 
 use crate::format::newline::line_end;
-use crate::read::full_lines::ENDED;
-use crate::read::gather::{Gathered, gather_last, trim_last};
+use crate::read::runs::full_lines::ENDED;
+use crate::read::runs::gather::{Gathered, gather_last, trim_last};
 use crate::read::take_line::{MOST_CHANGES, take_line};
 use crate::{EntryRead, Front, StageRead};
 use bx_text::NoMemory;
@@ -63,8 +62,7 @@ fn go_on_in<A: Allocator>(
     ensures within { IfOk result (λ g. from + 68 * g.gathered.count ≤ length window.old) }
     ensures left { IfOk result (λ g. drop (from + 68 * g.gathered.count) window.new ≡ drop (from + 68 * g.gathered.count) window.old) }
     ensures same_length { length window.new ≡ length window.old }
-    ensures read { (whole : List ℕ) (older : List Entry) (es : List (Finished A)) (at : ℕ) → IsReadAt whole older es stage at
-        → drop from window.old ≡ drop at whole → IfOk result (λ g. IsReadAt whole older es g.stage (at + 68 * g.gathered.count)) }
+    ensures read { IfOk result (λ g. StageGoesOnBy (drop from window.old) stage g.stage g.gathered.count) }
 {
     match stage {
         StageRead::Saving {
@@ -115,8 +113,7 @@ fn go_on_in<A: Allocator>(
 
 /// The stage without the room that its last run has for lines that come later, where it has some.
 fn without_room<A: Allocator>(stage: StageRead<A>, has_room: bool) -> Result<StageRead<A>, NoMemory>
-    ensures { (text : List ℕ) (older : List Entry) (es : List (Finished A)) (at : ℕ) → IsReadAt text older es stage at
-        → IfOk result (λ s. IsReadAt text older es s at) }
+    ensures { IfOk result (IsReadAlike stage) }
 {
     if !has_room {
         return Ok(stage);
@@ -161,8 +158,7 @@ pub fn read_lines<A: Allocator + Clone>(
     window: &mut [u8],
 ) -> Result<Option<LinesRead<A>>, NoMemory>
     requires { read.at + length window.old < 2 ^ 64 }
-    ensures read { (text : List ℕ) (older : List Entry) → IsReadUpTo text older front read
-        → IfOk result (λ found. IfSome found (λ r. IsReadUpTo (text ++ take (r.at - read.at) window.old) older front r)) }
+    ensures read { ReadsOn front read window.old result }
     ensures forth { IfOk result (λ found. IfSome found (λ r. read.at ≤ r.at)) }
     ensures within { IfOk result (λ found. IfSome found (λ r. r.at ≤ read.at + length window.old)) }
 {

@@ -4,11 +4,11 @@ ghost use Rattle.bx_entries.specs.Text.{Entry, Reads, split};
 ghost use Rattle.bx_entries.specs.inner.Parsed.{reading_of};
 
 use crate::format::newline::line_end;
-use crate::read::extend::go_on;
-use crate::read::full_lines::ENDED;
+use crate::read::runs::extend::go_on;
+use crate::read::runs::full_lines::ENDED;
+use crate::read::runs::text::{Unread, behind, rest_of};
 use crate::read::tail::rest_fits;
 use crate::read::take_line::{take_line, told_behind};
-use crate::read::text::{Unread, behind, rest_of};
 use crate::{EntryFault, EntryRead, Front, StageRead};
 use std::alloc::{Allocator, Global};
 

@@ -1,7 +1,7 @@
 //! A journal's text that is counted a window at a time: no line of it is kept.
 ghost use Rattle.std.specs.Prelude.{◌≡◌, ◌+◌, ◌<◌, ◌≤◌, ◌++◌, ◌∷◌, [], Bool, List, ℕ, length, take, drop, IfSome};
 ghost use Rattle.bx_entries.specs.inner.Plain.{HasNoNewline};
-ghost use Rattle.bx_entries.specs.inner.Tally.{IsTallied, IsCountedAll};
+ghost use Rattle.bx_entries.specs.inner.Tally.{IsTallied, IsPassed, IsCountedAll};
 
 use crate::read::count::{Place, Tally, next_end, take_one};
 
@@ -48,7 +48,7 @@ fn end_below(limit: u32, tally: Tally, text: &[u8]) -> Option<usize>
 /// tells no length.
 pub fn count_lines(tally: Tally, window: &[u8], only_second: bool, limit: u32) -> Option<Passed>
     ensures tallied { (front : List ℕ) (n : ℕ) → IsTallied only_second front tally n
-        → IfSome result (λ p. IsTallied only_second (front ++ take p.taken window.now) p.tally (n + p.lines)) }
+        → IfSome result (IsPassed only_second front n window.now) }
     ensures within { IfSome result (λ p. p.taken ≤ length window.now) }
     ensures lines { IfSome result (λ p. p.lines ≤ p.taken) }
     ensures few { tally.count ≤ 65535 → IfSome result (λ p. p.tally.count ≤ 65535) }
@@ -73,8 +73,8 @@ pub fn count_lines(tally: Tally, window: &[u8], only_second: bool, limit: u32) -
 
 /// What was counted, where no entry is unfinished.
 pub fn counted_by(tally: Tally) -> Option<Counted>
-    ensures counted { (only : Bool) (text : List ℕ) (lines : ℕ) → IsTallied only text tally lines
-        → IfSome result (λ c. IsCountedAll only text c.count c.told lines) }
+    ensures counted { (only : Bool) (text : List ℕ) (n : ℕ) → IsTallied only text tally n
+        → IfSome result (λ c. IsCountedAll only text c.count c.told n) }
     ensures few { tally.count ≤ 65535 → IfSome result (λ c. c.count ≤ 65535) }
 {
     match tally.place {

@@ -1,18 +1,11 @@
 -- What undoing or redoing some entries leaves: as many as there are records of what is taken.
 use Rattle.std.specs.Prelude.{◌≡◌, ◌≤◌, ℕ, List, length, drop, Result, IfOk, OnOk, OnErr}
-use Rattle.bx_entries.specs.Finished.{IsFinished}
-use Rattle.bx_entries.specs.Text.{Entry}
 use Rattle.bx_journal.specs.Images.{Images, redo_of, undo_of}
 use Rattle.bx_journal.specs.Machine.{changes_of}
 use Rattle.bx_journal.specs.Phase.{IsAtRest}
 use Rattle.bx_journal.specs.Redo.{Finds}
 use Rattle.bx_journal.specs.Stack.{Recovers, StandsFor}
-use Rattle.bx_journal.specs.Undoing.{HasLeft}
 use Rattle.bx_journal.specs.inner.Turns.{AreAtRest, AreStanding}
-
--- the text from which they were taken is a front, without them
-abbrev pub LeavesFront : {V E : Type 0} → List ℕ → ℕ → List ℕ → Result V E → Type 0
-LeavesFront text k new result = (all : List Entry) → IsFinished text all → OnOk result (HasLeft text new (drop k all))
 
 -- a pair at rest for a stack is so without the newest images
 abbrev pub DropsRest : {D T B V E : Type 0} → (D → List ℕ) → (T → List ℕ) → D → T → D → T → List B → Result V E → Type 0

@@ -7,7 +7,7 @@ use Rattle.bx_entries.specs.inner.Rows.{summed_of}
 use Rattle.bx_entries.specs.Finished.{IsFinished}
 use Rattle.bx_entries.specs.Text.{Entry, Reading, split, start, after_lines}
 use Rattle.bx_journal.specs.declared.session.answers.LogRow.{LogRow}
-use Rattle.bx_journal.specs.declared.session.rows.Listed.{Listed}
+use Rattle.bx_journal.specs.declared.session.log.windows.Listed.{Listed}
 use Rattle.bx_journal.specs.Calls.{rows_of}
 
 -- the row of the entry that the last line ended, where the text stands at such a place

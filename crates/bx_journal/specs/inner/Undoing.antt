@@ -1,5 +1,5 @@
 -- What proofs alone need: what undoing starts from and leaves.
-use Rattle.std.specs.Prelude.{◌≡◌, ◌≤◌, ◌<◌, ◌+◌, ◌-◌, ◌^◌, ℕ, List, [], ◌++◌, length, take, drop}
+use Rattle.std.specs.Prelude.{◌≡◌, ◌≤◌, ◌<◌, ◌+◌, ◌-◌, ◌^◌, ℕ, List, [], ◌++◌, length, take, drop, Option, Result, IfSome, OnOk}
 use Rattle.bx_journal.specs.declared.session.fault.SessionFault.{SessionFault}
 use Rattle.bx_journal.specs.declared.session.fault.SessionFault.TheVariants.{NoMemory, TooLarge, DeviceFailed, Damaged, TooFew, JournalFull, Interrupted, Broken, LengthDiffers, NothingToRedo, RedoDamaged}
 use Rattle.bx_entries.specs.declared.read.types.EntryRead.{EntryRead}
@@ -8,9 +8,10 @@ use Rattle.bx_entries.specs.declared.read.types.Front.{Front}
 use Rattle.bx_entries.specs.Text.{Between, Entry}
 use Rattle.bx_entries.specs.inner.Lines.{IsReadUpTo}
 use Rattle.bx_entries.specs.inner.Mark.{IsMark}
-use Rattle.bx_entries.specs.inner.Parsed.{AreMarked, entries_of, entries_onto}
+use Rattle.bx_entries.specs.inner.Parsed.{AllKept, AreMarked, entries_of, entries_onto}
 use Rattle.bx_entries.specs.Finished.{IsFinished}
 use Rattle.bx_journal.specs.Undoing.{IsOutOfStep}
+use Rattle.bx_journal.specs.declared.session.read.entries.FinishedRead.{FinishedRead}
 
 -- a text that was read again, as finished entries alone, with their places
 pub record IsReadAgain {A : Type 0} (text : List ℕ) (es : List (EntryRead A)) (count : ℕ) : Type 0 where
@@ -35,6 +36,16 @@ pub record IsReadLast {A : Type 0} (text : List ℕ) (es : List (EntryRead A)) (
   pub mark : IsMark text (length text) (record { entries = entries_onto older es; stage = Between })
   pub marked : AreMarked text older 0 es (length text)
   pub counted : length older + length es ≡ count
+
+-- where this was read behind a front of `first` entries up to a length, what is found of it is the last of the entries
+abbrev pub FindsLast : {A : Type 0} → LinesRead A → ℕ → ℕ → ℕ → Option (FinishedRead A) → Type 0
+FindsLast read first len count found =
+    (text : List ℕ) (older : List Entry) (front : Front) → IsReadUpTo text older front read → first ≡ front.count → read.at ≡ len
+    → IfSome found (λ o. IsReadLast text o.entries.items count)
+
+-- what the last k entries of a text that was read restore has room
+abbrev pub HasRoomFor : {A V E : Type 0} → ℕ → List (EntryRead A) → ℕ → Result V E → Type 0
+HasRoomFor room es k result = (text : List ℕ) (count : ℕ) → IsReadLast text es count → OnOk result (AllKept room (drop (length es - k) es))
 
 -- what was read of a text in windows leads on, behind the next whole lines before `len`: the store's, where that is honest
 pub record IsReadOn {A : Type 0} (honest : Type 0) (stored : List ℕ) (front : Front) (len : ℕ) (old new : LinesRead A) : Type 0 where

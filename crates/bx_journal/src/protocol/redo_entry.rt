@@ -2,7 +2,8 @@
 ghost use Rattle.std.specs.Prelude.{◌≡◌, ◌+◌, ◌-◌, ◌<◌, ◌≤◌, [], length, drop, reverse, vec_capacity, IfOk, OnOk};
 ghost use Rattle.bx_entries.specs.inner.Parsed.{AllKept};
 ghost use Rattle.bx_journal.specs.inner.Devices.{AreBelow, StepsOn};
-ghost use Rattle.bx_journal.specs.inner.Entries.{LeavesFront, RedoAll, RedoRests, RedoSome};
+ghost use Rattle.bx_journal.specs.Undoing.{LeavesFront};
+ghost use Rattle.bx_journal.specs.inner.Entries.{RedoAll, RedoRests, RedoSome};
 ghost use Rattle.bx_journal.specs.inner.Takens.{AreReady, AllShaped, entries_len};
 ghost use Rattle.bx_entries.specs.Text.{IsPrefix};
 ghost use Rattle.bx_journal.specs.inner.Undoing.{AreReadFrom};

@@ -8,8 +8,10 @@ ghost use Rattle.bx_entries.specs.Text.{Entry};
 ghost use Rattle.bx_journal.specs.Undoing.{AgainFault, HasCount};
 ghost use Rattle.bx_entries.specs.Finished.{IsFinished};
 
-use crate::session::entries::read_again;
-use crate::session::rows::rows_in_windows;
+mod windows;
+
+use crate::session::log::windows::rows_in_windows;
+use crate::session::read::entries::read_again;
 use crate::{LogRow, Session, SessionFault};
 use bx_entries::EntryRead;
 use bx_image::{Device, Saved};

@@ -7,6 +7,8 @@ ghost use Rattle.bx_journal.specs.Opening.{FaultCounts};
 ghost use Rattle.bx_journal.specs.inner.Standing.{PrepareFault};
 ghost use Rattle.bx_journal.specs.inner.Step.{HasEntryRoom};
 
+pub(crate) mod records;
+
 use crate::SessionFault;
 use crate::protocol::image::save_image;
 use bx_entries::{Words, entry_end, head_len, new_page};

@@ -5,6 +5,8 @@ ghost use Rattle.bx_entries.specs.inner.Journal.{HasRead};
 ghost use Rattle.bx_entries.specs.inner.Parsed.{reading_of};
 ghost use Rattle.bx_journal.specs.inner.Calls.{ReadFault};
 
+pub(crate) mod entries;
+
 use crate::SessionFault;
 use bx_entries::{EntryFault, JournalRead, read_journal as read_entries};
 use std::alloc::Allocator;

@@ -1,16 +1,13 @@
 //! Making undone changes again.
-ghost use Rattle.std.specs.Prelude.{◌≡◌, ◌↔◌, ◌+◌, ◌<◌, ◌≤◌, List, ℕ, length, drop, true, false, IfOk, IfErr, OnOk, IsErrOf, Ok as Done};
-ghost use Rattle.bx_journal.specs.Images.{Images as Pictures, redo_of};
-ghost use Rattle.bx_journal.specs.Machine.{RedoStep};
+ghost use Rattle.std.specs.Prelude.{◌≡◌, ◌↔◌, ◌+◌, ◌<◌, ◌≤◌, ℕ, length, true, false, IfOk, IfErr, OnOk, IsErrOf};
+ghost use Rattle.bx_journal.specs.Images.{redo_of};
 ghost use Rattle.bx_journal.specs.Opening.{FaultCounts};
-ghost use Rattle.bx_entries.specs.Text.{Entry, IsPrefix};
-ghost use Rattle.bx_journal.specs.Undoing.{HasCount, HasLeft};
-ghost use Rattle.bx_entries.specs.Finished.{IsFinished};
+ghost use Rattle.bx_entries.specs.Text.{IsPrefix};
 ghost use Rattle.bx_journal.specs.inner.Undoing.{IsLastFrom, RedoAgainFault, redo_fault};
 
 use crate::protocol::redo_entry::redo_entries;
-use crate::session::entries::{FinishedRead, read_last_of};
-use crate::session::records::prepare_takens;
+use crate::session::prepare::records::prepare_takens;
+use crate::session::read::entries::{FinishedRead, read_last_of};
 use crate::{Session, SessionFault};
 use bx_image::Device;
 use bx_store::TextStore;
@@ -76,10 +73,11 @@ fn undone_left(undone: u32, made: u32) -> u32
 }
 
 impl<D: Device, T: TextStore, A: Allocator + Clone> Session<D, T, A> {
-    ghost use Rattle.bx_journal.specs.Session.{Breaks, HasSameDevices, HasUndone, IsReady, IsRedoSame, IsSame, IsUnfailed, IsUnmoved, SessionCounts, SessionFinds};
-    ghost use Rattle.bx_journal.specs.Standing.{IsStanding};
+    ghost use Rattle.bx_journal.specs.Session.{Breaks, HasSameDevices, IsRedoSame, IsSame, IsUnfailed, IsUnmoved, SessionCounts};
     ghost use Rattle.bx_journal.specs.Calls.{AfterFault};
-    ghost use Rattle.bx_journal.specs.Undoing.{IsOutOfStep, RedoFault};
+    ghost use Rattle.bx_journal.specs.Performing.{FindsSome, RedoesImages, StaysRedone};
+    ghost use Rattle.bx_journal.specs.Undoing.{HasCount, IsOutOfStep, LeavesFront, RedoFault};
+    ghost use Rattle.bx_journal.specs.declared.session.fault.SessionFault.TheVariants.{RedoDamaged};
 
     /// Makes the last j undone changes again, the one undone last first, and answers how many changes then stand.
     ///
@@ -94,25 +92,20 @@ impl<D: Device, T: TextStore, A: Allocator + Clone> Session<D, T, A> {
         requires redo_countable { T.failures self.old.redo_text < u64.MAX }
 
         // Accepted, it makes the machine's step, and the session goes on.
-        ensures accepted { D.honest self.old.device → T.honest self.old.store → T.honest self.old.redo_text → (s : Pictures)
-            → IsStanding D.image T.text self.old s.stack → HasUndone D.image T.text self.old s.undone
-            → IfOk result (λ n. RedoStep s j (Done n) (redo_of j s) × IsStanding D.image T.text self.new (redo_of j s).stack
-            × HasUndone D.image T.text self.new (redo_of j s).undone) }
-        ensures sound { D.honest self.old.device → T.honest self.old.store → T.honest self.old.redo_text → (s : Pictures)
-            → IsReady D.image T.text self.old s.stack → HasUndone D.image T.text self.old s.undone
-            → OnOk result (IsReady D.image T.text self.new (redo_of j s).stack × HasUndone D.image T.text self.new (redo_of j s).undone) }
+        ensures accepted { D.honest self.old.device → T.honest self.old.store → T.honest self.old.redo_text
+            → RedoesImages D.image T.text j self.old self.new result }
+        ensures sound { D.honest self.old.device → T.honest self.old.store → T.honest self.old.redo_text
+            → StaysRedone D.image T.text j self.old self.new result }
         ensures number { IfOk result (λ n. (n ≡ self.old.count + j) × (self.new.count ≡ n)
             × (self.new.undone + j ≡ self.old.undone) × (self.new.is_broken ≡ false)) }
 
         // The redo text is then that of the other entries, and the journal goes on with new ones.
-        ensures text { T.honest self.old.redo_text → (entries : List Entry) → IsFinished (T.text self.old.redo_text) entries
-            → OnOk result (HasLeft (T.text self.old.redo_text) (T.text self.new.redo_text) (drop j entries)) }
+        ensures text { T.honest self.old.redo_text → LeavesFront (T.text self.old.redo_text) j (T.text self.new.redo_text) result }
         ensures front { T.honest self.old.store → OnOk result (IsPrefix (T.text self.old.store) (T.text self.new.store)) }
 
         // An interruption leaves the old stack with some of the images made again, and another fault leaves all as it was.
-        ensures finds { D.honest self.old.device → T.honest self.old.store → T.honest self.old.redo_text → (s : Pictures)
-            → IsReady D.image T.text self.old s.stack → HasUndone D.image T.text self.old s.undone
-            → IfErr result (λ e. AfterFault e ((i : ℕ) × (i ≤ j) × SessionFinds D.image T.text self.new (redo_of i s)) (Unit {0})) }
+        ensures finds { D.honest self.old.device → T.honest self.old.store → T.honest self.old.redo_text
+            → FindsSome D.image T.text self.old self.new redo_of j result }
         ensures refused { D.honest self.old.device → T.honest self.old.store
             → IfErr result (λ e. AfterFault e (Unit {0}) (IsSame D.image T.text self.old self.new)) }
         ensures redo_same { T.honest self.old.redo_text → IfErr result (λ e. AfterFault e (Unit {0}) (IsRedoSame T.text self.old self.new)) }
@@ -126,10 +119,10 @@ impl<D: Device, T: TextStore, A: Allocator + Clone> Session<D, T, A> {
         ensures nothing { ((self.old.is_broken ≡ false) × (self.old.undone < j)) ↔ IsErrOf result (SessionFault.NothingToRedo self.old.undone) }
 
         // The redo text is called damaged exactly where it isn't so many finished entries alone.
-        ensures damaged { T.honest self.old.redo_text → IfErr result (λ e. (line : ℕ) → e ≡ SessionFault.RedoDamaged line
-            → IsOutOfStep (T.text self.old.redo_text) self.old.undone line) }
+        ensures damaged { T.honest self.old.redo_text → IfErr result (λ e. (n : ℕ) → e ≡ RedoDamaged n
+            → IsOutOfStep (T.text self.old.redo_text) self.old.undone n) }
         ensures undamaged { T.honest self.old.redo_text → HasCount (T.text self.old.redo_text) self.old.undone
-            → IfErr result (λ e. (line : ℕ) → e ≡ SessionFault.RedoDamaged line → ⊥) }
+            → IfErr result (λ e. (n : ℕ) → e ≡ RedoDamaged n → ⊥) }
         ensures whole { T.honest self.old.redo_text → OnOk result (HasCount (T.text self.old.redo_text) self.old.undone) }
 
         ensures device_honesty { D.honest self.new.device ↔ D.honest self.old.device }

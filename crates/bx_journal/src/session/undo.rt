@@ -1,14 +1,11 @@
 //! Taking changes back.
-ghost use Rattle.std.specs.Prelude.{◌≡◌, ◌↔◌, ◌+◌, ◌<◌, ◌≤◌, List, ℕ, drop, true, false, IfOk, IfErr, OnOk, IsErrOf, Ok as Done};
-ghost use Rattle.bx_journal.specs.Images.{Images as Pictures, undo_of, undone_by};
+ghost use Rattle.std.specs.Prelude.{◌≡◌, ◌↔◌, ◌+◌, ◌<◌, ◌≤◌, ℕ, drop, true, false, IfOk, IfErr, OnOk, IsErrOf};
+ghost use Rattle.bx_journal.specs.Images.{undo_of};
 ghost use Rattle.bx_journal.specs.Machine.{UndoStep};
-ghost use Rattle.bx_entries.specs.Text.{Entry};
-ghost use Rattle.bx_journal.specs.Undoing.{HasCount, HasLeft};
-ghost use Rattle.bx_entries.specs.Finished.{IsFinished};
 
 use crate::protocol::undo_entry::undo_entries;
-use crate::session::entries::read_last_of;
-use crate::session::records::prepare_takens;
+use crate::session::prepare::records::prepare_takens;
+use crate::session::read::entries::read_last_of;
 use crate::{Session, SessionFault};
 use bx_image::Device;
 use bx_store::TextStore;
@@ -24,10 +21,10 @@ fn count_left(count: u32, undone: u32) -> u32
 }
 
 impl<D: Device, T: TextStore, A: Allocator + Clone> Session<D, T, A> {
-    ghost use Rattle.bx_journal.specs.Session.{Breaks, HasSameDevices, HasUndone, IsReady, IsRedoSame, IsSame, IsUnfailed, IsUnmoved, SessionCounts, SessionFinds};
-    ghost use Rattle.bx_journal.specs.Standing.{IsStanding};
-    ghost use Rattle.bx_journal.specs.Calls.{AfterFault, RecoversBelow};
-    ghost use Rattle.bx_journal.specs.Undoing.{IsOutOfStep, UndoFault};
+    ghost use Rattle.bx_journal.specs.Session.{Breaks, HasSameDevices, IsRedoSame, IsSame, IsUnfailed, IsUnmoved, SessionCounts};
+    ghost use Rattle.bx_journal.specs.Calls.{AfterFault};
+    ghost use Rattle.bx_journal.specs.Performing.{FindsSome, StaysReady, Steps, StopsUndo, UndoesImages};
+    ghost use Rattle.bx_journal.specs.Undoing.{HasCount, IsOutOfStep, LeavesFront, UndoFault};
 
     /// Takes the last k changes back, the newest first, and answers how many are left. Their images are then undone, and
     /// can be made again; but an image of more than `MAX_LEN` bytes, and what was undone before it, is given up.
@@ -42,31 +39,23 @@ impl<D: Device, T: TextStore, A: Allocator + Clone> Session<D, T, A> {
         requires redo_countable { T.failures self.old.redo_text < u64.MAX }
 
         // Accepted, it makes the machine's step, and the session goes on.
-        ensures accepted { D.honest self.old.device → T.honest self.old.store → (stack : List (List ℕ)) → IsStanding D.image T.text self.old stack
-            → IfOk result (λ left. UndoStep stack k (Done left) (drop k stack) × IsStanding D.image T.text self.new (drop k stack)) }
-        ensures sound { D.honest self.old.device → T.honest self.old.store → (stack : List (List ℕ)) → IsReady D.image T.text self.old stack
-            → OnOk result (IsReady D.image T.text self.new (drop k stack)) }
+        ensures accepted { D.honest self.old.device → T.honest self.old.store → Steps D.image T.text self.old self.new UndoStep k drop result }
+        ensures sound { D.honest self.old.device → T.honest self.old.store → StaysReady D.image T.text self.old self.new (drop k) result }
         ensures left { IfOk result (λ left. (left + k ≡ self.old.count) × (self.new.count ≡ left) × (self.new.is_broken ≡ false)) }
 
         // The text is then that of the other entries.
-        ensures text { T.honest self.old.store → (entries : List Entry) → IsFinished (T.text self.old.store) entries
-            → OnOk result (HasLeft (T.text self.old.store) (T.text self.new.store) (drop k entries)) }
+        ensures text { T.honest self.old.store → LeavesFront (T.text self.old.store) k (T.text self.new.store) result }
 
         // The images that were taken back are undone, above those that were.
-        ensures undone { D.honest self.old.device → T.honest self.old.store → T.honest self.old.redo_text → (s : Pictures)
-            → IsStanding D.image T.text self.old s.stack → HasUndone D.image T.text self.old s.undone
-            → OnOk result (HasUndone D.image T.text self.new (undone_by k s.stack s.undone)) }
+        ensures undone { D.honest self.old.device → T.honest self.old.store → T.honest self.old.redo_text
+            → UndoesImages D.image T.text k self.old self.new result }
 
         // An interruption leaves the stack without some of the images, and another fault leaves all as it was.
-        ensures fault { D.honest self.old.device → T.honest self.old.store → (stack : List (List ℕ)) → IsReady D.image T.text self.old stack
-            → IfErr result (λ e. AfterFault e
-            (RecoversBelow (T.text self.new.store) (D.image self.new.device) stack k)
-            (IsSame D.image T.text self.old self.new)) }
+        ensures fault { D.honest self.old.device → T.honest self.old.store → StopsUndo D.image T.text k self.old self.new result }
         ensures refused { D.honest self.old.device → T.honest self.old.store
             → IfErr result (λ e. AfterFault e (Unit {0}) (IsSame D.image T.text self.old self.new)) }
-        ensures finds { D.honest self.old.device → T.honest self.old.store → T.honest self.old.redo_text → (s : Pictures)
-            → IsReady D.image T.text self.old s.stack → HasUndone D.image T.text self.old s.undone
-            → IfErr result (λ e. AfterFault e ((i : ℕ) × (i ≤ k) × SessionFinds D.image T.text self.new (undo_of i s)) (Unit {0})) }
+        ensures finds { D.honest self.old.device → T.honest self.old.store → T.honest self.old.redo_text
+            → FindsSome D.image T.text self.old self.new undo_of k result }
         ensures redo_same { T.honest self.old.redo_text → IfErr result (λ e. AfterFault e (Unit {0}) (IsRedoSame T.text self.old self.new)) }
         ensures unmoved { IfErr result (λ e. AfterFault e (Unit {0}) (IsUnmoved self.old self.new)) }
         ensures breaks { IsErrOf result SessionFault.Interrupted → Breaks self.old self.new }
@@ -78,10 +67,10 @@ impl<D: Device, T: TextStore, A: Allocator + Clone> Session<D, T, A> {
         ensures few { ((self.old.is_broken ≡ false) × (self.old.count < k)) ↔ IsErrOf result (SessionFault.TooFew self.old.count) }
 
         // The text is called damaged exactly where it isn't so many finished entries alone.
-        ensures damaged { T.honest self.old.store → IfErr result (λ e. (line : ℕ) → e ≡ SessionFault.Damaged line
-            → IsOutOfStep (T.text self.old.store) self.old.count line) }
+        ensures damaged { T.honest self.old.store → IfErr result (λ e. (n : ℕ) → e ≡ SessionFault.Damaged n
+            → IsOutOfStep (T.text self.old.store) self.old.count n) }
         ensures undamaged { T.honest self.old.store → HasCount (T.text self.old.store) self.old.count
-            → IfErr result (λ e. (line : ℕ) → e ≡ SessionFault.Damaged line → ⊥) }
+            → IfErr result (λ e. (n : ℕ) → e ≡ SessionFault.Damaged n → ⊥) }
         ensures whole { T.honest self.old.store → OnOk result (HasCount (T.text self.old.store) self.old.count) }
 
         ensures device_honesty { D.honest self.new.device ↔ D.honest self.old.device }

@@ -6,8 +6,8 @@ use Rattle.bx_commands.specs.inner.Command.{moved}
 use Rattle.bx_commands.proofs.Moves.{moved_contents, whole_lent}
 use Rattle.bx_commands.proofs.changes.change_of_dump.Goals as goal
 
-pub returns : goal.returns
-returns g c =
+pub returns-clause-change : goal.returns-clause-change
+returns-clause-change g c =
     let read = c.in_ok-runs.ensures.exact in
     let size : c.in_ok-runs.runs.len ≡ length c.move_pieces.new.pieces = search (rules, length-map) in
     let writes : c.from_vec.result ≡ map (moved c.args.offset) c.in_ok-runs.runs.items =

@@ -1,5 +1,5 @@
 use Rattle.std.proofs.Common.{rules}
 use Rattle.bx_commands.proofs.changes.change_of_plain.Goals as goal
 
-pub returns : goal.returns
-returns g c = search rules
+pub returns-clause-change : goal.returns-clause-change
+returns-clause-change g c = search rules

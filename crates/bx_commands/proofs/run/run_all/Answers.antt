@@ -1,5 +1,6 @@
 use Rattle.std.proofs.Common.{rules, arith, ◌≡◌, ◌<◌, ◌≤◌, [], ◌∷◌, ◌++◌, length}
 use Rattle.bx_commands.specs.Command.{IsNear}
+use Rattle.bx_commands.specs.Obeys.{Obeys}
 use Rattle.bx_commands.specs.SessionRun.{SessionStep}
 use Rattle.bx_commands.specs.Standing.{Standing, HoldsAt}
 use Rattle.bx_commands.proofs.Runs.{ahead_more}
@@ -11,7 +12,7 @@ pub loop-command-init : goal.loop-command-init
 loop-command-init g c =
     let none : c.in_ok-replies.replies.items ≡ [] = search rules in
     record {
-      leads = rw none (leads_none (SessionStep g.D.Device.honest g.T.TextStore.honest g.D.Device.image g.T.TextStore.text g.D.Device.failures g.T.TextStore.failures g.R.Read.remaining)
+      leads = rw none (leads_none (SessionStep (Obeys g.D.Device.honest g.T.TextStore.honest g.D.Device.image g.T.TextStore.text g.D.Device.failures g.T.TextStore.failures) g.R.Read.remaining)
           c.args.session.now c.args.list.now);
       counted = counts_none g.D.Device.failures g.T.TextStore.failures c.args.session.now;
       ahead = λ k d above within. c.requires.near k d within;
@@ -25,7 +26,7 @@ loop-command-preserved g c =
     let within : c.loop-command.command-index < length c.loop-command.list = search rules in
     let kept = c.loop-command.invariant in
     record {
-      leads = rw pushed (leads_more (SessionStep g.D.Device.honest g.T.TextStore.honest g.D.Device.image g.T.TextStore.text g.D.Device.failures g.T.TextStore.failures g.R.Read.remaining)
+      leads = rw pushed (leads_more (SessionStep (Obeys g.D.Device.honest g.T.TextStore.honest g.D.Device.image g.T.TextStore.text g.D.Device.failures g.T.TextStore.failures) g.R.Read.remaining)
           _ c.loop-command.session _ _ c.loop-command.list _ c.loop-command.command-index c.command-item.result _ _ within c.run_one-reply.ensures.runs kept.leads);
       counted = counts_more g.D.Device.failures g.T.TextStore.failures _ c.loop-command.session _ c.loop-command.command-index c.run_one-reply.result kept.counted
           (counts_once g.D.Device.honest g.T.TextStore.honest g.D.Device.image g.T.TextStore.text g.D.Device.failures g.T.TextStore.failures g.R.Read.remaining
@@ -38,7 +39,7 @@ loop-command-preserved g c =
 pub returns-clause-each : goal.returns-clause-each
 returns-clause-each g c =
     let all : length c.loop-command.list ≤ c.loop-command.command-index = search rules in
-    leads_all (SessionStep g.D.Device.honest g.T.TextStore.honest g.D.Device.image g.T.TextStore.text g.D.Device.failures g.T.TextStore.failures g.R.Read.remaining)
+    leads_all (SessionStep (Obeys g.D.Device.honest g.T.TextStore.honest g.D.Device.image g.T.TextStore.text g.D.Device.failures g.T.TextStore.failures) g.R.Read.remaining)
     _ _ _ _ _ c.loop-command.command-index all c.loop-command.invariant.leads
 
 pub returns-clause-run : goal.returns-clause-run
@@ -61,16 +62,16 @@ returns-clause-counts g c =
     counts_all g.D.Device.failures g.T.TextStore.failures _ _ c.loop-command.command-index (length c.args.list.now) within c.loop-command.invariant.counted
 
 pub returns-clause-sound : goal.returns-clause-sound
-returns-clause-sound g c = λ device store redo start ready undone same.
+returns-clause-sound g c = λ device store redo same start rests.
     let holds : HoldsAt g.D.Device.honest g.T.TextStore.honest g.D.Device.image g.T.TextStore.text c.args.session.now (Standing.Up start) =
-    (device, store, redo, (ready, undone)) in
+    (device, store, redo, rests) in
     stands_at_top g.R.Read.remaining g.D.Device.honest g.T.TextStore.honest g.D.Device.image g.T.TextStore.text c.loop-command.session start c.args.list.now c.loop-command.replies.items
     (returns-clause-run g c (Standing.Up start) holds) (returns-clause-unfailed g c same)
 
 pub returns-clause-headline : goal.returns-clause-headline
-returns-clause-headline g c = λ device store redo start shows same.
+returns-clause-headline g c = λ device store redo same.
     stacks_of g.D.Device.honest g.T.TextStore.honest g.D.Device.image g.T.TextStore.text g.D.Device.failures g.T.TextStore.failures g.R.Read.remaining
-    _ _ _ _ _ (returns-clause-each g c) (device, store, redo) start shows (returns-clause-unfailed g c same)
+    _ _ _ _ _ (returns-clause-each g c) (device, store, redo) (returns-clause-unfailed g c same)
 
 pub returns-clause-own : goal.returns-clause-own
 returns-clause-own g c =

@@ -8,7 +8,7 @@ returns g c =
     record {
       obeys = obeys_next g.D.Device.honest g.T.TextStore.honest g.D.Device.image g.T.TextStore.text g.D.Device.failures g.T.TextStore.failures
           (λ before after. dump_step c.args.text.now c.args.offset change.result before after c.run_read.result
-          (rw c.as_slice.ensures at change.ensures))
+          (rw c.as_slice.ensures at change.ensures.change) (rw c.as_slice.ensures at change.ensures.fault))
           c.run_read.ensures.obeys;
       left = c.drop_text.ensures;
     }

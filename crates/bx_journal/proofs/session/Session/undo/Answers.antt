@@ -2,13 +2,12 @@ use Rattle.std.proofs.Common.{◌≡◌, ◌≤◌, ◌-◌, ℕ, suc, List, len
 use Rattle.std.specs.Prelude.{reverse}
 use Rattle.std.proofs.lemmas.Grind.{common_steps}
 use Rattle.bx_journal.specs.declared.session.fault.SessionFault.TheVariants.{Damaged}
-use Rattle.bx_journal.specs.Calls.{RecoversBelow}
 use Rattle.bx_journal.specs.Images.{undo_of}
 use Rattle.bx_journal.specs.Machine.{changes_of}
 use Rattle.bx_journal.specs.Phase.{IsAtRest}
 use Rattle.bx_journal.specs.Redo.{Finds, IsRedoOf}
 use Rattle.bx_entries.specs.inner.Parsed.{AllKept}
-use Rattle.bx_journal.specs.Stack.{StandsFor}
+use Rattle.bx_journal.specs.Stack.{Recovers, StandsFor}
 use Rattle.bx_journal.specs.inner.Takens.{AreReady}
 use Rattle.bx_journal.specs.inner.Turns.{AreStanding}
 use Rattle.bx_journal.specs.Undoing.{AgainFault, HasLeft, IsOutOfStep}
@@ -107,7 +106,7 @@ returns-clause-fault g c =
     let text : g.T.TextStore.text c.prepare_takens.new.from ≡ g.T.TextStore.text c.self.inside.store = c.prepare_takens.ensures.from_text (c.read_last_of.ensures.honesty.1 th) ∙ c.read_last_of.ensures.text th in
     let rest : IsAtRest (g.T.TextStore.text c.prepare_takens.new.from) (g.D.Device.image c.prepare_takens.new.device) stack =
     subst (λ t. IsAtRest t (g.D.Device.image c.prepare_takens.new.device) stack) (sym text) (subst (λ x. IsAtRest (g.T.TextStore.text c.self.inside.store) x stack) (sym image) ready.rest) in
-    subst (RecoversBelow (g.T.TextStore.text c.undo_entries.new.store) (g.D.Device.image c.undo_entries.new.device) stack) c.in_ok-taking.ensures.count
+    subst (λ n. (j : ℕ) × (j ≤ n) × Recovers (g.T.TextStore.text c.undo_entries.new.store) (g.D.Device.image c.undo_entries.new.device) (drop j stack)) c.in_ok-taking.ensures.count
     (c.in-Err.ensures.fault (c.prepare_takens.ensures.device_honesty.1 dh) (c.prepare_takens.ensures.from_honesty.1 (c.read_last_of.ensures.honesty.1 th)) stack rest))
 
 pub returns-in-Ok-clause-undone : goal.returns-in-Ok-clause-undone

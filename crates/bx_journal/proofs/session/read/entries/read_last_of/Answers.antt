@@ -1,0 +1,35 @@
+use Rattle.std.proofs.Common.{◌≤◌, length, subst}
+use Rattle.std.specs.Prelude.{IfSome}
+use Rattle.bx_journal.specs.declared.session.read.entries.FinishedRead.{FinishedRead}
+use Rattle.bx_journal.specs.inner.Undoing.{IsLastFrom}
+use Rattle.bx_journal.proofs.LastLemmas.{again_last, again_before, again_fault, few_of_all}
+use Rattle.bx_journal.proofs.WindowLemmas.{counts_before}
+use Rattle.bx_journal.proofs.session.read.entries.read_last_of.Goals as goal
+
+pub returns-in-Err-clause-fault : goal.returns-in-Err-clause-fault
+returns-in-Err-clause-fault g c = again_fault (g.T.TextStore.honest c.args.store.now) (g.T.TextStore.text c.args.store.now) c.args.count c.in-Err.fault c.in-Err.ensures.fault
+
+pub returns-in-Some-clause-read : goal.returns-in-Some-clause-read
+returns-in-Some-clause-read g c =
+    subst (λ o. IfSome o (λ (f : FinishedRead g.row.A.Denot). IsLastFrom (g.T.TextStore.honest c.args.store.now) (g.T.TextStore.text c.args.store.now) f.len f.entries.items c.args.count)) c.in-Some.is c.in-Ok.ensures.read
+
+pub returns-in-Some-clause-few : goal.returns-in-Some-clause-few
+returns-in-Some-clause-few g c = subst (λ o. IfSome o (λ (f : FinishedRead g.row.A.Denot). c.args.k ≤ length f.entries.items)) c.in-Some.is c.in-Ok.ensures.few
+
+pub returns-in-None-clause-read : goal.returns-in-None-clause-read
+returns-in-None-clause-read g c =
+    again_last (g.T.TextStore.honest c.args.store.now) (g.T.TextStore.honest c.find_last.new.store) (g.T.TextStore.text c.args.store.now) (g.T.TextStore.text c.find_last.new.store)
+    c.find_last.ensures.honesty.1 c.find_last.ensures.text c.args.count c.read_again.result c.read_again.ensures.read
+
+pub returns-in-None-clause-few : goal.returns-in-None-clause-few
+returns-in-None-clause-few g c =
+    few_of_all (g.T.TextStore.honest c.find_last.new.store) (g.T.TextStore.text c.find_last.new.store) c.args.count c.args.k c.read_again.result c.requires.few c.read_again.ensures.read
+
+pub returns-in-None-clause-fault : goal.returns-in-None-clause-fault
+returns-in-None-clause-fault g c =
+    again_before (g.T.TextStore.honest c.args.store.now) (g.T.TextStore.honest c.find_last.new.store) (g.T.TextStore.text c.args.store.now) (g.T.TextStore.text c.find_last.new.store)
+    c.find_last.ensures.honesty.1 c.find_last.ensures.text c.args.count c.read_again.result c.read_again.ensures.fault
+
+pub returns-in-None-clause-counts : goal.returns-in-None-clause-counts
+returns-in-None-clause-counts g c =
+    counts_before c.read_again.result (g.T.TextStore.failures c.args.store.now) (g.T.TextStore.failures c.find_last.new.store) (g.T.TextStore.failures c.read_again.new.store) c.in-Ok.ensures.no_failure c.read_again.ensures.counts
