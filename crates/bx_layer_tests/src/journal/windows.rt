@@ -123,6 +123,9 @@ fn read_by(alloc: Global, text: &[u8], size: usize) -> Result<Option<Vec<u8>>, A
     for _ in 0..text.len() {
         let at = (read.at as usize).min(text.len());
         let (_, rest) = text.split_at(at);
+        if rest.is_empty() {
+            break;
+        }
         let Some(next) = read_window(alloc, front, read, rest, size)? else {
             return Ok(None);
         };
@@ -280,8 +283,8 @@ fn undoes_in<'a>(alloc: Global, bump: &'a Bump, start: Held<'_>) -> Result<bool,
     }
 }
 
-// Its entry is taken back in the memory of what it saved, of what is overwritten, and of three windows: far less than its
-// text has.
+// Its entry is taken back in the memory of what it saved, of what is overwritten, of three windows and of a page: less than its
+// text alone has, so whoever reads that whole is refused.
 #[test]
 fn long_entry_in_windows(rt: HostRuntime) -> Result<(), Fail> {
     let alloc = rt.alloc();
