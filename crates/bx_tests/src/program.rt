@@ -300,9 +300,12 @@ fn name_of(rt: &HostRuntime, name: &str) -> Result<Name, AllocError> {
 }
 
 fn texts(rt: &HostRuntime) -> Result<Texts, AllocError> {
-    let journal = name_of(rt, "one.img.bxj")?;
-    let redo = name_of(rt, "one.img.bxj.redo")?;
-    Ok(Texts { journal, redo })
+    let journal = String::from_str(rt.alloc(), "one.img.bxj")?;
+    let redo = format!(in rt.alloc(); "{journal}.redo")?;
+    Ok(Texts {
+        journal: Name::from_string(journal),
+        redo: Name::from_string(redo),
+    })
 }
 
 // Plays a script while another session holds the files.
