@@ -1,9 +1,10 @@
 -- What dd makes of an input.
-use Rattle.std.specs.Prelude.{◌≡◌, ◌⊎◌, ◌^◌, ℕ, Option, None, Some, Result, Ok, Err, List}
+use Rattle.std.specs.Prelude.{◌≡◌, ◌⊎◌, ◌+◌, ◌*◌, ◌^◌, ◌≤◌, ℕ, Option, None, Some, IfSome, Result, Ok, Err, List, length, codes}
+use Rattle.std.specs.Io.KnownBytes.{Consumes}
 use Rattle.bx_dd.specs.declared.fault.DdFault.{DdFault}
 use Rattle.bx_dd.specs.declared.fault.DdFault.TheVariants.{NoMemory}
 use Rattle.bx_dd.specs.declared.operands.plan.Plan.{Plan}
-use Rattle.bx_dd.specs.Operands.{fault_of}
+use Rattle.bx_dd.specs.Operands.{fault_of, block_size, number_given, number_or}
 use Rattle.bx_dd.specs.Parsing.{IsPlanOf}
 use Rattle.bx_dd.specs.Plan.{change_of}
 use Rattle.bx_dd.specs.Transfer.{Copies, HasStopped}
@@ -15,8 +16,14 @@ abbrev pub StopsCopy : Option DdFault → Option (List ℕ) → Option (List ℕ
 StopsCopy (Some fault) old left e = ((e ≡ fault) ⊎ (e ≡ NoMemory)) × (left ≡ old)
 StopsCopy None old left e = HasStopped old left (2 ^ 40) e
 
+-- no more was read than the operands' skip and count ask for
+abbrev pub ReadsAsked : List (List ℕ) → Option (List ℕ) → Option (List ℕ) → Type 0
+ReadsAsked words old left = (input : List ℕ) × Consumes old left input
+    × IfSome (number_given (codes "count") words) (λ n. length input ≤ (number_or 0 (codes "skip") words + n) * block_size (codes "ibs") words)
+
 -- What dd's operands make of what a reader gives, which then has `left`: the change of what their plan copies, and its counts.
+-- After a fault no more was read than they ask for.
 abbrev pub Makes : {A : Type 0} → List (List ℕ) → Option (List ℕ) → Option (List ℕ) → Result (DdChange A) DdFault → Type 0
 Makes {A = A} words old left (Ok made) = (fault_of words ≡ None) × ((plan : Plan A) × IsPlanOf words plan
     × ((bytes : List ℕ) × Copies plan old left bytes made.counts × (made.change ≡ change_of plan bytes)))
-Makes words old left (Err e) = StopsCopy (fault_of words) old left e
+Makes words old left (Err e) = StopsCopy (fault_of words) old left e × ReadsAsked words old left

@@ -1,10 +1,10 @@
 //! From the texts of commands to changes.
-ghost use Rattle.std.specs.Prelude.{◌≡◌, ◌⊎◌, ◌+◌, ◌^◌, ◌<◌, ◌≤◌, ℕ, List, [], ◌∷◌, map, None, Ok, Err, IfOk, IfErr, All};
+ghost use Rattle.std.specs.Prelude.{◌≡◌, ◌⊎◌, ◌+◌, ◌^◌, ◌<◌, ◌≤◌, ℕ, List, [], ◌∷◌, map, None, Ok, Err, IfOk, IfErr, OnErr, All};
 ghost use Rattle.bx_commands.specs.Command.{dump_change, plain_change};
 ghost use Rattle.bx_commands.specs.inner.Command.{moved};
 ghost use Rattle.bx_commands.specs.Copy.{Makes};
 ghost use Rattle.bx_commands.specs.inner.Copy.{CopiesBy};
-ghost use Rattle.bx_dd.specs.Transfer.{HasStopped};
+ghost use Rattle.bx_dd.specs.Transfer.{HasStopped, ReadsWithin};
 ghost use Rattle.bx_read.specs.Plain.{plain_answer};
 ghost use Rattle.bx_read.specs.Runs.{joined};
 ghost use Rattle.bx_read.specs.Text.{dump_pieces};
@@ -96,6 +96,7 @@ fn change_of_plan<R: Read, A: Allocator + Clone>(
 ) -> Result<DdChange<A>, DdFault>
     ensures ok { IfOk result (CopiesBy plan.now (R.remaining input.old) (R.remaining input.new)) }
     ensures err { IfErr result (HasStopped (R.remaining input.old) (R.remaining input.new) (2 ^ 40)) }
+    ensures within { OnErr result (ReadsWithin plan.now (R.remaining input.old) (R.remaining input.new)) }
 {
     let copied = transfer(alloc.clone()?, input, plan)?;
     let change = plan.change(alloc.clone()?, copied.bytes)?;
