@@ -53,10 +53,10 @@ perform_same c d old (Ok n) after same (new, is, (room, fit, number, stack), und
     (new, is, (room, (same.same_fit (length (top old.stack)) MAX_LEN).0 fit, number, stack ∙ ap (λ x. x ∷ old.stack) (same.same_effect (top old.stack))), undone)
 perform_same c d old (Err DeviceFailed) after same step = step
 perform_same c d old (Err JournalFull) after same step = step
-perform_same c d old (Err Interrupted) after same (inl before) = inl before
-perform_same c d old (Err Interrupted) after same (inr changed) =
-    inr (changed ∙ ap (λ x. Standing.Down (change_to x old)) (same.same_effect (top old.stack)))
-perform_same c d old (Err NoMemory) after same step = step
+perform_same c d old (Err Interrupted) after same (inl before, fit) = (inl before, (same.same_fit (length (top old.stack)) MAX_LEN).0 fit)
+perform_same c d old (Err Interrupted) after same (inr changed, fit) =
+    (inr (changed ∙ ap (λ x. Standing.Down (change_to x old)) (same.same_effect (top old.stack))), (same.same_fit (length (top old.stack)) MAX_LEN).0 fit)
+perform_same c d old (Err NoMemory) after same (is, fit) = (is, (same.same_fit (length (top old.stack)) MAX_LEN).0 fit)
 perform_same c d old (Err TooLarge) after same (is, (room, large, stack)) =
     (is, (room, λ fit. large ((same.same_fit (length (top old.stack)) MAX_LEN).1 fit), stack))
 perform_same c d old (Err (Damaged line)) after same step = step

@@ -15,7 +15,7 @@ use Rattle.bx_journal.specs.SessionView.{SessionView}
 use Rattle.bx_journal.specs.Standing.{IsStanding, PerformFault}
 use Rattle.bx_journal.specs.Undoing.{HasCount, RedoFault, UndoFault}
 use Rattle.bx_journal.specs.declared.session.fault.SessionFault.{SessionFault}
-use Rattle.bx_journal.specs.declared.session.fault.SessionFault.TheVariants.{Damaged, TooFew, TooLarge, JournalFull, Interrupted, Broken, NothingToRedo, RedoDamaged}
+use Rattle.bx_journal.specs.declared.session.fault.SessionFault.TheVariants.{NoMemory, Damaged, TooFew, TooLarge, JournalFull, Interrupted, Broken, NothingToRedo, RedoDamaged}
 use Rattle.bx_read.specs.declared.fault.ReadFault.{ReadFault}
 use Rattle.bx_read.specs.declared.fault.ReadFault.TheVariants as read
 use Rattle.bx_commands.specs.declared.command.Reply.{Reply}
@@ -28,9 +28,9 @@ use Rattle.bx_commands.specs.inner.Refusal.{IsOwnFault}
 use Rattle.bx_commands.specs.Run.{answered, is_failure, CallStep, Unfailed, ReadStep, DdStep}
 use Rattle.bx_commands.specs.inner.Run.{made_reply, ChangeStep, RedoUp, RedoesStep, UndoUp, UndoesStep}
 use Rattle.bx_commands.specs.Standing.{CountsBy, HoldsAt, PerformUp, Shows, Standing}
-use Rattle.bx_commands.proofs.Refusals.{IsNoRefusal, after_same, is_interrupted, made_no_refusal, no_failure, no_own, no_whole, redo_same_here, same_here, session_not_own, unfailed_whole, whole_goes_on}
+use Rattle.bx_commands.proofs.Refusals.{IsNoRefusal, after_same, both_after, is_interrupted, made_no_refusal, no_failure, no_own, no_whole, redo_same_here, same_here, session_not_own, unfailed_whole, whole_goes_on}
 use Rattle.bx_commands.proofs.Stays.{holds_same, ready_shows, shows_same}
-use Rattle.bx_commands.proofs.Steps.{refusal, perform_stays, redo_stays, undo_stays, counts_least, counts_rise}
+use Rattle.bx_commands.proofs.Steps.{refusal, fits_top, perform_stays, redo_stays, undo_stays, counts_least, counts_rise}
 
 -- no fault of a text or of dd is a device's
 read_unfailed : (e : ReadFault) → Unfailed (Refused (of_read e))
@@ -319,19 +319,24 @@ module _ {D T : Type 0} (hd : D → Type 0) (ht : T → Type 0) (image : D → L
       → IsRefused hd ht image text old new e → SessionCounts fd ft old new e
       → (IsErrOf (refusal e) JournalFull ↔ ((old.is_broken ≡ false) × (65535 ≤ old.count)))
       → (hd old.device → IsErrOf (refusal e) TooLarge → Fits c (length (image old.device)) MAX_LEN → ⊥)
+      → (hd old.device → IsErrOf (refusal e) NoMemory → Fits c (length (image old.device)) MAX_LEN)
+      → (hd old.device → IsErrOf (refusal e) Interrupted → Fits c (length (image old.device)) MAX_LEN)
       → PerformFault e
       → (hd old.device → ht old.store → ht old.redo_text → (s : Images) → IsReady image text old s.stack → HasUndone image text old s.undone
       → AfterFault e (FindsEither image text new s (change_to (effect c (top s.stack)) s)) (Unit {0}))
       → Obeys hd ht image text fd ft old new (Refused f) (λ before. ChangeStep before c counts)
-  unperformed_obeys old new c counts e f is refused failures full large kind finds =
+  unperformed_obeys old new c counts e f is refused failures full large fits fitted kind finds =
       let Made : Images → Images = λ s. change_to (effect c (top s.stack)) s in
+      let Left : Images → Type 0 = λ s. FindsEither image text new s (Made s) × Fits c (length (top s.stack)) MAX_LEN in
       let Found : Images → Type 0 = λ s. (found : Images) × SessionFinds image text new found × PerformUp c s (Err Interrupted) (Standing.Down found) in
-      call_refused (made_reply counts) (PerformUp c) (λ s. FindsEither image text new s (Made s)) old new e f is refused failures
-      (λ images device store redo shows whole. perform_stays hd image text old c e refused.broken full large kind device images shows whole)
-      finds
-      (λ images either. elim either as (λ _. Found images) [
-        | inl before ↦ (images, before, inl refl)
-        | inr made ↦ (Made images, made, inr refl)
+      call_refused (made_reply counts) (PerformUp c) Left old new e f is refused failures
+      (λ images device store redo shows whole. perform_stays hd image text old c e refused.broken full large fits kind device images shows whole)
+      (λ device store redo images ready has.
+      both_after (FindsEither image text new images (Made images)) (Fits c (length (top images.stack)) MAX_LEN) e (finds device store redo images ready has)
+      (λ stopped. fits_top hd image text old c images device (ready_shows image text old images (ready, has)) (fitted device (ap refusal stopped))))
+      (λ images left. elim left.0 as (λ _. Found images) [
+        | inl before ↦ (images, before, (inl refl, left.1))
+        | inr made ↦ (Made images, made, (inr refl, left.1))
       ])
 
   -- an undo that was refused, or stopped

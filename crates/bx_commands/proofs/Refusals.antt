@@ -131,6 +131,20 @@ after_same S (LengthDiffers expected) same whole = same
 after_same S (NothingToRedo have) same whole = same
 after_same S (RedoDamaged line) same whole = same
 
+-- what an interruption leaves, and what else is known of one
+pub both_after : (X Y : Type 0) (e : SessionFault) → AfterFault e X (Unit {0}) → (e ≡ Interrupted → Y) → AfterFault e (X × Y) (Unit {0})
+both_after X Y NoMemory left more = tt
+both_after X Y TooLarge left more = tt
+both_after X Y DeviceFailed left more = tt
+both_after X Y (Damaged line) left more = tt
+both_after X Y (TooFew have) left more = tt
+both_after X Y JournalFull left more = tt
+both_after X Y Interrupted left more = (left, more refl)
+both_after X Y Broken left more = tt
+both_after X Y (LengthDiffers expected) left more = tt
+both_after X Y (NothingToRedo have) left more = tt
+both_after X Y (RedoDamaged line) left more = tt
+
 -- a refusal that tells of no device in the middle of writing, and one that tells of no device at all, is no interruption
 pub whole_goes_on : (e : SessionFault) → IsWholeRefusal (Refused (of_session e)) → e ≡ Interrupted → ⊥
 whole_goes_on e whole stopped = whole (ap of_session stopped)

@@ -49,34 +49,43 @@ count_undone image text s undone has =
     let count = has.counted in
     (st.entries, record { reads = st.reads; whole = st.whole }, omega arith)
 
+-- a change that fits the device's image fits the newest one
+pub fits_top : {D T A : Type 0} (hd : D → Type 0) (image : D → List ℕ) (text : T → List ℕ) (old : SessionView D T) (c : Change A) (images : Images)
+    → hd old.device → Shows image text old images → Fits c (length (image old.device)) MAX_LEN → Fits c (length (top images.stack)) MAX_LEN
+fits_top hd image text old c images device shows fits =
+    let Fit : List ℕ → Type 0 = λ x. Fits c (length x) MAX_LEN in
+    subst Fit (sym (top_standing image text old images.stack shows.0)) fits
+
 -- a change that was refused, by no interruption
 pub perform_stays : {D T A : Type 0} (hd : D → Type 0) (image : D → List ℕ) (text : T → List ℕ) (old : SessionView D T) (c : Change A) (e : SessionFault)
     → ((old.is_broken ≡ true) ↔ IsErrOf (refusal e) Broken)
     → (IsErrOf (refusal e) JournalFull ↔ ((old.is_broken ≡ false) × (65535 ≤ old.count)))
     → (hd old.device → IsErrOf (refusal e) TooLarge → Fits c (length (image old.device)) MAX_LEN → ⊥)
+    → (hd old.device → IsErrOf (refusal e) NoMemory → Fits c (length (image old.device)) MAX_LEN)
     → PerformFault e
     → hd old.device → (images : Images) → Shows image text old images → (e ≡ Interrupted → ⊥) → PerformUp c images (Err e) (Standing.Up images)
-perform_stays hd image text old c NoMemory broken full large kind device images shows whole = (refl, refl)
-perform_stays hd image text old c TooLarge broken full large kind device images shows whole =
+perform_stays hd image text old c NoMemory broken full large fits kind device images shows whole =
+    (refl, fits_top hd image text old c images device shows (fits device refl))
+perform_stays hd image text old c TooLarge broken full large fits kind device images shows whole =
     let changes = changes_standing image text old images.stack shows.0 in
     let none : 65535 ≤ old.count → ⊥ = λ many. let bad : refusal TooLarge ≡ Err JournalFull = full.1 (shows.0.whole, many) in absurd (cc) in
     let room : changes_of images.stack < 65535 = omega arith in
     let Large : List ℕ → Type 0 = λ x. Fits c (length x) MAX_LEN → ⊥ in
     (refl, (room, subst Large (sym (top_standing image text old images.stack shows.0)) (large device refl), refl))
-perform_stays hd image text old c JournalFull broken full large kind device images shows whole =
+perform_stays hd image text old c JournalFull broken full large fits kind device images shows whole =
     let changes = changes_standing image text old images.stack shows.0 in
     let many = (full.0 refl).1 in
     let all : 65535 ≤ changes_of images.stack = omega arith in
     (all, refl)
-perform_stays hd image text old c DeviceFailed broken full large kind device images shows whole = refl
-perform_stays hd image text old c Interrupted broken full large kind device images shows whole = absurd (whole refl)
-perform_stays hd image text old c Broken broken full large kind device images shows whole =
+perform_stays hd image text old c DeviceFailed broken full large fits kind device images shows whole = refl
+perform_stays hd image text old c Interrupted broken full large fits kind device images shows whole = absurd (whole refl)
+perform_stays hd image text old c Broken broken full large fits kind device images shows whole =
     absurd (true_is_not_false (sym (broken.1 refl) ∙ shows.0.whole))
-perform_stays hd image text old c (Damaged line) broken full large kind device images shows whole = absurd kind
-perform_stays hd image text old c (TooFew have) broken full large kind device images shows whole = absurd kind
-perform_stays hd image text old c (LengthDiffers expected) broken full large kind device images shows whole = absurd kind
-perform_stays hd image text old c (NothingToRedo have) broken full large kind device images shows whole = absurd kind
-perform_stays hd image text old c (RedoDamaged line) broken full large kind device images shows whole = absurd kind
+perform_stays hd image text old c (Damaged line) broken full large fits kind device images shows whole = absurd kind
+perform_stays hd image text old c (TooFew have) broken full large fits kind device images shows whole = absurd kind
+perform_stays hd image text old c (LengthDiffers expected) broken full large fits kind device images shows whole = absurd kind
+perform_stays hd image text old c (NothingToRedo have) broken full large fits kind device images shows whole = absurd kind
+perform_stays hd image text old c (RedoDamaged line) broken full large fits kind device images shows whole = absurd kind
 
 -- an undo that was refused, by no interruption
 pub undo_stays : {D T : Type 0} (ht : T → Type 0) (image : D → List ℕ) (text : T → List ℕ) (old : SessionView D T) (k : ℕ) (e : SessionFault)

@@ -1,11 +1,12 @@
 -- Where a session stands, and what one call of it makes of that. Lists of images have the newest first.
-use Rattle.std.specs.Prelude.{◌≡◌, ◌⊎◌, ◌≤◌, ℕ, ◌+◌, true, Result, Ok, Err, List, []}
+use Rattle.std.specs.Prelude.{◌≡◌, ◌⊎◌, ◌≤◌, ℕ, ◌+◌, true, Result, Ok, Err, List, [], length}
 use Rattle.bx_image.specs.declared.change.Change.{Change}
-use Rattle.bx_image.specs.Change.{effect}
+use Rattle.bx_image.specs.declared.change.TheConstants.{MAX_LEN}
+use Rattle.bx_image.specs.Change.{effect, Fits}
 use Rattle.bx_journal.specs.Images.{Images, change_to}
 use Rattle.bx_journal.specs.SessionView.{SessionView}
 use Rattle.bx_journal.specs.declared.session.fault.SessionFault.{SessionFault}
-use Rattle.bx_journal.specs.declared.session.fault.SessionFault.TheVariants.{DeviceFailed, JournalFull, Interrupted}
+use Rattle.bx_journal.specs.declared.session.fault.SessionFault.TheVariants.{NoMemory, DeviceFailed, JournalFull, Interrupted}
 use Rattle.bx_journal.specs.Machine.{PerformStep, top, changes_of}
 use Rattle.bx_journal.specs.Session.{HasUndone, IsReady, SessionFinds}
 use Rattle.bx_journal.specs.Standing.{IsStanding}
@@ -34,12 +35,13 @@ abbrev pub Leads : {S X : Type 0} → (S → X → Type 0) → (X → X → Type
 Leads {X = X} Stands Step old new = (before : X) → Stands old before → (after : X) × Stands new after × Step before after
 
 -- A change gives up what was undone. A device that fails before the first write refuses it; one that fails later stops the
--- session, and opening finds the images before or after the change.
+-- session, and opening finds the images before or after the change. Only a change that fits meets want of memory, or is stopped.
 abbrev pub PerformUp : {A : Type 0} → Change A → Images → Result ℕ SessionFault → Standing → Type 0
 PerformUp c old (Ok n) after = (new : Images) × (after ≡ Up new) × PerformStep old.stack c (Ok n) new.stack × (new.undone ≡ [])
 PerformUp c old (Err DeviceFailed) after = after ≡ Up old
 PerformUp c old (Err JournalFull) after = (65535 ≤ changes_of old.stack) × (after ≡ Up old)
-PerformUp c old (Err Interrupted) after = (after ≡ Down old) ⊎ (after ≡ Down (change_to (effect c (top old.stack)) old))
+PerformUp c old (Err NoMemory) after = (after ≡ Up old) × Fits c (length (top old.stack)) MAX_LEN
+PerformUp c old (Err Interrupted) after = ((after ≡ Down old) ⊎ (after ≡ Down (change_to (effect c (top old.stack)) old))) × Fits c (length (top old.stack)) MAX_LEN
 PerformUp c old (Err e) after = (after ≡ Up old) × PerformStep old.stack c (Err e) old.stack
 
 -- An undo or a redo of k: `Step` is its step, and `moved` tells the images behind it. A device that fails before the first
