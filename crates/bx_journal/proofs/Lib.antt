@@ -38,5 +38,6 @@ pub mod JudgeLemmas
 pub mod OpenedLemmas
 pub mod LeftLemmas
 pub mod WindowLemmas
+pub mod ResumeLemmas
 pub mod ListLemmas
 pub mod LastLemmas

@@ -1,5 +1,5 @@
 -- Counting in windows: a window more.
-use Rattle.std.proofs.Common.{◌≡◌, ℕ, ◌+◌, ◌-◌, ◌≤◌, Bool, List, ◌++◌, length, take, drop, ap, sym, ◌∙◌, subst, arith, length-append, length-take, Result, Ok, Err}
+use Rattle.std.proofs.Common.{◌≡◌, ℕ, ◌+◌, ◌-◌, ◌≤◌, Bool, List, ◌++◌, length, take, drop, ap, sym, ◌∙◌, subst, arith, length-append, length-take, Result, Ok, Err, [], Option, Some, None, false, ◌⊎◌, inl, inr}
 use Rattle.bx_entries.proofs.TallyLemmas.{take_less, take_sum}
 use Rattle.std.specs.Prelude.{IfOk, IfErr}
 use Rattle.std.proofs.lemmas.List.{take_all}
@@ -13,7 +13,9 @@ use Rattle.bx_journal.specs.declared.recovery.journal.Found.TheVariants.{Finishe
 use Rattle.bx_journal.specs.declared.session.fault.SessionFault.{SessionFault}
 use Rattle.bx_journal.specs.declared.session.fault.SessionFault.TheVariants.{NoMemory, TooLarge, DeviceFailed, Damaged, TooFew, JournalFull, Interrupted, Broken, LengthDiffers, NothingToRedo, RedoDamaged}
 use Rattle.bx_journal.specs.inner.Recovery.{FindFault, IsFoundIn}
-use Rattle.bx_journal.specs.inner.Windows.{IsPassed, IsCountedTo, IsFrontCounted, IsAllCounted}
+use Rattle.bx_journal.specs.declared.recovery.windows.Resume.{Resume}
+use Rattle.bx_journal.specs.inner.Windows.{IsPassed, IsCountedTo, IsFrontCounted, IsAllCounted, IsStart, Resumes}
+use Rattle.bx_entries.specs.inner.Tally.{IsTallied}
 
 -- a front of a window that was filled
 pub front_of : (n m : ℕ) (window from : List ℕ) → n ≤ length window → window ≡ take m from → take n window ≡ take n from
@@ -36,14 +38,51 @@ passed_from honest now stored text only at len t p still same passed = record {
 }
 
 -- a window more
-pub counted_on : (honest : Type 0) (stored : List ℕ) (only : Bool) (at len lines : ℕ) (t : Tally) (p : Passed) → IsCountedTo honest stored only at t lines → IsPassed honest stored only at len t p
-    → IsCountedTo honest stored only (at + p.taken) p.tally (lines + p.lines)
-counted_on honest stored only at len lines t p to passed = record {
+pub counted_on : (honest : Type 0) (stored : List ℕ) (only : Bool) (len : ℕ) (r : Resume) (p : Passed) → IsCountedTo honest stored only r → IsPassed honest stored only r.at len r.tally p
+    → IsCountedTo honest stored only (record { tally = p.tally; at = r.at + p.taken; lines = r.lines + p.lines })
+counted_on honest stored only len r p to passed = record {
   front = to.front ++ passed.bytes;
   long = omega (arith, length-append to.front passed.bytes, to.long, passed.long);
-  is = λ h. ap (λ l. l ++ passed.bytes) (to.is h) ∙ ap (λ l. take at stored ++ l) (passed.is h) ∙ sym (take_sum at p.taken stored);
-  tallied = passed.leads to.front lines to.tallied;
+  is = λ h. ap (λ l. l ++ passed.bytes) (to.is h) ∙ ap (λ l. take r.at stored ++ l) (passed.is h) ∙ sym (take_sum r.at p.taken stored);
+  tallied = passed.leads to.front r.lines to.tallied;
+  lines = omega (arith, to.lines, passed.lines);
+  few = passed.few to.few;
 }
+
+-- nothing was counted yet
+pub counted_start : (honest : Type 0) (stored : List ℕ) (only : Bool) (r : Resume) → IsStart r → IsCountedTo honest stored only r
+counted_start honest stored only r s = record {
+  front = [];
+  is = λ h. ap (λ n. take n stored) (sym s.at);
+  long = sym s.at;
+  tallied = subst (λ n. IsTallied only [] r.tally n) (sym s.lines) (s.tallied only);
+  lines = omega (arith, s.lines);
+  few = omega (arith, s.count);
+}
+
+-- a place up to which a store was counted is so of it later
+pub counted_after : (H now : Type 0) (stored text : List ℕ) (only : Bool) (r : Resume) → (now → H) → (H → text ≡ stored) → IsCountedTo H stored only r → IsCountedTo now text only r
+counted_after H now stored text only r back same c = record {
+  front = c.front;
+  is = λ n. c.is (back n) ∙ ap (take r.at) (sym (same (back n)));
+  long = c.long;
+  tallied = c.tallied;
+  lines = c.lines;
+  few = c.few;
+}
+
+pub resumes_after : (H now : Type 0) (stored text : List ℕ) (o : Option Resume) → (now → H) → (H → text ≡ stored) → Resumes H stored o → Resumes now text o
+resumes_after H now stored text None back same c = tt
+resumes_after H now stored text (Some r) back same c = counted_after H now stored text false r back same c
+
+-- one of two places, or of three
+pub either : (P : Resume → Type 0) (r a b : Resume) → (r ≡ a) ⊎ (r ≡ b) → P a → P b → P r
+either P r a b (inl is) p q = subst P (sym is) p
+either P r a b (inr is) p q = subst P (sym is) q
+
+pub one_of : (P : Resume → Type 0) (r a b c : Resume) → (r ≡ a) ⊎ (r ≡ b) ⊎ (r ≡ c) → P a → P b → P c → P r
+one_of P r a b c (inl is) p q z = subst P (sym is) p
+one_of P r a b c (inr is) p q z = either P r b c is q z
 
 -- what was counted of a store is so of it later
 pub front_after : (H now : Type 0) (stored text : List ℕ) (only : Bool) (f : Front) → (now → H) → (H → text ≡ stored) → IsFrontCounted H stored only f → IsFrontCounted now text only f

@@ -2,6 +2,7 @@
 ghost use Rattle.std.specs.Prelude.{◌≡◌, ◌↔◌, ◌+◌, ◌<◌, ◌≤◌, [], ◌∷◌, length, true, false, IfOk, IfErr, OnOk, IsErrOf};
 ghost use Rattle.bx_image.specs.Change.{effect, Fits};
 ghost use Rattle.bx_journal.specs.Machine.{top};
+ghost use Rattle.bx_journal.specs.inner.Windows.{Resumes};
 
 pub(crate) mod answers;
 mod close;
@@ -19,6 +20,7 @@ mod undo;
 use crate::SessionFault;
 use crate::protocol::entry::write_entry;
 use crate::protocol::redo_text::RedoCut;
+use crate::recovery::windows::Resume;
 use crate::session::prepare::prepare_change;
 use bx_entries::MOST_CHANGES;
 use bx_image::{Change, Device, MAX_LEN};
@@ -28,6 +30,9 @@ use std::marker::Model;
 
 /// An image, the journal of its changes, and the redo text of those that were undone. After a fault in the middle of
 /// writing it is broken: it answers `Broken` until the three are opened again.
+///
+/// Opening keeps a place in the journal's text (`resume`) that isn't behind the beginning of its last entry, so that an
+/// undo need not count the text again from its start. The first call that reads or writes the journal takes it out.
 #[derive(Drop)]
 pub struct Session<D: Device, T: TextStore, A: Allocator = Global> {
     pub(crate) alloc: A,
@@ -37,7 +42,9 @@ pub struct Session<D: Device, T: TextStore, A: Allocator = Global> {
     pub(crate) count: u32,
     pub(crate) undone: u32,
     pub(crate) is_broken: bool,
+    pub(crate) resume: Option<Resume>,
     ghost few: { count + undone ≤ 65535 },
+    ghost resumes: { ∥ Resumes (T.honest store) (T.text store) resume ∥₁ },
 }
 
 impl<D: Device, T: TextStore, A: Allocator> Model for Session<D, T, A> {
@@ -109,6 +116,7 @@ impl<D: Device, T: TextStore, A: Allocator + Clone> Session<D, T, A> {
             return Err(SessionFault::JournalFull);
         }
         let number = self.count + 1;
+        self.resume = None;
         let mut ready = prepare_change(
             &self.alloc,
             &mut self.device,

@@ -1,9 +1,10 @@
 -- What proofs alone need: a store's text that is counted in windows.
-use Rattle.std.specs.Prelude.{◌≡◌, ◌<◌, ◌≤◌, ℕ, ◌+◌, Bool, List, ◌++◌, length, take, drop}
+use Rattle.std.specs.Prelude.{◌≡◌, ◌<◌, ◌≤◌, ℕ, ◌+◌, Bool, false, List, [], ◌++◌, length, take, drop, Option, IfSome}
 use Rattle.bx_entries.specs.declared.read.count.Tally.{Tally}
 use Rattle.bx_entries.specs.declared.read.types.Front.{Front}
 use Rattle.bx_entries.specs.declared.read.window.Passed.{Passed}
 use Rattle.bx_journal.specs.declared.recovery.windows.CountedText.{CountedText}
+use Rattle.bx_journal.specs.declared.recovery.windows.Resume.{Resume}
 use Rattle.bx_entries.specs.inner.Tally.{IsTallied, IsCountedAll}
 
 -- whole lines at a place, before `len`, lead from a tally to another; they are the store's, where that is honest
@@ -18,11 +19,24 @@ pub record IsPassed (honest : Type 0) (stored : List ℕ) (only_second : Bool) (
   pub few : t.count ≤ 65535 → p.tally.count ≤ 65535
 
 -- the text up to a place is so many whole lines, and leads to a tally: the store's, where that is honest
-pub record IsCountedTo (honest : Type 0) (stored : List ℕ) (only_second : Bool) (at : ℕ) (t : Tally) (lines : ℕ) : Type 0 where
+pub record IsCountedTo (honest : Type 0) (stored : List ℕ) (only_second : Bool) (r : Resume) : Type 0 where
   pub front : List ℕ
-  pub is : honest → front ≡ take at stored
-  pub long : length front ≡ at
-  pub tallied : IsTallied only_second front t lines
+  pub is : honest → front ≡ take r.at stored
+  pub long : length front ≡ r.at
+  pub tallied : IsTallied only_second front r.tally r.lines
+  pub lines : r.lines ≤ r.at
+  pub few : r.tally.count ≤ 65535
+
+-- the place where every text starts
+pub record IsStart (r : Resume) : Type 0 where
+  pub tallied : (only_second : Bool) → IsTallied only_second [] r.tally 0
+  pub at : r.at ≡ 0
+  pub lines : r.lines ≡ 0
+  pub count : r.tally.count ≡ 0
+
+-- where a place is kept, the text up to there was counted: the store's, where that is honest
+abbrev pub Resumes : Type 0 → List ℕ → Option Resume → Type 0
+Resumes honest stored o = IfSome o (IsCountedTo honest stored false)
 
 -- a front of a text is so many finished entries alone: of the store's, where that is honest
 pub record IsFrontCounted (honest : Type 0) (stored : List ℕ) (only_second : Bool) (f : Front) : Type 0 where

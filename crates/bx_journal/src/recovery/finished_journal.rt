@@ -33,9 +33,10 @@ fn count_redo<T: TextStore, A: Allocator + Clone>(
         Ok(found) => found,
         Err(fault) => return Err(fault),
     };
-    let Some(text) = found else {
+    let Some(all) = found else {
         return Ok(None);
     };
+    let text = all.text;
     if text.counted.count > MOST_CHANGES - changes {
         return Ok(None);
     }

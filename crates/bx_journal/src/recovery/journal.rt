@@ -1,11 +1,11 @@
 //! What reading a journal finds when a pair is opened.
-ghost use Rattle.std.specs.Prelude.{◌≡◌, ◌↔◌, ◌<◌, ◌≤◌, List, ℕ, length, OnOk, IfOk, IfErr, IfSome, IfNone};
+ghost use Rattle.std.specs.Prelude.{◌≡◌, ◌↔◌, ◌<◌, ◌≤◌, List, ℕ, None, length, OnOk, IfOk, IfErr, IfSome, IfNone};
 ghost use Rattle.bx_entries.specs.inner.Journal.{HasRead};
 ghost use Rattle.bx_journal.specs.Opening.{FaultCounts};
 ghost use Rattle.bx_entries.specs.inner.Tally.{IsCounted};
 
 use crate::SessionFault;
-use crate::recovery::windows::count_text;
+use crate::recovery::windows::{Resume, count_text};
 use crate::session::fault::of_text;
 use crate::session::read::read_journal;
 use bx_entries::{Counted, JournalRead, StageRead, told_length};
@@ -44,6 +44,7 @@ fn as_counted<A: Allocator>(journal: &JournalRead<A>, len: u64) -> Option<Counte
 }
 
 ghost use Rattle.bx_journal.specs.inner.Recovery.{FindFault, IsFoundIn};
+ghost use Rattle.bx_journal.specs.inner.Windows.{Resumes};
 
 /// Reads all of a journal's text. It changes nothing.
 fn read_whole<T: TextStore, A: Allocator + Clone>(
@@ -74,12 +75,15 @@ fn read_whole<T: TextStore, A: Allocator + Clone>(
 }
 
 /// Reads a journal's text. It changes nothing. A text of finished entries alone is counted in windows, and only what isn't
-/// counted so is read whole.
+/// counted so is read whole. Where it was counted, a place is kept that isn't behind the beginning of its last entry.
 pub fn read_text<T: TextStore, A: Allocator + Clone>(
     alloc: &A,
     store: &mut T,
+    resume: &mut Option<Resume>,
 ) -> Result<Found<A>, SessionFault>
-    requires { T.failures store.old < u64.MAX }
+    requires countable { T.failures store.old < u64.MAX }
+    requires none { resume.old ≡ None }
+    ensures resumes { Resumes (T.honest store.new) (T.text store.new) resume.new }
     ensures found { IfOk result (IsFoundIn (T.honest store.old) (T.text store.old)) }
     ensures fault { IfErr result (FindFault (T.honest store.old) (T.text store.old)) }
     ensures text { T.honest store.old → T.text store.new ≡ T.text store.old }
@@ -92,7 +96,10 @@ pub fn read_text<T: TextStore, A: Allocator + Clone>(
         Err(fault) => return Err(fault),
     };
     match counted {
-        Some(found) => Ok(Found::Finished(found.counted)),
+        Some(found) => {
+            *resume = Some(found.resume);
+            Ok(Found::Finished(found.text.counted))
+        }
         None => read_whole(alloc, store),
     }
 }

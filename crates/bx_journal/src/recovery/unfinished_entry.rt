@@ -1,5 +1,5 @@
 //! What is unfinished in a journal, and how opening takes it back.
-ghost use Rattle.std.specs.Prelude.{◌≡◌, ◌↔◌, ◌⊎◌, Some, ◌+◌, ◌<◌, ◌≤◌, [], List, ℕ, length, OnOk, OnErr, IfOk, IfErr, IfSome, MatchResult};
+ghost use Rattle.std.specs.Prelude.{◌≡◌, ◌↔◌, ◌⊎◌, Some, None, ◌+◌, ◌<◌, ◌≤◌, [], List, ℕ, length, OnOk, OnErr, IfOk, IfErr, IfSome, MatchResult};
 ghost use Rattle.bx_journal.specs.Calls.{AfterFault, OpenFault};
 ghost use Rattle.bx_entries.specs.inner.Journal.{HasRead};
 ghost use Rattle.bx_journal.specs.Opened.{RefusesDiffering};
@@ -13,11 +13,13 @@ ghost use Rattle.bx_journal.specs.inner.Recovery.{HasLengths, IsUnfinishedIn, Ke
 ghost use Rattle.bx_journal.specs.Redo.{IsClean};
 ghost use Rattle.bx_entries.specs.Text.{IsAccepted, IsDamagedAt, Reading, Reads};
 ghost use Rattle.bx_journal.specs.Undoing.{HasLeft};
+ghost use Rattle.bx_journal.specs.inner.Windows.{Resumes};
 
 use crate::protocol::redo_text::cut_redo;
 use crate::recovery::finished_journal::open_finished;
 use crate::recovery::journal::{Found, read_text};
 use crate::recovery::take_back::{drop_tail, take_back};
+use crate::recovery::windows::Resume;
 use crate::{How, Recovered, SessionFault};
 use bx_entries::{JournalRead, StageRead, told_length};
 use bx_image::{Device, DeviceFailed};
@@ -183,14 +185,18 @@ pub fn recover_read<D: Device, T: TextStore, A: Allocator>(
     }
 }
 
-/// Reads the journal. Beside finished entries alone the redo text is judged; anything else is taken back.
+/// Reads the journal. Beside finished entries alone the redo text is judged; anything else is taken back. Where the journal
+/// was counted, a place is kept that isn't behind the beginning of its last entry.
 pub fn recover<D: Device, T: TextStore, A: Allocator + Clone>(
     alloc: &A,
     device: &mut D,
     store: &mut T,
     redo_text: &mut T,
+    resume: &mut Option<Resume>,
 ) -> Result<Recovered, SessionFault>
     requires countable { AreBelow u64.MAX (D.failures device.old) (T.failures store.old) (T.failures redo_text.old) }
+    requires none { resume.old ≡ None }
+    ensures resumes { Resumes (T.honest store.new) (T.text store.new) resume.new }
     ensures opened { D.honest device.old → T.honest store.old → Opens D.image T.text device.old store.old device.new store.new result }
     ensures left { T.honest store.old → (r : Reading) → Reads (T.text store.old) r → OnOk result (HasLeft (T.text store.old) (T.text store.new) r.entries) }
     ensures clean { D.honest device.old → T.honest store.old → SparesClean D.image T.text device.old store.old device.new store.new result }
@@ -223,12 +229,15 @@ pub fn recover<D: Device, T: TextStore, A: Allocator + Clone>(
     ensures no_failure { AreUnfailed D.failures T.failures device.old store.old redo_text.old device.new store.new redo_text.new result }
     ensures counts { AreCounted D.failures T.failures device.old store.old redo_text.old device.new store.new redo_text.new result }
 {
-    let found = match read_text(alloc, store) {
+    let found = match read_text(alloc, store, resume) {
         Ok(found) => found,
         Err(fault) => return Err(fault),
     };
     match found {
         Found::Finished(counted) => open_finished(alloc, device, redo_text, counted),
-        Found::Unfinished(journal) => recover_read(device, store, redo_text, journal),
+        Found::Unfinished(journal) => {
+            *resume = None;
+            recover_read(device, store, redo_text, journal)
+        }
     }
 }

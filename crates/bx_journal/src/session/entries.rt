@@ -1,5 +1,5 @@
 //! The journal of an open session, read once more: all of it, or its last entries alone.
-ghost use Rattle.std.specs.Prelude.{◌≡◌, ◌↔◌, ◌⊎◌, ◌+◌, ◌<◌, ◌≤◌, List, ℕ, false, length, drop, IfOk, IfErr, IfSome, IfNone, OnOk};
+ghost use Rattle.std.specs.Prelude.{◌≡◌, ◌↔◌, ◌⊎◌, ◌+◌, ◌<◌, ◌≤◌, List, ℕ, false, Some, length, drop, IfOk, IfErr, IfSome, IfNone, OnOk};
 ghost use Rattle.bx_entries.specs.Text.{Entry};
 ghost use Rattle.bx_entries.specs.declared.read.types.Front.{Front as Counted};
 ghost use Rattle.bx_entries.specs.inner.Journal.{HasRead};
@@ -7,13 +7,15 @@ ghost use Rattle.bx_entries.specs.inner.Lines.{IsReadUpTo};
 ghost use Rattle.bx_journal.specs.Opening.{FaultCounts};
 ghost use Rattle.bx_journal.specs.Undoing.{AgainFault, HasCount};
 ghost use Rattle.bx_journal.specs.inner.Undoing.{IsLastFrom, IsReadAgain, IsReadBehind, IsReadFrom, IsReadLast, IsReadOn};
-ghost use Rattle.bx_journal.specs.inner.Windows.{IsFrontCounted};
+ghost use Rattle.bx_journal.specs.inner.Windows.{IsFrontCounted, IsStart, Resumes};
 
 use crate::SessionFault;
-use crate::recovery::windows::count_front;
+use crate::recovery::windows::{Resume, count_front, text_start};
 use crate::session::fault::of_text;
 use crate::session::read::read_journal;
-use bx_entries::{EntryRead, Front, JournalRead, LinesRead, StageRead, nothing_read, read_lines};
+use bx_entries::{
+    EntryRead, Front, JournalRead, LinesRead, Place, StageRead, nothing_read, read_lines,
+};
 use bx_store::TextStore;
 use std::alloc::{Allocator, Global};
 
@@ -211,6 +213,32 @@ fn read_from<T: TextStore, A: Allocator + Clone>(
     Ok(last_of(len, front.count, read, k, count))
 }
 
+/// Whether the first entries of a text, so many, can be counted on from a place.
+fn is_before(place: Resume, first: u32) -> bool {
+    match place.tally.place {
+        Place::Between => place.tally.count <= first,
+        Place::Saving { .. } => place.tally.count < first,
+        Place::Ending { .. } => place.tally.count < first,
+    }
+}
+
+/// Where counting the first entries of a text of `len` bytes, so many, begins: at the place that is known, or at the start.
+fn begin_at(resume: Option<Resume>, len: u64, first: u32) -> Resume
+    ensures from { IsStart result ⊎ (resume ≡ Some result) }
+    ensures within { result.at ≤ len }
+{
+    match resume {
+        Some(place) => {
+            if place.at <= len && is_before(place, first) {
+                place
+            } else {
+                text_start()
+            }
+        }
+        None => text_start(),
+    }
+}
+
 /// Reads the last k entries of a text that is to be so many finished entries alone. It answers none where the text isn't
 /// that, or a line is very long. It changes nothing.
 fn find_last<T: TextStore, A: Allocator + Clone>(
@@ -218,9 +246,11 @@ fn find_last<T: TextStore, A: Allocator + Clone>(
     store: &mut T,
     count: u32,
     k: u32,
+    resume: Option<Resume>,
 ) -> Result<Option<FinishedRead<A>>, SessionFault>
     requires countable { T.failures store.old < u64.MAX }
     requires few { k ≤ count }
+    requires resumes { Resumes (T.honest store.old) (T.text store.old) resume }
     ensures read { IfOk result (λ found. IfSome found (λ o. IsLastFrom (T.honest store.old) (T.text store.old) o.len o.entries.items count)) }
     ensures few { IfOk result (λ found. IfSome found (λ o. k ≤ length o.entries.items)) }
     ensures fault { IfErr result (λ e. (e ≡ SessionFault.NoMemory) ⊎ (e ≡ SessionFault.DeviceFailed)) }
@@ -230,23 +260,26 @@ fn find_last<T: TextStore, A: Allocator + Clone>(
     ensures counts { IfErr result (λ e. FaultCounts e 0 (T.failures store.old) 0 (T.failures store.new)) }
 {
     let len = store.len()?;
-    let found = count_front(alloc, store, len, false, count - k)?;
-    let Some(front) = found else {
+    let from = begin_at(resume, len, count - k);
+    let found = count_front(alloc, store, len, false, count - k, from)?;
+    let Some(first) = found else {
         return Ok(None);
     };
-    read_from(alloc, store, front, len, k, count)
+    read_from(alloc, store, first.front, len, k, count)
 }
 
-/// Reads the last k entries of a text that is to be so many finished entries alone: what it takes of memory is in proportion
-/// to their text. Where they can't be found so, all of the text is read, which says where it is damaged. It changes nothing.
+/// Reads the last k entries of a text that is to be so many finished entries alone, and counts those before them on from a
+/// place, if one is known: what it takes of memory is in proportion to their text. Where they can't be found so, all of the text is read, which says where it is damaged. It changes nothing.
 pub fn read_last_of<T: TextStore, A: Allocator + Clone>(
     alloc: &A,
     store: &mut T,
     count: u32,
     k: u32,
+    resume: Option<Resume>,
 ) -> Result<FinishedRead<A>, SessionFault>
     requires countable { T.failures store.old < u64.MAX }
     requires few { k ≤ count }
+    requires resumes { Resumes (T.honest store.old) (T.text store.old) resume }
     ensures read { IfOk result (λ o. IsLastFrom (T.honest store.old) (T.text store.old) o.len o.entries.items count) }
     ensures few { IfOk result (λ o. k ≤ length o.entries.items) }
     ensures fault { IfErr result (AgainFault (T.honest store.old) (T.text store.old) count) }
@@ -255,7 +288,7 @@ pub fn read_last_of<T: TextStore, A: Allocator + Clone>(
     ensures no_failure { OnOk result (T.failures store.new ≡ T.failures store.old) }
     ensures counts { IfErr result (λ e. FaultCounts e 0 (T.failures store.old) 0 (T.failures store.new)) }
 {
-    let found = match find_last(alloc, store, count, k) {
+    let found = match find_last(alloc, store, count, k, resume) {
         Ok(found) => found,
         Err(fault) => return Err(fault),
     };

@@ -130,6 +130,7 @@ impl<D: Device, T: TextStore, A: Allocator + Clone> Session<D, T, A> {
         if self.is_broken {
             return Err(SessionFault::Broken);
         }
+        self.resume = None;
         let rows = rows_of_text(&self.alloc, &mut self.store, self.count)?;
         Ok(rows)
     }

@@ -97,7 +97,8 @@ impl<D: Device, T: TextStore, A: Allocator + Clone> Session<D, T, A> {
         let mut device = device;
         let mut store = store;
         let mut redo_text = redo_text;
-        match recover(&alloc, &mut device, &mut store, &mut redo_text) {
+        let mut resume = None;
+        match recover(&alloc, &mut device, &mut store, &mut redo_text, &mut resume) {
             Ok(recovered) => {
                 let count = recovered.changes;
                 let undone = recovered.undone;
@@ -110,6 +111,7 @@ impl<D: Device, T: TextStore, A: Allocator + Clone> Session<D, T, A> {
                         count,
                         undone,
                         is_broken: false,
+                        resume,
                     },
                     recovered,
                 ))

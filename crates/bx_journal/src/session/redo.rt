@@ -52,7 +52,7 @@ fn read_undone<T: TextStore, A: Allocator + Clone>(
     ensures no_failure { OnOk result (T.failures redo_text.new ≡ T.failures redo_text.old) }
     ensures counts { IfErr result (λ e. FaultCounts e 0 (T.failures redo_text.old) 0 (T.failures redo_text.new)) }
 {
-    match read_last_of(alloc, redo_text, undone, j) {
+    match read_last_of(alloc, redo_text, undone, j, None) {
         Ok(read) => Ok(read),
         Err(fault) => Err(of_redo(fault)),
     }
@@ -144,6 +144,7 @@ impl<D: Device, T: TextStore, A: Allocator + Clone> Session<D, T, A> {
         if is_beyond(j, self.undone) {
             return Err(SessionFault::NothingToRedo { have: self.undone });
         }
+        self.resume = None;
         let mut read = read_undone(&self.alloc, &mut self.redo_text, self.undone, j)?;
         let mut taking = prepare_takens(
             &self.alloc,

@@ -96,7 +96,9 @@ impl<D: Device, T: TextStore, A: Allocator + Clone> Session<D, T, A> {
         if k > self.count {
             return Err(SessionFault::TooFew { have: self.count });
         }
-        let mut read = read_last_of(&self.alloc, &mut self.store, self.count, k)?;
+        let resume = self.resume;
+        self.resume = None;
+        let mut read = read_last_of(&self.alloc, &mut self.store, self.count, k, resume)?;
         let mut taking = prepare_takens(
             &self.alloc,
             &mut self.device,

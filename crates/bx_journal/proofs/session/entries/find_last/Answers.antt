@@ -1,13 +1,24 @@
-use Rattle.std.proofs.Common.{false, ◌≤◌, length, ap, sym, ◌∙◌, subst}
+use Rattle.std.proofs.Common.{false, ◌≤◌, length, inl, inr, ap, sym, ◌∙◌, subst}
 use Rattle.std.specs.Prelude.{IfSome}
-use Rattle.bx_entries.specs.declared.read.types.Front.{Front}
-use Rattle.bx_journal.specs.inner.Windows.{IsFrontCounted}
+use Rattle.bx_journal.specs.declared.recovery.windows.CountedFront.{CountedFront}
+use Rattle.bx_journal.specs.inner.Windows.{IsFrontCounted, Resumes}
 use Rattle.bx_journal.proofs.LastLemmas.{found_last_before}
-use Rattle.bx_journal.proofs.WindowLemmas.{front_after}
+use Rattle.bx_journal.proofs.WindowLemmas.{counted_start, front_after, resumes_after}
 use Rattle.bx_journal.proofs.session.entries.find_last.Goals as goal
 
+pub count_front-requires-clause-from : goal.count_front-requires-clause-from
+count_front-requires-clause-from g c =
+    let now = g.T.TextStore.honest c.len.new.self in
+    let text = g.T.TextStore.text c.len.new.self in
+    elim c.begin_at.ensures.from [
+      | inl is ↦ counted_start now text false c.begin_at.result is
+      | inr is ↦
+          subst (Resumes now text) is
+          (resumes_after (g.T.TextStore.honest c.args.store.now) now (g.T.TextStore.text c.args.store.now) text c.args.resume c.len.ensures.goes_on.honesty.0 c.len.ensures.text c.requires.resumes)
+    ]
+
 pub read_from-requires-clause-within : goal.read_from-requires-clause-within
-read_from-requires-clause-within g c = subst (λ o. IfSome o (λ (f : Front). f.at ≤ c.in_ok-len.len)) c.in-Some.is c.in_ok-found.ensures.within
+read_from-requires-clause-within g c = subst (λ o. IfSome o (λ (f : CountedFront). f.front.at ≤ c.in_ok-len.len)) c.in-Some.is c.in_ok-found.ensures.within
 
 pub read_from-requires-clause-long : goal.read_from-requires-clause-long
 read_from-requires-clause-long g c h =
@@ -17,9 +28,9 @@ read_from-requires-clause-long g c h =
 
 pub read_from-requires-clause-front : goal.read_from-requires-clause-front
 read_from-requires-clause-front g c =
-    front_after (g.T.TextStore.honest c.len.new.self) (g.T.TextStore.honest c.count_front.new.store) (g.T.TextStore.text c.len.new.self) (g.T.TextStore.text c.count_front.new.store) false c.in-Some.front
+    front_after (g.T.TextStore.honest c.len.new.self) (g.T.TextStore.honest c.count_front.new.store) (g.T.TextStore.text c.len.new.self) (g.T.TextStore.text c.count_front.new.store) false c.in-Some.first.front
     c.count_front.ensures.honesty.0 c.count_front.ensures.text
-    (subst (λ o. IfSome o (IsFrontCounted (g.T.TextStore.honest c.len.new.self) (g.T.TextStore.text c.len.new.self) false)) c.in-Some.is c.in_ok-found.ensures.counted)
+    (subst (λ o. IfSome o (λ (f : CountedFront). IsFrontCounted (g.T.TextStore.honest c.len.new.self) (g.T.TextStore.text c.len.new.self) false f.front)) c.in-Some.is c.in_ok-found.ensures.counted)
 
 pub returns-clause-read : goal.returns-clause-read
 returns-clause-read g c =
