@@ -103,6 +103,11 @@ def is_law(kind, rest, end):
     return kind == "fn" and end == "{}" and re.match(r"\s*\w+(<[^>]*>)?\(\)\s", rest) is not None
 
 
+def is_closed(kind, rest):
+    """whether an item is a struct without public fields: callers neither make one nor read what its ghost fields say"""
+    return kind == "struct" and re.search(r"^ {4}pub ", rest, re.M) is None
+
+
 def clauses_of(text):
     """the braces of requires, ensures and ghost items, but for what is only brought in and invariants of models, which callers don't see"""
     found = []
@@ -142,7 +147,7 @@ def public_names(root, crate):
             name = NAME.search(re.sub(r"^<[^>]*>", "", rest.strip()))
             shown = access == "pub " and name and (name.group() in exports or module in exports)
             clauses = []
-            if kind in ("fn", "struct", "enum", "const") and shown:
+            if kind in ("fn", "struct", "enum", "const") and shown and not is_closed(kind, rest):
                 clauses = clauses_of(rest)
             elif kind == "trait" and shown:
                 clauses = clauses_of(rest)

@@ -1,10 +1,11 @@
 -- A place of which it is merely known that the text up to it was counted: such a text is found by a search that ends.
-use Rattle.std.proofs.Common.{◌≡◌, ℕ, zero, suc, ◌+◌, ◌≤◌, List, [], ◌∷◌, length, take, map, sum, refl, sym, ap, ◌∙◌, subst, arith, Option, Some, None, true, false, IsTrue, le_refl, eq-or-lt_of_le, ⊎_elim, ◌<◌, ◌⊎◌, inl, inr}
+use Rattle.std.proofs.Common.{◌≡◌, ℕ, zero, suc, ◌+◌, ◌≤◌, ◌<◌, List, [], ◌∷◌, length, take, refl, sym, ap, ◌∙◌, subst, arith, Option, Some, None, false, inl, inr, ◌⊎◌, eq-or-lt_of_le}
 use mathlib.Core.HLevel.{⊥_prop}
 use mathlib.Core.List.{List-discrete}
 use mathlib.Core.Logic.{∥∥₁_elim, ∥∥₁_map}
-use mathlib.Core.Nat.{ℕ_discrete, le_prop}
-use mathlib.Mathlib.Data.Nat.Find.{find, find_lem}
+use mathlib.Core.WellFounded.{Acc, WellFounded, intro, WellFounded-prop, fix}
+use native.Mathlib.Bridge.{le_prop}
+use native.Mathlib.Decide.{ℕ_discrete}
 use Rattle.bx_entries.specs.declared.format.version.Version.{Version}
 use Rattle.bx_entries.specs.declared.format.version.Version.TheVariants.{First, Second}
 use Rattle.bx_entries.specs.declared.read.count.Place.{Place}
@@ -15,6 +16,28 @@ use Rattle.bx_entries.specs.Text.{Reading, after_lines, split, start}
 use Rattle.bx_journal.specs.declared.recovery.windows.Resume.{Resume}
 use Rattle.bx_journal.specs.inner.Windows.{IsCountedTo, Resumes}
 
+-- a search upwards for a number that merely exists, where each can be decided
+module _ (P : ℕ → Type 0) (dec : (n : ℕ) → Dec (P n)) where
+  abbrev Above : ℕ → ℕ → Type 0
+  Above m n = (m ≡ suc n) × ((k : ℕ) → k ≤ n → ¬ P k)
+
+  ends : (n : ℕ) → P n → (m k : ℕ) → n ≤ k + m → Acc Above k
+  ends n there zero k less = Acc.intro k (λ y r. absurd (r.1 n (omega (arith, less)) there))
+  ends n there (suc m) k less = Acc.intro k (λ y r. subst (λ (x : ℕ). Acc Above x) (sym r.0) (ends n there m (suc k) (omega (arith, less))))
+
+  ends_all : ∥ ((n : ℕ) × P n) ∥₁ → WellFounded Above
+  ends_all H = ∥∥₁_elim H WellFounded-prop (λ w. intro (λ k. ends w.0 w.1 w.0 k (omega arith)))
+
+  none_to : (m : ℕ) → ((n : ℕ) → n < m → ¬ P n) → ¬ P m → (n : ℕ) → n ≤ m → ¬ P n
+  none_to m below other n less p = elim (eq-or-lt_of_le less) [ inl e ↦ other (subst P e p) | inr lt ↦ below n lt p ]
+
+  search_up : ∥ ((n : ℕ) × P n) ∥₁ → (n : ℕ) × P n
+  search_up H =
+      fix {C = λ (k : ℕ). ((n : ℕ) → n < k → ¬ P n) → (n : ℕ) × P n} (ends_all H)
+      (λ m later below. elim (dec m) [ yes p ↦ (m, p) | no other ↦ later (suc m) (refl, none_to m below other) (λ n less. none_to m below other n (omega (arith, less))) ])
+      zero
+      (λ n less p. omega (arith, less))
+
 -- some list of k numbers up to n
 abbrev HasList : ℕ → ℕ → (List ℕ → Type 0) → Type 0
 HasList n zero P = P []
@@ -22,16 +45,18 @@ HasList n (suc k) P = (x : ℕ) × (x ≤ n) × HasList n k (λ l. P (x ∷ l))
 
 -- whether some number up to n has a property that can be decided
 up_to : (n : ℕ) (Q : ℕ → Type 0) → ((x : ℕ) → Dec (Q x)) → Dec ((x : ℕ) × (x ≤ n) × Q x)
-up_to zero Q d = elim (d zero) [ yes q ↦ yes (zero, (le_refl zero, q)) | no f ↦ no (λ w. f (subst Q (omega (arith, w.1.0)) w.1.1)) ]
+up_to zero Q d =
+    elim (d zero) [
+      | yes q ↦ yes (zero, (omega arith, q))
+      | no f ↦ no (λ w. let e : w.0 ≡ zero = omega (arith, w.1.0) in f (subst Q e w.1.1))
+    ]
 up_to (suc n) Q d =
     elim (d (suc n)) [
-      | yes q ↦ yes (suc n, (le_refl (suc n), q))
+      | yes q ↦ yes (suc n, (omega arith, q))
       | no f ↦
           elim (up_to n Q d) [
             | yes w ↦ yes (w.0, (omega (arith, w.1.0), w.1.1))
-            | no g ↦
-                no (λ w.
-                  elim (eq-or-lt_of_le w.1.0) [ inl e ↦ f (subst Q e w.1.1) | inr lt ↦ g (w.0, (omega (arith, lt), w.1.1)) ])
+            | no g ↦ no (λ w. elim (eq-or-lt_of_le w.1.0) [ inl e ↦ f (subst Q e w.1.1) | inr lt ↦ g (w.0, (omega (arith, lt), w.1.1)) ])
           ]
     ]
 
@@ -45,57 +70,63 @@ list_of n (suc k) P h =
     let w = list_of n k (λ l. P (h.0 ∷ l)) h.1.1 in
     (h.0 ∷ w.0, (ap suc w.1.0, w.1.1))
 
-of_list : (n : ℕ) (l : List ℕ) (P : List ℕ → Type 0) → sum l ≤ n → P l → HasList n (length l) P
+abbrev total : List ℕ → ℕ
+total [] = 0
+total (x ∷ l) = x + total l
+
+of_list : (n : ℕ) (l : List ℕ) (P : List ℕ → Type 0) → total l ≤ n → P l → HasList n (length l) P
 of_list n [] P few p = p
 of_list n (x ∷ l) P few p = (x, (omega (arith, few), of_list n l (λ m. P (x ∷ m)) (omega (arith, few)) p))
 
 -- a list of k numbers with a property that can be decided is found where there merely is one
 found : (k : ℕ) (P : List ℕ → Type 0) → ((l : List ℕ) → Dec (P l)) → ∥ ((l : List ℕ) × (length l ≡ k) × P l) ∥₁ → (l : List ℕ) × (length l ≡ k) × P l
 found k P d there =
-    let decide : (n : ℕ) → Dec (HasList n k P) = λ n. has_list n k P d in
-    let some : ∥ ((n : ℕ) × HasList n k P) ∥₁ = ∥∥₁_map there (λ w. (sum w.0, subst (λ j. HasList (sum w.0) j P) w.1.0 (of_list (sum w.0) w.0 P (le_refl (sum w.0)) w.1.1))) in
-    list_of (find decide some) k P (find_lem decide some)
+    let w = search_up (λ n. HasList n k P) (λ n. has_list n k P d) (∥∥₁_map there (λ w. (total w.0, subst (λ j. HasList (total w.0) j P) w.1.0 (of_list (total w.0) w.0 P (omega arith) w.1.1)))) in
+    list_of w.0 k P w.1
 
 -- a tally as numbers
-version_code : Version → ℕ
+abbrev version_code : Version → ℕ
 version_code First = 0
 version_code Second = 1
 
-place_code : Place → List ℕ
+abbrev place_code : Place → List ℕ
 place_code Between = []
 place_code (Ending v) = version_code v ∷ []
 place_code (Saving v n) = version_code v ∷ n ∷ []
 
-told_code : Option ℕ → ℕ
+abbrev told_code : Option ℕ → ℕ
 told_code None = 0
 told_code (Some n) = suc n
 
-tally_code : Tally → List ℕ
+abbrev tally_code : Tally → List ℕ
 tally_code t = t.count ∷ told_code t.told ∷ place_code t.place
 
-version_of : ℕ → Version
+abbrev version_of : ℕ → Version
 version_of zero = First
 version_of (suc n) = Second
 
-place_of_code : List ℕ → Place
+abbrev place_of_code : List ℕ → Place
 place_of_code [] = Between
 place_of_code (v ∷ []) = Ending (version_of v)
 place_of_code (v ∷ n ∷ l) = Saving (version_of v) n
 
-told_of : ℕ → Option ℕ
+abbrev told_of : ℕ → Option ℕ
 told_of zero = None
 told_of (suc n) = Some n
 
-first_of : List ℕ → ℕ
+abbrev first_of : List ℕ → ℕ
 first_of [] = 0
 first_of (x ∷ l) = x
 
-behind : List ℕ → List ℕ
+abbrev behind : List ℕ → List ℕ
 behind [] = []
 behind (x ∷ l) = l
 
-tally_of_code : List ℕ → Tally
-tally_of_code l = record { count = first_of l; told = told_of (first_of (behind l)); place = place_of_code (behind (behind l)) }
+abbrev tally_with : ℕ → Option ℕ → Place → Tally
+tally_with count told place = record { count = count; told = told; place = place }
+
+abbrev tally_of_code : List ℕ → Tally
+tally_of_code l = tally_with (first_of l) (told_of (first_of (behind l))) (place_of_code (behind (behind l)))
 
 version_back : (v : Version) → version_of (version_code v) ≡ v
 version_back First = refl
@@ -111,17 +142,17 @@ told_back None = refl
 told_back (Some n) = refl
 
 tally_back : (t : Tally) → tally_of_code (tally_code t) ≡ t
-tally_back t = ap (λ o. record { count = t.count; told = o; place = place_of_code (place_code t.place) }) (told_back t.told) ∙ ap (λ p. record { count = t.count; told = t.told; place = p }) (place_back t.place)
+tally_back t = ap (λ o. tally_with t.count o (place_of_code (place_code t.place))) (told_back t.told) ∙ ap (λ p. tally_with t.count t.told p) (place_back t.place)
 
 -- what counting a text comes to, as numbers
-seen : Option Reading → List ℕ
+abbrev seen : Option Reading → List ℕ
 seen None = []
 seen (Some r) = tally_code (tally_of r)
 
-counting : List ℕ → List ℕ
+abbrev counting : List ℕ → List ℕ
 counting l = length (split l).lines ∷ length (split l).rest ∷ seen (after_lines start (split l).lines)
 
-wanted : Resume → List ℕ
+abbrev wanted : Resume → List ℕ
 wanted r = r.lines ∷ 0 ∷ tally_code r.tally
 
 counts : (l : List ℕ) (r : Resume) → IsTallied false l r.tally r.lines → counting l ≡ wanted r
@@ -146,8 +177,8 @@ tallied_as l r (Some q) reads many whole is = record {
   tell = λ t. absurd t;
 }
 
-tallied : (l : List ℕ) (r : Resume) → counting l ≡ wanted r → IsTallied false l r.tally r.lines
-tallied l r is = tallied_as l r (after_lines start (split l).lines) refl (sym (ap first_of is)) (none_left (split l).rest (ap (λ m. first_of (behind m)) is)) (ap (λ m. behind (behind m)) is)
+tallied_by : (l : List ℕ) (r : Resume) → counting l ≡ wanted r → IsTallied false l r.tally r.lines
+tallied_by l r is = tallied_as l r (after_lines start (split l).lines) refl (sym (ap first_of is)) (none_left (split l).rest (ap (λ m. first_of (behind m)) is)) (ap (λ m. behind (behind m)) is)
 
 same : (a b : List ℕ) → Dec (a ≡ b)
 same = List-discrete ℕ_discrete
@@ -159,7 +190,7 @@ by_search honest stored r there never =
       front = w.0;
       is = λ h. absurd (∥∥₁_elim there ⊥_prop (λ c. never c h));
       long = w.1.0;
-      tallied = tallied w.0 r w.1.1;
+      tallied = tallied_by w.0 r w.1.1;
       lines = ∥∥₁_elim there le_prop (λ c. c.lines);
       few = ∥∥₁_elim there le_prop (λ c. c.few);
     }
@@ -170,7 +201,7 @@ by_text honest stored r there (yes long) (yes is) = record {
   front = take r.at stored;
   is = λ h. refl;
   long = long;
-  tallied = tallied (take r.at stored) r is;
+  tallied = tallied_by (take r.at stored) r is;
   lines = ∥∥₁_elim there le_prop (λ c. c.lines);
   few = ∥∥₁_elim there le_prop (λ c. c.few);
 }

@@ -291,3 +291,29 @@ fn long_entry_in_windows(rt: HostRuntime) -> Result<(), Fail> {
     assert!(rt; journal.len() > 2_200_000 && undoes_in(alloc, &bump, start)?);
     Ok(())
 }
+
+/// An entry of one byte behind that of `long_journal`.
+const SMALL: &[u8] =
+    b"change2 00000002 0000000000020000\n00000000: 79                                       y\nsave 00000002\ndone2 00000002 0000000000020000\n";
+
+// An undo of the last entry reads the length, the window in which the entry before it ends, and the entry: none of the
+// windows in front of these, however many opening went through.
+#[test]
+fn last_entry_behind_windows(rt: HostRuntime) -> Result<(), Fail> {
+    let alloc = rt.alloc();
+    let mut image = vec![in alloc; b'z'; 1]?;
+    image.extend_from_slice(vec![in alloc; b'y'; LEN - 1]?.as_slice())?;
+    let mut journal = long_journal(alloc, LEN)?;
+    journal.extend_from_slice(SMALL)?;
+    let start: Held<'_> = (image.as_slice(), journal.as_slice(), b"");
+    let opened = found(How::Clean, 2, 0);
+    let refused = (Ask::UndoOne, Err(SessionFault::DeviceFailed));
+    for pass in 4..7 {
+        assert_refused(alloc, &rt, start, (NONE, pass, NONE), opened, refused)?;
+    }
+    let undone = (Ask::UndoOne, Ok(1));
+    let left = left_by(alloc, &rt, start, (NONE, 7, NONE), opened, undone)?;
+    assert!(rt; left.0.as_slice() == vec![in alloc; b'y'; LEN]?.as_slice());
+    assert!(rt; left.1.as_slice() == long_journal(alloc, LEN)?.as_slice());
+    Ok(())
+}

@@ -14,6 +14,7 @@ use Rattle.bx_journal.specs.inner.Turns.{AreStanding}
 use Rattle.bx_journal.specs.Undoing.{AgainFault, HasLeft, IsOutOfStep}
 use Rattle.bx_entries.specs.Finished.{IsFinished}
 use Rattle.bx_journal.proofs.AgainLemmas.{has_count, in_step}
+use Rattle.bx_journal.proofs.ResumeLemmas.{resumes_again}
 use Rattle.bx_journal.proofs.TakingLemmas.{redo_moved, changes_left}
 use Rattle.bx_journal.proofs.session.Session.undo.Goals as goal
 
@@ -30,6 +31,10 @@ returns-in_err-read-clause-damaged g c =
     let out : (line : ℕ) → c.in_err-read.field-0.0 ≡ Damaged line → IsOutOfStep (g.T.TextStore.text c.self.inside.store) c.self.inside.count line =
     λ line is. subst (AgainFault (g.T.TextStore.honest c.self.inside.store) (g.T.TextStore.text c.self.inside.store) c.self.inside.count) is c.in_err-read.ensures.fault th in
     grind (arith, common_steps, out))
+
+pub read_last_of-requires-clause-resumes : goal.read_last_of-requires-clause-resumes
+read_last_of-requires-clause-resumes g c =
+    resumes_again (g.T.TextStore.honest c.self.inside.store) (g.T.TextStore.text c.self.inside.store) c.self.inside.resume c.self.inside.resumes
 
 pub undo_entries-requires-clause-kept : goal.undo_entries-requires-clause-kept
 undo_entries-requires-clause-kept g c =
