@@ -10,8 +10,8 @@ pub count_front-requires-clause-from : goal.count_front-requires-clause-from
 count_front-requires-clause-from g c =
     let now = g.T.TextStore.honest c.len.new.self in
     let text = g.T.TextStore.text c.len.new.self in
-    elim c.begin_at.ensures.from [
-      | inl is ↦ counted_start now text false c.begin_at.result is
+    elim c.begin_at-from.ensures.from [
+      | inl is ↦ counted_start now text false c.begin_at-from.result is
       | inr is ↦
           subst (Resumes now text) is
           (resumes_after (g.T.TextStore.honest c.args.store.now) now (g.T.TextStore.text c.args.store.now) text c.args.resume c.len.ensures.goes_on.honesty.0 c.len.ensures.text c.requires.resumes)
