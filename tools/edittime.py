@@ -6,7 +6,7 @@ l=importlib.machinery.SourceFileLoader('rt','/opt/rattle/bin/rt'); s=importlib.u
 root=os.path.abspath(sys.argv[1]); name=sys.argv[2]; wanted=sys.argv[3:]
 os.chdir(root); rtlib.guarded(); rt.Crate.allowed=rt.handles_of(root); rtlib.Crate=rt.Crate; rt.Crate.cuts_libraries=True
 c={it.name:it for it in rtlib.crates_below(root)}[name]; c.out=sys.stderr
-tempfile.tempdir='/work/scratch/cli30/tmp'; os.makedirs(tempfile.tempdir,exist_ok=True)
+tempfile.tempdir=os.environ.get('ETTMP','/work/scratch/cli30/tmp'); os.makedirs(tempfile.tempdir,exist_ok=True)
 miss=[d.name for d in c.below() if not os.path.isdir(d.rlib)]
 if miss: print('lacking libraries',miss); sys.exit(2)
 flags=['--jobs','1']
