@@ -42,10 +42,18 @@ def imports_of(text):
 
 
 def parts_of(text):
-    """the definitions of a specs file: name, lines (no comments, no imports, no blank lines), and the comment above"""
-    parts, comment, begun = [], [], False
+    """the definitions of a specs file: name, lines (no comments, no imports, no blank lines), and the comment above
+
+    A line `module _ .. where` gives those below it, set in by two spaces, their first parameters; it counts with the next.
+    """
+    parts, comment, opened, within = [], [], [], False
     for line in text.split("\n"):
         bare = line.rstrip()
+        if bare.startswith("module _ "):
+            comment, opened, within = [], [bare], True
+            continue
+        if within:
+            bare = bare.removeprefix("  ")
         if bare.startswith("--"):
             comment.append(bare[2:].strip())
             continue
@@ -56,8 +64,8 @@ def parts_of(text):
         head = HEAD.match(bare)
         declares = bare.startswith(("abbrev ", "unfoldable ", "pub ", "record ", "data ")) or re.match(r"^[\w'-]+ :", bare)
         if head and not bare[0].isspace() and declares:
-            parts.append((head.group(2), [], " ".join(comment)))
-            comment = []
+            parts.append((head.group(2), opened, " ".join(comment)))
+            comment, opened = [], []
         if parts:
             parts[-1][1].append(bare)
     return parts

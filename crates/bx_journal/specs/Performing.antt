@@ -14,50 +14,52 @@ use Rattle.bx_journal.specs.SessionView.{SessionView}
 use Rattle.bx_journal.specs.Stack.{Recovers}
 use Rattle.bx_journal.specs.Standing.{IsStanding}
 
--- where it is accepted, the machine makes its step from the stack for which the session stands
-abbrev pub Steps : {D T X : Type 0} → (D → List ℕ) → (T → List ℕ) → SessionView D T → SessionView D T → (List (List ℕ) → X → Result ℕ SessionFault → List (List ℕ) → Type 0) → X → (X → List (List ℕ) → List (List ℕ)) → Result ℕ SessionFault → Type 0
-Steps image text old new step x next result = (stack : List (List ℕ)) → IsStanding image text old stack → IfOk result (λ n. step stack x (Ok n) (next x stack) × IsStanding image text new (next x stack))
+-- Of sessions whose device has an image, told by `image`, and whose stores have a text, told by `text`.
+module _ {D T : Type 0} (image : D → List ℕ) (text : T → List ℕ) where
+  -- where it is accepted, the machine makes its step from the stack for which the session stands
+  abbrev pub Steps : {X : Type 0} → SessionView D T → SessionView D T → (List (List ℕ) → X → Result ℕ SessionFault → List (List ℕ) → Type 0) → X → (X → List (List ℕ) → List (List ℕ)) → Result ℕ SessionFault → Type 0
+  Steps old new step x next result = (stack : List (List ℕ)) → IsStanding image text old stack → IfOk result (λ n. step stack x (Ok n) (next x stack) × IsStanding image text new (next x stack))
 
--- a session that is ready with a stack is ready with the next
-abbrev pub StaysReady : {D T V E : Type 0} → (D → List ℕ) → (T → List ℕ) → SessionView D T → SessionView D T → (List (List ℕ) → List (List ℕ)) → Result V E → Type 0
-StaysReady image text old new next result = (stack : List (List ℕ)) → IsReady image text old stack → OnOk result (IsReady image text new (next stack))
+  -- a session that is ready with a stack is ready with the next
+  abbrev pub StaysReady : {V E : Type 0} → SessionView D T → SessionView D T → (List (List ℕ) → List (List ℕ)) → Result V E → Type 0
+  StaysReady old new next result = (stack : List (List ℕ)) → IsReady image text old stack → OnOk result (IsReady image text new (next stack))
 
--- the entry of the change, of this number, stands behind the journal
-abbrev pub AppendsEntry : {D T A : Type 0} → (D → List ℕ) → (T → List ℕ) → Change A → SessionView D T → SessionView D T → ℕ → Type 0
-AppendsEntry image text c old new n = text new.store ≡ text old.store ++ entry_text n (kept_of (saved c (image old.device))) (length (effect c (image old.device)))
+  -- the entry of the change, of this number, stands behind the journal
+  abbrev pub AppendsEntry : {A : Type 0} → Change A → SessionView D T → SessionView D T → ℕ → Type 0
+  AppendsEntry c old new n = text new.store ≡ text old.store ++ entry_text n (kept_of (saved c (image old.device))) (length (effect c (image old.device)))
 
--- an interruption of a change leaves the old stack or the new one, and another fault leaves all as it was
-abbrev pub StopsPerform : {D T A V : Type 0} → (D → List ℕ) → (T → List ℕ) → Change A → SessionView D T → SessionView D T → Result V SessionFault → Type 0
-StopsPerform image text c old new result = (stack : List (List ℕ)) → IsReady image text old stack →
-    IfErr result (λ e. AfterFault e (RecoversEither (text new.store) (image new.device) stack (changed c stack)) (IsSame image text old new))
+  -- an interruption of a change leaves the old stack or the new one, and another fault leaves all as it was
+  abbrev pub StopsPerform : {A V : Type 0} → Change A → SessionView D T → SessionView D T → Result V SessionFault → Type 0
+  StopsPerform c old new result = (stack : List (List ℕ)) → IsReady image text old stack →
+      IfErr result (λ e. AfterFault e (RecoversEither (text new.store) (image new.device) stack (changed c stack)) (IsSame image text old new))
 
--- an interruption of an undo leaves the stack without some of the images, and another fault leaves all as it was
-abbrev pub StopsUndo : {D T V : Type 0} → (D → List ℕ) → (T → List ℕ) → ℕ → SessionView D T → SessionView D T → Result V SessionFault → Type 0
-StopsUndo image text k old new result = (stack : List (List ℕ)) → IsReady image text old stack →
-    IfErr result (λ e. AfterFault e ((j : ℕ) × (j ≤ k) × Recovers (text new.store) (image new.device) (drop j stack)) (IsSame image text old new))
+  -- an interruption of an undo leaves the stack without some of the images, and another fault leaves all as it was
+  abbrev pub StopsUndo : {V : Type 0} → ℕ → SessionView D T → SessionView D T → Result V SessionFault → Type 0
+  StopsUndo k old new result = (stack : List (List ℕ)) → IsReady image text old stack →
+      IfErr result (λ e. AfterFault e ((j : ℕ) × (j ≤ k) × Recovers (text new.store) (image new.device) (drop j stack)) (IsSame image text old new))
 
--- what opening finds behind an interruption, where the session was ready with these images
-abbrev pub FindsBehind : {D T V : Type 0} → (D → List ℕ) → (T → List ℕ) → SessionView D T → (Images → Type 0) → Result V SessionFault → Type 0
-FindsBehind image text old found result = (s : Images) → IsReady image text old s.stack → HasUndone image text old s.undone → IfErr result (λ e. AfterFault e (found s) (Unit {0}))
+  -- what opening finds behind an interruption, where the session was ready with these images
+  abbrev pub FindsBehind : {V : Type 0} → SessionView D T → (Images → Type 0) → Result V SessionFault → Type 0
+  FindsBehind old found result = (s : Images) → IsReady image text old s.stack → HasUndone image text old s.undone → IfErr result (λ e. AfterFault e (found s) (Unit {0}))
 
--- behind an interruption of a change opening finds the old images or the new ones
-abbrev pub FindsOne : {D T A V : Type 0} → (D → List ℕ) → (T → List ℕ) → Change A → SessionView D T → SessionView D T → Result V SessionFault → Type 0
-FindsOne image text c old new = FindsBehind image text old (λ s. FindsEither image text new s (change_to (effect c (top s.stack)) s))
+  -- behind an interruption of a change opening finds the old images or the new ones
+  abbrev pub FindsOne : {A V : Type 0} → Change A → SessionView D T → SessionView D T → Result V SessionFault → Type 0
+  FindsOne c old new = FindsBehind old (λ s. FindsEither image text new s (change_to (effect c (top s.stack)) s))
 
--- behind an interruption of k steps opening finds the images behind some of them
-abbrev pub FindsSome : {D T V : Type 0} → (D → List ℕ) → (T → List ℕ) → SessionView D T → SessionView D T → (ℕ → Images → Images) → ℕ → Result V SessionFault → Type 0
-FindsSome image text old new step k = FindsBehind image text old (λ s. (i : ℕ) × (i ≤ k) × SessionFinds image text new (step i s))
+  -- behind an interruption of k steps opening finds the images behind some of them
+  abbrev pub FindsSome : {V : Type 0} → SessionView D T → SessionView D T → (ℕ → Images → Images) → ℕ → Result V SessionFault → Type 0
+  FindsSome old new step k = FindsBehind old (λ s. (i : ℕ) × (i ≤ k) × SessionFinds image text new (step i s))
 
--- the images that an undo takes back are undone, above those that were
-abbrev pub UndoesImages : {D T V E : Type 0} → (D → List ℕ) → (T → List ℕ) → ℕ → SessionView D T → SessionView D T → Result V E → Type 0
-UndoesImages image text k old new result = (s : Images) → IsStanding image text old s.stack → HasUndone image text old s.undone → OnOk result (HasUndone image text new (undo_of k s).undone)
+  -- the images that an undo takes back are undone, above those that were
+  abbrev pub UndoesImages : {V E : Type 0} → ℕ → SessionView D T → SessionView D T → Result V E → Type 0
+  UndoesImages k old new result = (s : Images) → IsStanding image text old s.stack → HasUndone image text old s.undone → OnOk result (HasUndone image text new (undo_of k s).undone)
 
--- where a redo is accepted, the machine makes its step from the images for which the session stands
-abbrev pub RedoesImages : {D T : Type 0} → (D → List ℕ) → (T → List ℕ) → ℕ → SessionView D T → SessionView D T → Result ℕ SessionFault → Type 0
-RedoesImages image text j old new result = (s : Images) → IsStanding image text old s.stack → HasUndone image text old s.undone →
-    IfOk result (λ n. RedoStep s j (Ok n) (redo_of j s) × IsStanding image text new (redo_of j s).stack × HasUndone image text new (redo_of j s).undone)
+  -- where a redo is accepted, the machine makes its step from the images for which the session stands
+  abbrev pub RedoesImages : ℕ → SessionView D T → SessionView D T → Result ℕ SessionFault → Type 0
+  RedoesImages j old new result = (s : Images) → IsStanding image text old s.stack → HasUndone image text old s.undone →
+      IfOk result (λ n. RedoStep s j (Ok n) (redo_of j s) × IsStanding image text new (redo_of j s).stack × HasUndone image text new (redo_of j s).undone)
 
--- a session that is ready with images is ready with those behind the redo
-abbrev pub StaysRedone : {D T V E : Type 0} → (D → List ℕ) → (T → List ℕ) → ℕ → SessionView D T → SessionView D T → Result V E → Type 0
-StaysRedone image text j old new result = (s : Images) → IsReady image text old s.stack → HasUndone image text old s.undone →
-    OnOk result (IsReady image text new (redo_of j s).stack × HasUndone image text new (redo_of j s).undone)
+  -- a session that is ready with images is ready with those behind the redo
+  abbrev pub StaysRedone : {V E : Type 0} → ℕ → SessionView D T → SessionView D T → Result V E → Type 0
+  StaysRedone j old new result = (s : Images) → IsReady image text old s.stack → HasUndone image text old s.undone →
+      OnOk result (IsReady image text new (redo_of j s).stack × HasUndone image text new (redo_of j s).undone)
