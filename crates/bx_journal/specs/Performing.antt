@@ -17,8 +17,10 @@ use Rattle.bx_journal.specs.Standing.{IsStanding}
 -- Of sessions whose device has an image, told by `image`, and whose stores have a text, told by `text`.
 module _ {D T : Type 0} (image : D → List ℕ) (text : T → List ℕ) where
   -- where it is accepted, the machine makes its step from the stack for which the session stands
-  abbrev pub Steps : {X : Type 0} → SessionView D T → SessionView D T → (List (List ℕ) → X → Result ℕ SessionFault → List (List ℕ) → Type 0) → X → (X → List (List ℕ) → List (List ℕ)) → Result ℕ SessionFault → Type 0
-  Steps old new step x next result = (stack : List (List ℕ)) → IsStanding image text old stack → IfOk result (λ n. step stack x (Ok n) (next x stack) × IsStanding image text new (next x stack))
+  abbrev pub Steps : {X : Type 0} → SessionView D T → SessionView D T → (List (List ℕ) → X → Result ℕ SessionFault → List (List ℕ) → Type 0) → X
+      → (X → List (List ℕ) → List (List ℕ)) → Result ℕ SessionFault → Type 0
+  Steps old new step x next result = (stack : List (List ℕ)) → IsStanding image text old stack →
+      IfOk result (λ n. step stack x (Ok n) (next x stack) × IsStanding image text new (next x stack))
 
   -- a session that is ready with a stack is ready with the next
   abbrev pub StaysReady : {V E : Type 0} → SessionView D T → SessionView D T → (List (List ℕ) → List (List ℕ)) → Result V E → Type 0
@@ -40,7 +42,8 @@ module _ {D T : Type 0} (image : D → List ℕ) (text : T → List ℕ) where
 
   -- what opening finds behind an interruption, where the session was ready with these images
   abbrev pub FindsBehind : {V : Type 0} → SessionView D T → (Images → Type 0) → Result V SessionFault → Type 0
-  FindsBehind old found result = (s : Images) → IsReady image text old s.stack → HasUndone image text old s.undone → IfErr result (λ e. AfterFault e (found s) (Unit {0}))
+  FindsBehind old found result = (s : Images) → IsReady image text old s.stack → HasUndone image text old s.undone →
+      IfErr result (λ e. AfterFault e (found s) (Unit {0}))
 
   -- behind an interruption of a change opening finds the old images or the new ones
   abbrev pub FindsOne : {A V : Type 0} → Change A → SessionView D T → SessionView D T → Result V SessionFault → Type 0
@@ -52,7 +55,8 @@ module _ {D T : Type 0} (image : D → List ℕ) (text : T → List ℕ) where
 
   -- the images that an undo takes back are undone, above those that were
   abbrev pub UndoesImages : {V E : Type 0} → ℕ → SessionView D T → SessionView D T → Result V E → Type 0
-  UndoesImages k old new result = (s : Images) → IsStanding image text old s.stack → HasUndone image text old s.undone → OnOk result (HasUndone image text new (undo_of k s).undone)
+  UndoesImages k old new result = (s : Images) → IsStanding image text old s.stack → HasUndone image text old s.undone →
+      OnOk result (HasUndone image text new (undo_of k s).undone)
 
   -- where a redo is accepted, the machine makes its step from the images for which the session stands
   abbrev pub RedoesImages : ℕ → SessionView D T → SessionView D T → Result ℕ SessionFault → Type 0

@@ -12,7 +12,8 @@ abbrev pub ImageIsFirst : {D T R E : Type 0} → (D → Type 0) → (D → List 
 ImageIsFirst honest image result step d d_new u u_new = honest d → OnErr result ((u_new ≡ u) ⊎ (image d_new ≡ step (image d)))
 
 -- Three devices go on behind a step: each is honest if it was, and one of them counts one failure more where the step failed
-pub record StepsOn {D T R E : Type 0} (honest : D → Type 0) (text_honest : T → Type 0) (failures : D → ℕ) (text_failures : T → ℕ) (result : Result R E) (d : D) (t u : T) (d_new : D) (t_new u_new : T) : Type 0 where
+pub record StepsOn {D T R E : Type 0} (honest : D → Type 0) (text_honest : T → Type 0) (failures : D → ℕ) (text_failures : T → ℕ) (result : Result R E)
+    (d : D) (t u : T) (d_new : D) (t_new u_new : T) : Type 0 where
   pub device_honesty : honest d_new ↔ honest d
   pub store_honesty : text_honest t_new ↔ text_honest t
   pub redo_honesty : text_honest u_new ↔ text_honest u

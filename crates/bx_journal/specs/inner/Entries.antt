@@ -20,7 +20,8 @@ DropsStand image text d t d_new t_new takens result =
 -- where it is stopped opening finds the stack without some of them
 abbrev pub DropsSome : {D T B V E : Type 0} → (D → List ℕ) → (T → List ℕ) → D → T → D → T → List B → Result V E → Type 0
 DropsSome image text d t d_new t_new takens result =
-    (stack : List (List ℕ)) → IsAtRest (text t) (image d) stack → OnErr result ((j : ℕ) × (j ≤ length takens) × Recovers (text t_new) (image d_new) (drop j stack))
+    (stack : List (List ℕ)) → IsAtRest (text t) (image d) stack
+    → OnErr result ((j : ℕ) × (j ≤ length takens) × Recovers (text t_new) (image d_new) (drop j stack))
 
 -- where all three are honest and stand for images, they stand for those behind the undo, and it answers how many are undone
 abbrev pub UndoAll : {D T B E : Type 0} → (D → Type 0) → (D → List ℕ) → (T → Type 0) → (T → List ℕ) → D → T → T → D → T → T → ℕ → List B → Result ℕ E → Type 0
@@ -29,13 +30,15 @@ UndoAll honest image text_honest text d t u d_new t_new u_new undone takens resu
     → IfOk result (λ n. (n ≡ length (undo_of (length takens) s).undone) × AreStanding (text t_new) (image d_new) (text u_new) (undo_of (length takens) s))
 
 -- and where it is stopped opening finds the images behind some of it
-abbrev pub UndoSome : {D T B V E : Type 0} → (D → Type 0) → (D → List ℕ) → (T → Type 0) → (T → List ℕ) → D → T → T → D → T → T → ℕ → List B → Result V E → Type 0
+abbrev pub UndoSome : {D T B V E : Type 0} → (D → Type 0) → (D → List ℕ) → (T → Type 0) → (T → List ℕ) → D → T → T → D → T → T → ℕ → List B → Result V E
+    → Type 0
 UndoSome honest image text_honest text d t u d_new t_new u_new undone takens result =
     honest d → text_honest t → text_honest u → (s : Images) → AreAtRest (text t) (image d) (text u) s → undone ≡ length s.undone
     → OnErr result ((i : ℕ) × (i ≤ length takens) × Finds (text t_new) (image d_new) (text u_new) (undo_of i s))
 
 -- where all three are honest and at rest, they are so behind the redo
-abbrev pub RedoRests : {D T B V E : Type 0} → (D → Type 0) → (D → List ℕ) → (T → Type 0) → (T → List ℕ) → D → T → T → D → T → T → ℕ → List B → Result V E → Type 0
+abbrev pub RedoRests : {D T B V E : Type 0} → (D → Type 0) → (D → List ℕ) → (T → Type 0) → (T → List ℕ) → D → T → T → D → T → T → ℕ → List B → Result V E
+    → Type 0
 RedoRests honest image text_honest text d t u d_new t_new u_new count takens result =
     honest d → text_honest t → text_honest u → (s : Images) → AreAtRest (text t) (image d) (text u) s → count ≡ changes_of s.stack
     → OnOk result (AreAtRest (text t_new) (image d_new) (text u_new) (redo_of (length takens) s))
@@ -47,7 +50,8 @@ RedoAll honest image text_honest text d t u d_new t_new u_new count takens resul
     → OnOk result (AreStanding (text t_new) (image d_new) (text u_new) (redo_of (length takens) s))
 
 -- and where it is stopped opening finds the images behind some of it
-abbrev pub RedoSome : {D T B V E : Type 0} → (D → Type 0) → (D → List ℕ) → (T → Type 0) → (T → List ℕ) → D → T → T → D → T → T → ℕ → List B → Result V E → Type 0
+abbrev pub RedoSome : {D T B V E : Type 0} → (D → Type 0) → (D → List ℕ) → (T → Type 0) → (T → List ℕ) → D → T → T → D → T → T → ℕ → List B → Result V E
+    → Type 0
 RedoSome honest image text_honest text d t u d_new t_new u_new count takens result =
     honest d → text_honest t → text_honest u → (s : Images) → AreAtRest (text t) (image d) (text u) s → count ≡ changes_of s.stack
     → OnErr result ((i : ℕ) × (i ≤ length takens) × Finds (text t_new) (image d_new) (text u_new) (redo_of i s))

@@ -54,13 +54,15 @@ TellsUnfit honest image text_honest text d t u result =
 -- the undone images that opening finds are kept, or none where something is unfinished
 abbrev pub KeepsFoundUndone : {D T E : Type 0} → (D → Type 0) → (D → List ℕ) → (T → Type 0) → (T → List ℕ) → D → T → T → D → T → Result Recovered E → Type 0
 KeepsFoundUndone honest image text_honest text d t u d_new u_new result =
-    honest d → text_honest t → text_honest u → (s : Images) → Finds (text t) (image d) (text u) s → IfOk result (λ o. KeepsUndone (text u_new) (image d_new) o s.undone)
+    honest d → text_honest t → text_honest u → (s : Images) → Finds (text t) (image d) (text u) s
+    → IfOk result (λ o. KeepsUndone (text u_new) (image d_new) o s.undone)
 
 -- behind a fault opening finds the images that it found before, behind an interruption without those that were undone
 abbrev pub FindsAgain : {D T V : Type 0} → (D → Type 0) → (D → List ℕ) → (T → Type 0) → (T → List ℕ) → D → T → T → D → T → T → Result V SessionFault → Type 0
 FindsAgain honest image text_honest text d t u d_new t_new u_new result =
     honest d → text_honest t → text_honest u → (s : Images) → Finds (text t) (image d) (text u) s
-    → IfErr result (λ e. AfterFault e (Finds (text t_new) (image d_new) (text u_new) (record { stack = s.stack; undone = [] })) (Finds (text t_new) (image d_new) (text u_new) s))
+    → IfErr result (λ e. AfterFault e (Finds (text t_new) (image d_new) (text u_new) (record { stack = s.stack; undone = [] }))
+        (Finds (text t_new) (image d_new) (text u_new) s))
 
 -- a redo text of which opening finds images is never refused
 abbrev pub KeepsRedoText : {D T V : Type 0} → (D → Type 0) → (D → List ℕ) → (T → Type 0) → (T → List ℕ) → D → T → T → Result V SessionFault → Type 0

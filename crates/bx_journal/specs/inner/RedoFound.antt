@@ -36,4 +36,5 @@ RefusesFound found changes x result =
 -- a text that was found and is the image's redo text isn't refused
 abbrev pub AcceptsFound : {A V : Type 0} → RedoFound A → ℕ → List ℕ → Result V SessionFault → Type 0
 AcceptsFound found changes x result =
-    (text : List ℕ) → IsRedoFound text changes found → (undone : List (List ℕ)) → IsRedoOf text x changes undone → IfErr result (λ e. (line : ℕ) → e ≡ RedoDamaged line → ⊥)
+    (text : List ℕ) → IsRedoFound text changes found → (undone : List (List ℕ)) → IsRedoOf text x changes undone
+    → IfErr result (λ e. (line : ℕ) → e ≡ RedoDamaged line → ⊥)

@@ -28,7 +28,8 @@ PushedIsRedo = (text new x y : List ℕ) (changes : ℕ) (undone : List (List �
 -- a redo cuts the last entry off, where it begins
 abbrev pub PoppedIsRedo : Type 0
 PoppedIsRedo = (text new x y z : List ℕ) (changes : ℕ) (undone : List (List ℕ)) (v : Version) (e : Entry) (entries : List Entry) (begins saved : ℕ)
-    → IsRedoOf text x changes (z ∷ undone) → IsFinished text (e ∷ entries) → HasMarks text entries v e begins saved → new ≡ take begins text → y ≡ restore e.saved x
+    → IsRedoOf text x changes (z ∷ undone) → IsFinished text (e ∷ entries) → HasMarks text entries v e begins saved → new ≡ take begins text
+    → y ≡ restore e.saved x
     → (y ≡ z) × IsRedoOf new y (suc changes) undone
 
 -- an entry that is open isn't finished
@@ -42,7 +43,8 @@ EndIsSharp = (text new x : List ℕ) (stack : List (List ℕ)) (s : Kept) (line 
 
 -- a failed cut of the end line leaves the entry finished, or open
 abbrev pub CutIsSharp : Type 0
-CutIsSharp = (text new x : List ℕ) (below : List (List ℕ)) (v : Version) (e : Entry) (begins saved : ℕ) → TakesBack text x below v e begins saved → IsPartlyCut saved text new
+CutIsSharp = (text new x : List ℕ) (below : List (List ℕ)) (v : Version) (e : Entry) (begins saved : ℕ) → TakesBack text x below v e begins saved
+    → IsPartlyCut saved text new
     → Recovers new x (x ∷ below) ⊎ RecoversOpen new x below
 
 -- what a stopped step leaves is found as the images before it, or as those behind it
@@ -59,7 +61,8 @@ pub record RestoresKept {A : Type 0} (c : Change A) (entry : Saved A) (record_ :
 
 -- what an undo saves is what the change that restores its entry overwrites
 abbrev pub PushedByUndo : Type 0 → Type 0
-PushedByUndo A = (c : Change A) (text new x y : List ℕ) (changes : ℕ) (undone : List (List ℕ)) (e : Entry) (entry : Saved A) → IsRedoOf text x (suc changes) undone
+PushedByUndo A = (c : Change A) (text new x y : List ℕ) (changes : ℕ) (undone : List (List ℕ)) (e : Entry) (entry : Saved A)
+    → IsRedoOf text x (suc changes) undone
     → RestoresKept c entry e.saved → IsOf (saved c x) x → length x ≤ MAX_LEN → e.saved.len ≤ MAX_LEN → y ≡ restore e.saved x
     → new ≡ text ++ entry_text (suc (length undone)) (kept_of (saved c x)) e.saved.len
     → IsRedoOf new y changes (x ∷ undone)
@@ -70,4 +73,5 @@ pub record OneMoreImage : Type 0 where
   pub redo : (j : ℕ) (s : Images) → redo_of (suc j) s ≡ redo_of 1 (redo_of j s)
   pub undone : (k : ℕ) (stack u : List (List ℕ)) → length (undone_by k stack u) ≤ k + length u
   pub redone : (j : ℕ) (u stack : List (List ℕ)) → j ≤ length u → length (redone_by j u stack) ≡ j + length stack
-  pub back : (x : List ℕ) (stack u : List (List ℕ)) → length x ≤ MAX_LEN → redo_of 1 (undo_of 1 (record { stack = x ∷ stack; undone = u })) ≡ record { stack = x ∷ stack; undone = u }
+  pub back : (x : List ℕ) (stack u : List (List ℕ)) → length x ≤ MAX_LEN
+      → redo_of 1 (undo_of 1 (record { stack = x ∷ stack; undone = u })) ≡ record { stack = x ∷ stack; undone = u }

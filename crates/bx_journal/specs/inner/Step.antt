@@ -77,19 +77,23 @@ EndStops text end_line new result =
 -- without what is unfinished, of which the image was not changed, a text is at rest
 abbrev pub TailRests : {V E : Type 0} → List ℕ → ℕ → List ℕ → Result V E → Type 0
 TailRests text begins new result =
-    (x : List ℕ) (stack : List (List ℕ)) (es : List Entry) (stage : Stage) → HasTail text x stack es stage begins → image_at stage x ≡ x → OnOk result (IsAtRest new x stack)
+    (x : List ℕ) (stack : List (List ℕ)) (es : List Entry) (stage : Stage) → HasTail text x stack es stage begins → image_at stage x ≡ x
+    → OnOk result (IsAtRest new x stack)
 
 -- and without some of it opening finds the same stack
 abbrev pub TailStops : {V E : Type 0} → List ℕ → ℕ → List ℕ → Result V E → Type 0
 TailStops text begins new result =
-    (x : List ℕ) (stack : List (List ℕ)) (es : List Entry) (stage : Stage) → HasTail text x stack es stage begins → image_at stage x ≡ x → OnErr result (Recovers new x stack)
+    (x : List ℕ) (stack : List (List ℕ)) (es : List Entry) (stage : Stage) → HasTail text x stack es stage begins → image_at stage x ≡ x
+    → OnErr result (Recovers new x stack)
 
 -- where the change of an unfinished entry is taken back, image and journal are at rest
 abbrev pub TakesTail : {D T V E : Type 0} → (D → List ℕ) → (T → List ℕ) → Kept → ℕ → D → T → D → T → Result V E → Type 0
 TakesTail image text s begins d t d_new t_new result =
-    (stack : List (List ℕ)) (es : List Entry) (v : Version) → HasTail (text t) (image d) stack es (Ending v s) begins → OnOk result (IsAtRest (text t_new) (image d_new) stack)
+    (stack : List (List ℕ)) (es : List Entry) (v : Version) → HasTail (text t) (image d) stack es (Ending v s) begins
+    → OnOk result (IsAtRest (text t_new) (image d_new) stack)
 
 -- and where that is stopped opening finds the same stack
 abbrev pub StopsTail : {D T V E : Type 0} → (D → List ℕ) → (T → List ℕ) → Kept → ℕ → D → T → D → T → Result V E → Type 0
 StopsTail image text s begins d t d_new t_new result =
-    (stack : List (List ℕ)) (es : List Entry) (v : Version) → HasTail (text t) (image d) stack es (Ending v s) begins → OnErr result (Recovers (text t_new) (image d_new) stack)
+    (stack : List (List ℕ)) (es : List Entry) (v : Version) → HasTail (text t) (image d) stack es (Ending v s) begins
+    → OnErr result (Recovers (text t_new) (image d_new) stack)

@@ -43,7 +43,8 @@ pub record UndoesOne {A : Type 0} (c : Change A) (entry : Saved A) (x : List ℕ
   pub taken_is : IsTaken c x taken
 
 -- what one entry's redo starts from: the newest entry of the redo text, and where it begins
-pub record RedoesOne {A : Type 0} (c : Change A) (entry : Saved A) (redo : List ℕ) (s : Images) (e : Entry) (begins : ℕ) (z : List ℕ) (u : List (List ℕ)) : Type 0 where
+pub record RedoesOne {A : Type 0} (c : Change A) (entry : Saved A) (redo : List ℕ) (s : Images) (e : Entry) (begins : ℕ) (z : List ℕ)
+    (u : List (List ℕ)) : Type 0 where
   pub undone_is : s.undone ≡ z ∷ u
   pub some : 1 ≤ length s.stack
   pub restores : RestoresKept c entry e.saved
@@ -55,13 +56,15 @@ pub record RedoesOne {A : Type 0} (c : Change A) (entry : Saved A) (redo : List 
 
 abbrev pub UndoTurns : Type 0 → Type 0
 UndoTurns A = (c : Change A) (entry : Saved A) (text x redo new y redo_new : List ℕ) (s : Images) (e : Entry) (taken : Kept) (below : List (List ℕ))
-    → AreAtRest text x redo s → UndoesOne c entry x s e taken below → y ≡ restore e.saved x → redo_new ≡ kept_text redo taken (suc (length s.undone)) e.saved.len → IsAtRest new y below
+    → AreAtRest text x redo s → UndoesOne c entry x s e taken below → y ≡ restore e.saved x
+    → redo_new ≡ kept_text redo taken (suc (length s.undone)) e.saved.len → IsAtRest new y below
     → AreAtRest new y redo_new (undo_of 1 s)
 
 abbrev pub UndoStops : Type 0 → Type 0
 UndoStops A = (c : Change A) (entry : Saved A) (text x redo new x_new redo_new : List ℕ) (s : Images) (e : Entry) (taken : Kept) (below : List (List ℕ))
     → AreAtRest text x redo s → UndoesOne c entry x s e taken below
-    → LeavesEither new x_new redo_new (record { stack = x ∷ below; image = x; redo = redo }) (record { stack = below; image = restore e.saved x; redo = kept_text redo taken (suc (length s.undone)) e.saved.len })
+    → LeavesEither new x_new redo_new (record { stack = x ∷ below; image = x; redo = redo })
+    (record { stack = below; image = restore e.saved x; redo = kept_text redo taken (suc (length s.undone)) e.saved.len })
     → Finds new x_new redo_new s ⊎ Finds new x_new redo_new (undo_of 1 s)
 
 abbrev pub RedoTurns : Type 0 → Type 0
@@ -72,7 +75,8 @@ RedoTurns A = (c : Change A) (entry : Saved A) (text x redo new y redo_new : Lis
 abbrev pub RedoStops : Type 0 → Type 0
 RedoStops A = (c : Change A) (entry : Saved A) (text x redo new x_new redo_new : List ℕ) (s : Images) (e : Entry) (begins : ℕ) (z : List ℕ) (u : List (List ℕ))
     → AreAtRest text x redo s → RedoesOne c entry redo s e begins z u
-    → LeavesEither new x_new redo_new (record { stack = s.stack; image = x; redo = redo }) (record { stack = effect c x ∷ s.stack; image = effect c x; redo = take begins redo })
+    → LeavesEither new x_new redo_new (record { stack = s.stack; image = x; redo = redo })
+    (record { stack = effect c x ∷ s.stack; image = effect c x; redo = take begins redo })
     → Finds new x_new redo_new s ⊎ Finds new x_new redo_new (redo_of 1 s)
 
 -- a change, whose step cuts the redo text to nothing

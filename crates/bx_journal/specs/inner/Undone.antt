@@ -13,7 +13,8 @@ use Rattle.bx_journal.specs.inner.Turns.{kept_text, side_of}
 use Rattle.bx_store.specs.Store.{IsPartlyCut}
 
 -- What is restored and what is taken lie within their lengths, image and redo text have room, and the page is empty and has room for each line
-pub record CanUndo {T A : Type 0} (honest : T → Type 0) (text : T → List ℕ) (text_room : T → ℕ) (redo : T) (room : ℕ) (waiting : List ℕ) (capacity number : ℕ) (taken kept : Saved A) : Type 0 where
+pub record CanUndo {T A : Type 0} (honest : T → Type 0) (text : T → List ℕ) (text_room : T → ℕ) (redo : T) (room : ℕ) (waiting : List ℕ) (capacity number : ℕ)
+    (taken kept : Saved A) : Type 0 where
   pub within : AllWithin kept.len (map run_of kept.runs)
   pub image_room : kept.len ≤ room
   pub taken_within : AllWithin taken.len taken.runs
@@ -22,7 +23,8 @@ pub record CanUndo {T A : Type 0} (honest : T → Type 0) (text : T → List ℕ
   pub page_room : 82 ≤ capacity
 
 -- The image is restored, the redo text has what was taken, and neither has less room
-pub record Undoes {D T R E A : Type 0} (honest : D → Type 0) (image : D → List ℕ) (room : D → ℕ) (text_honest : T → Type 0) (text : T → List ℕ) (text_room : T → ℕ) (result : Result R E) (d : D) (u : T) (d_new : D) (u_new : T) (number : ℕ) (taken kept : Saved A) : Type 0 where
+pub record Undoes {D T R E A : Type 0} (honest : D → Type 0) (image : D → List ℕ) (room : D → ℕ) (text_honest : T → Type 0) (text : T → List ℕ)
+    (text_room : T → ℕ) (result : Result R E) (d : D) (u : T) (d_new : D) (u_new : T) (number : ℕ) (taken kept : Saved A) : Type 0 where
   pub image_is : honest d → OnOk result (image d_new ≡ restore (kept_of kept) (image d))
   pub redo_is : text_honest u → OnOk result (text u_new ≡ kept_text (text u) (kept_of taken) number kept.len)
   pub room_kept : room d ≤ room d_new
@@ -46,7 +48,8 @@ UndoStops image text kept begins saved d t d_new t_new result =
     → OnErr result (RecoversEither (text t_new) (image d_new) (image d ∷ below) below)
 
 -- and with the redo text all is as before, as behind it, or the journal is unfinished, where all three are honest
-abbrev pub LeftUndo : {D T A V E : Type 0} → (D → Type 0) → (D → List ℕ) → (T → Type 0) → (T → List ℕ) → ℕ → Saved A → Saved A → ℕ → ℕ → D → T → T → D → T → T → Result V E → Type 0
+abbrev pub LeftUndo : {D T A V E : Type 0} → (D → Type 0) → (D → List ℕ) → (T → Type 0) → (T → List ℕ) → ℕ → Saved A → Saved A → ℕ → ℕ → D → T → T → D → T → T
+    → Result V E → Type 0
 LeftUndo honest image text_honest text number taken kept begins saved d t u d_new t_new u_new result =
     honest d → text_honest t → text_honest u → (below : List (List ℕ)) (v : Version) (e : Entry)
     → TakesBack (text t) (image d) below v e begins saved → kept_of kept ≡ e.saved

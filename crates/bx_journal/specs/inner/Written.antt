@@ -12,19 +12,22 @@ use Rattle.bx_journal.specs.inner.Step.{WritesEntry}
 use Rattle.bx_journal.specs.inner.Turns.{place_of, side_of}
 
 -- image and journal are at rest, and the changed image is the newest of their stack
-abbrev pub EntryRests : {D T A V E : Type 0} → (D → Type 0) → (D → List ℕ) → (T → Type 0) → (T → List ℕ) → Change A → ℕ → Saved A → List ℕ → D → T → D → T → Result V E → Type 0
+abbrev pub EntryRests : {D T A V E : Type 0} → (D → Type 0) → (D → List ℕ) → (T → Type 0) → (T → List ℕ) → Change A → ℕ → Saved A → List ℕ → D → T → D → T
+    → Result V E → Type 0
 EntryRests honest image text_honest text c number kept end_line d t d_new t_new result =
     honest d → text_honest t → (stack : List (List ℕ)) → WritesEntry c (text t) (image d) stack (head_text number (kept_of kept)) end_line
     → OnOk result (IsAtRest (text t_new) (image d_new) (effect c (image d) ∷ stack))
 
 -- where it is stopped, opening finds the old stack or the new one
-abbrev pub EntryStops : {D T A V E : Type 0} → (D → Type 0) → (D → List ℕ) → (T → Type 0) → (T → List ℕ) → Change A → ℕ → Saved A → List ℕ → D → T → D → T → Result V E → Type 0
+abbrev pub EntryStops : {D T A V E : Type 0} → (D → Type 0) → (D → List ℕ) → (T → Type 0) → (T → List ℕ) → Change A → ℕ → Saved A → List ℕ → D → T → D → T
+    → Result V E → Type 0
 EntryStops honest image text_honest text c number kept end_line d t d_new t_new result =
     honest d → text_honest t → (stack : List (List ℕ)) → WritesEntry c (text t) (image d) stack (head_text number (kept_of kept)) end_line
     → OnErr result (RecoversEither (text t_new) (image d_new) stack (effect c (image d) ∷ stack))
 
 -- and with the redo text, of which a part is cut, all is as before, as behind it, or the journal is unfinished
-abbrev pub Left : {D T A V E : Type 0} → (D → Type 0) → (D → List ℕ) → (T → Type 0) → (T → List ℕ) → Change A → ℕ → Saved A → List ℕ → RedoCut → D → T → T → D → T → T → Result V E → Type 0
+abbrev pub Left : {D T A V E : Type 0} → (D → Type 0) → (D → List ℕ) → (T → Type 0) → (T → List ℕ) → Change A → ℕ → Saved A → List ℕ → RedoCut → D → T → T → D
+    → T → T → Result V E → Type 0
 Left honest image text_honest text c number kept end_line cut d t u d_new t_new u_new result =
     honest d → text_honest t → text_honest u → (stack : List (List ℕ)) → WritesEntry c (text t) (image d) stack (head_text number (kept_of kept)) end_line
     → OnErr result (LeavesEither (text t_new) (image d_new) (text u_new) (side_of stack (image d) (text u))
