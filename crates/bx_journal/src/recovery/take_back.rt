@@ -11,7 +11,7 @@ use bx_image::{Device, DeviceFailed, Saved};
 use bx_store::TextStore;
 use std::alloc::Allocator;
 
-/// Cuts off what is unfinished, of which the image was not changed.
+/// Cuts off an unfinished entry whose change is not in the image.
 pub fn drop_tail<T: TextStore>(store: &mut T, begins: u64) -> Result<(), DeviceFailed>
     requires countable { T.failures store.old < u64.MAX }
     requires within_text { T.honest store.old → begins ≤ length (T.text store.old) }
