@@ -2,7 +2,7 @@
 use Rattle.std.proofs.Common.{◌≡◌, ℕ, zero, suc, ◌+◌, ◌-◌, ◌*◌, ◌/◌, ◌<◌, ◌≤◌, Bool, true, false, List, [], ◌++◌, length, min, take, drop, refl, sym, ap, ◌∙◌, arith, add-zero, append-nil, length-append, cond, ◌⊎◌, ⊎_elim, inl, inr}
 use Rattle.std.specs.Prelude.{bytes_eq}
 use Rattle.std.specs.List.{flat_map, range_with_len}
-use Rattle.std.proofs.lemmas.List.{drop-append-le, take-append-le, length-drop, take_all}
+use Rattle.std.proofs.lemmas.List.{drop-append-le, take-append-le, length-drop, length-take-le, take_all}
 use Rattle.std.proofs.lemmas.Bool.{cases_order}
 use Rattle.std.proofs.lemmas.Slice.Eq.{bytes_eq-Decides}
 use Rattle.std.proofs.Math.Nat.{mul-add-div}
@@ -33,11 +33,11 @@ cut a b zs e = ⊎_elim (λ less. ap (λ n. take n zs) (let f : a ≡ b = omega 
     le_or m n = ⊎_elim (λ e. inl (omega arith)) (λ o. ⊎_elim (λ l. inl (omega arith)) (λ l. inr (omega arith)) o) (cases_order m n)
 
 -- a short line is shown
-pub short_shown : (fold : Fold) (whole : List ℕ) (k : ℕ) → HasTaken fold whole k → length fold.last ≡ 16 → length (line_bytes whole k) < 16 → show_at whole k ≡ Line
-short_shown fold whole zero taken full short = refl
-short_shown fold whole (suc k) taken full short =
-    ap (λ b. cond b (cond (is_hidden whole k) Nothing Star) Line)
-    (uneven (line_bytes whole (suc k)) (line_bytes whole k) (omega (arith, ap length taken.1)))
+pub short_shown : (whole : List ℕ) (k : ℕ) → 16 * k ≤ length whole → length (line_bytes whole k) < 16 → show_at whole k ≡ Line
+short_shown whole zero front short = refl
+short_shown whole (suc k) front short =
+    let full : length (line_bytes whole k) ≡ 16 = length-take-le 16 (drop (16 * k) whole) (omega (arith, length-drop (16 * k) whole)) in
+    ap (λ b. cond b (cond (is_hidden whole k) Nothing Star) Line) (uneven (line_bytes whole (suc k)) (line_bytes whole k) (omega arith))
 
 -- what stands in front stays the same
 module _ (xs ys : List ℕ) (n : ℕ) (whole : length xs ≡ 16 * n) where
@@ -83,7 +83,7 @@ module _ (xs ys : List ℕ) (n : ℕ) (whole : length xs ≡ 16 * n) where
     where
       stay : (m : ℕ) (fold : Fold) → m ≤ n → HasTaken fold xs m → HasTaken fold (xs ++ ys) m
       stay zero fold le taken = taken
-      stay (suc m) fold le taken = (taken.0, taken.1 ∙ sym (bytes_stay m (omega arith)), taken.2 ∙ sym (hidden_stay m (omega arith)))
+      stay (suc m) fold le taken = rw (bytes_stay m (omega arith), hidden_stay m (omega arith)) taken
 
 -- a dump goes on where more bytes come
 pub more_text : (line : ℕ → List ℕ → List ℕ) (all : Bool) (at n : ℕ) (xs ys : List ℕ) → length xs ≡ 16 * n →

@@ -1,7 +1,8 @@
 -- The text of od.
-use Rattle.std.specs.Prelude.{ℕ, ◌+◌, ◌-◌, ◌*◌, ◌^◌, Bool, false, ◌&&◌, nat_le, nat_lt, ◌==◌, if◌then◌else◌, List, [], ◌∷◌, ◌++◌, length, codes, Option, None, Some}
+use Rattle.std.specs.Prelude.{ℕ, ◌+◌, ◌-◌, ◌*◌, ◌^◌, Bool, false, ◌&&◌, nat_le, nat_lt, ◌==◌, if◌then◌else◌, List, [], ◌∷◌, ◌++◌, length, slice_index, codes, Option, None, Some}
 use Rattle.std.specs.Fmt.{digits}
 use Rattle.std.specs.Option.{option_map_or}
+use Rattle.bx_text.specs.Ascii.{is_printable}
 use Rattle.bx_text.specs.Field.{left_filled}
 use Rattle.bx_text.specs.Fold.{folded}
 use Rattle.bx_dump.specs.Lines.{in_lines}
@@ -25,11 +26,10 @@ by_size Two a b c d = b
 by_size Four a b c d = c
 by_size Eight a b c d = d
 
--- a byte as a character: by its name where it has one, itself where it prints, else in octal
+-- a byte as a character: by its name where it has one, a backslash and 0 or a letter; itself where it prints; else in octal
 abbrev pub char_text : ℕ → List ℕ
-char_text b = if b == 0 then codes "\\0" else if b == 7 then codes "\\a" else if b == 8 then codes "\\b" else if b == 9 then codes "\\t" else
-    if b == 10 then codes "\\n" else if b == 11 then codes "\\v" else if b == 12 then codes "\\f" else if b == 13 then codes "\\r" else
-    if nat_le 32 b && nat_le b 126 then b ∷ [] else left_filled 48 3 (digits 8 false b)
+char_text b = if b == 0 then codes "\\0" else if nat_le 7 b && nat_le b 13 then 92 ∷ slice_index (codes "abtnvfr") (b - 7) ∷ [] else
+    if is_printable b then b ∷ [] else left_filled 48 3 (digits 8 false b)
 
 -- how many bytes a value has
 abbrev pub width_of : Kind → ℕ
@@ -58,7 +58,7 @@ address_text address at = option_map_or (λ d. left_filled 48 d.1 (digits d.0 fa
 
 -- a line: the address, and a space and a field for each value
 abbrev pub od_line : Address → Kind → ℕ → List ℕ → List ℕ
-od_line address kind at bytes = address_text address at ++ in_lines (λ place value. 32 ∷ field_text kind (value_of value)) (width_of kind) 0 bytes ++ codes "\n"
+od_line address kind at bytes = address_text address at ++ in_lines (λ _ value. 32 ∷ field_text kind (value_of value)) (width_of kind) 0 bytes ++ codes "\n"
 
 -- the address behind the last byte, on a line of its own
 abbrev pub od_end : Address → ℕ → List ℕ

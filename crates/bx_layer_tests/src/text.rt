@@ -210,7 +210,7 @@ fn refused_at<A: Allocator>(
         }
         Err(fault) => {
             assert!(rt; fault == IoFault::NoMemory);
-            Some(source.meter.taken)
+            Some(source.taken())
         }
     }
 }

@@ -7,7 +7,7 @@ use Rattle.bx_text.specs.declared.number.size.SizeStyle.{SizeStyle}
 use Rattle.bx_text.specs.declared.number.size.SizeStyle.TheVariants.{Count, Bare, Product}
 use Rattle.bx_text.specs.declared.number.size.SizeFault.{SizeFault}
 use Rattle.bx_text.specs.declared.number.size.SizeFault.TheVariants.{Bad, TooLarge}
-use Rattle.bx_text.specs.Number.{unit_of, units_of, some_digits, product_of, size_value, greatest}
+use Rattle.bx_text.specs.Number.{units_of, some_digits, product_of, size_value, greatest}
 use Rattle.bx_text.specs.inner.Number.{within, in_first, factors_of}
 use Rattle.bx_text.specs.NumberGrammar.{IsAmount}
 use Rattle.bx_text.specs.SizeGrammar.{with_x, AreFactors, IsSize, SizeHasForm}
@@ -48,7 +48,7 @@ digit-x c is = ne_eqb c 120 (λ e. false≢true (subst (λ d. is_digit d 10 ≡ 
 
 suffix-x : (suffix : List ℕ) (unit : ℕ) → units_of Product suffix ≡ Some unit → HasNoX suffix
 suffix-x [] unit is = λ k d inside. absurd (omega arith)
-suffix-x (c ∷ []) unit is = λ k d inside. let first : k ≡ 0 = omega arith in rw first (ne_eqb c 120 (λ e. none (subst (λ x. unit_of Product x ≡ Some unit) e is)))
+suffix-x (c ∷ []) unit is = λ k d inside. let first : k ≡ 0 = omega arith in rw first (ne_eqb c 120 (λ e. none (subst (λ x. units_of Product (x ∷ []) ≡ Some unit) e is)))
   where
     none : ◌≡◌ {A = Option ℕ} None (Some unit) → ⊥
     none h = cc h

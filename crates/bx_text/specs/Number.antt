@@ -1,11 +1,11 @@
 -- How numbers are read.
-use Rattle.std.specs.Prelude.{ℕ, ◌*◌, ◌^◌, ◌-◌, ◌==◌, ◌&&◌, ◌||◌, nat_lt, nat_le, if◌then◌else◌, List, [], ◌∷◌, length, take, drop, Option, None, Some, Result, Ok, Err}
+use Rattle.std.specs.Prelude.{ℕ, ◌*◌, ◌^◌, ◌-◌, ◌==◌, ◌&&◌, ◌||◌, nat_lt, nat_le, if◌then◌else◌, List, [], ◌∷◌, length, take, drop, slice_index, Option, None, Some, Result, Ok, Err}
 use Rattle.std.specs.Option.{option_map, option_map_or, option_and_then}
 use Rattle.std.specs.Char.{is_digit}
 use Rattle.std.specs.List.{prefix_len, slice_split}
 use Rattle.std.specs.Str.Parse.{digits_value}
 use Rattle.bx_text.specs.declared.number.size.SizeStyle.{SizeStyle}
-use Rattle.bx_text.specs.declared.number.size.SizeStyle.TheVariants.{Count, Bare, Product}
+use Rattle.bx_text.specs.declared.number.size.SizeStyle.TheVariants.{Count, Product}
 use Rattle.bx_text.specs.declared.number.size.SizeFault.{SizeFault}
 use Rattle.bx_text.specs.declared.number.size.SizeFault.TheVariants.{Bad, TooLarge}
 
@@ -17,23 +17,17 @@ digit_count base text = prefix_len (λ c. is_digit c base) text
 abbrev pub hex_number : List ℕ → Option ℕ
 hex_number text = if nat_lt 0 (length text) && nat_le (length text) 16 && (digit_count 16 text == length text) then Some (digits_value 16 text) else None
 
--- what a suffix multiplies by in each style; b, k, m, and K, M, G
-abbrev pub unit_of : SizeStyle → ℕ → Option ℕ
-unit_of Count c = if c == 98 then Some 512 else if c == 107 then Some 1024 else if c == 109 then Some (1024 * 1024) else None
-unit_of Bare c = None
-unit_of Product c = if c == 98 then Some 512 else if c == 107 || c == 75 then Some 1024 else if c == 77 then Some (1024 * 1024) else
-    if c == 71 then Some (1024 * 1024 * 1024) else None
-
--- the same of what follows the digits: nothing, or one suffix
+-- what digits are multiplied by for what follows them: nothing, or one suffix of the style; b, k, m, and K, M, G
 abbrev pub units_of : SizeStyle → List ℕ → Option ℕ
 units_of style [] = Some 1
-units_of style (c ∷ []) = unit_of style c
-units_of style (c ∷ d ∷ rest) = None
+units_of Count (c ∷ []) = if c == 98 then Some 512 else if c == 107 then Some 1024 else if c == 109 then Some (1024 * 1024) else None
+units_of Product (c ∷ []) = if c == 98 then Some 512 else if c == 107 || c == 75 then Some 1024 else if c == 77 then Some (1024 * 1024) else
+    if c == 71 then Some (1024 * 1024 * 1024) else None
+units_of style text = None
 
 -- digits of a base, and perhaps a suffix
 abbrev pub with_suffix : SizeStyle → ℕ → List ℕ → Option ℕ
-with_suffix style base text =
-    option_map (λ unit. digits_value base (take (digit_count base text) text) * unit) (units_of style (drop (digit_count base text) text))
+with_suffix style base text = let n = digit_count base text in option_map (λ unit. digits_value base (take n text) * unit) (units_of style (drop n text))
 
 -- the same with at least one digit
 abbrev pub some_digits : SizeStyle → ℕ → List ℕ → Option ℕ
@@ -41,13 +35,11 @@ some_digits style base text = if digit_count base text == 0 then None else with_
 
 -- what follows a leading 0: x and hexadecimal digits, or octal digits, of which there may be none
 abbrev pub after_zero : SizeStyle → List ℕ → Option ℕ
-after_zero style [] = with_suffix style 8 []
-after_zero style (c ∷ text) = if c == 120 || c == 88 then some_digits style 16 text else with_suffix style 8 (c ∷ text)
+after_zero style text = if slice_index text 0 == 120 || slice_index text 0 == 88 then some_digits style 16 (drop 1 text) else with_suffix style 8 text
 
 -- a number whose base its first characters say
 abbrev pub prefixed : SizeStyle → List ℕ → Option ℕ
-prefixed style [] = None
-prefixed style (c ∷ text) = if c == 48 then after_zero style text else some_digits style 10 (c ∷ text)
+prefixed style text = if slice_index text 0 == 48 then after_zero style (drop 1 text) else some_digits style 10 text
 
 -- the product of decimal numbers
 abbrev pub product_of : List (List ℕ) → Option ℕ

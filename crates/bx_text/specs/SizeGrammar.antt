@@ -1,7 +1,7 @@
 -- What a size looks like: a number whose base its first characters say, or a product.
 use Rattle.std.specs.Prelude.{◌≡◌, ◌↔◌, ◌⊎◌, ℕ, ◌*◌, ◌<◌, ◌≤◌, List, [], ◌∷◌, ◌++◌, Ok, Err}
 use Rattle.bx_text.specs.declared.number.size.SizeStyle.{SizeStyle}
-use Rattle.bx_text.specs.declared.number.size.SizeStyle.TheVariants.{Count, Bare, Product}
+use Rattle.bx_text.specs.declared.number.size.SizeStyle.TheVariants.{Product}
 use Rattle.bx_text.specs.declared.number.size.SizeFault.TheVariants.{Bad, TooLarge}
 use Rattle.bx_text.specs.Number.{greatest, read_size}
 use Rattle.bx_text.specs.NumberGrammar.{IsAmount, IsDecimal, IsHexadecimal, IsOctal}
@@ -22,9 +22,8 @@ IsProduct text n = (first : List ℕ) × (more : List (List ℕ)) × (text ≡ w
 
 -- The text has the form of a number of this style, of this value.
 abbrev pub IsSize : SizeStyle → List ℕ → ℕ → Type 0
-IsSize Count text n = IsDecimal Count text n ⊎ (IsHexadecimal Count text n ⊎ IsOctal Count text n)
-IsSize Bare text n = IsDecimal Bare text n ⊎ (IsHexadecimal Bare text n ⊎ IsOctal Bare text n)
 IsSize Product text n = IsProduct text n
+IsSize style text n = IsDecimal style text n ⊎ (IsHexadecimal style text n ⊎ IsOctal style text n)
 
 -- A text reads as a size exactly where it has the form of one that isn't too large; it is too large where it has the form of a
 -- larger one, and bad where it has the form of none.

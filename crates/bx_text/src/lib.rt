@@ -19,4 +19,4 @@ pub use number::size::{SizeFault, SizeStyle};
 pub use owned::bytes::Bytes;
 pub use owned::pieces::{Piece, Pieces};
 pub use owned::words::{Name, Words};
-pub use stream::{Meter, Source, State, emit, emit_after};
+pub use stream::{Meter, Reading, Source, State, emit, emit_after};

@@ -147,13 +147,13 @@ fn copy_rest<R: Read, W: Write, A: Allocator, B: Allocator>(
     ensures ok { IfOk result (CopiesRest form most meter.old.taken (R.remaining r.old) (R.remaining r.new) (W.contents w.old) (W.contents w.new)) }
     ensures err { IfErr result (StopsPass form most meter.old.taken (R.remaining r.old) (R.remaining r.new) (W.contents w.old) (W.contents w.new)) }
 {
-    let before = meter.taken;
+    let before = meter.taken();
     let turn = match copy_units(meter, r, page, w, held, buf, most, form) {
         Ok(turn) => turn,
         Err(fault) => return Err(fault),
     };
     match finish(page, w, held, turn, buf, form) {
-        Ok(tail) => Ok(counts(form, meter.taken - before, page.written, tail)),
+        Ok(tail) => Ok(counts(form, meter.taken() - before, page.written, tail)),
         Err(fault) => Err(fault),
     }
 }
@@ -189,8 +189,8 @@ fn skip_bytes<R: Read>(
     ensures open { IfOk result (λ all. all ≡ true → (meter.new.state ≡ State.Open) × (meter.new.taken ≡ count)) }
     ensures err { IfErr result (StopsSkip count (R.remaining r.old) (R.remaining r.new)) }
 {
-    while meter.taken < count {
-        let want = (count - meter.taken).min(buf.len() as u64) as usize;
+    while meter.taken() < count {
+        let want = (count - meter.taken()).min(buf.len() as u64) as usize;
         let n = match meter.fill(r, &mut buf[..want]) {
             Ok(n) => n,
             Err(fault) => return Err(fault),

@@ -72,8 +72,8 @@ pub fn skip<R: Read>(
     ensures open { IfOk result (λ all. all ≡ true → (meter.new.state ≡ State.Open) × (meter.new.taken ≡ count)) }
     ensures err { IfErr result (StopsAt count (2 ^ 40) (R.remaining r.old) (R.remaining r.new)) }
 {
-    while meter.taken < count {
-        let want = (count - meter.taken).min(block.len() as u64) as usize;
+    while meter.taken() < count {
+        let want = (count - meter.taken()).min(block.len() as u64) as usize;
         let n = match meter.fill(r, &mut block[..want]) {
             Ok(n) => n,
             Err(fault) => return Err(fault),

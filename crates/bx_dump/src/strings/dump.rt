@@ -351,7 +351,7 @@ fn scan_pages<R: Read, W: Write>(
     let mut meter = Meter::new(1 << 40);
     let mut written = 0u64;
     loop {
-        let at = meter.taken;
+        let at = meter.taken();
         let n = match meter.fill(r, block) {
             Ok(n) => n,
             Err(fault) => return Err(fault),
@@ -363,7 +363,7 @@ fn scan_pages<R: Read, W: Write>(
         written += used as u64;
         if n < block.len() {
             return Ok(Dumped {
-                read: meter.taken,
+                read: meter.taken(),
                 written,
             });
         }

@@ -1,7 +1,7 @@
 use Rattle.std.proofs.Common.{◌≡◌, ◌+◌, ◌-◌, ◌*◌, ◌<◌, ◌≤◌, ◌++◌, length, take, drop, arith, ap, ◌∙◌, sym, add-zero, append-nil, append_assoc, min, suc}
 use Rattle.bx_text.specs.Fold.{line_bytes, line_text, folded}
 use Rattle.bx_text.specs.inner.Fold.{lines_to, line_count}
-use Rattle.std.proofs.lemmas.List.{length-take-le, length-drop}
+use Rattle.std.proofs.lemmas.List.{length-append, length-take-le, length-drop}
 use Rattle.bx_text.proofs.KnownLemmas.{take-put_mid_more}
 use Rattle.bx_dump.proofs.FoldLemmas.{lines_stay, count_is, count_all, bytes_after, taken_stay, lines_next}
 use Rattle.bx_dump.proofs.driver.folded.put_lines.Goals as goal
@@ -35,7 +35,7 @@ loop-k-preserved g c =
       text = λ input n start whole at taken.
           let part : take size (drop (16 * k) ys) ≡ line_bytes (input ++ ys) (n + k) = sym (bytes_after input ys n whole k size (omega arith) cut) in
           let was = before.taken input n whole taken (omega arith) in
-          let text = next.text (input ++ ys) (n + k) start (omega arith) part was in
+          let text = next.text (input ++ ys) (n + k) start (omega (arith, whole, length-append input ys)) (omega arith) part was in
           let place : n + (k + 1) ≡ n + k + 1 = omega arith in
           rw (place, lines_next line all start (input ++ ys) (n + k), before.text input n start whole at taken, more, text)
           (append_assoc (folded line all start input) (take used c.loop-k.page) (line_text line all start (input ++ ys) (n + k)));

@@ -1,7 +1,7 @@
-use Rattle.std.proofs.Common.{rules, ◌≡◌, ℕ, ◌+◌, ◌++◌, length, take, arith, ◌∙◌}
+use Rattle.std.proofs.Common.{rules, ◌≡◌, ℕ, ◌+◌, ◌++◌, length, take, arith, ap, ◌∙◌}
 use Rattle.std.proofs.lemmas.List.{length-take-le, length-append}
 use Rattle.bx_text.proofs.KnownLemmas.{Consumes-trans}
-use Rattle.bx_text.specs.Stream.{IsReadCause, IsRestCause}
+use Rattle.bx_text.specs.Stream.{SourceView, IsReadCause, IsRestCause}
 use Rattle.bx_text.specs.declared.fault.IoFault.{IoFault}
 use Rattle.bx_text.specs.declared.fault.IoFault.TheVariants.{NoMemory, ReadFailed, WriteFailed, InputTooLong, SkipPastEnd}
 use Rattle.bx_text.proofs.stream.Source.rest.Goals as goal
@@ -27,9 +27,10 @@ pub returns-then-is_err-clause-stopped : goal.returns-then-is_err-clause-stopped
 returns-then-is_err-clause-stopped g c was_open =
     let before = c.loop-count.invariant in
     let read = c.in-Ok.ensures in
-    let part = take c.in-Ok.count c.fill.new.buf in (
+    let part = take c.in-Ok.count c.fill.new.buf in
+    let same : c.self.inside.reader ≡ c.fill.new.self.reader = ap (λ (v : SourceView _). v.reader) c.self.view_is in (
       c.loop-count.bytes.items ++ part,
-      Consumes-trans _ _ _ _ _ before.bytes read.bytes,
+      rw same (Consumes-trans _ _ _ _ _ before.bytes read.bytes),
       omega (arith, length-append c.loop-count.bytes.items part, length-take-le c.in-Ok.count c.fill.new.buf read.bound.0, before.taken, before.limit, read.taken, read.limit, c.fill.new.self.meter.within),
     )
 
