@@ -1,6 +1,6 @@
 //! Changes to images.
 ghost use Rattle.std.specs.Prelude.{◌≡◌, ◌↔◌, ◌+◌, ◌<◌, ◌≤◌, [], List, ℕ, length, IfOk, IsOk, OnOk, OnErr, is_err, IfSome, true};
-ghost use Rattle.bx_image.specs.Change.{effect, placed, saved, restore, Restores, AllWithin, Covers, IsAsGood, Fits, KeepsUntouched};
+ghost use Rattle.bx_image.specs.Change.{effect, placed, saved, Restores, RestoresBy, Covers, IsAsGood, Fits, KeepsUntouched};
 ghost use Rattle.bx_image.specs.inner.Change.{cut_to, IsPartlyCutTo};
 ghost use Rattle.bx_image.specs.Device.{GoesOn};
 ghost use Rattle.bx_image.specs.Image.{end_of};
@@ -138,7 +138,7 @@ pub fn apply<D: Device, A: Allocator>(
     ensures ok { D.honest device.old → OnOk result (D.image device.new ≡ effect change.now (D.image device.old)) }
     ensures failed { D.honest device.old → OnErr result (KeepsUntouched change.now (D.image device.old) (D.image device.new)) }
     ensures taken_back { D.honest device.old → IsAsGood (saved change.now (D.image device.old)) (D.image device.old) (D.image device.new) }
-    ensures restores { D.honest device.old → (s : _) → Restores change.now s → AllWithin s.len s.runs → OnOk result (D.image device.new ≡ restore s (D.image device.old)) }
+    ensures restores { D.honest device.old → RestoresBy change.now result (D.image device.old) (D.image device.new) }
     ensures again { D.honest device.old → (s : _) → Restores change.now s → Covers s (D.image device.old) → IsAsGood s (D.image device.old) (D.image device.new) }
     ensures goes_on { GoesOn D.honest D.room D.failures (is_err result) device.old device.new }
 {
