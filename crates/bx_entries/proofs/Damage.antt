@@ -5,7 +5,8 @@ use Rattle.std.proofs.lemmas.Grind.{common_steps}
 use Rattle.std.proofs.lemmas.List.{take-append-drop}
 use Rattle.std.proofs.Math.Seq.{take-add}
 use Rattle.bx_entries.specs.inner.Plain.{HasNoNewline}
-use Rattle.bx_entries.specs.Text.{Reading, Split, split, joined, start, next, after_lines, IsRest, Reads, IsAccepted, first_lines, IsDamagedAt}
+use Rattle.bx_entries.specs.Text.{Reading, Split, split, joined, start, after_lines, IsRest, Reads, IsAccepted, first_lines, IsDamagedAt}
+use Rattle.bx_entries.specs.inner.Text.{next}
 use Rattle.bx_entries.specs.inner.Mark.{IsMark}
 use Rattle.bx_entries.proofs.Splits.{AllPlain, split-ended, split-append, split-plain}
 use Rattle.bx_entries.proofs.Runs.{after_lines-append, empty_rest}

@@ -15,7 +15,8 @@ use Rattle.bx_entries.specs.DumpLine.{dump_line}
 use Rattle.bx_entries.specs.Line.{start_line, save_line, end_line, saved_in}
 use Rattle.bx_entries.specs.Entry.{rows, head_lines}
 use Rattle.bx_text.specs.Ascii.{is_printable}
-use Rattle.bx_entries.specs.Text.{IsPrefix, Reading, Entry, Between, Saving, Ending, IsRest, next, next_at, begins, may_begin, is_short, begins_with_s}
+use Rattle.bx_entries.specs.Text.{IsPrefix, Reading, Entry, Between, Saving, Ending, IsRest, next_at, begins, may_begin, is_short, begins_with_s}
+use Rattle.bx_entries.specs.inner.Text.{next}
 use Rattle.bx_entries.proofs.Written.{IsSavedLine, saved_line}
 use Rattle.bx_entries.proofs.Runs.{SafeRun}
 use Rattle.bx_entries.proofs.SavedLines.{saved_reads}

@@ -8,7 +8,8 @@ use Rattle.bx_entries.specs.declared.format.version.Version.{Version}
 use Rattle.bx_entries.specs.Kept.{Run, Kept, run_of, with_run}
 use Rattle.bx_entries.specs.Line.{save_line}
 use Rattle.bx_entries.specs.inner.Mark.{IsMark}
-use Rattle.bx_entries.specs.Text.{Entry, Saving, Reading, split, next, next_at}
+use Rattle.bx_entries.specs.Text.{Entry, Saving, Reading, split, next_at}
+use Rattle.bx_entries.specs.inner.Text.{next}
 use Rattle.bx_entries.specs.inner.Followed.{IsFullSaved, IsSavingTo, GoesOnBy, with_last}
 use Rattle.bx_entries.proofs.Damage.{mark_on, counted_on}
 use Rattle.bx_entries.proofs.Gathered.{with_run-last, goes_on}

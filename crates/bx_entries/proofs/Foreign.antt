@@ -5,7 +5,8 @@ use Rattle.std.specs.List.{list_all}
 use Rattle.std.proofs.lemmas.Grind.{common_steps}
 use Rattle.bx_entries.specs.Kept.{Kept}
 use Rattle.bx_entries.specs.declared.format.version.Version.{Version}
-use Rattle.bx_entries.specs.Text.{Split, split, with_front, joined, Reading, Entry, Stage, Between, Saving, Ending, next, next_at, after_lines, is_short}
+use Rattle.bx_entries.specs.Text.{Split, split, with_front, joined, Reading, Entry, Stage, Between, Saving, Ending, next_at, after_lines, is_short}
+use Rattle.bx_entries.specs.inner.Text.{next}
 use Rattle.bx_entries.proofs.Splits.{AllPlain}
 use Rattle.bx_entries.proofs.Runs.{SafeRun}
 use Rattle.bx_entries.proofs.Inverse.{bind_some, next_between, next_saving, next_ending, rest_of_next}

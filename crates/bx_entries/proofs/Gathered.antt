@@ -6,7 +6,8 @@ use Rattle.std.proofs.lemmas.Grind.{common_steps}
 use Rattle.std.proofs.lemmas.List.Sums.{sum-map, sum_by-cons}
 use Rattle.std.proofs.lemmas.List.{get_or_append_left, get_or-append_right}
 use Rattle.bx_image.specs.Image.{end_of}
-use Rattle.bx_image.specs.Change.{byte_of, byte_in, AllWithin}
+use Rattle.bx_image.specs.Change.{byte_in, AllWithin}
+use Rattle.bx_image.specs.inner.Change.{byte_of}
 use Rattle.bx_text.specs.declared.owned.pieces.Piece.{Piece}
 use Rattle.bx_entries.specs.Kept.{Run, run_of, with_run}
 use Rattle.bx_entries.specs.inner.Kept.{with_runs}

@@ -2,6 +2,7 @@
 use Rattle.std.proofs.Common.{◌≡◌, ℕ, suc, ◌+◌, ◌*◌, ◌/◌, ◌%◌, ◌^◌, ◌<◌, ◌≤◌, Bool, true, false, eqb, List, [], ◌∷◌, ◌++◌, length, take, drop, refl, ap, sym, ◌∙◌, subst, inl, inr, ◌⊎◌, arith, append_assoc, append-nil, Option, Some, None}
 use Rattle.std.specs.Prelude.{◌==◌, ◌&&◌, nat_le, nat_lt, if◌then◌else◌, option_and_then, option_map}
 use Rattle.std.specs.Option.{option_or}
+use Rattle.std.specs.Fmt.{digit_glyph}
 use Rattle.std.specs.Str.{bytes_eq}
 use Rattle.std.proofs.lemmas.Grind.{common_steps}
 use Rattle.std.proofs.lemmas.List.{take-append-drop}
@@ -11,7 +12,7 @@ use Rattle.bx_image.specs.declared.change.TheConstants.{MAX_LEN}
 use Rattle.bx_entries.specs.Kept.{Run, Kept, with_run}
 use Rattle.bx_entries.specs.declared.format.version.Version.{Version}
 use Rattle.bx_entries.specs.declared.format.version.Version.TheVariants.{First, Second}
-use Rattle.bx_entries.specs.Hex.{hex_digit, hex_digits, hex_value, number_after, number_of}
+use Rattle.bx_entries.specs.Hex.{hex_digits, hex_value, number_after, number_of}
 use Rattle.bx_entries.specs.DumpLine.{piece_of}
 use Rattle.bx_entries.specs.Line.{digits_of, start_head, start_line, save_line, end_head, end_line, behind, at_most, length_in, after_in, saved_in}
 use Rattle.bx_entries.specs.Text.{IsPrefix, Reading, Entry, Stage, Between, Saving, Ending, IsRest, next_at, begins, may_begin, is_short, begins_with_s}
@@ -29,13 +30,13 @@ pub test_some : {A : Type 0} (b : Bool) (x y : A) → (if b then Some x else Non
 test_some true x y e = (refl, cc)
 test_some false x y e = absurd (cc)
 
-pub digit_of : (c d : ℕ) → hex_value c ≡ Some d → (d < 16) × (hex_digit d ≡ c)
+pub digit_of : (c d : ℕ) → hex_value c ≡ Some d → (d < 16) × (digit_glyph false d ≡ c)
 digit_of c d e = (small c d e, shown c d e)
   where
     small : (c d : ℕ) → hex_value c ≡ Some d → d < 16
     small c d e = grind (arith, common_steps)
 
-    shown : (c d : ℕ) → hex_value c ≡ Some d → hex_digit d ≡ c
+    shown : (c d : ℕ) → hex_value c ≡ Some d → digit_glyph false d ≡ c
     shown c d e = grind (arith, common_steps)
 
 pub digits_after : (t : List ℕ) (w a m : ℕ) → number_after a t ≡ Some m → hex_digits (length t + w) m ≡ hex_digits w a ++ t
@@ -46,7 +47,7 @@ digits_after [] w a m e =
     ap (λ k. hex_digits k m) none ∙ ap (hex_digits w) (sym same) ∙ sym (append-nil (hex_digits w a))
 digits_after (c ∷ t) w a m e =
     let d = bind_some (λ d. number_after (16 * a + d) t) (hex_value c) m e in
-    let is : (d.0 < 16) × (hex_digit d.0 ≡ c) = digit_of c d.0 d.1 in
+    let is : (d.0 < 16) × (digit_glyph false d.0 ≡ c) = digit_of c d.0 d.1 in
     let quotient : (16 * a + d.0) / 16 ≡ a = omega (arith, is.0) in
     let remainder : (16 * a + d.0) % 16 ≡ d.0 = omega (arith, is.0) in
     let more : hex_digits (length t + suc w) m ≡ hex_digits (suc w) (16 * a + d.0) ++ t = digits_after t (suc w) (16 * a + d.0) m d.2 in
@@ -59,7 +60,7 @@ unfolding number_after
 below_after [] a m e = let same : a ≡ m = cc in omega arith
 below_after (c ∷ t) a m e =
     let d = bind_some (λ d. number_after (16 * a + d) t) (hex_value c) m e in
-    let is : (d.0 < 16) × (hex_digit d.0 ≡ c) = digit_of c d.0 d.1 in
+    let is : (d.0 < 16) × (digit_glyph false d.0 ≡ c) = digit_of c d.0 d.1 in
     let below : m < (16 * a + d.0 + 1) * 16 ^ length t = below_after t (16 * a + d.0) m d.2 in
     let more : 16 * a + d.0 + 1 ≤ 16 * (a + 1) = omega (arith, is.0) in
     rw (pow-suc 16 (length t)) (times a (16 ^ length t) m (16 * a + d.0 + 1) below more)

@@ -6,7 +6,8 @@ use Rattle.std.specs.List.{range_with_len}
 use Rattle.bx_text.specs.declared.owned.pieces.Piece.{Piece}
 use Rattle.bx_image.specs.declared.record.Saved.{Saved}
 use Rattle.bx_image.specs.Image.{image_of}
-use Rattle.bx_image.specs.Change.{byte_of, byte_in, restore, AllWithin, Covers, HaveBytes, IsOf, IsAsGood}
+use Rattle.bx_image.specs.Change.{byte_in, restore, AllWithin, Covers, HaveBytes, IsOf, IsAsGood}
+use Rattle.bx_image.specs.inner.Change.{byte_of}
 use Rattle.bx_entries.specs.Kept.{run_of, kept_of}
 
 pub same_byte : {A : Type 0} → (runs : List (Piece A)) (i : ℕ) → byte_in (map run_of runs) i ≡ byte_in runs i

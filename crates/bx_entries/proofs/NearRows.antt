@@ -4,8 +4,8 @@ use Rattle.std.specs.List.{range_with_len}
 use Rattle.bx_text.specs.Field.{hex_text}
 use Rattle.bx_entries.specs.Kept.{Run}
 use Rattle.bx_entries.specs.DumpLine.{dump_line}
-use Rattle.bx_entries.specs.Entry.{row, rows}
-use Rattle.bx_entries.specs.inner.Entry.{rows_text}
+use Rattle.bx_entries.specs.Entry.{rows}
+use Rattle.bx_entries.specs.inner.Entry.{rows_text, row}
 use Rattle.bx_entries.specs.Text.{ended}
 use Rattle.bx_entries.proofs.FieldText.{field_digits}
 use Rattle.bx_entries.proofs.HexLemmas.{length-hex_digits}

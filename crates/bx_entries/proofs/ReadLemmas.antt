@@ -6,7 +6,8 @@ use Rattle.bx_entries.specs.declared.format.version.Version.{Version}
 use Rattle.bx_entries.specs.declared.read.types.EntryRead.{EntryRead}
 use Rattle.bx_entries.specs.declared.read.types.StageRead.TheVariants.{Between as BetweenRead, Ending as EndingRead}
 use Rattle.bx_entries.specs.Line.{after_in}
-use Rattle.bx_entries.specs.Text.{Entry, Between, next, next_at}
+use Rattle.bx_entries.specs.Text.{Entry, Between, next_at}
+use Rattle.bx_entries.specs.inner.Text.{next}
 use Rattle.bx_entries.specs.inner.Mark.{HasMarks}
 use Rattle.bx_entries.specs.Parsed.{told_by}
 use Rattle.bx_entries.specs.inner.Parsed.{entry_of, entries_onto, entries_of, reading_onto, AreMarked, IsMarked}

@@ -6,8 +6,10 @@ use Rattle.std.specs.List.{range_with_len}
 use Rattle.std.proofs.lemmas.Grind.{common_steps}
 use Rattle.bx_entries.specs.Kept.{Run}
 use Rattle.bx_image.specs.Image.{image_of, end_of}
-use Rattle.bx_image.specs.Change.{byte_of, byte_in, restore, AllWithin, Covers, AreBytes, HaveBytes}
-use Rattle.bx_entries.specs.Entry.{row, rows}
+use Rattle.bx_image.specs.Change.{byte_in, restore, AllWithin, Covers, AreBytes, HaveBytes}
+use Rattle.bx_image.specs.inner.Change.{byte_of}
+use Rattle.bx_entries.specs.Entry.{rows}
+use Rattle.bx_entries.specs.inner.Entry.{row}
 
 pub or_none : {A : Type 0} (o : Option A) → option_or o None ≡ o
 or_none None = refl

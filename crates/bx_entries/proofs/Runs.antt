@@ -2,7 +2,8 @@
 use Rattle.std.proofs.Common.{◌≡◌, ℕ, true, List, [], ◌∷◌, ◌++◌, refl, ap, subst, inl, inr, arith, append_assoc, Option, Some, None}
 use Rattle.std.specs.Prelude.{option_and_then}
 use Rattle.std.specs.List.{list_all}
-use Rattle.bx_entries.specs.Text.{split, Split, joined, IsPrefix, Reading, Entry, Stage, Between, Saving, Ending, IsRest, next, after_lines, is_short}
+use Rattle.bx_entries.specs.Text.{split, Split, joined, IsPrefix, Reading, Entry, Stage, Between, Saving, Ending, IsRest, after_lines, is_short}
+use Rattle.bx_entries.specs.inner.Text.{next}
 use Rattle.bx_entries.specs.inner.Plain.{HasNoNewline}
 use Rattle.bx_entries.proofs.Splits.{plain_front, split-ended, split-plain, front_cases}
 

@@ -7,7 +7,8 @@ use Rattle.bx_entries.specs.declared.read.count.Place.TheVariants.{Between as Be
 use Rattle.bx_entries.specs.declared.read.count.Tally.{Tally}
 use Rattle.bx_entries.specs.Kept.{Kept}
 use Rattle.bx_entries.specs.Line.{after_in}
-use Rattle.bx_entries.specs.Text.{Entry, Stage, Between, Saving, Ending, Reading, Split, ended, split, start, next, next_at, after_lines}
+use Rattle.bx_entries.specs.Text.{Entry, Stage, Between, Saving, Ending, Reading, Split, ended, split, start, next_at, after_lines}
+use Rattle.bx_entries.specs.inner.Text.{next}
 use Rattle.bx_entries.specs.Parsed.{told_by}
 use Rattle.bx_entries.specs.inner.Plain.{HasNoNewline}
 use Rattle.std.proofs.lemmas.List.{take-append-drop, drop-take}

@@ -17,8 +17,8 @@ use Rattle.bx_entries.specs.declared.format.version.Version.TheVariants.{Second}
 use Rattle.bx_entries.specs.Line.{start_head, start_line, save_line}
 use Rattle.bx_entries.specs.Hex.{hex_digits}
 use Rattle.bx_entries.specs.DumpLine.{dump_line}
-use Rattle.bx_entries.specs.Entry.{row, rows, head_lines, head_text}
-use Rattle.bx_entries.specs.inner.Entry.{rows_text}
+use Rattle.bx_entries.specs.Entry.{rows, head_lines, head_text}
+use Rattle.bx_entries.specs.inner.Entry.{rows_text, row}
 use Rattle.bx_entries.specs.Text.{ended, joined}
 use Rattle.bx_entries.proofs.HexLemmas.{length-hex_digits}
 

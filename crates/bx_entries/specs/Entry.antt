@@ -7,13 +7,9 @@ use Rattle.bx_entries.specs.DumpLine.{dump_line}
 use Rattle.bx_entries.specs.Line.{start_line, save_line, end_line}
 use Rattle.bx_entries.specs.Text.{joined}
 
--- bytes 16 * j to 16 * j + 15 of a run
-abbrev pub row : Run → ℕ → Run
-row run j = record { at = run.at + 16 * j; bytes = take 16 (drop (16 * j) run.bytes) }
-
 -- a run, cut into rows of 16 from its start
 unfoldable pub rows : Run → List Run
-rows run = map (row run) (range_with_len 0 ((length run.bytes + 15) / 16))
+rows run = map (λ j. record { at = run.at + 16 * j; bytes = take 16 (drop (16 * j) run.bytes) }) (range_with_len 0 ((length run.bytes + 15) / 16))
 
 -- the lines of entry n up to its save line
 unfoldable pub head_lines : ℕ → Kept → List (List ℕ)

@@ -52,11 +52,9 @@ length_in v n line = at_most MAX_LEN (option_and_then (number_of (digits_of v)) 
 -- the length after the change, where the line ends entry n; the first version has none
 unfoldable pub after_in : Version → ℕ → List ℕ → Option (Option ℕ)
 after_in First n line = if bytes_eq line (end_line First n 0) then Some None else None
-after_in Second n line =
-    option_map Some (at_most MAX_LEN (option_and_then (number_of 16) (behind (end_head Second n) line)))
+after_in Second n line = option_map Some (at_most MAX_LEN (option_and_then (number_of 16) (behind (end_head Second n) line)))
 
 -- what a saved line gives in an entry of an image of this length
 unfoldable pub saved_in : ℕ → List ℕ → Option Run
 saved_in len line = option_and_then
-    (λ piece. if nat_le (length piece.bytes) 16 && nat_le (piece.at + length piece.bytes) len then Some piece else None)
-    (piece_of line)
+    (λ piece. if nat_le (length piece.bytes) 16 && nat_le (piece.at + length piece.bytes) len then Some piece else None) (piece_of line)

@@ -1,5 +1,5 @@
 -- How a journal's text is read, line by line.
-use Rattle.std.specs.Prelude.{◌≡◌, ◌⊎◌, ◌<◌, ◌≤◌, ℕ, suc, ◌^◌, ◌&&◌, Bool, true, false, IsTrue, nat_le, nat_lt, Option, None, Some, List, [], ◌∷◌, ◌++◌, length, take, if◌then◌else◌, ◌==◌, flat_map}
+use Rattle.std.specs.Prelude.{◌≡◌, ◌⊎◌, ◌<◌, ◌≤◌, ℕ, suc, ◌^◌, ◌&&◌, Bool, true, false, IsTrue, nat_le, nat_lt, Option, None, Some, List, [], ◌∷◌, ◌++◌, length, take, slice_index, if◌then◌else◌, ◌==◌, flat_map}
 use Rattle.std.specs.Option.{option_and_then, option_map, option_or}
 use Rattle.std.specs.List.{list_all}
 use Rattle.std.specs.Str.{bytes_eq}
@@ -25,7 +25,7 @@ pub record Split : Type 0 where
 
 -- a byte in front of a text that is split
 abbrev pub with_front : ℕ → Split → Split
-with_front b s = elim s.lines [ [] ↦ record { lines = []; rest = b ∷ s.rest } | line ∷ lines ↦ record { lines = (b ∷ line) ∷ lines; rest = s.rest } ]
+with_front b s = elim s.lines [ [] ↦ record { lines = []; rest = b ∷ s.rest } | line ∷ more ↦ record { lines = (b ∷ line) ∷ more; rest = s.rest } ]
 
 -- a text in lines, and what stands behind the last newline
 unfoldable pub split : List ℕ → Split
@@ -59,16 +59,13 @@ may_begin (e ∷ entries) len = elim e.after [ None ↦ true | Some after ↦ le
 
 -- a line that begins an entry, with the next number
 abbrev pub begins : List Entry → Version → List ℕ → Option Stage
-begins entries v line = option_and_then
-    (λ len. if may_begin entries len then Some (Saving v (record { len = len; runs = [] })) else None)
+begins entries v line = option_and_then (λ len. if may_begin entries len then Some (Saving v (record { len = len; runs = [] })) else None)
     (length_in v (suc (length entries)) line)
 
 -- the reading after one more line; none where the line is out of place
 unfoldable pub next_at : List Entry → Stage → List ℕ → Option Reading
-next_at entries Between line =
-    if nat_lt (length entries) 65535
-    then option_map (λ s. record { entries = entries; stage = s }) (option_or (begins entries First line) (begins entries Second line))
-    else None
+next_at entries Between line = if nat_lt (length entries) 65535
+    then option_map (λ s. record { entries = entries; stage = s }) (option_or (begins entries First line) (begins entries Second line)) else None
 next_at entries (Saving v s) line =
     if bytes_eq line (save_line (suc (length entries))) then Some (record { entries = entries; stage = Ending v s })
     else option_map (λ piece. record { entries = entries; stage = Saving v (record { len = s.len; runs = with_run s.runs piece }) }) (saved_in s.len line)
@@ -76,14 +73,10 @@ next_at entries (Ending v s) line =
     option_map (λ after. record { entries = record { saved = s; after = after } ∷ entries; stage = Between })
     (after_in v (suc (length entries)) line)
 
--- one line more
-abbrev pub next : Reading → List ℕ → Option Reading
-next r line = next_at r.entries r.stage line
-
 -- the reading after lines
 unfoldable pub after_lines : Reading → List (List ℕ) → Option Reading
 after_lines r [] = Some r
-after_lines r (line ∷ lines) = option_and_then (λ q. after_lines q lines) (next r line)
+after_lines r (line ∷ lines) = option_and_then (λ q. after_lines q lines) (next_at r.entries r.stage line)
 
 -- a front of a text
 abbrev pub IsPrefix : List ℕ → List ℕ → Type 0
@@ -95,8 +88,7 @@ is_short line = nat_le (length line) 75 && list_all is_printable line
 
 -- the first byte is `s`
 abbrev pub begins_with_s : List ℕ → Bool
-begins_with_s [] = false
-begins_with_s (b ∷ bytes) = b == 115
+begins_with_s line = slice_index line 0 == 115
 
 -- what may stand behind the last newline: nothing, or a front of a line that may come there
 abbrev pub IsRest : List Entry → Stage → List ℕ → Type 0

@@ -13,3 +13,4 @@ pub mod Plain
 pub mod Rows
 pub mod TakeLine
 pub mod Tally
+pub mod Text

@@ -3,18 +3,16 @@ use Rattle.std.proofs.Common.{◌≡◌, ◌≢◌, ℕ, zero, suc, ◌+◌, ◌
 use Rattle.std.proofs.lemmas.Bool.{cases_lt}
 use Rattle.std.proofs.lemmas.List.{places, take_all, take-append-le, length-take}
 use Rattle.bx_image.specs.Image.{image_of, place, cut}
-use Rattle.bx_image.specs.Pages.{page_at, byte_at}
-use Rattle.bx_image.specs.inner.Pages.{IsWrittenOver, IsCleared}
+use Rattle.bx_image.specs.Pages.{byte_at}
+use Rattle.bx_image.specs.inner.Pages.{page_at, IsWrittenOver, IsCleared}
 use Rattle.bx_image.proofs.Images.{same_image, end_of_some, length-image_of, slice_index-image_of, slice_index_past, length-place, length-cut, slice_index-cut, slice_index-place_within, slice_index-place_below, slice_index-place_above}
 
 pub page_at-get_or : {P : Type 0} (pages : List P) (bytes : P → List ℕ) (k : ℕ) (d : P) → k < length pages → page_at pages bytes k ≡ bytes (get_or pages k d)
-unfolding page_at
 page_at-get_or [] bytes k d h = absurd (omega arith)
 page_at-get_or (p ∷ pages) bytes zero d h = refl
 page_at-get_or (p ∷ pages) bytes (suc k) d h = page_at-get_or pages bytes k d (omega arith)
 
 pub page_at-past : {P : Type 0} (pages : List P) (bytes : P → List ℕ) (k : ℕ) → length pages ≤ k → page_at pages bytes k ≡ []
-unfolding page_at
 page_at-past [] bytes k h = refl
 page_at-past (p ∷ pages) bytes zero h = absurd (omega arith)
 page_at-past (p ∷ pages) bytes (suc k) h = page_at-past pages bytes k (omega arith)

@@ -5,8 +5,7 @@ use Rattle.std.specs.List.{range_with_len}
 use Rattle.std.proofs.lemmas.List.{take-append-drop, take-append-le, take_min, take_at}
 use Rattle.bx_store.specs.Store.{IsPartlyAppended}
 use Rattle.bx_entries.specs.Kept.{Run}
-use Rattle.bx_entries.specs.Entry.{row}
-use Rattle.bx_entries.specs.inner.Entry.{rows_text}
+use Rattle.bx_entries.specs.inner.Entry.{rows_text, row}
 use Rattle.bx_entries.proofs.WriterLemmas.{rows_split}
 use Rattle.bx_journal.specs.inner.Page.{IsPaged}
 

@@ -12,7 +12,8 @@ use Rattle.std.proofs.lemmas.List.FromFn.{length-map-range_with_len}
 use Rattle.bx_entries.specs.declared.format.version.Version.{Version}
 use Rattle.bx_entries.specs.DumpLine.{piece_of}
 use Rattle.bx_entries.specs.Line.{save_line, saved_in}
-use Rattle.bx_entries.specs.Text.{Entry, Stage, Between, Saving, Ending, Reading, next, next_at, start, after_lines, may_begin}
+use Rattle.bx_entries.specs.Text.{Entry, Stage, Between, Saving, Ending, Reading, next_at, start, after_lines, may_begin}
+use Rattle.bx_entries.specs.inner.Text.{next}
 use Rattle.bx_journal.specs.Stack.{HaveLengths}
 use Rattle.bx_entries.proofs.Inverse.{bind_some, map_some, test_some, next_between, next_ending}
 use Rattle.bx_entries.proofs.Foreign.{and_true}

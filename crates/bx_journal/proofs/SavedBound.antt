@@ -8,7 +8,8 @@ use Rattle.bx_entries.proofs.Gathered.{with_run-sum}
 use Rattle.bx_entries.specs.declared.read.types.EntryRead.{EntryRead}
 use Rattle.bx_entries.specs.DumpLine.{piece_of}
 use Rattle.bx_entries.specs.Line.{save_line, saved_in}
-use Rattle.bx_entries.specs.Text.{Entry, Stage, Between, Saving, Ending, Reading, Reads, next, next_at, start, after_lines, split, joined, ended}
+use Rattle.bx_entries.specs.Text.{Entry, Stage, Between, Saving, Ending, Reading, Reads, next_at, start, after_lines, split, joined, ended}
+use Rattle.bx_entries.specs.inner.Text.{next}
 use Rattle.bx_entries.specs.inner.Rows.{saved_length}
 use Rattle.bx_entries.specs.inner.Parsed.{entry_of, entries_onto, entries_of}
 use Rattle.bx_entries.proofs.Inverse.{bind_some, map_some, test_some, next_between, next_ending}

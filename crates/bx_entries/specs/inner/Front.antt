@@ -12,4 +12,5 @@ IsNumberFront head width rest = (n : ℕ) × (n ≤ MAX_LEN) × (n < 16 ^ width)
 
 -- a front of a line of this version that may begin the next entry
 abbrev pub IsStartFront : List Entry → Version → List ℕ → Type 0
-IsStartFront es v rest = (len : ℕ) × (len ≤ MAX_LEN) × (len < 16 ^ digits_of v) × IsTrue (may_begin es len) × IsPrefix rest (start_line v (suc (length es)) len)
+IsStartFront es v rest =
+    (len : ℕ) × (len ≤ MAX_LEN) × (len < 16 ^ digits_of v) × IsTrue (may_begin es len) × IsPrefix rest (start_line v (suc (length es)) len)

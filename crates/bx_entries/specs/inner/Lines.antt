@@ -24,12 +24,14 @@ pub record IsReadAt {A : Type 0} (text : List ℕ) (older : List Entry) (es : Li
 
 -- where a text is read up to a place with the one stage, it is so with the other
 abbrev pub IsReadAlike : {A : Type 0} → StageRead A → StageRead A → Type 0
-IsReadAlike {A = A} old new = (text : List ℕ) (older : List Entry) (es : List (EntryRead A)) (at : ℕ) → IsReadAt text older es old at → IsReadAt text older es new at
+IsReadAlike {A = A} old new =
+    (text : List ℕ) (older : List Entry) (es : List (EntryRead A)) (at : ℕ) → IsReadAt text older es old at → IsReadAt text older es new at
 
 -- so many full lines, with which a text goes on, lead from one stage to another, whatever entries are before
 abbrev pub StageGoesOnBy : {A : Type 0} → List ℕ → StageRead A → StageRead A → ℕ → Type 0
 StageGoesOnBy {A = A} rest old new count =
-    (text : List ℕ) (older : List Entry) (es : List (EntryRead A)) (at : ℕ) → IsReadAt text older es old at → rest ≡ drop at text → IsReadAt text older es new (at + 68 * count)
+    (text : List ℕ) (older : List Entry) (es : List (EntryRead A)) (at : ℕ) → IsReadAt text older es old at → rest ≡ drop at text
+    → IsReadAt text older es new (at + 68 * count)
 
 -- all of a text of whole lines was read, behind a front of it that is these older entries
 pub record IsReadUpTo {A : Type 0} (text : List ℕ) (older : List Entry) (front : Front) (r : LinesRead A) : Type 0 where
@@ -41,4 +43,5 @@ pub record IsReadUpTo {A : Type 0} (text : List ℕ) (older : List Entry) (front
 -- where a text was read behind a front, and a window goes on with it: both are read up to the place that the answer tells, if there is one
 abbrev pub ReadsOn : {A E : Type 0} → Front → LinesRead A → List ℕ → Result (Option (LinesRead A)) E → Type 0
 ReadsOn front old window result =
-    (text : List ℕ) (older : List Entry) → IsReadUpTo text older front old → IfOk result (λ found. IfSome found (λ r. IsReadUpTo (text ++ take (r.at - old.at) window) older front r))
+    (text : List ℕ) (older : List Entry) → IsReadUpTo text older front old
+    → IfOk result (λ found. IfSome found (λ r. IsReadUpTo (text ++ take (r.at - old.at) window) older front r))

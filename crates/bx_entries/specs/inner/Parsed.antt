@@ -4,7 +4,8 @@ use Rattle.bx_entries.specs.Kept.{run_of, kept_of}
 use Rattle.bx_entries.specs.declared.read.types.EntryRead.{EntryRead}
 use Rattle.bx_entries.specs.declared.read.types.StageRead.{StageRead}
 use Rattle.bx_entries.specs.declared.read.types.StageRead.TheVariants.{Between as BetweenRead, Saving as SavingRead, Ending as EndingRead}
-use Rattle.bx_entries.specs.Text.{Entry, Stage, Between, Saving, Ending, Reading, split, next}
+use Rattle.bx_entries.specs.Text.{Entry, Stage, Between, Saving, Ending, Reading, split}
+use Rattle.bx_entries.specs.inner.Text.{next}
 use Rattle.bx_image.specs.Change.{AllWithin}
 use Rattle.bx_entries.specs.inner.Mark.{IsMark, HasMarks}
 

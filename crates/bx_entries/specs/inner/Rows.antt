@@ -5,7 +5,8 @@ use Rattle.bx_entries.specs.declared.read.count.Place.TheVariants.{Between as Be
 use Rattle.bx_entries.specs.declared.read.rows.Summed.{Summed}
 use Rattle.bx_entries.specs.Kept.{Run, Kept}
 use Rattle.bx_entries.specs.Line.{saved_in}
-use Rattle.bx_entries.specs.Text.{Entry, Stage, Between, Saving, Ending, Reading, next}
+use Rattle.bx_entries.specs.Text.{Entry, Stage, Between, Saving, Ending, Reading}
+use Rattle.bx_entries.specs.inner.Text.{next}
 use Rattle.bx_entries.specs.inner.Tally.{tally_of}
 
 -- how many bytes saved lines have

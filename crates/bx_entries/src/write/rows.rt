@@ -2,8 +2,7 @@
 ghost use Rattle.std.specs.Prelude.{◌≡◌, ◌+◌, ◌*◌, ◌<◌, ◌≤◌, ◌^◌, ◌++◌, length, map, vec_capacity};
 ghost use Rattle.std.specs.List.{range_with_len};
 ghost use Rattle.bx_entries.specs.DumpLine.{dump_line};
-ghost use Rattle.bx_entries.specs.Entry.{row};
-ghost use Rattle.bx_entries.specs.inner.Entry.{rows_text};
+ghost use Rattle.bx_entries.specs.inner.Entry.{rows_text, row};
 ghost use Rattle.bx_entries.specs.Text.{ended};
 
 use bx_text::{LineText, put_full_line, xxd_line};

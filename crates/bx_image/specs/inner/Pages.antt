@@ -1,5 +1,9 @@
 -- What proofs alone need: bytes that stand in pages of 4,096 bytes.
-use Rattle.std.specs.Prelude.{◌≡◌, ◌<◌, ◌≤◌, ℕ, ◌+◌, ◌++◌, List, length, take, drop, slice_index}
+use Rattle.std.specs.Prelude.{◌≡◌, ◌<◌, ◌≤◌, ℕ, ◌+◌, ◌++◌, List, [], length, get_or, map, take, drop, slice_index}
+
+-- the bytes of the page with this number, or none past the last
+abbrev pub page_at : {P : Type 0} → List P → (P → List ℕ) → ℕ → List ℕ
+page_at pages bytes k = get_or (map bytes pages) k []
 
 -- x with these bytes in place of those that stand at an address
 abbrev pub written_over : List ℕ → ℕ → List ℕ → List ℕ

@@ -2,8 +2,7 @@ use Rattle.std.proofs.Common.{◌≡◌, ℕ, ◌-◌, ◌*◌, ◌^◌, min, Li
 use Rattle.std.specs.List.{range_with_len}
 use Rattle.bx_entries.specs.Kept.{Run, run_of}
 use Rattle.bx_entries.specs.DumpLine.{dump_line}
-use Rattle.bx_entries.specs.Entry.{row}
-use Rattle.bx_entries.specs.inner.Entry.{rows_text}
+use Rattle.bx_entries.specs.inner.Entry.{rows_text, row}
 use Rattle.bx_entries.specs.Text.{ended}
 use Rattle.bx_entries.proofs.WriterLemmas.{row_more, rows_all}
 use Rattle.bx_entries.proofs.format.length.far_run_len.Goals as goal

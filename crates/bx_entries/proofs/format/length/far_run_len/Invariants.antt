@@ -1,8 +1,7 @@
 use Rattle.std.proofs.Common.{◌≡◌, ◌-◌, ◌^◌, min, length, map}
 use Rattle.std.specs.List.{range_with_len}
 use Rattle.bx_entries.specs.Kept.{run_of}
-use Rattle.bx_entries.specs.Entry.{row}
-use Rattle.bx_entries.specs.inner.Entry.{rows_text}
+use Rattle.bx_entries.specs.inner.Entry.{rows_text, row}
 use Rattle.bx_entries.proofs.format.length.far_run_len.Given as goal
 
 -- how long the first k rows are

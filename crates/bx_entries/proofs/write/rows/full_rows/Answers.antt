@@ -4,8 +4,7 @@ use Rattle.std.proofs.lemmas.Slice.{take-put_mid}
 use Rattle.std.proofs.lemmas.List.{length-take-le, length-drop}
 use Rattle.bx_entries.specs.Kept.{Run}
 use Rattle.bx_entries.specs.DumpLine.{dump_line}
-use Rattle.bx_entries.specs.Entry.{row}
-use Rattle.bx_entries.specs.inner.Entry.{rows_text}
+use Rattle.bx_entries.specs.inner.Entry.{rows_text, row}
 use Rattle.bx_entries.specs.Text.{ended}
 use Rattle.bx_entries.proofs.WriterLemmas.{row_more_at, take_whole}
 use Rattle.bx_entries.proofs.write.rows.full_rows.Goals as goal

@@ -1,7 +1,6 @@
 use Rattle.std.proofs.Common.{◌≡◌, ◌*◌, map, take}
 use Rattle.std.specs.List.{range_with_len}
-use Rattle.bx_entries.specs.Entry.{row}
-use Rattle.bx_entries.specs.inner.Entry.{rows_text}
+use Rattle.bx_entries.specs.inner.Entry.{rows_text, row}
 use Rattle.bx_entries.proofs.write.rows.full_rows.Given as goal
 
 -- the rows so far

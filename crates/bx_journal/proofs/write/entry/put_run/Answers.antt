@@ -1,8 +1,8 @@
 use Rattle.std.proofs.Common.{ℕ, ◌+◌, List, [], ◌++◌, length, map, ap, sym, ◌∙◌, arith, append_assoc, append-nil, length-append}
 use Rattle.std.specs.List.{range_with_len}
 use Rattle.bx_entries.specs.Kept.{Run, run_of}
-use Rattle.bx_entries.specs.Entry.{row, rows}
-use Rattle.bx_entries.specs.inner.Entry.{rows_text}
+use Rattle.bx_entries.specs.Entry.{rows}
+use Rattle.bx_entries.specs.inner.Entry.{rows_text, row}
 use Rattle.bx_image.proofs.Devices.{GoesOn_refl, GoesOn_then}
 use Rattle.bx_journal.proofs.PageLemmas.{paged_here, paged_is, paged_step, part_step, paged_length, at_err}
 use Rattle.bx_entries.proofs.WriterLemmas.{row_step, rows_front, rows_all}

@@ -3,8 +3,7 @@ use Rattle.std.specs.Prelude.{vec_capacity}
 use Rattle.std.specs.List.{range_with_len}
 use Rattle.bx_image.specs.Device.{GoesOn}
 use Rattle.bx_entries.specs.Kept.{run_of}
-use Rattle.bx_entries.specs.Entry.{row}
-use Rattle.bx_entries.specs.inner.Entry.{rows_text}
+use Rattle.bx_entries.specs.inner.Entry.{rows_text, row}
 use Rattle.bx_journal.specs.inner.Page.{IsPaged}
 use Rattle.bx_journal.proofs.write.entry.put_run.Given as goal
 
