@@ -87,7 +87,6 @@ pub record StopsPass (form : Form) (most before : ℕ) (r0 r1 w0 w1 : Option (Li
   pub written : ℕ
   pub consumed : Consumes r0 r1 input
   pub within : length input ≤ most
-  pub short : written ≤ length (converted form input)
   pub appended : Appends w0 w1 (take written (converted form input))
   pub cause : IsCopyFault fault (before + length input) written (length (converted form input))
 

@@ -1,6 +1,6 @@
 -- What proofs alone need: what a transfer reads, and what it makes of that.
-use Rattle.std.specs.Prelude.{◌≡◌, ℕ, ◌+◌, ◌*◌, ◌≤◌, List, length, take, drop, Option, IfSome, MatchOption, ◌⊎◌}
-use Rattle.std.specs.Option.{option_map_or}
+use Rattle.std.specs.Prelude.{◌≡◌, ℕ, ◌+◌, ◌*◌, ◌≤◌, List, length, take, drop, Option, IfSome, ◌⊎◌}
+use Rattle.std.specs.Option.{option_map_or, IsSomeAnd}
 use Rattle.std.specs.Io.KnownBytes.{Consumes, IsAtEnd}
 use Rattle.bx_text.specs.declared.stream.Meter.{Meter}
 use Rattle.bx_text.specs.declared.stream.State.{State}
@@ -13,9 +13,9 @@ use Rattle.bx_dd.specs.Standing.{IsAfter, Progress}
 abbrev pub selected : ℕ → ℕ → Option ℕ → List ℕ → List ℕ
 selected ibs skip count input = option_map_or (λ n. take (n * ibs) (drop (skip * ibs) input)) count (drop (skip * ibs) input)
 
--- the input's end was reached, or that of skip and count, and no more was read
+-- the input's end was reached, or that of skip and count
 abbrev pub IsReadOut : Option (List ℕ) → ℕ → ℕ → Option ℕ → List ℕ → Type 0
-IsReadOut new ibs skip count input = MatchOption count (IsAtEnd new) (λ n. (length input ≤ (skip + n) * ibs) × (IsAtEnd new ⊎ (length input ≡ (skip + n) * ibs)))
+IsReadOut new ibs skip count input = IsAtEnd new ⊎ IsSomeAnd count (λ n. length input ≡ (skip + n) * ibs)
 
 -- no more was read than skip and count ask for
 abbrev pub IsWithin : ℕ → ℕ → Option ℕ → List ℕ → Type 0
