@@ -2,7 +2,7 @@
 use Rattle.std.proofs.Common.{◌≡◌, ◌≢◌, ℕ, zero, suc, ◌+◌, ◌-◌, ◌*◌, ◌/◌, ◌%◌, ◌^◌, ◌<◌, ◌≤◌, Bool, true, false, cond, List, [], ◌++◌, length, take, drop, Option, None, Some, refl, sym, ap, ◌∙◌, arith, append_assoc, append-nil, subst, ◌⊎◌, inl, inr}
 use Rattle.std.specs.Prelude.{◌||◌}
 use Rattle.std.proofs.Math.Nat.{div-add-mod, mod-eq_of_lt, mul-add-mod_self_left}
-use Rattle.std.proofs.lemmas.List.{length-append, take-append-le, take_all, length-take-le, drop-append-le}
+use Rattle.std.proofs.lemmas.List.{length-append, length-drop, take-append-le, take_all, length-take-le, drop-append-le}
 use Rattle.std.proofs.Common.{drop_of_length-le}
 use Rattle.std.specs.Io.KnownBytes.{Appends, Consumes, IsAtEnd}
 use Rattle.bx_text.proofs.KnownLemmas.{Appends-nil, Consumes-trans}
@@ -135,6 +135,15 @@ read_within InputTooLong wanted room n p = omega (arith, p.0, p.1)
 read_within NoMemory wanted room n p = absurd p
 read_within (WriteFailed m) wanted room n p = absurd p
 read_within SkipPastEnd wanted room n p = absurd p
+
+-- the lengths of a buffer's part that was read into, and of the input with what was read
+pub read_sizes : (buf new input : List ℕ) (have want n : ℕ) → have + want ≤ length buf → length new ≡ length (take (have + want - have) (drop have buf)) → n ≤ length new →
+    (length new ≡ want) × (length (input ++ take n new) ≡ length input + n)
+read_sizes buf new input have want n fits is got =
+    let same : have + want - have ≡ want = omega arith in (
+      is ∙ length-take-le (have + want - have) (drop have buf) (omega (arith, length-drop have buf)) ∙ same,
+      omega (arith, length-append input (take n new), length-take-le n new got),
+    )
 
 -- a read failed
 pub read_stops : (form : Form) (r0 r1 r2 s n : Option (List ℕ)) (input pending waits kept : List ℕ) (k count most before wanted room : ℕ) (was_cut : Bool) (e : IoFault) → HasSizes form →
