@@ -7,7 +7,7 @@ use Rattle.bx_text.proofs.KnownLemmas.{Consumes-trans}
 use Rattle.bx_text.specs.declared.stream.State.{State}
 use Rattle.bx_text.specs.declared.stream.State.TheVariants.{Open, Ended}
 use Rattle.bx_dd.specs.declared.fault.DdFault.{DdFault}
-use Rattle.bx_dd.specs.declared.fault.DdFault.TheVariants.{NoMemory, ReadFailed, InputTooLong}
+use Rattle.bx_dd.specs.declared.fault.DdFault.TheVariants.{NoMemory}
 use Rattle.bx_dd.specs.Transfer.{HasStopped}
 use Rattle.bx_dd.specs.inner.Transfer.{IsReadOut, IsStopCause, IsWithin, HasRead, StopsWithin, selected}
 

@@ -1,5 +1,5 @@
 -- Blocks converted by themselves.
-use Rattle.std.proofs.Common.{◌≡◌, ◌≢◌, ℕ, zero, suc, ◌+◌, ◌-◌, ◌*◌, ◌/◌, ◌%◌, ◌<◌, ◌≤◌, Bool, true, false, cond, List, [], ◌∷◌, ◌++◌, length, take, drop, map, replicate, refl, sym, ap, ◌∙◌, arith, append-nil, append_assoc, subst, ◌⊎◌, inl, inr, drop_of_length-le}
+use Rattle.std.proofs.Common.{◌≡◌, ℕ, zero, suc, ◌+◌, ◌-◌, ◌*◌, ◌/◌, ◌%◌, ◌<◌, ◌≤◌, Bool, true, false, cond, List, [], ◌∷◌, ◌++◌, length, take, drop, map, replicate, refl, sym, ap, ◌∙◌, arith, append-nil, append_assoc, inl, inr, drop_of_length-le}
 use Rattle.std.specs.Prelude.{◌||◌}
 use Rattle.std.proofs.Math.Nat.{div-add-mod, mul-le-mul_left}
 use Rattle.std.proofs.lemmas.Bool.{cases_lt}
@@ -11,7 +11,6 @@ use Rattle.bx_dd.specs.declared.convert.form.Form.{Form}
 use Rattle.bx_dd.specs.Output.{cased, filler, joined, swapped}
 use Rattle.bx_dd.specs.inner.Output.{block_of}
 use Rattle.bx_dd.specs.inner.Streaming.{unit_of}
-use Rattle.bx_dd.proofs.ConvertLemmas.{joined_none, joined_more}
 
 full_is : (s : Bool) (fill n : ℕ) (b : List ℕ) → length b ≡ n → cond s (b ++ replicate (n - length b) fill) b ≡ b
 full_is true fill n b e = let none : n - length b ≡ 0 = omega arith in ap (λ k. b ++ replicate k fill) none ∙ append-nil b

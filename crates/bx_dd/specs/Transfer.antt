@@ -18,7 +18,7 @@ selected_by plan input = option_map_or (λ n. take (n * plan.ibs) (drop (plan.sk
 abbrev pub output_of : {A : Type 0} → Plan A → List ℕ → List ℕ
 output_of plan input = converted (form_of plan) (selected_by plan input)
 
--- no more of an input was read than skip and count ask for
+-- an input was read, the first part of this, and no more of it than skip and count ask for
 abbrev pub ReadsWithin : {A : Type 0} → Plan A → Option (List ℕ) → Option (List ℕ) → Type 0
 ReadsWithin plan old new = (input : List ℕ) × Consumes old new input × IfSome plan.count (λ n. length input ≤ (plan.skip + n) * plan.ibs)
 
