@@ -5,7 +5,7 @@ use Rattle.bx_dd.proofs.BlockLemmas.{length-swapped}
 use Rattle.bx_text.proofs.PiecesLemmas.{in_pieces-none, in_pieces-more}
 use Rattle.bx_dd.specs.declared.convert.form.Form.{Form}
 use Rattle.bx_dd.specs.Counting.{counts_of}
-use Rattle.bx_dd.specs.Output.{converted, cut_records, joined, padded, swapped, cased, filler}
+use Rattle.bx_dd.specs.Output.{converted, cut_records, joined, swapped, cased, filler}
 use Rattle.bx_dd.specs.inner.Output.{block_of}
 
 pub joined_none : (form : Form) → 0 < form.ibs → joined form [] ≡ []
@@ -18,9 +18,8 @@ pub joined_more : (form : Form) (input block : List ℕ) → 0 < form.ibs → le
 unfolding joined block_of
 joined_more form input block pos whole some fits = in_pieces-more (block_of form) form.ibs input block pos whole some fits
 
-length-padded : (fill n : ℕ) (xs : List ℕ) → length xs ≤ n → length (padded fill n xs) ≡ n
-unfolding padded
-length-padded fill n xs fits = omega (arith, length-append xs (replicate (n - length xs) fill), length-replicate {A = ℕ} (n - length xs) fill)
+length-filled : (fill n : ℕ) (xs : List ℕ) → length xs ≤ n → length (xs ++ replicate (n - length xs) fill) ≡ n
+length-filled fill n xs fits = omega (arith, length-append xs (replicate (n - length xs) fill), length-replicate {A = ℕ} (n - length xs) fill)
 
 length-chosen : (b : Bool) (n : ℕ) (xs ys : List ℕ) → length xs ≤ n → length ys ≤ n → length (cond b xs ys) ≤ n
 length-chosen true n xs ys p q = p
@@ -30,9 +29,10 @@ length-chosen false n xs ys p q = q
 pub length-block : (form : Form) (block : List ℕ) → length block ≤ form.ibs → length (block_of form block) ≤ form.ibs
 unfolding block_of
 length-block form block fits =
-    let full = cond form.sync (padded (filler form.shape) form.ibs block) block in
     let n = form.ibs in
-    let short : length full ≤ n = length-chosen form.sync n (padded (filler form.shape) n block) block (omega (arith, length-padded (filler form.shape) n block fits)) fits in
+    let filled = block ++ replicate (n - length block) (filler form.shape) in
+    let full = cond form.sync filled block in
+    let short : length full ≤ n = length-chosen form.sync n filled block (omega (arith, length-filled (filler form.shape) n block fits)) fits in
     omega (arith, length-map (cond form.swab (swapped full) full) (cased form.letters), length-chosen form.swab n (swapped full) full (omega (arith, length-swapped full)) short)
 
 -- what is counted

@@ -1,8 +1,8 @@
 -- What was read of an input, and what went out of it.
-use Rattle.std.proofs.Common.{◌≡◌, ◌≢◌, ℕ, zero, suc, ◌+◌, ◌-◌, ◌*◌, ◌/◌, ◌%◌, ◌^◌, ◌<◌, ◌≤◌, Bool, true, false, cond, List, [], ◌++◌, length, take, drop, Option, None, Some, refl, sym, ap, ◌∙◌, arith, append_assoc, append-nil, subst, ◌⊎◌, inl, inr}
+use Rattle.std.proofs.Common.{◌≡◌, ℕ, ◌+◌, ◌-◌, ◌*◌, ◌/◌, ◌%◌, ◌^◌, ◌<◌, ◌≤◌, Bool, true, false, cond, List, [], ◌++◌, length, take, drop, Option, None, Some, refl, sym, ap, ◌∙◌, arith, append_assoc, append-nil, subst, ◌⊎◌, inl, inr}
 use Rattle.std.specs.Prelude.{◌||◌}
 use Rattle.std.proofs.Math.Nat.{div-add-mod, mod-eq_of_lt, mul-add-mod_self_left}
-use Rattle.std.proofs.lemmas.List.{length-append, take-append-le, take_all, length-take-le, drop-append-le}
+use Rattle.std.proofs.lemmas.List.{length-append, length-drop, take-append-le, take_all, length-take-le, drop-append-le}
 use Rattle.std.proofs.Common.{drop_of_length-le}
 use Rattle.std.specs.Io.KnownBytes.{Appends, Consumes, IsAtEnd}
 use Rattle.bx_text.proofs.KnownLemmas.{Appends-nil, Consumes-trans}
@@ -136,6 +136,15 @@ read_within NoMemory wanted room n p = absurd p
 read_within (WriteFailed m) wanted room n p = absurd p
 read_within SkipPastEnd wanted room n p = absurd p
 
+-- the lengths of a buffer's part that was read into, and of the input with what was read
+pub read_sizes : (buf new input : List ℕ) (have want n : ℕ) → have + want ≤ length buf → length new ≡ length (take (have + want - have) (drop have buf)) → n ≤ length new →
+    (length new ≡ want) × (length (input ++ take n new) ≡ length input + n)
+read_sizes buf new input have want n fits is got =
+    let same : have + want - have ≡ want = omega arith in (
+      is ∙ length-take-le (have + want - have) (drop have buf) (omega (arith, length-drop have buf)) ∙ same,
+      omega (arith, length-append input (take n new), length-take-le n new got),
+    )
+
 -- a read failed
 pub read_stops : (form : Form) (r0 r1 r2 s n : Option (List ℕ)) (input pending waits kept : List ℕ) (k count most before wanted room : ℕ) (was_cut : Bool) (e : IoFault) → HasSizes form →
     Stage form s n input pending waits k kept was_cut count → Consumes r0 r1 input → StopsAfter r1 r2 wanted room e → length input + wanted ≤ most → before + length input + room ≡ 2 ^ 40 →
@@ -153,7 +162,6 @@ read_stops form r0 r1 r2 s n input pending waits kept k count most before wanted
       written = length out;
       consumed = Consumes-trans r0 r1 r2 input stop.0 reads stop.1;
       within = omega (arith, long, few, read_within e wanted room (length stop.0) stop.2);
-      short = omega (arith, ap length is, length-append out (waits ++ front.0));
       appended = let part : take (length out) (converted form whole) ≡ out = ap (take (length out)) is ∙ take-append-le (length out) out (waits ++ front.0) (omega arith) ∙ take_all (length out) out (omega arith) in rw part goes.went;
       cause = rw total (read_cause e wanted room (before + length input) (length stop.0) (length out) (length (converted form whole)) all stop.2);
     }
@@ -166,7 +174,6 @@ write_stops form r0 r1 s n input most before (WriteFailed m) reads within few st
   written = stop.0;
   consumed = reads;
   within = within;
-  short = omega (arith, stop.2);
   appended = stop.3;
   cause = (omega (arith, stop.1), stop.2, few);
 }
@@ -227,9 +234,8 @@ module _ {A : Type 0} (plan : Plan A) (skipped input : List ℕ) (len : length s
   read_out : (r : Option (List ℕ)) (count : Option ℕ) → length input ≤ most_of count plan.ibs → (length input ≡ most_of count plan.ibs) ⊎ IsAtEnd r → length input ≤ 2 ^ 40 →
       IsReadOut r plan.ibs plan.skip count (skipped ++ input)
   read_out r None fits (inl all) small = absurd (omega arith)
-  read_out r None fits (inr end) small = end
-  read_out r (Some n) fits (inl all) small = (asked (Some n) fits, inr (omega (arith, length-append skipped input, len, all)))
-  read_out r (Some n) fits (inr end) small = (asked (Some n) fits, inl end)
+  read_out r (Some n) fits (inl all) small = inr (omega (arith, length-append skipped input, len, all))
+  read_out r count fits (inr end) small = inl end
 
   pub copied : (r0 r1 r2 w0 w1 : Option (List ℕ)) (counts : Counts) → Consumes r0 r1 skipped → Consumes r1 r2 input → (length input ≡ most_of plan.count plan.ibs) ⊎ IsAtEnd r2 →
       plan.skip * plan.ibs + length input ≤ 2 ^ 40 → Appends w0 w1 (converted (form_of plan) input) → counts ≡ counts_of (form_of plan) input → IsCopy plan r0 r2 w0 w1 counts
@@ -237,8 +243,7 @@ module _ {A : Type 0} (plan : Plan A) (skipped input : List ℕ) (len : length s
     converted (form_of plan) input,
     put,
     record {
-      input = skipped ++ input;
-      consumed = Consumes-trans r0 r1 r2 skipped input skips reads;
+      read = (skipped ++ input, Consumes-trans r0 r1 r2 skipped input skips reads, asked plan.count few);
       ends = read_out r2 plan.count few ends (omega arith);
       few = omega (arith, length-append skipped input, len);
       made = ap (converted (form_of plan)) (sym selects);
@@ -247,15 +252,12 @@ module _ {A : Type 0} (plan : Plan A) (skipped input : List ℕ) (len : length s
   )
 
   pub stopped : (r0 r1 r2 w0 w1 : Option (List ℕ)) (e : IoFault) (before written : ℕ) → before ≡ plan.skip * plan.ibs → Consumes r0 r1 skipped → Consumes r1 r2 input →
-      written ≤ length (converted (form_of plan) input) → Appends w0 w1 (take written (converted (form_of plan) input)) →
+      Appends w0 w1 (take written (converted (form_of plan) input)) →
       IsCopyFault e (before + length input) written (length (converted (form_of plan) input)) → StopsCopy plan r0 r2 w0 w1 e
-  stopped r0 r1 r2 w0 w1 e before written is skips reads short put cause =
+  stopped r0 r1 r2 w0 w1 e before written is skips reads put cause =
       let total : before + length input ≡ length (skipped ++ input) = omega (arith, length-append skipped input, len, is) in record {
-        input = skipped ++ input;
+        read = (skipped ++ input, Consumes-trans r0 r1 r2 skipped input skips reads, asked plan.count few);
         written = written;
-        consumed = Consumes-trans r0 r1 r2 skipped input skips reads;
-        within = asked plan.count few;
-        short = subst (λ (l : List ℕ). written ≤ length (converted (form_of plan) l)) (sym selects) short;
         appended = subst (λ (l : List ℕ). Appends w0 w1 (take written (converted (form_of plan) l))) (sym selects) put;
         cause = subst (λ (l : List ℕ). IsCopyFault e (length (skipped ++ input)) written (length (converted (form_of plan) l))) (sym selects)
             (subst (λ (t : ℕ). IsCopyFault e t written (length (converted (form_of plan) input))) total cause);
@@ -273,19 +275,14 @@ module _ {A : Type 0} (plan : Plan A) (input : List ℕ) (few : length input ≤
   nothing None = drop_of_length-le input few
   nothing (Some n) = ap (take (n * plan.ibs)) (drop_of_length-le input few) ∙ take_nil (n * plan.ibs)
 
-  read_short : (r : Option (List ℕ)) (count : Option ℕ) → IsAtEnd r → IsReadOut r plan.ibs plan.skip count input
-  read_short r None end = end
-  read_short r (Some n) end = (asked_skip plan.ibs plan.skip (length input) (Some n) few, inl end)
-
   pub copied_none : (r0 r1 w : Option (List ℕ)) (counts : Counts) → HasSizes (form_of plan) → Consumes r0 r1 input → IsAtEnd r1 → length input ≤ 2 ^ 40 → counts ≡ counts_of (form_of plan) [] →
       IsCopy plan r0 r1 w w counts
   copied_none r0 r1 w counts sizes reads end small counted = (
     [],
     Appends-nil w,
     record {
-      input = input;
-      consumed = reads;
-      ends = read_short r1 plan.count end;
+      read = (input, reads, asked_skip plan.ibs plan.skip (length input) plan.count few);
+      ends = inl end;
       few = small;
       made = sym (ap (converted (form_of plan)) (nothing plan.count) ∙ converted_none (form_of plan) sizes);
       counted = counted ∙ ap (counts_of (form_of plan)) (sym (nothing plan.count));
@@ -301,11 +298,12 @@ skip_fault SkipPastEnd wanted n size p = absurd p
 
 pub stopped_skip : {A : Type 0} (plan : Plan A) (r0 r1 w : Option (List ℕ)) (e : IoFault) → StopsSkip (plan.skip * plan.ibs) r0 r1 e → StopsCopy plan r0 r1 w w e
 stopped_skip plan r0 r1 w e stop = record {
-  input = stop.input;
+  read = (
+    stop.input,
+    stop.consumed,
+    asked_skip plan.ibs plan.skip (length stop.input) plan.count (read_within e (plan.skip * plan.ibs) (2 ^ 40) (length stop.input) stop.cause),
+  );
   written = 0;
-  consumed = stop.consumed;
-  within = asked_skip plan.ibs plan.skip (length stop.input) plan.count (read_within e (plan.skip * plan.ibs) (2 ^ 40) (length stop.input) stop.cause);
-  short = omega arith;
   appended = Appends-nil w;
   cause = skip_fault e (plan.skip * plan.ibs) (length stop.input) (length (output_of plan stop.input)) stop.cause;
 }
@@ -321,6 +319,5 @@ module _ {A : Type 0} (plan : Plan A) (form : Form) (most before : ℕ) (r0 r1 r
   pub stopped_rest : (e : IoFault) → StopsPass form most before r1 r2 w0 w1 e → StopsCopy plan r0 r2 w0 w1 e
   stopped_rest e stop =
       stopped plan skipped stop.input len (subst (λ (m : ℕ). length stop.input ≤ m) is_most stop.within) r0 r1 r2 w0 w1 e before stop.written is_before skips stop.consumed
-      (subst (λ (f : Form). stop.written ≤ length (converted f stop.input)) is_form stop.short)
       (subst (λ (f : Form). Appends w0 w1 (take stop.written (converted f stop.input))) is_form stop.appended)
       (subst (λ (f : Form). IsCopyFault e (before + length stop.input) stop.written (length (converted f stop.input))) is_form stop.cause)

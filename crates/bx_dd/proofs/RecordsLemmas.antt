@@ -12,19 +12,19 @@ use Rattle.std.proofs.Math.Nat.{mod-le, div-add-mod, mul-add-mod_self_left, mod-
 use Rattle.bx_text.proofs.PiecesLemmas.{in_pieces-none, in_pieces-append, in_pieces-one}
 use Rattle.bx_dd.specs.declared.convert.form.Shape.{Shape}
 use Rattle.bx_dd.specs.declared.convert.form.Shape.TheVariants.{Flat, Block, Unblock}
-use Rattle.bx_dd.specs.Output.{padded, records, shaped, cut_records, unfinished}
+use Rattle.bx_dd.specs.Output.{records, shaped, cut_records, unfinished}
 use Rattle.bx_dd.specs.inner.Output.{fitted, line_of, goes_on, is_space}
 use Rattle.bx_dd.specs.Standing.{Stands}
 use Rattle.bx_dd.specs.inner.Standing.{finished, rest_of, last_of}
 
 -- a record that fits
 pub fitted_short : (n : ℕ) (line : List ℕ) → length line ≤ n → fitted n line ≡ line ++ replicate (n - length line) 32
-unfolding fitted padded
+unfolding fitted
 fitted_short n line fits = take_all n (line ++ replicate (n - length line) 32) (omega (arith, length-append line (replicate (n - length line) 32), length-replicate {A = ℕ} (n - length line) 32))
 
 -- what is cut off doesn't matter
 pub fitted_cut : (n : ℕ) (line : List ℕ) → fitted n (take n line) ≡ fitted n line
-unfolding fitted padded
+unfolding fitted
 fitted_cut n line =
     elim (cases_lt n (length line)) [
       | inr fits ↦ ap (fitted n) (take_all n line fits)

@@ -7,7 +7,7 @@ use Rattle.bx_text.proofs.KnownLemmas.{Consumes-trans}
 use Rattle.bx_text.specs.declared.stream.State.{State}
 use Rattle.bx_text.specs.declared.stream.State.TheVariants.{Open, Ended}
 use Rattle.bx_dd.specs.declared.fault.DdFault.{DdFault}
-use Rattle.bx_dd.specs.declared.fault.DdFault.TheVariants.{NoMemory, ReadFailed, InputTooLong}
+use Rattle.bx_dd.specs.declared.fault.DdFault.TheVariants.{NoMemory}
 use Rattle.bx_dd.specs.Transfer.{HasStopped}
 use Rattle.bx_dd.specs.inner.Transfer.{IsReadOut, IsStopCause, IsWithin, HasRead, StopsWithin, selected}
 
@@ -92,7 +92,7 @@ module _ (old mid new : Option (List ℕ)) (ibs skip turns : ℕ) (first second 
   selected_both None is = after_skip
   selected_both (Some n) is = ap (take (n * ibs)) after_skip ∙ take_all (n * ibs) input (subst (λ (k : ℕ). length input ≤ k * ibs) is takes.within)
 
-  within_both : (count : Option ℕ) → turns ≡ unwrap_or count (2 ^ 64 - 1) → IsWithin ibs skip count (skipped ++ input)
+  pub within_both : (count : Option ℕ) → turns ≡ unwrap_or count (2 ^ 64 - 1) → IsWithin ibs skip count (skipped ++ input)
   within_both None is = tt
   within_both (Some n) is = omega (arith, length-append skipped input, skips.within, subst (λ (k : ℕ). length input ≤ k * ibs) is takes.within)
 
@@ -100,17 +100,16 @@ module _ (old mid new : Option (List ℕ)) (ibs skip turns : ℕ) (first second 
   read_out_both None is some few =
       elim takes.extent [
         | inl whole ↦ absurd (omega (arith, whole.1, is, mul-le-mul_left turns some))
-        | inr ended ↦ ended.1
+        | inr ended ↦ inl ended.1
       ]
   read_out_both (Some n) is some few =
-      let ends : IsAtEnd new ⊎ (length (skipped ++ input) ≡ (skip + n) * ibs) = elim takes.extent [
+      elim takes.extent [
         | inl whole ↦ elim skips.extent [
           | inl all ↦ inr (omega (arith, length-append skipped input, all.1, subst (λ (k : ℕ). length input ≡ k * ibs) is whole.1))
           | inr ended ↦ absurd (let wrong : Open ≡ Ended = sym whole.0 ∙ (none ended.0).1 in cc)
         ]
         | inr ended ↦ inl ended.1
-      ] in
-      (within_both (Some n) is, ends)
+      ]
 
 pub IfOk-both : {T E : Type 0} (r : Result T E) (P Q R : T → Type 0) → ((t : T) → P t → Q t → R t) → IfOk r P → IfOk r Q → IfOk r R
 IfOk-both (Ok t) P Q R f p q = f t p q

@@ -1,5 +1,5 @@
 -- Blocks converted by themselves.
-use Rattle.std.proofs.Common.{◌≡◌, ◌≢◌, ℕ, zero, suc, ◌+◌, ◌-◌, ◌*◌, ◌/◌, ◌%◌, ◌<◌, ◌≤◌, Bool, true, false, cond, List, [], ◌∷◌, ◌++◌, length, take, drop, map, replicate, refl, sym, ap, ◌∙◌, arith, append-nil, append_assoc, subst, ◌⊎◌, inl, inr, drop_of_length-le}
+use Rattle.std.proofs.Common.{◌≡◌, ℕ, zero, suc, ◌+◌, ◌-◌, ◌*◌, ◌/◌, ◌%◌, ◌<◌, ◌≤◌, Bool, true, false, cond, List, [], ◌∷◌, ◌++◌, length, take, drop, map, replicate, refl, sym, ap, ◌∙◌, arith, append-nil, append_assoc, inl, inr, drop_of_length-le}
 use Rattle.std.specs.Prelude.{◌||◌}
 use Rattle.std.proofs.Math.Nat.{div-add-mod, mul-le-mul_left}
 use Rattle.std.proofs.lemmas.Bool.{cases_lt}
@@ -8,13 +8,11 @@ use borrow.Rule.Slice.PartMut.{put_mid, post_of}
 use Rattle.bx_text.specs.InPieces.{in_pieces}
 use Rattle.bx_text.proofs.PiecesLemmas.{in_pieces-append, in_pieces-none, in_pieces-one}
 use Rattle.bx_dd.specs.declared.convert.form.Form.{Form}
-use Rattle.bx_dd.specs.Output.{cased, filler, joined, padded, swapped}
+use Rattle.bx_dd.specs.Output.{cased, filler, joined, swapped}
 use Rattle.bx_dd.specs.inner.Output.{block_of}
 use Rattle.bx_dd.specs.inner.Streaming.{unit_of}
-use Rattle.bx_dd.proofs.ConvertLemmas.{joined_none, joined_more}
 
-full_is : (s : Bool) (fill n : ℕ) (b : List ℕ) → length b ≡ n → cond s (padded fill n b) b ≡ b
-unfolding padded
+full_is : (s : Bool) (fill n : ℕ) (b : List ℕ) → length b ≡ n → cond s (b ++ replicate (n - length b) fill) b ≡ b
 full_is true fill n b e = let none : n - length b ≡ 0 = omega arith in ap (λ k. b ++ replicate k fill) none ∙ append-nil b
 full_is false fill n b e = refl
 
@@ -31,7 +29,7 @@ block_plain form b none = rw none refl
 -- a block with its fill
 pub block_full : (form : Form) (b : List ℕ) → form.sync ≡ true →
     map (cased form.letters) (cond form.swab (swapped (b ++ replicate (form.ibs - length b) (filler form.shape))) (b ++ replicate (form.ibs - length b) (filler form.shape))) ≡ block_of form b
-unfolding block_of padded
+unfolding block_of
 block_full form b some = rw some refl
 
 or_left : (a b : Bool) → (a || b) ≡ false → (a ≡ false) × (b ≡ false)

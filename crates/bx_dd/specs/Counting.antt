@@ -7,11 +7,11 @@ use Rattle.bx_dd.specs.Output.{converted, cut_records, joined}
 
 -- blocks of the selected input and of the output, those that are short apart, and the records that were cut
 abbrev pub counts_of : Form → List ℕ → Counts
-counts_of form input = record {
+counts_of form input = let output = converted form input in record {
   whole_in = length input / form.ibs;
   part_in = min (length input % form.ibs) 1;
-  whole_out = length (converted form input) / form.obs;
-  part_out = min (length (converted form input) % form.obs) 1;
+  whole_out = length output / form.obs;
+  part_out = min (length output % form.obs) 1;
   cut = cut_records form.shape form.cbs (joined form input);
 }
 

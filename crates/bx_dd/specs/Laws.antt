@@ -14,8 +14,8 @@ swap_place n i = if nat_lt (other_place i) n then other_place i else i
 
 -- Each byte of a swapped block is the byte at its place with the lowest bit turned, where the block has that place.
 abbrev pub SwapTurnsLowestBit : Type 0
-SwapTurnsLowestBit = (block : List ℕ) →
-    (length (swapped block) ≡ length block) × ((i : ℕ) → i < length block → slice_index (swapped block) i ≡ slice_index block (swap_place (length block) i))
+SwapTurnsLowestBit = (block : List ℕ) → (length (swapped block) ≡ length block)
+    × ((i : ℕ) → i < length block → slice_index (swapped block) i ≡ slice_index block (swap_place (length block) i))
 
 -- Each of the words is sound, where these stand in front of the first.
 abbrev pub AreSound : List (List ℕ) → List (List ℕ) → Type 0

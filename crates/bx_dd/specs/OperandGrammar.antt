@@ -27,32 +27,39 @@ IsSoundValue (Size most) value = (n : ℕ) × IsProduct value n × (0 < n) × (n
 IsSoundValue Number value = (n : ℕ) × IsProduct value n × (n ≤ 2 ^ 40 - 1)
 IsSoundValue Conversions value = AreConversions value
 
+-- The value is no product of factors.
+abbrev pub IsNoProduct : List ℕ → Type 0
+IsNoProduct value = (n : ℕ) → IsProduct value n → ⊥
+
 -- The fault of a value that isn't, at this place.
 abbrev pub IsValueFault : ℕ → Kind → List ℕ → DdFault → Type 0
 IsValueFault at File value fault = (fault ≡ UnknownOperand at) × (value ≡ [])
 IsValueFault at (Size most) value fault =
-    ((fault ≡ BadNumber at) × ((n : ℕ) → IsProduct value n → ⊥))
-    ⊎ (((fault ≡ NumberTooLarge at) × ((n : ℕ) × IsProduct value n × ((most < n) ⊎ (2 ^ 40 - 1 < n)))) ⊎ ((fault ≡ ZeroSize at) × IsProduct value 0))
+    ((fault ≡ BadNumber at) × IsNoProduct value)
+    ⊎ (((fault ≡ NumberTooLarge at) × ((n : ℕ) × IsProduct value n × ((most < n) ⊎ (2 ^ 40 - 1 < n))))
+    ⊎ ((fault ≡ ZeroSize at) × IsProduct value 0))
 IsValueFault at Number value fault =
-    ((fault ≡ BadNumber at) × ((n : ℕ) → IsProduct value n → ⊥)) ⊎ ((fault ≡ NumberTooLarge at) × ((n : ℕ) × IsProduct value n × (2 ^ 40 - 1 < n)))
+    ((fault ≡ BadNumber at) × IsNoProduct value) ⊎ ((fault ≡ NumberTooLarge at) × ((n : ℕ) × IsProduct value n × (2 ^ 40 - 1 < n)))
 IsValueFault at Conversions value fault = (fault ≡ UnknownOperand at) × (AreConversions value → ⊥)
 
 -- The word is an operand of a known name that wasn't given before, and its value is sound.
 abbrev pub IsSoundBehind : List (List ℕ) → List ℕ → Type 0
 IsSoundBehind before word =
-    (name value : List ℕ) × (kind : Kind) × IsOperand word name value × (kind_of name ≡ Some kind) × (IsAmong name before → ⊥) × IsSoundValue kind value
+    (name value : List ℕ) × (kind : Kind) × IsOperand word name value × (kind_of name ≡ Some kind)
+    × (IsAmong name before → ⊥) × IsSoundValue kind value
 
 -- The fault of a word behind others: it is no operand of a known name; or its name was given before; or its value is at fault.
 abbrev pub IsFaultBehind : List (List ℕ) → List ℕ → DdFault → Type 0
-IsFaultBehind before word fault =
-    ((fault ≡ UnknownOperand (length before + 1)) × ((name value : List ℕ) → (kind : Kind) → IsOperand word name value → kind_of name ≡ Some kind → ⊥))
+IsFaultBehind before word fault = let at = length before + 1 in
+    ((fault ≡ UnknownOperand at) × ((name value : List ℕ) → (kind : Kind) → IsOperand word name value → kind_of name ≡ Some kind → ⊥))
     ⊎ ((name value : List ℕ) × (kind : Kind) × IsOperand word name value × (kind_of name ≡ Some kind)
-    × (((fault ≡ Repeated (length before + 1)) × IsAmong name before) ⊎ ((IsAmong name before → ⊥) × IsValueFault (length before + 1) kind value fault)))
+    × (((fault ≡ Repeated at) × IsAmong name before) ⊎ ((IsAmong name before → ⊥) × IsValueFault at kind value fault)))
 
 -- A word has no fault exactly where it is sound, and this fault exactly where it is its.
 abbrev pub OperandHasForm : Type 0
 OperandHasForm = (before : List (List ℕ)) (word : List ℕ) →
-    (operand_fault before word ≡ None ↔ IsSoundBehind before word) × ((fault : DdFault) → operand_fault before word ≡ Some fault ↔ IsFaultBehind before word fault)
+    (operand_fault before word ≡ None ↔ IsSoundBehind before word)
+    × ((fault : DdFault) → operand_fault before word ≡ Some fault ↔ IsFaultBehind before word fault)
 
 -- Each of the words is sound behind those before it.
 abbrev pub AreSoundBehind : List (List ℕ) → List (List ℕ) → Type 0
@@ -64,7 +71,8 @@ abbrev pub OperandsHaveForm : Type 0
 OperandsHaveForm = (words : List (List ℕ)) →
     (first_fault [] words ≡ None ↔ AreSoundBehind [] words)
     × ((fault : DdFault) → first_fault [] words ≡ Some fault
-    ↔ ((front rest : List (List ℕ)) × (word : List ℕ) × (words ≡ front ++ word ∷ rest) × AreSoundBehind [] front × IsFaultBehind front word fault))
+    ↔ ((front rest : List (List ℕ)) × (word : List ℕ) × (words ≡ front ++ word ∷ rest)
+    × AreSoundBehind [] front × IsFaultBehind front word fault))
 
 -- The first operand of this name has this value.
 abbrev pub Says : List (List ℕ) → List ℕ → List ℕ → Type 0
@@ -78,4 +86,5 @@ WordsAreAskedFor = (words : List (List ℕ)) (name : List ℕ) →
     × (given name words ≡ None ↔ (IsAmong name words → ⊥))
     × ((n : ℕ) → number_given name words ≡ Some n ↔ ((value : List ℕ) × Says words name value × IsProduct value n × (n ≤ 2 ^ 40 - 1)))
     × ((part : List ℕ) → part ≢ [] → converts part words ≡ true
-    ↔ ((value : List ℕ) × (front rest : List (List ℕ)) × Says words (codes "conv") value × (slice_split (λ b. b == 44) value ≡ front ++ part ∷ rest)))
+    ↔ ((value : List ℕ) × (front rest : List (List ℕ)) × Says words (codes "conv") value
+    × (slice_split (λ b. b == 44) value ≡ front ++ part ∷ rest)))

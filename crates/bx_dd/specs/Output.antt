@@ -14,10 +14,6 @@ abbrev pub filler : Shape → ℕ
 filler Flat = 0
 filler shape = 32
 
--- a list, filled up to n
-unfoldable pub padded : ℕ → ℕ → List ℕ → List ℕ
-padded fill n xs = xs ++ replicate (n - length xs) fill
-
 -- the bytes of each pair change places; an odd last byte stays
 unfoldable pub swapped : List ℕ → List ℕ
 swapped [] = []
@@ -30,9 +26,9 @@ cased Keep b = b
 cased Upper b = to_ascii_uppercase b
 cased Lower b = to_ascii_lowercase b
 
--- the blocks, joined: each is padded, then swapped, then in one case
+-- the blocks, joined: each is filled up, then swapped, then in one case
 unfoldable pub joined : Form → List ℕ → List ℕ
-joined form input = in_pieces (λ block. let full = if form.sync then padded (filler form.shape) form.ibs block else block in
+joined form input = in_pieces (λ block. let full = if form.sync then block ++ replicate (form.ibs - length block) (filler form.shape) else block in
     map (cased form.letters) (if form.swab then swapped full else full)) form.ibs input
 
 -- the parts at newlines; after the last newline there is one only if bytes follow
@@ -43,7 +39,7 @@ records (b ∷ bytes) = if b == 10 then [] ∷ records bytes else onto_first b (
 -- records of one size for lines, which are filled up or cut; or lines for records of one size, without the spaces at their end
 unfoldable pub shaped : Shape → ℕ → List ℕ → List ℕ
 shaped Flat size bytes = bytes
-shaped Block size bytes = flat_map (λ line. take size (padded 32 size line)) (records bytes)
+shaped Block size bytes = flat_map (λ line. take size (line ++ replicate (size - length line) 32)) (records bytes)
 shaped Unblock size bytes = in_pieces (λ piece. take (length piece - suffix_len (λ b. b == 32) piece) piece ++ 10 ∷ []) size bytes
 
 -- how many records are too long

@@ -1,6 +1,6 @@
 -- What a transfer reads, and what it makes of that.
-use Rattle.std.specs.Prelude.{◌≡◌, ℕ, ◌+◌, ◌*◌, ◌^◌, ◌≤◌, List, length, take, drop, Option, IfSome, MatchOption, ◌⊎◌}
-use Rattle.std.specs.Option.{option_map_or}
+use Rattle.std.specs.Prelude.{◌≡◌, ℕ, ◌+◌, ◌*◌, ◌^◌, ◌≤◌, List, length, take, drop, Option, IfSome, ◌⊎◌}
+use Rattle.std.specs.Option.{option_map_or, IsSomeAnd}
 use Rattle.std.specs.Io.KnownBytes.{Consumes, IsAtEnd}
 use Rattle.bx_dd.specs.declared.stream.counts.Counts.{Counts}
 use Rattle.bx_dd.specs.declared.fault.DdFault.{DdFault}
@@ -18,18 +18,17 @@ selected_by plan input = option_map_or (λ n. take (n * plan.ibs) (drop (plan.sk
 abbrev pub output_of : {A : Type 0} → Plan A → List ℕ → List ℕ
 output_of plan input = converted (form_of plan) (selected_by plan input)
 
--- no more of an input was read than skip and count ask for
+-- an input was read, the first part of this, and no more of it than skip and count ask for
 abbrev pub ReadsWithin : {A : Type 0} → Plan A → Option (List ℕ) → Option (List ℕ) → Type 0
 ReadsWithin plan old new = (input : List ℕ) × Consumes old new input × IfSome plan.count (λ n. length input ≤ (plan.skip + n) * plan.ibs)
 
 -- Some input was read, up to its end or that of skip and count, and these bytes and counts are what the plan makes of it.
 pub record Copies {A : Type 0} (plan : Plan A) (r0 r1 : Option (List ℕ)) (bytes : List ℕ) (counts : Counts) : Type 0 where
-  pub input : List ℕ
-  pub consumed : Consumes r0 r1 input
-  pub ends : MatchOption plan.count (IsAtEnd r1) (λ n. (length input ≤ (plan.skip + n) * plan.ibs) × (IsAtEnd r1 ⊎ (length input ≡ (plan.skip + n) * plan.ibs)))
-  pub few : length input ≤ 2 ^ 40
-  pub made : bytes ≡ output_of plan input
-  pub counted : counts ≡ counts_of (form_of plan) (selected_by plan input)
+  pub read : ReadsWithin plan r0 r1
+  pub ends : IsAtEnd r1 ⊎ IsSomeAnd plan.count (λ n. length read.0 ≡ (plan.skip + n) * plan.ibs)
+  pub few : length read.0 ≤ 2 ^ 40
+  pub made : bytes ≡ output_of plan read.0
+  pub counted : counts ≡ counts_of (form_of plan) (selected_by plan read.0)
 
 -- some bytes were read before the fault, where there was room for `room` of them: too long is one byte more
 abbrev pub HasStopped : Option (List ℕ) → Option (List ℕ) → ℕ → DdFault → Type 0

@@ -9,7 +9,8 @@ use Rattle.std.proofs.lemmas.List.Sums.{prefix_len_is, prefix_len_passes, prefix
 use Rattle.std.proofs.lemmas.Bool.{eqb-true, eqb-false, ltb-true, ltb-false, leb-true, lt-ltb, le-ltb, le-leb, ne_eqb, eq-eqb, cases_lt, cases_eq}
 use Rattle.bx_read.specs.Digits.{is_hex, pairs_of, data_of}
 use Rattle.bx_read.specs.inner.Digits.{pair_count}
-use Rattle.bx_read.specs.Line.{read_line, read_data, read_pairs}
+use Rattle.bx_read.specs.Line.{read_line, read_data}
+use Rattle.bx_read.specs.inner.Line.{read_pairs}
 use Rattle.bx_read.specs.Grammar.{EndsData}
 use Rattle.bx_read.specs.FaultTable.{BeginsWith, HasAddress, HasData, HasPairs, IsNoPairs, IsFaultOf, FaultIsOfLine}
 use Rattle.bx_read.proofs.GrammarLemmas.{first_digit, data_of-ends, data_of-pairs}

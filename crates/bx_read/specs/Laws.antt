@@ -8,16 +8,18 @@ use Rattle.bx_read.specs.Text.{lines_of}
 
 -- No line gives two different pairs of an address and bytes.
 abbrev pub LineIsUnique : Type 0
-LineIsUnique = (line hex other_hex bytes other_bytes : List ℕ) (at other_at : ℕ) → IsLine line at hex bytes → IsLine line other_at other_hex other_bytes →
-    (at ≡ other_at) × (hex ≡ other_hex) × (bytes ≡ other_bytes)
+LineIsUnique = (line hex other_hex bytes other_bytes : List ℕ) (at other_at : ℕ) →
+    IsLine line at hex bytes → IsLine line other_at other_hex other_bytes → (at ≡ other_at) × (hex ≡ other_hex) × (bytes ≡ other_bytes)
 
 -- No text gives two different lists of pieces.
 abbrev pub TextIsUnique : Type 0
-TextIsUnique = (text : List ℕ) (pieces others : List (ℕ × List ℕ)) → GivesPieces (lines_of text) pieces → GivesPieces (lines_of text) others → pieces ≡ others
+TextIsUnique = (text : List ℕ) (pieces others : List (ℕ × List ℕ)) →
+    GivesPieces (lines_of text) pieces → GivesPieces (lines_of text) others → pieces ≡ others
 
 -- The pieces of a text are no more than its lines, and their bytes together no more than half of its bytes.
 abbrev pub PiecesAreFew : Type 0
-PiecesAreFew = (text : List ℕ) (pieces : List (ℕ × List ℕ)) → GivesPieces (lines_of text) pieces → (length pieces ≤ length (lines_of text)) × (2 * total_bytes pieces ≤ length text)
+PiecesAreFew = (text : List ℕ) (pieces : List (ℕ × List ℕ)) → GivesPieces (lines_of text) pieces →
+    (length pieces ≤ length (lines_of text)) × (2 * total_bytes pieces ≤ length text)
 
 -- xxd's default line without its newline
 abbrev pub line_text : ℕ → List ℕ → List ℕ
@@ -34,10 +36,9 @@ wide_line_text upper cols group at bytes =
 -- A line of a dump with some columns and groups gives back its address and bytes, and it has no newline inside.
 abbrev pub DumpLineReadsBack : Type 0
 DumpLineReadsBack = (upper : Bool) (cols group at : ℕ) (bytes : List ℕ) → 0 < group → 0 < length bytes → length bytes ≤ cols → cols ≤ 256 →
-    All (λ b. b < 256) bytes → at < 2 ^ 62 →
-    (dump_line upper cols group at bytes ≡ wide_line_text upper cols group at bytes ++ codes "\n")
-    × ((hex : List ℕ) × IsLine (wide_line_text upper cols group at bytes) at hex bytes) × (line_piece (wide_line_text upper cols group at bytes) ≡ Some (at, bytes))
-    × All (λ c. c ≢ 10) (wide_line_text upper cols group at bytes)
+    All (λ b. b < 256) bytes → at < 2 ^ 62 → let line = wide_line_text upper cols group at bytes in
+    (dump_line upper cols group at bytes ≡ line ++ codes "\n") × ((hex : List ℕ) × IsLine line at hex bytes) × (line_piece line ≡ Some (at, bytes))
+    × All (λ c. c ≢ 10) line
 
 -- The line is short and prints, it reads as these bytes at this address, and it begins with a digit and so no front of it with an `s`.
 pub record IsWritten (line : List ℕ) (at : ℕ) (bytes : List ℕ) : Type 0 where

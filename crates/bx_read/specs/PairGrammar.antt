@@ -17,7 +17,8 @@ abbrev pub ArePairs : List ℕ → List ℕ → Type 0
 ArePairs [] text = ⊥
 ArePairs (byte ∷ []) text = (high low : ℕ) × (text ≡ high ∷ low ∷ []) × WritesByte high low byte
 ArePairs (byte ∷ next ∷ bytes) text =
-    (high low : ℕ) × (gap rest : List ℕ) × (text ≡ high ∷ low ∷ (gap ++ rest)) × WritesByte high low byte × IsGap gap × ArePairs (next ∷ bytes) rest
+    (high low : ℕ) × (gap rest : List ℕ) × (text ≡ high ∷ low ∷ (gap ++ rest))
+    × WritesByte high low byte × IsGap gap × ArePairs (next ∷ bytes) rest
 
 -- A text reads as bytes exactly where it is their pairs.
 abbrev pub PairsHaveForm : Type 0

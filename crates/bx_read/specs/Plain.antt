@@ -25,7 +25,8 @@ abbrev pub digit_line : ℕ → ℕ → List ℕ → ℕ
 digit_line last n [] = last
 digit_line last n (c ∷ text) = digit_line (if is_hex c then n else last) (if c == 10 then n + 1 else n) text
 
--- The bytes of a plain text, which are those of its digits without white space, or its fault: a byte that doesn't belong, else a last digit without a second one.
+-- The bytes of a plain text, which are those of its digits without white space, or its fault: a byte that doesn't belong, else a
+-- last digit without a second one.
 abbrev pub plain_answer : List ℕ → Result (List ℕ) ReadFault
 plain_answer text =
     ok_or (hex_bytes (filter (λ c. not (is_space c)) text)) (option_map_or (λ line. BadPair line) (bad_line 1 text) (OddDigits (digit_line 1 1 text)))

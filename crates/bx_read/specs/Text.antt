@@ -29,7 +29,7 @@ answer_then number (Err fault) later = Err fault ∷ []
 -- What the lines give, the first of them being line `number`: those that aren't skipped, up to the first fault.
 abbrev pub answers : ℕ → List (List ℕ) → List (Result ReadLine ReadFault)
 answers number [] = []
-answers number (line ∷ lines) = if is_skipped line then answers (number + 1) lines else answer_then number (read_line number line) (answers (number + 1) lines)
+answers number (line ∷ lines) = let later = answers (number + 1) lines in if is_skipped line then later else answer_then number (read_line number line) later
 
 -- the addresses and bytes of lines that were read, or the fault among them
 abbrev pub gathered : List (Result ReadLine ReadFault) → Result (List (ℕ × List ℕ)) ReadFault

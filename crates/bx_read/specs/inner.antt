@@ -2,6 +2,7 @@
 pub mod Digits
 pub mod Full
 pub mod Lanes
+pub mod Line
 pub mod Next
 pub mod NextLine
 pub mod Plain

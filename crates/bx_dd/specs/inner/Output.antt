@@ -1,12 +1,12 @@
 -- What proofs alone need: one block, the bytes that end a record, and those that fill it up.
-use Rattle.std.specs.Prelude.{ℕ, ◌-◌, Bool, not, ◌==◌, if◌then◌else◌, List, [], ◌∷◌, ◌++◌, length, map, take}
+use Rattle.std.specs.Prelude.{ℕ, ◌-◌, Bool, not, ◌==◌, if◌then◌else◌, List, [], ◌∷◌, ◌++◌, length, map, replicate, take}
 use Rattle.std.specs.List.{suffix_len}
 use Rattle.bx_dd.specs.declared.convert.form.Form.{Form}
-use Rattle.bx_dd.specs.Output.{cased, filler, padded, swapped}
+use Rattle.bx_dd.specs.Output.{cased, filler, swapped}
 
--- one block: padded, then swapped, then in one case
+-- one block: filled up, then swapped, then in one case
 unfoldable pub block_of : Form → List ℕ → List ℕ
-block_of form block = let full = if form.sync then padded (filler form.shape) form.ibs block else block in
+block_of form block = let full = if form.sync then block ++ replicate (form.ibs - length block) (filler form.shape) else block in
     map (cased form.letters) (if form.swab then swapped full else full)
 
 -- the byte that records are filled up with
@@ -19,7 +19,7 @@ goes_on b = not (b == 10)
 
 -- a record in n bytes
 unfoldable pub fitted : ℕ → List ℕ → List ℕ
-fitted n line = take n (padded 32 n line)
+fitted n line = take n (line ++ replicate (n - length line) 32)
 
 -- a line for a record: without the spaces at its end
 unfoldable pub line_of : List ℕ → List ℕ

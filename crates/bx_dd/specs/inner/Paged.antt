@@ -44,30 +44,36 @@ abbrev pub FlowsBy : {A : Type 0} → Shape → ℕ → Option (List ℕ) → Op
 FlowsBy shape size start now bytes page kept over cut = Flows shape size start now bytes page.bytes.items page.written kept over cut
 
 -- More bytes flow behind whatever bytes do.
-abbrev pub Pushes : {A : Type 0} → Shape → ℕ → Option (List ℕ) → Option (List ℕ) → Page A → Page A → List ℕ → List ℕ → Tail → List ℕ → Result Tail IoFault → Type 0
+abbrev pub Pushes : {A : Type 0} → Shape → ℕ → Option (List ℕ) → Option (List ℕ) → Page A → Page A →
+    List ℕ → List ℕ → Tail → List ℕ → Result Tail IoFault → Type 0
 Pushes shape size w0 w1 page0 page1 kept0 kept1 tail bytes outcome =
     (z : List ℕ) (start : Option (List ℕ)) → FlowsBy shape size start w0 z page0 kept0 tail.over tail.cut →
     IfOk outcome (λ t. FlowsBy shape size start w1 (z ++ bytes) page1 kept1 t.over t.cut)
 
 -- A front of what is written of them and of whatever follows went out.
-abbrev pub StopsPush : {A V : Type 0} → Shape → ℕ → Option (List ℕ) → Option (List ℕ) → Page A → List ℕ → Bool → ℕ → List ℕ → Result V IoFault → Type 0
+abbrev pub StopsPush : {A V : Type 0} → Shape → ℕ → Option (List ℕ) → Option (List ℕ) → Page A →
+    List ℕ → Bool → ℕ → List ℕ → Result V IoFault → Type 0
 StopsPush shape size w0 w1 page0 kept0 over cut bytes outcome =
-    (z : List ℕ) (start : Option (List ℕ)) → FlowsBy shape size start w0 z page0 kept0 over cut → IfErr outcome (StopsFlow shape size start w1 (z ++ bytes))
+    (z : List ℕ) (start : Option (List ℕ)) → FlowsBy shape size start w0 z page0 kept0 over cut →
+    IfErr outcome (StopsFlow shape size start w1 (z ++ bytes))
 
 -- More bytes flow behind whatever bytes do, and no more records are cut.
-abbrev pub PushesPieces : {A V E : Type 0} → Shape → ℕ → Option (List ℕ) → Option (List ℕ) → Page A → Page A → List ℕ → List ℕ → List ℕ → Result V E → Type 0
+abbrev pub PushesPieces : {A V E : Type 0} → Shape → ℕ → Option (List ℕ) → Option (List ℕ) → Page A → Page A →
+    List ℕ → List ℕ → List ℕ → Result V E → Type 0
 PushesPieces shape size w0 w1 page0 page1 kept0 kept1 bytes outcome =
     (z : List ℕ) (over : Bool) (cut : ℕ) (start : Option (List ℕ)) → FlowsBy shape size start w0 z page0 kept0 over cut →
     OnOk outcome (FlowsBy shape size start w1 (z ++ bytes) page1 kept1 over cut)
 
 -- A front of what is written of them and of whatever follows went out.
-abbrev pub StopsPieces : {A V : Type 0} → Shape → ℕ → Option (List ℕ) → Option (List ℕ) → Page A → List ℕ → List ℕ → Result V IoFault → Type 0
+abbrev pub StopsPieces : {A V : Type 0} → Shape → ℕ → Option (List ℕ) → Option (List ℕ) → Page A →
+    List ℕ → List ℕ → Result V IoFault → Type 0
 StopsPieces shape size w0 w1 page0 kept0 bytes outcome =
     (z : List ℕ) (over : Bool) (cut : ℕ) (start : Option (List ℕ)) → FlowsBy shape size start w0 z page0 kept0 over cut →
     IfErr outcome (StopsFlow shape size start w1 (z ++ bytes))
 
 -- A newline ends the record that is kept.
-abbrev pub EndsRecord : {A E : Type 0} → ℕ → Option (List ℕ) → Option (List ℕ) → Page A → Page A → List ℕ → List ℕ → Bool → ℕ → Result ℕ E → Type 0
+abbrev pub EndsRecord : {A E : Type 0} → ℕ → Option (List ℕ) → Option (List ℕ) → Page A → Page A →
+    List ℕ → List ℕ → Bool → ℕ → Result ℕ E → Type 0
 EndsRecord size w0 w1 page0 page1 kept0 kept1 over cut outcome =
     (z : List ℕ) (start : Option (List ℕ)) → FlowsBy Block size start w0 z page0 kept0 over cut →
     IfOk outcome (FlowsBy Block size start w1 (z ++ 10 ∷ []) page1 kept1 false)
@@ -77,31 +83,36 @@ abbrev pub StageBy : {A : Type 0} → Form → Option (List ℕ) → Option (Lis
 StageBy form start now input pending page kept tail = Stage form start now input pending page.bytes.items page.written kept tail.over tail.cut
 
 -- Whatever stood so, a front of all that is written of the input went out.
-abbrev pub StopsStageOf : {A V : Type 0} → Form → Option (List ℕ) → Option (List ℕ) → List ℕ → Page A → List ℕ → Tail → Result V IoFault → Type 0
+abbrev pub StopsStageOf : {A V : Type 0} → Form → Option (List ℕ) → Option (List ℕ) → List ℕ →
+    Page A → List ℕ → Tail → Result V IoFault → Type 0
 StopsStageOf form w0 w1 pending page0 kept0 tail outcome =
     (input : List ℕ) (start : Option (List ℕ)) → StageBy form start w0 input pending page0 kept0 tail → IfErr outcome (StopsStage form start w1 input)
 
 -- the rest of an input was read and stands converted
-abbrev pub PassesBy : {A R W E : Type 0} → Form → ℕ → Meter → Meter → (R → Option (List ℕ)) → R → R → (W → Option (List ℕ)) → W → W → List ℕ → Page A → List ℕ → Result Turn E → Type 0
+abbrev pub PassesBy : {A R W E : Type 0} → Form → ℕ → Meter → Meter → (R → Option (List ℕ)) → R → R →
+    (W → Option (List ℕ)) → W → W → List ℕ → Page A → List ℕ → Result Turn E → Type 0
 PassesBy form most before after remaining r0 r1 contents w0 w1 buf page kept outcome =
     IfOk outcome (λ t. Passes form most before.taken after.taken (remaining r0) (remaining r1) (contents w0) (contents w1)
     (take t.have buf) page.bytes.items page.written kept t.tail.over t.tail.cut)
 
 -- More was read, whatever stood so: of all of it whole units flow, and the rest is pending.
-abbrev pub GoesOn : {A E : Type 0} → Form → Option (List ℕ) → Option (List ℕ) → List ℕ → List ℕ → Page A → Page A → List ℕ → List ℕ → Tail → Result Turn E → Type 0
+abbrev pub GoesOn : {A E : Type 0} → Form → Option (List ℕ) → Option (List ℕ) → List ℕ → List ℕ →
+    Page A → Page A → List ℕ → List ℕ → Tail → Result Turn E → Type 0
 GoesOn form w0 w1 pending buf page0 page1 kept0 kept1 tail outcome =
     (input : List ℕ) (start : Option (List ℕ)) → StageBy form start w0 input pending page0 kept0 tail →
     IfOk outcome (λ t. StageBy form start w1 input (take t.have buf) page1 kept1 t.tail)
 
 -- All that is written of the input went out, whatever stood so, and is counted.
-abbrev pub Finishes : {A B E : Type 0} → Form → Option (List ℕ) → Option (List ℕ) → List ℕ → Page A → Page B → List ℕ → Tail → Result Tail E → Type 0
+abbrev pub Finishes : {A B E : Type 0} → Form → Option (List ℕ) → Option (List ℕ) → List ℕ →
+    Page A → Page B → List ℕ → Tail → Result Tail E → Type 0
 Finishes form w0 w1 pending page0 page1 kept0 tail outcome =
     (input : List ℕ) (start : Option (List ℕ)) → StageBy form start w0 input pending page0 kept0 tail →
     IfOk outcome (λ t. Appends start w1 (converted form input) × (page1.written ≡ length (converted form input))
     × ((if t.over then t.cut + 1 else t.cut) ≡ cut_records form.shape form.cbs (joined form input)))
 
 -- A front of it went out.
-abbrev pub StopsFinish : {A V : Type 0} → Form → Option (List ℕ) → Option (List ℕ) → List ℕ → Page A → List ℕ → Tail → Result V IoFault → Type 0
+abbrev pub StopsFinish : {A V : Type 0} → Form → Option (List ℕ) → Option (List ℕ) → List ℕ →
+    Page A → List ℕ → Tail → Result V IoFault → Type 0
 StopsFinish form w0 w1 pending page0 kept0 tail outcome =
     (input : List ℕ) (start : Option (List ℕ)) → StageBy form start w0 input pending page0 kept0 tail →
     IfErr outcome (WritesFront 0 start w1 (converted form input))

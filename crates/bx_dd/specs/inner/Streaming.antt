@@ -25,7 +25,8 @@ pub record Goes (start now : Option (List ℕ)) (waits : List ℕ) (written : �
   pub count : written ≡ length out
 
 -- Of converted bytes, what records that are finished give went out or waits, and the rest is kept.
-pub record Flows (shape : Shape) (size : ℕ) (start now : Option (List ℕ)) (bytes waits : List ℕ) (written : ℕ) (kept : List ℕ) (was_cut : Bool) (count : ℕ) : Type 0 where
+pub record Flows (shape : Shape) (size : ℕ) (start now : Option (List ℕ)) (bytes waits : List ℕ) (written : ℕ)
+    (kept : List ℕ) (was_cut : Bool) (count : ℕ) : Type 0 where
   pub text : List ℕ
   pub stands : Stands shape size bytes text kept was_cut count
   pub goes : Goes start now waits written text
@@ -39,7 +40,8 @@ abbrev pub unit_of : Form → ℕ
 unit_of form = if form.swab || form.sync then form.ibs else 1
 
 -- Of what was read, whole units were converted and flow, and the rest is pending.
-pub record Stage (form : Form) (start now : Option (List ℕ)) (input pending waits : List ℕ) (written : ℕ) (kept : List ℕ) (was_cut : Bool) (count : ℕ) : Type 0 where
+pub record Stage (form : Form) (start now : Option (List ℕ)) (input pending waits : List ℕ) (written : ℕ)
+    (kept : List ℕ) (was_cut : Bool) (count : ℕ) : Type 0 where
   pub done : List ℕ
   pub parts : input ≡ done ++ pending
   pub whole : length done % unit_of form ≡ 0
@@ -58,7 +60,8 @@ pub record IsFresh (form : Form) (limit : ℕ) (buf kept : List ℕ) (space : �
   pub room : form.shape ≢ Flat → form.cbs ≤ space
 
 -- The rest of an input was read after so many bytes, at most so many of it, and stands converted.
-pub record Passes (form : Form) (most before after : ℕ) (r0 r1 start now : Option (List ℕ)) (pending waits : List ℕ) (written : ℕ) (kept : List ℕ) (was_cut : Bool) (count : ℕ) : Type 0 where
+pub record Passes (form : Form) (most before after : ℕ) (r0 r1 start now : Option (List ℕ)) (pending waits : List ℕ)
+    (written : ℕ) (kept : List ℕ) (was_cut : Bool) (count : ℕ) : Type 0 where
   pub input : List ℕ
   pub consumed : Consumes r0 r1 input
   pub within : length input ≤ most
@@ -87,7 +90,6 @@ pub record StopsPass (form : Form) (most before : ℕ) (r0 r1 w0 w1 : Option (Li
   pub written : ℕ
   pub consumed : Consumes r0 r1 input
   pub within : length input ≤ most
-  pub short : written ≤ length (converted form input)
   pub appended : Appends w0 w1 (take written (converted form input))
   pub cause : IsCopyFault fault (before + length input) written (length (converted form input))
 

@@ -1,21 +1,22 @@
 -- What proofs alone need: what a transfer reads, and what it makes of that.
-use Rattle.std.specs.Prelude.{◌≡◌, ℕ, ◌+◌, ◌*◌, ◌≤◌, List, length, take, drop, Option, IfSome, MatchOption, ◌⊎◌}
-use Rattle.std.specs.Option.{option_map_or}
+use Rattle.std.specs.Prelude.{◌≡◌, ℕ, ◌+◌, ◌*◌, ◌≤◌, List, length, take, drop, Option, IfSome, ◌⊎◌}
+use Rattle.std.specs.Option.{option_map_or, IsSomeAnd}
 use Rattle.std.specs.Io.KnownBytes.{Consumes, IsAtEnd}
 use Rattle.bx_text.specs.declared.stream.Meter.{Meter}
 use Rattle.bx_text.specs.declared.stream.State.{State}
 use Rattle.bx_text.specs.declared.stream.State.TheVariants.{Open, Ended}
 use Rattle.bx_dd.specs.declared.fault.DdFault.{DdFault}
 use Rattle.bx_dd.specs.declared.fault.DdFault.TheVariants.{NoMemory, ReadFailed, InputTooLong}
-use Rattle.bx_dd.specs.Standing.{IsAfter, Progress}
+use Rattle.bx_dd.specs.declared.convert.Convert.{Convert}
+use Rattle.bx_dd.specs.Convert.{IsAfter}
 
 -- what follows `skip` blocks, at most `count` blocks of it
 abbrev pub selected : ℕ → ℕ → Option ℕ → List ℕ → List ℕ
 selected ibs skip count input = option_map_or (λ n. take (n * ibs) (drop (skip * ibs) input)) count (drop (skip * ibs) input)
 
--- the input's end was reached, or that of skip and count, and no more was read
+-- the input's end was reached, or that of skip and count
 abbrev pub IsReadOut : Option (List ℕ) → ℕ → ℕ → Option ℕ → List ℕ → Type 0
-IsReadOut new ibs skip count input = MatchOption count (IsAtEnd new) (λ n. (length input ≤ (skip + n) * ibs) × (IsAtEnd new ⊎ (length input ≡ (skip + n) * ibs)))
+IsReadOut new ibs skip count input = IsAtEnd new ⊎ IsSomeAnd count (λ n. length input ≡ (skip + n) * ibs)
 
 -- no more was read than skip and count ask for
 abbrev pub IsWithin : ℕ → ℕ → Option ℕ → List ℕ → Type 0
@@ -40,6 +41,6 @@ abbrev pub ReadsBlocks : Option (List ℕ) → Option (List ℕ) → ℕ → ℕ
 ReadsBlocks old new n size before after = (input : List ℕ) × HasRead old new n size after.state input × (after.taken ≡ before.taken + length input)
 
 -- blocks were read and converted, and counted
-abbrev pub TakesBlocks : Option (List ℕ) → Option (List ℕ) → ℕ → ℕ → Meter → Meter → Progress → Type 0
+abbrev pub TakesBlocks : {A : Type 0} → Option (List ℕ) → Option (List ℕ) → ℕ → ℕ → Meter → Meter → Convert A → Type 0
 TakesBlocks old new n size before after c =
     (input : List ℕ) × IsAfter input c × HasRead old new n size after.state input × (after.taken ≡ before.taken + length input)

@@ -6,8 +6,8 @@ ghost use Rattle.bx_dd.specs.inner.Output.{block_of};
 use crate::convert::form::{Form, Letters, Shape};
 use std::alloc::{AllocError, Allocator};
 
-/// The block, padded, swapped and in one case.
-#[tactic(auto, unfolding(crate::specs::inner::Output::block_of, crate::specs::Output::padded))]
+/// The block, filled up, swapped and in one case.
+#[tactic(auto, unfolding(crate::specs::inner::Output::block_of))]
 pub fn ready_block<A: Allocator>(
     alloc: A,
     block: &[u8],

@@ -1,13 +1,13 @@
-use Rattle.std.proofs.Common.{◌≡◌, ◌+◌, ◌-◌, ◌*◌, ◌<◌, ◌≤◌, ◌^◌, ◌++◌, [], ℕ, length, take, drop, cond, refl, sym, ap, ◌∙◌, arith, append-nil, subst}
+use Rattle.std.proofs.Common.{◌≡◌, ◌+◌, ◌-◌, ◌≤◌, ◌++◌, [], ℕ, length, take, drop, cond, sym, ap, ◌∙◌, arith, append-nil, subst}
 use Rattle.std.proofs.lemmas.Bool.{ne_eqb}
-use Rattle.std.proofs.lemmas.List.{length-append, length-drop, length-take-le}
+use Rattle.std.proofs.lemmas.List.{length-drop, length-take-le}
 use Rattle.std.specs.Prelude.{List}
 use Rattle.bx_text.proofs.KnownLemmas.{Consumes-nil, Consumes-trans, take-put_mid_more}
 use Rattle.bx_text.specs.Writing.{WritesFront}
 use Rattle.bx_text.specs.declared.stream.State.TheVariants.{Open, Ended}
 use Rattle.bx_dd.specs.declared.convert.form.Shape.TheVariants.{Flat, Unblock}
 use Rattle.bx_dd.specs.Output.{converted}
-use Rattle.bx_dd.proofs.CopyLemmas.{read_stops, stage_read, stage_sent, stage_start, stage_unsent, unit_some, write_stops}
+use Rattle.bx_dd.proofs.CopyLemmas.{read_sizes, read_stops, stage_read, stage_sent, stage_start, stage_unsent, unit_some, write_stops}
 use Rattle.bx_dd.proofs.stream.copy.copy_units.Goals as goal
 
 pub loop-left-init : goal.loop-left-init
@@ -52,16 +52,13 @@ returns-in-Err-pass-clause-err g c =
     let buf = c.loop-left.buf in
     let n = c.in-Ok.n in
     let read = c.in-Ok.ensures in
-    let same : have + want - have ≡ want = omega arith in
     let fits : have + want ≤ length buf = omega (arith, c.min-want.ensures, before.pending, c.requires.fresh.inside, c.loop-left.auto.buf) in
-    let size : length c.read.new.buf ≡ want = c.read.auto.buf ∙ length-take-le (have + want - have) (drop have buf) (omega (arith, length-drop have buf)) ∙ same in
     let chunk = take n c.read.new.buf in
-    let long : length chunk ≡ n = length-take-le n c.read.new.buf read.bound.0 in
-    let both : length (now.0 ++ chunk) ≡ length now.0 + n = omega (arith, length-append now.0 chunk, long) in
+    let sizes = read_sizes buf c.read.new.buf now.0 have want n fits c.read.auto.buf read.bound.0 in
     let stage = stage_read now.5 chunk _ (take-put_mid_more buf c.read.new.buf have (have + want - have) n (omega (arith, fits)) read.bound.0) in
     let stop = c.in-Err-pass.ensures.err (now.0 ++ chunk) (g.W.Write.contents c.args.w.now) stage [] in
     write_stops c.args.form _ _ _ _ (now.0 ++ chunk) c.args.most c.args.meter.now.taken c.in-Err-pass.fault (Consumes-trans _ _ _ _ _ now.4 read.bytes)
-    (omega (arith, both, now.1, size, read.bound.0, c.min-want.ensures)) (omega (arith, both, now.2, read.taken, read.limit, before.limit, c.read.new.self.within))
+    (omega (arith, sizes.1, now.1, sizes.0, read.bound.0, c.min-want.ensures)) (omega (arith, sizes.1, now.2, read.taken, read.limit, before.limit, c.read.new.self.within))
     (subst (λ (l : List ℕ). WritesFront 0 (g.W.Write.contents c.args.w.now) (g.W.Write.contents c.pass.new.w) (converted c.args.form l) c.in-Err-pass.fault) (append-nil (now.0 ++ chunk)) stop)
 
 pub returns-in-Err-pause-clause-err : goal.returns-in-Err-pause-clause-err
@@ -73,16 +70,13 @@ returns-in-Err-pause-clause-err g c =
     let buf = c.loop-left.buf in
     let n = c.in-Ok.n in
     let read = c.in-Ok.ensures in
-    let same : have + want - have ≡ want = omega arith in
     let fits : have + want ≤ length buf = omega (arith, c.min-want.ensures, before.pending, c.requires.fresh.inside, c.loop-left.auto.buf) in
-    let size : length c.read.new.buf ≡ want = c.read.auto.buf ∙ length-take-le (have + want - have) (drop have buf) (omega (arith, length-drop have buf)) ∙ same in
     let chunk = take n c.read.new.buf in
-    let long : length chunk ≡ n = length-take-le n c.read.new.buf read.bound.0 in
-    let both : length (now.0 ++ chunk) ≡ length now.0 + n = omega (arith, length-append now.0 chunk, long) in
+    let sizes = read_sizes buf c.read.new.buf now.0 have want n fits c.read.auto.buf read.bound.0 in
     let stage = c.in-Ok-pass.ensures.ok (now.0 ++ chunk) (g.W.Write.contents c.args.w.now) (stage_read now.5 chunk _ (take-put_mid_more buf c.read.new.buf have (have + want - have) n (omega (arith, fits)) read.bound.0)) in
     let stop = c.in-Err-pause.ensures.err (g.W.Write.contents c.args.w.now) stage.flows.text stage.flows.goes in
     write_stops c.args.form _ _ _ _ (now.0 ++ chunk) c.args.most c.args.meter.now.taken c.in-Err-pause.fault (Consumes-trans _ _ _ _ _ now.4 read.bytes)
-    (omega (arith, both, now.1, size, read.bound.0, c.min-want.ensures)) (omega (arith, both, now.2, read.taken, read.limit, before.limit, c.read.new.self.within))
+    (omega (arith, sizes.1, now.1, sizes.0, read.bound.0, c.min-want.ensures)) (omega (arith, sizes.1, now.2, read.taken, read.limit, before.limit, c.read.new.self.within))
     (stage_unsent stage _ c.in-Err-pause.fault c.requires.fresh.sizes stop)
 
 pub loop-left-preserved : goal.loop-left-preserved
@@ -95,13 +89,10 @@ loop-left-preserved g c =
     let n = c.in-Ok.n in
     let read = c.in-Ok.ensures in
     let passed = c.in-Ok-pass.ensures in
-    let same : have + want - have ≡ want = omega arith in
     let fits : have + want ≤ length buf = omega (arith, c.min-want.ensures, before.pending, c.requires.fresh.inside, c.loop-left.auto.buf) in
-    let size : length c.read.new.buf ≡ want = c.read.auto.buf ∙ length-take-le (have + want - have) (drop have buf) (omega (arith, length-drop have buf)) ∙ same in
     let chunk = take n c.read.new.buf in
-    let long : length chunk ≡ n = length-take-le n c.read.new.buf read.bound.0 in
-    let both : length (now.0 ++ chunk) ≡ length now.0 + n = omega (arith, length-append now.0 chunk, long) in
-    let less : n ≤ c.loop-left.left = omega (arith, size, read.bound.0, c.min-want.ensures) in
+    let sizes = read_sizes buf c.read.new.buf now.0 have want n fits c.read.auto.buf read.bound.0 in
+    let less : n ≤ c.loop-left.left = omega (arith, sizes.0, read.bound.0, c.min-want.ensures) in
     let stage = passed.ok (now.0 ++ chunk) (g.W.Write.contents c.args.w.now) (stage_read now.5 chunk _ (take-put_mid_more buf c.read.new.buf have (have + want - have) n (omega (arith, fits)) read.bound.0)) in
     record {
       open_now = λ more. read.state ∙ ap (λ b. cond b Ended Open) (ne_eqb n 0 c.if-n-eq0.false);
@@ -113,9 +104,9 @@ loop-left-preserved g c =
       pending = passed.within.2;
       so_far = (
         now.0 ++ chunk,
-        omega (arith, both, now.1, less),
-        omega (arith, both, now.2, read.taken),
-        omega (arith, both, now.3, passed.within.1),
+        omega (arith, sizes.1, now.1, less),
+        omega (arith, sizes.1, now.2, read.taken),
+        omega (arith, sizes.1, now.3, passed.within.1),
         Consumes-trans _ _ _ _ _ now.4 read.bytes,
         stage_sent stage _ _ _ (c.in-Ok-pause.ensures.ok (g.W.Write.contents c.args.w.now) stage.flows.text stage.flows.goes),
       );

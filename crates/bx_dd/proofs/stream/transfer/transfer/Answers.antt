@@ -7,7 +7,7 @@ use Rattle.bx_dd.specs.Counting.{counts_of}
 use Rattle.bx_dd.specs.Output.{converted}
 use Rattle.bx_dd.specs.Plan.{form_of}
 use Rattle.bx_dd.specs.inner.Transfer.{HasRead}
-use Rattle.bx_dd.proofs.TransferLemmas.{stopped_more, stopped_memory, has_stopped, asked_skip, asked_all, consumed_both, selected_both, read_out_both, IfOk-both}
+use Rattle.bx_dd.proofs.TransferLemmas.{stopped_more, stopped_memory, has_stopped, asked_skip, asked_all, consumed_both, selected_both, within_both, read_out_both, IfOk-both}
 use Rattle.bx_dd.proofs.stream.transfer.transfer.Goals as goal
 
 pub returns-in_err-convert-2-clause-err : goal.returns-in_err-convert-2-clause-err
@@ -87,8 +87,11 @@ returns-clause-ok g c =
     let some : length second.0 ≤ 2 ^ 40 = omega (arith, few, length-append first.0 second.0) in
     IfOk-both c.finish.result _ _ _
     (λ t bytes counts. record {
-      input = first.0 ++ second.0;
-      consumed = consumed_both old mid new plan.ibs plan.skip turns c.skip_blocks.new.meter.state c.take_blocks.new.meter.state first.0 second.0 skips takes none;
+      read = (
+        first.0 ++ second.0,
+        consumed_both old mid new plan.ibs plan.skip turns c.skip_blocks.new.meter.state c.take_blocks.new.meter.state first.0 second.0 skips takes none,
+        within_both old mid new plan.ibs plan.skip turns c.skip_blocks.new.meter.state c.take_blocks.new.meter.state first.0 second.0 skips takes none plan.count is,
+      );
       ends = read_out_both old mid new plan.ibs plan.skip turns c.skip_blocks.new.meter.state c.take_blocks.new.meter.state first.0 second.0 skips takes none plan.count is plan.some_ibs some;
       few = few;
       made = bytes ∙ ap (λ f. converted f second.0) form ∙ ap (converted (form_of plan)) (sym selects);
