@@ -73,8 +73,7 @@ fn undone_left(undone: u32, made: u32) -> u32
 }
 
 impl<D: Device, T: TextStore, A: Allocator + Clone> Session<D, T, A> {
-    ghost use Rattle.bx_journal.specs.Session.{Breaks, HasSameDevices, IsRedoSame, IsSame, IsUnfailed, IsUnmoved, SessionCounts};
-    ghost use Rattle.bx_journal.specs.Calls.{AfterFault};
+    ghost use Rattle.bx_journal.specs.Session.{FailsSafely};
     ghost use Rattle.bx_journal.specs.Performing.{FindsSome, RedoesImages, StaysRedone};
     ghost use Rattle.bx_journal.specs.Undoing.{HasCount, IsOutOfStep, LeavesFront, RedoFault};
     ghost use Rattle.bx_journal.specs.declared.session.fault.SessionFault.TheVariants.{RedoDamaged};
@@ -106,16 +105,8 @@ impl<D: Device, T: TextStore, A: Allocator + Clone> Session<D, T, A> {
         // An interruption leaves the old stack with some of the images made again, and another fault leaves all as it was.
         ensures finds { D.honest self.old.device → T.honest self.old.store → T.honest self.old.redo_text
             → FindsSome D.image T.text self.old self.new redo_of j result }
-        ensures refused { D.honest self.old.device → T.honest self.old.store
-            → IfErr result (λ e. AfterFault e (Unit {0}) (IsSame D.image T.text self.old self.new)) }
-        ensures redo_same { T.honest self.old.redo_text → IfErr result (λ e. AfterFault e (Unit {0}) (IsRedoSame T.text self.old self.new)) }
-        ensures unmoved { IfErr result (λ e. AfterFault e (Unit {0}) (IsUnmoved self.old self.new)) }
-        ensures breaks { IsErrOf result SessionFault.Interrupted → Breaks self.old self.new }
 
         ensures kind { IfErr result (RedoFault self.old.undone) }
-        ensures broken { (self.old.is_broken ≡ true) ↔ IsErrOf result SessionFault.Broken }
-        ensures untouched { IsErrOf result SessionFault.Broken → HasSameDevices self.old self.new }
-        ensures same { IsErrOf result SessionFault.Broken → self.new ≡ self.old }
         ensures nothing { ((self.old.is_broken ≡ false) × (self.old.undone < j)) ↔ IsErrOf result (SessionFault.NothingToRedo self.old.undone) }
 
         // The redo text is called damaged exactly where it isn't so many finished entries alone.
@@ -125,11 +116,8 @@ impl<D: Device, T: TextStore, A: Allocator + Clone> Session<D, T, A> {
             → IfErr result (λ e. (n : ℕ) → e ≡ RedoDamaged n → ⊥) }
         ensures whole { T.honest self.old.redo_text → OnOk result (HasCount (T.text self.old.redo_text) self.old.undone) }
 
-        ensures device_honesty { D.honest self.new.device ↔ D.honest self.old.device }
-        ensures store_honesty { T.honest self.new.store ↔ T.honest self.old.store }
-        ensures redo_honesty { T.honest self.new.redo_text ↔ T.honest self.old.redo_text }
-        ensures no_failure { OnOk result (IsUnfailed D.failures T.failures self.old self.new) }
-        ensures counts { IfErr result (SessionCounts D.failures T.failures self.old self.new) }
+        // A refusal changes nothing, an interruption breaks the session, and a broken one refuses all.
+        ensures safe { FailsSafely D.honest T.honest D.image T.text D.failures T.failures self.old self.new result }
     {
         if self.is_broken {
             return Err(SessionFault::Broken);
