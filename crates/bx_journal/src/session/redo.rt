@@ -1,36 +1,18 @@
 //! Making undone changes again.
 ghost use Rattle.std.specs.Prelude.{◌≡◌, ◌↔◌, ◌+◌, ◌<◌, ◌≤◌, ℕ, length, true, false, IfOk, IfErr, OnOk, IsErrOf};
 ghost use Rattle.bx_journal.specs.Images.{redo_of};
-ghost use Rattle.bx_journal.specs.Opening.{FaultCounts};
+ghost use Rattle.bx_journal.specs.inner.Devices.{LooksAt};
 ghost use Rattle.bx_entries.specs.Text.{IsPrefix};
-ghost use Rattle.bx_journal.specs.inner.Undoing.{IsLastFrom, RedoAgainFault, redo_fault};
+ghost use Rattle.bx_journal.specs.inner.Undoing.{IsLastFrom, RedoAgainFault};
 
 use crate::protocol::redo_entry::redo_entries;
+use crate::session::fault::of_redo;
 use crate::session::prepare::records::prepare_takens;
 use crate::session::read::entries::{FinishedRead, read_last_of};
 use crate::{Session, SessionFault};
 use bx_image::Device;
 use bx_store::TextStore;
 use std::alloc::Allocator;
-
-/// What a fault of reading the redo text is in a session.
-fn of_redo(fault: SessionFault) -> SessionFault
-    ensures { result ≡ redo_fault fault }
-{
-    match fault {
-        SessionFault::Damaged { line } => SessionFault::RedoDamaged { line },
-        SessionFault::NoMemory => SessionFault::NoMemory,
-        SessionFault::TooLarge => SessionFault::TooLarge,
-        SessionFault::DeviceFailed => SessionFault::DeviceFailed,
-        SessionFault::TooFew { have } => SessionFault::TooFew { have },
-        SessionFault::JournalFull => SessionFault::JournalFull,
-        SessionFault::Interrupted => SessionFault::Interrupted,
-        SessionFault::Broken => SessionFault::Broken,
-        SessionFault::LengthDiffers { expected } => SessionFault::LengthDiffers { expected },
-        SessionFault::NothingToRedo { have } => SessionFault::NothingToRedo { have },
-        SessionFault::RedoDamaged { line } => SessionFault::RedoDamaged { line },
-    }
-}
 
 /// Reads the last j entries of a redo text that is to be so many finished entries alone. It changes nothing.
 fn read_undone<T: TextStore, A: Allocator + Clone>(
@@ -44,10 +26,7 @@ fn read_undone<T: TextStore, A: Allocator + Clone>(
     ensures read { IfOk result (λ o. IsLastFrom (T.honest redo_text.old) (T.text redo_text.old) o.len o.entries.items undone) }
     ensures few { IfOk result (λ o. j ≤ length o.entries.items) }
     ensures fault { IfErr result (RedoAgainFault (T.honest redo_text.old) (T.text redo_text.old) undone) }
-    ensures text { T.honest redo_text.old → T.text redo_text.new ≡ T.text redo_text.old }
-    ensures honesty { T.honest redo_text.new ↔ T.honest redo_text.old }
-    ensures no_failure { OnOk result (T.failures redo_text.new ≡ T.failures redo_text.old) }
-    ensures counts { IfErr result (λ e. FaultCounts e 0 (T.failures redo_text.old) 0 (T.failures redo_text.new)) }
+    ensures looks { LooksAt T.honest T.text T.failures result redo_text.old redo_text.new }
 {
     match read_last_of(alloc, redo_text, undone, j) {
         Ok(read) => Ok(read),
