@@ -16,7 +16,7 @@ returns-in-Err g c =
     let e = c.in-Err.ensures in
     record {
       obeys = unperformed_obeys g.D.Device.honest g.T.TextStore.honest g.D.Device.image g.T.TextStore.text g.D.Device.failures g.T.TextStore.failures
-          c.args.session.now c.perform.new.self c.args.change.now c.args.counts c.in-Err.fault c.from.result c.from.ensures
+          c.args.session.now c.perform.new.self c.args.change.now c.args.counts c.in-Err.fault
           (record { broken = e.broken; same = e.refused; redo_same = e.redo_same; breaks = e.breaks; device_honesty = e.device_honesty; store_honesty = e.store_honesty; redo_honesty = e.redo_honesty })
           e.counts e.full e.large e.fits e.fitted e.kind e.finds;
     }
