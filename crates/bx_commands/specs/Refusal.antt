@@ -9,7 +9,7 @@ use Rattle.bx_commands.specs.declared.command.Reply.{Reply}
 use Rattle.bx_commands.specs.declared.command.Reply.TheVariants.{Refused}
 use Rattle.bx_commands.specs.declared.fault.Fault.TheVariants.{Read, Dd, Session}
 
--- the command was refused for a fault of its text, of dd's operands or of dd's input
+-- the command was refused for a fault of its own: of its text, of dd's operands or of dd's input, and not for want of memory
 abbrev pub IsOwnRefusal : Reply → Type 0
 IsOwnRefusal (Refused (Read e)) = e ≢ read.NoMemory
 IsOwnRefusal (Refused (Dd e)) = (e ≢ dd.NoMemory) × (e ≢ dd.SeekWithoutOutput)

@@ -42,11 +42,11 @@ abbrev pub DdStep : {A : Type 0} → Standing → Result (DdChange A) DdFault �
 DdStep before (Ok made) reply after = CallStep (λ n. Copied n made.counts) (PerformUp made.change) before reply after
 DdStep before (Err e) reply after = (reply ≡ Refused (Dd e)) × (after ≡ before)
 
--- A text that asks for a change. Want of memory may take the place of reading it.
+-- A text that asks for a change. Want of memory for its reading may take its place.
 abbrev pub TextStep : {A B : Type 0} → Standing → (B → Change A) → Result B ReadFault → Reply → Standing → Type 0
 TextStep before change read reply after = ((reply ≡ Refused (Read NoMemory)) × (after ≡ before)) ⊎ ReadStep before change read reply after
 
--- One command, where `remaining` is what a reader gives. Want of memory may take the place of reading its text.
+-- One command, where `remaining` is what a reader gives. Want of memory for the reading of its text may take its place.
 abbrev pub CommandStep : {R A : Type 0} → (R → Option (List ℕ)) → Standing → Command R A → Reply → Standing → Type 0
 CommandStep {A = A} remaining before (Revert text offset) reply after = TextStep before (dump_change {A = A} offset) (dump_pieces text) reply after
 CommandStep {A = A} remaining before (RevertPlain text at) reply after = TextStep before (plain_change {A = A} at) (plain_answer text) reply after
