@@ -3,7 +3,6 @@ use Rattle.std.proofs.Common.{◌≡◌, ◌↔◌, ◌≤◌, ◌<◌, inl, inr
 use Rattle.std.specs.Result.{IsErrOf}
 use Rattle.bx_dd.specs.declared.stream.counts.Counts.{Counts}
 use Rattle.bx_dd.specs.declared.fault.DdFault.{DdFault}
-use Rattle.bx_dd.specs.declared.fault.DdFault.TheVariants as dd
 use Rattle.bx_image.specs.declared.change.Change.{Change}
 use Rattle.bx_image.specs.declared.change.TheConstants.{MAX_LEN}
 use Rattle.bx_image.specs.Change.{effect, Fits}
@@ -17,44 +16,16 @@ use Rattle.bx_journal.specs.Undoing.{HasCount, RedoFault, UndoFault}
 use Rattle.bx_journal.specs.declared.session.fault.SessionFault.{SessionFault}
 use Rattle.bx_journal.specs.declared.session.fault.SessionFault.TheVariants.{NoMemory, Damaged, TooFew, TooLarge, JournalFull, Interrupted, Broken, NothingToRedo, RedoDamaged}
 use Rattle.bx_read.specs.declared.fault.ReadFault.{ReadFault}
-use Rattle.bx_read.specs.declared.fault.ReadFault.TheVariants as read
 use Rattle.bx_commands.specs.declared.command.Reply.{Reply}
 use Rattle.bx_commands.specs.declared.command.Reply.TheVariants.{Refused, Undone, Redone}
-use Rattle.bx_commands.specs.declared.fault.Fault.{Fault}
-use Rattle.bx_commands.specs.Fault.{of_dd, of_read, of_session}
+use Rattle.bx_commands.specs.declared.fault.Fault.TheVariants.{Read, Dd, Session}
 use Rattle.bx_commands.specs.Obeys.{Obeys}
-use Rattle.bx_commands.specs.Refusal.{IsWholeRefusal}
-use Rattle.bx_commands.specs.inner.Refusal.{IsOwnFault}
 use Rattle.bx_commands.specs.Run.{answered, is_failure, CallStep, Unfailed, ReadStep, DdStep}
 use Rattle.bx_commands.specs.inner.Run.{made_reply, ChangeStep, RedoUp, RedoesStep, UndoUp, UndoesStep}
 use Rattle.bx_commands.specs.Standing.{CountsBy, HoldsAt, PerformUp, Shows, Standing}
-use Rattle.bx_commands.proofs.Refusals.{IsNoRefusal, after_same, both_after, is_interrupted, made_no_refusal, no_failure, no_own, no_whole, redo_same_here, same_here, session_not_own, unfailed_whole, whole_goes_on}
+use Rattle.bx_commands.proofs.Refusals.{IsNoRefusal, after_same, both_after, is_interrupted, made_no_refusal, no_failure, no_own, no_whole, redo_same_here, same_here, unfailed_whole, whole_goes_on}
 use Rattle.bx_commands.proofs.Stays.{holds_same, ready_shows, shows_same}
 use Rattle.bx_commands.proofs.Steps.{refusal, fits_top, perform_stays, redo_stays, undo_stays, counts_least, counts_rise}
-
--- no fault of a text or of dd is a device's
-read_unfailed : (e : ReadFault) → Unfailed (Refused (of_read e))
-read_unfailed read.NoMemory = refl
-read_unfailed (read.BadAddress line) = refl
-read_unfailed (read.MissingColon line) = refl
-read_unfailed (read.BadPair line) = refl
-read_unfailed (read.NoData line) = refl
-read_unfailed (read.TooWide line) = refl
-read_unfailed (read.AddressTooLarge line) = refl
-read_unfailed (read.OddDigits line) = refl
-
-dd_unfailed : (e : DdFault) → Unfailed (Refused (of_dd e))
-dd_unfailed dd.NoMemory = refl
-dd_unfailed dd.ReadFailed = refl
-dd_unfailed dd.InputTooLong = refl
-dd_unfailed (dd.UnknownOperand place) = refl
-dd_unfailed (dd.BadNumber place) = refl
-dd_unfailed (dd.NumberTooLarge place) = refl
-dd_unfailed (dd.ZeroSize place) = refl
-dd_unfailed dd.Conflict = refl
-dd_unfailed dd.MissingCbs = refl
-dd_unfailed (dd.Repeated place) = refl
-dd_unfailed dd.SeekWithoutOutput = refl
 
 -- a call of a session, from where it stands: a stopped session refuses it
 abbrev CallFrom : (Images → Result ℕ SessionFault → Standing → Type 0) → Standing → Result ℕ SessionFault → Standing → Type 0
@@ -76,7 +47,7 @@ module _ {D T : Type 0} (hd : D → Type 0) (ht : T → Type 0) (image : D → L
 
   -- a call that was refused raises one count, or none
   fault_counts : (old new : SessionView D T) (e : SessionFault) → SessionCounts fd ft old new e
-      → CountsBy fd ft old new (cond (is_failure (Refused (of_session e))) 1 0)
+      → CountsBy fd ft old new (cond (is_failure (Refused (Session e))) 1 0)
   fault_counts old new e counts =
       let least = counts_least e (fd old.device) (ft old.store) (ft old.redo_text) (fd new.device) (ft new.store) (ft new.redo_text) counts in
       record {
@@ -119,19 +90,14 @@ module _ {D T : Type 0} (hd : D → Type 0) (ht : T → Type 0) (image : D → L
     redo_same = λ redo whole. redo_same_here text s;
   }
 
-  pub read_refused : {A B : Type 0} (change : B → Change A) (s : SessionView D T) (e : ReadFault) (f : Fault) → f ≡ of_read e
-      → Obeys hd ht image text fd ft s s (Refused f) (λ before. ReadStep before change (Err e))
-  read_refused change s e f is =
-      let Goes : Fault → Type 0 = λ f. Unfailed (Refused f) in
-      obeys_refused (λ before. ReadStep before change (Err e)) s (Refused f)
-      (subst Goes (sym is) (read_unfailed e)) (λ before. (ap Refused is, refl))
+  -- a fault of the text, or of dd
+  pub read_refused : {A B : Type 0} (change : B → Change A) (s : SessionView D T) (e : ReadFault)
+      → Obeys hd ht image text fd ft s s (Refused (Read e)) (λ before. ReadStep before change (Err e))
+  read_refused change s e = obeys_refused (λ before. ReadStep before change (Err e)) s (Refused (Read e)) refl (λ before. (refl, refl))
 
-  pub dd_refused : (A : Type 0) (s : SessionView D T) (e : DdFault) (f : Fault) → f ≡ of_dd e
-      → Obeys hd ht image text fd ft s s (Refused f) (λ before. DdStep {A = A} before (Err e))
-  dd_refused A s e f is =
-      let Goes : Fault → Type 0 = λ f. Unfailed (Refused f) in
-      obeys_refused (λ before. DdStep {A = A} before (Err e)) s (Refused f)
-      (subst Goes (sym is) (dd_unfailed e)) (λ before. (ap Refused is, refl))
+  pub dd_refused : (A : Type 0) (s : SessionView D T) (e : DdFault)
+      → Obeys hd ht image text fd ft s s (Refused (Dd e)) (λ before. DdStep {A = A} before (Err e))
+  dd_refused A s e = obeys_refused (λ before. DdStep {A = A} before (Err e)) s (Refused (Dd e)) refl (λ before. (refl, refl))
 
   -- a call that was accepted, from where the session stood
   accepted_step : (From : Standing → Result ℕ SessionFault → Standing → Type 0) (next : Images → Images) (old new : SessionView D T) (n : ℕ)
@@ -217,35 +183,31 @@ module _ {D T : Type 0} (hd : D → Type 0) (ht : T → Type 0) (image : D → L
 
   -- a call that was refused, or stopped
   call_refused : (made : ℕ → Reply) (Call : Images → Result ℕ SessionFault → Standing → Type 0) (Left : Images → Type 0)
-      (old new : SessionView D T) (e : SessionFault) (f : Fault) → f ≡ of_session e
+      (old new : SessionView D T) (e : SessionFault)
       → FailsSafely hd ht image text fd ft old new (refusal e)
       → ((images : Images) → hd old.device → ht old.store → ht old.redo_text → Shows image text old images → (e ≡ Interrupted → ⊥)
       → Call images (Err e) (Standing.Up images))
       → (hd old.device → ht old.store → ht old.redo_text → (images : Images) → IsReady image text old images.stack → HasUndone image text old images.undone
       → AfterFault e (Left images) (Unit {0}))
       → ((images : Images) → Left images → (found : Images) × SessionFinds image text new found × Call images (Err Interrupted) (Standing.Down found))
-      → Obeys hd ht image text fd ft old new (Refused f) (λ before. CallStep made Call before)
-  call_refused made Call Left old new e f is refused stays finds stops =
-      let By : Fault → Type 0 = λ f. CountsBy fd ft old new (cond (is_failure (Refused f)) 1 0) in
-      let Whole : Fault → Type 0 = λ f. IsWholeRefusal (Refused f) in
-      let Goes : Fault → Type 0 = λ f. Unfailed (Refused f) in
-      let reply_is : Refused f ≡ answered made (Err e) = ap Refused is in
+      → Obeys hd ht image text fd ft old new (Refused (Session e)) (λ before. CallStep made Call before)
+  call_refused made Call Left old new e refused stays finds stops =
       record {
         step = λ before h.
             let stands = refused_step (CallFrom Call) Left old new e refused stays finds stops (λ images. (refl, refl)) before h in
-            (stands.0, stands.1, called made Call before (Err e) (Refused f) stands.0 reply_is stands.2);
+            (stands.0, stands.1, called made Call before (Err e) (Refused (Session e)) stands.0 refl stands.2);
         stands = λ device store redo unfailed images shows.
-            let whole = unfailed_whole e (subst Goes is unfailed) in
+            let whole = unfailed_whole e unfailed in
             let same = after_same (IsSame image text old new) e (refused.refused device store) whole in
             let redo_same = after_same (IsRedoSame text old new) e (refused.redo_same redo) whole in
-            (images, shows_same image text old new images same redo_same shows, (Err e, reply_is, stays images device store redo shows whole));
+            (images, shows_same image text old new images same redo_same shows, (Err e, refl, stays images device store redo shows whole));
         device_honesty = refused.honesty.0;
         store_honesty = refused.honesty.1;
         redo_honesty = refused.honesty.2;
-        counts = subst By (sym is) (fault_counts old new e refused.counts);
-        own = λ own. absurd (session_not_own e (subst IsOwnFault is own));
-        same = λ whole device store. after_same (IsSame image text old new) e (refused.refused device store) (whole_goes_on e (subst Whole is whole));
-        redo_same = λ redo whole. after_same (IsRedoSame text old new) e (refused.redo_same redo) (whole_goes_on e (subst Whole is whole));
+        counts = fault_counts old new e refused.counts;
+        own = λ own. absurd own;
+        same = λ whole device store. after_same (IsSame image text old new) e (refused.refused device store) (whole_goes_on e whole);
+        redo_same = λ redo whole. after_same (IsRedoSame text old new) e (refused.redo_same redo) (whole_goes_on e whole);
       }
 
   -- a change that was made
@@ -297,7 +259,7 @@ module _ {D T : Type 0} (hd : D → Type 0) (ht : T → Type 0) (image : D → L
       (λ images device store redo ready has. (sound device store redo images ready has).0)
 
   -- a change that was refused, or stopped
-  pub unperformed_obeys : {A : Type 0} (old new : SessionView D T) (c : Change A) (counts : Option Counts) (e : SessionFault) (f : Fault) → f ≡ of_session e
+  pub unperformed_obeys : {A : Type 0} (old new : SessionView D T) (c : Change A) (counts : Option Counts) (e : SessionFault)
       → FailsSafely hd ht image text fd ft old new (refusal e)
       → (IsErrOf (refusal e) JournalFull ↔ ((old.is_broken ≡ false) × (65535 ≤ old.count)))
       → (hd old.device → IsErrOf (refusal e) TooLarge → Fits c (length (image old.device)) MAX_LEN → ⊥)
@@ -306,12 +268,12 @@ module _ {D T : Type 0} (hd : D → Type 0) (ht : T → Type 0) (image : D → L
       → PerformFault e
       → (hd old.device → ht old.store → ht old.redo_text → (s : Images) → IsReady image text old s.stack → HasUndone image text old s.undone
       → AfterFault e (FindsEither image text new s (change_to (effect c (top s.stack)) s)) (Unit {0}))
-      → Obeys hd ht image text fd ft old new (Refused f) (λ before. ChangeStep before c counts)
-  unperformed_obeys old new c counts e f is refused full large fits fitted kind finds =
+      → Obeys hd ht image text fd ft old new (Refused (Session e)) (λ before. ChangeStep before c counts)
+  unperformed_obeys old new c counts e refused full large fits fitted kind finds =
       let Made : Images → Images = λ s. change_to (effect c (top s.stack)) s in
       let Left : Images → Type 0 = λ s. FindsEither image text new s (Made s) × Fits c (length (top s.stack)) MAX_LEN in
       let Found : Images → Type 0 = λ s. (found : Images) × SessionFinds image text new found × PerformUp c s (Err Interrupted) (Standing.Down found) in
-      call_refused (made_reply counts) (PerformUp c) Left old new e f is refused
+      call_refused (made_reply counts) (PerformUp c) Left old new e refused
       (λ images device store redo shows whole. perform_stays hd image text old c e refused.broken full large fits kind device images shows whole)
       (λ device store redo images ready has.
       both_after (FindsEither image text new images (Made images)) (Fits c (length (top images.stack)) MAX_LEN) e (finds device store redo images ready has)
@@ -322,31 +284,31 @@ module _ {D T : Type 0} (hd : D → Type 0) (ht : T → Type 0) (image : D → L
       ])
 
   -- an undo that was refused, or stopped
-  pub kept_obeys : (old new : SessionView D T) (k : ℕ) (e : SessionFault) (f : Fault) → f ≡ of_session e
+  pub kept_obeys : (old new : SessionView D T) (k : ℕ) (e : SessionFault)
       → FailsSafely hd ht image text fd ft old new (refusal e)
       → (((old.is_broken ≡ false) × (old.count < k)) ↔ IsErrOf (refusal e) (TooFew old.count))
       → UndoFault old.count e
       → (ht old.store → HasCount (text old.store) old.count → (line : ℕ) → e ≡ Damaged line → ⊥)
       → (hd old.device → ht old.store → ht old.redo_text → (s : Images) → IsReady image text old s.stack → HasUndone image text old s.undone
       → AfterFault e ((i : ℕ) × (i ≤ k) × SessionFinds image text new (undo_of i s)) (Unit {0}))
-      → Obeys hd ht image text fd ft old new (Refused f) (λ before. UndoesStep before k)
-  kept_obeys old new k e f is refused few kind undamaged finds =
-      call_refused Undone (UndoUp k) (λ s. (i : ℕ) × (i ≤ k) × SessionFinds image text new (undo_of i s)) old new e f is refused
+      → Obeys hd ht image text fd ft old new (Refused (Session e)) (λ before. UndoesStep before k)
+  kept_obeys old new k e refused few kind undamaged finds =
+      call_refused Undone (UndoUp k) (λ s. (i : ℕ) × (i ≤ k) × SessionFinds image text new (undo_of i s)) old new e refused
       (λ images device store redo shows whole. undo_stays ht image text old k e refused.broken few kind undamaged store images shows whole)
       finds
       (λ images left. (undo_of left.0 images, left.2, (left.0, left.1, refl)))
 
   -- a redo that was refused, or stopped
-  pub unredone_obeys : (old new : SessionView D T) (j : ℕ) (e : SessionFault) (f : Fault) → f ≡ of_session e
+  pub unredone_obeys : (old new : SessionView D T) (j : ℕ) (e : SessionFault)
       → FailsSafely hd ht image text fd ft old new (refusal e)
       → (((old.is_broken ≡ false) × (old.undone < j)) ↔ IsErrOf (refusal e) (NothingToRedo old.undone))
       → RedoFault old.undone e
       → (ht old.redo_text → HasCount (text old.redo_text) old.undone → (line : ℕ) → e ≡ RedoDamaged line → ⊥)
       → (hd old.device → ht old.store → ht old.redo_text → (s : Images) → IsReady image text old s.stack → HasUndone image text old s.undone
       → AfterFault e ((i : ℕ) × (i ≤ j) × SessionFinds image text new (redo_of i s)) (Unit {0}))
-      → Obeys hd ht image text fd ft old new (Refused f) (λ before. RedoesStep before j)
-  unredone_obeys old new j e f is refused nothing kind undamaged finds =
-      call_refused Redone (RedoUp j) (λ s. (i : ℕ) × (i ≤ j) × SessionFinds image text new (redo_of i s)) old new e f is refused
+      → Obeys hd ht image text fd ft old new (Refused (Session e)) (λ before. RedoesStep before j)
+  unredone_obeys old new j e refused nothing kind undamaged finds =
+      call_refused Redone (RedoUp j) (λ s. (i : ℕ) × (i ≤ j) × SessionFinds image text new (redo_of i s)) old new e refused
       (λ images device store redo shows whole. redo_stays ht image text old j e refused.broken nothing kind undamaged redo images shows whole)
       finds
       (λ images left. (redo_of left.0 images, left.2, (left.0, left.1, refl)))

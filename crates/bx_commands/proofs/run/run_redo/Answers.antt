@@ -15,6 +15,6 @@ returns-in-Err g c =
     let e = c.in-Err.ensures in
     record {
       obeys = unredone_obeys g.D.Device.honest g.T.TextStore.honest g.D.Device.image g.T.TextStore.text g.D.Device.failures g.T.TextStore.failures
-          c.args.session.now c.redo.new.self c.args.j c.in-Err.fault c.from.result c.from.ensures
+          c.args.session.now c.redo.new.self c.args.j c.in-Err.fault
           e.safe e.nothing e.kind e.undamaged e.finds;
     }

@@ -15,6 +15,6 @@ returns-in-Err g c =
     let e = c.in-Err.ensures in
     record {
       obeys = kept_obeys g.D.Device.honest g.T.TextStore.honest g.D.Device.image g.T.TextStore.text g.D.Device.failures g.T.TextStore.failures
-          c.args.session.now c.undo.new.self c.args.k c.in-Err.fault c.from.result c.from.ensures
+          c.args.session.now c.undo.new.self c.args.k c.in-Err.fault
           e.safe e.few e.kind e.undamaged e.finds;
     }
