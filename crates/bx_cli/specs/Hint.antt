@@ -1,7 +1,11 @@
 -- The texts of the hints behind faults.
 use Rattle.std.specs.Prelude.{ℕ, List, [], length, ◌++◌, ◌==◌, codes, if◌then◌else◌}
+use Rattle.bx_text.specs.declared.fault.IoFault.TheVariants as io
+use Rattle.bx_read.specs.declared.fault.ReadFault.TheVariants as read
+use Rattle.bx_dd.specs.declared.fault.DdFault.TheVariants as dd
+use Rattle.bx_journal.specs.declared.session.fault.SessionFault.TheVariants as session
 use Rattle.bx_commands.specs.declared.fault.Fault.{Fault}
-use Rattle.bx_commands.specs.declared.fault.Fault.TheVariants.{InputTooLong, SkipPastEnd, BadAddress, MissingColon, BadPair, NoData, AddressTooLarge, OddDigits, ZeroSize, Conflict, MissingCbs, SeekWithoutOutput, TooLarge, DeviceFailed, Damaged, TooFew, JournalFull, Interrupted, LengthDiffers, NothingToRedo, RedoDamaged}
+use Rattle.bx_commands.specs.declared.fault.Fault.TheVariants.{Io, Read, Dd, Session}
 use Rattle.bx_cli.specs.declared.hint.Known.{Known}
 
 -- two parts with a text between them, where neither is empty
@@ -10,27 +14,28 @@ joined front between back = if length back == 0 then front else if length front 
 
 -- what can be done about a fault of its kind
 abbrev pub advice_of : Fault → List ℕ
-advice_of InputTooLong = codes "at most 1099511627776 bytes are read"
-advice_of SkipPastEnd = codes "give a smaller -j"
-advice_of (BadAddress _) = codes "a line is like '00000002: 7879'; for digits alone give -p"
-advice_of (MissingColon _) = codes "a line is like '00000002: 7879'; for digits alone give -p"
-advice_of (BadPair _) = codes "bytes are pairs of digits, with at most one space between two"
-advice_of (NoData _) = codes "digits follow the colon, behind at most one space"
-advice_of (AddressTooLarge _) = codes "addresses are below 4611686018427387904"
-advice_of (OddDigits _) = codes "each byte is two digits"
-advice_of (ZeroSize _) = codes "a size is at least 1, and a product such as 0x4 is 0: give numbers in decimal"
-advice_of Conflict = codes "give one of block and unblock, and one of lcase and ucase"
-advice_of MissingCbs = codes "block and unblock want cbs=BYTES"
-advice_of SeekWithoutOutput = codes "give of=IMAGE too"
-advice_of TooLarge = codes "an image has at most 281474976710655 bytes"
-advice_of DeviceFailed = codes "nothing was changed"
-advice_of (Damaged _) = codes "mend the line; or move journal and redo file away, and with them the older images"
-advice_of (TooFew _) = codes "bx log lists the changes"
-advice_of JournalFull = codes "move journal and redo file away to go on, and with them the older images"
-advice_of Interrupted = codes "the next command on the image finishes or drops what was begun"
-advice_of (LengthDiffers _) = codes "give its length back by truncate -s; or move journal and redo file away, and with them the older images"
-advice_of (NothingToRedo _) = codes "a change that is no redo gives up what was undone"
-advice_of (RedoDamaged _) = codes "move the redo file away to go on, and with it what was undone"
+advice_of (Io io.InputTooLong) = codes "at most 1099511627776 bytes are read"
+advice_of (Io io.SkipPastEnd) = codes "give a smaller -j"
+advice_of (Read (read.BadAddress _)) = codes "a line is like '00000002: 7879'; for digits alone give -p"
+advice_of (Read (read.MissingColon _)) = codes "a line is like '00000002: 7879'; for digits alone give -p"
+advice_of (Read (read.BadPair _)) = codes "bytes are pairs of digits, with at most one space between two"
+advice_of (Read (read.NoData _)) = codes "digits follow the colon, behind at most one space"
+advice_of (Read (read.AddressTooLarge _)) = codes "addresses are below 4611686018427387904"
+advice_of (Read (read.OddDigits _)) = codes "each byte is two digits"
+advice_of (Dd dd.InputTooLong) = codes "at most 1099511627776 bytes are read"
+advice_of (Dd (dd.ZeroSize _)) = codes "a size is at least 1, and a product such as 0x4 is 0: give numbers in decimal"
+advice_of (Dd dd.Conflict) = codes "give one of block and unblock, and one of lcase and ucase"
+advice_of (Dd dd.MissingCbs) = codes "block and unblock want cbs=BYTES"
+advice_of (Dd dd.SeekWithoutOutput) = codes "give of=IMAGE too"
+advice_of (Session session.TooLarge) = codes "an image has at most 281474976710655 bytes"
+advice_of (Session session.DeviceFailed) = codes "nothing was changed"
+advice_of (Session (session.Damaged _)) = codes "mend the line; or move journal and redo file away, and with them the older images"
+advice_of (Session (session.TooFew _)) = codes "bx log lists the changes"
+advice_of (Session session.JournalFull) = codes "move journal and redo file away to go on, and with them the older images"
+advice_of (Session session.Interrupted) = codes "the next command on the image finishes or drops what was begun"
+advice_of (Session (session.LengthDiffers _)) = codes "give its length back by truncate -s; or move journal and redo file away, and with them the older images"
+advice_of (Session (session.NothingToRedo _)) = codes "a change that is no redo gives up what was undone"
+advice_of (Session (session.RedoDamaged _)) = codes "move the redo file away to go on, and with it what was undone"
 advice_of _ = []
 
 -- what is at fault and why, what can be done, and how the command is called

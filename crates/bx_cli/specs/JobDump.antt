@@ -1,6 +1,7 @@
 -- What running a dump that a job asks for does.
 use Rattle.std.specs.Prelude.{◌≡◌, ◌⊎◌, ◌<◌, ℕ, Option, None, Some, List}
 use Rattle.bx_text.specs.declared.fault.IoFault.{IoFault}
+use Rattle.bx_dd.specs.declared.fault.DdFault.TheVariants.{SeekWithoutOutput}
 use Rattle.bx_dd.specs.declared.operands.plan.Plan.{Plan}
 use Rattle.bx_dd.specs.Streaming.{IsCopy, StopsCopy}
 use Rattle.bx_dump.specs.declared.xxd.options.XxdStyle.{XxdStyle}
@@ -10,9 +11,8 @@ use Rattle.bx_dump.specs.Pages.{WritesAll, WritesFrontOf}
 use Rattle.bx_dump.specs.Strings.{strings_of}
 use Rattle.bx_dump.specs.Styles.{xxd_of}
 use Rattle.bx_cli.specs.Dump.{IsStyleOf}
-use Rattle.bx_commands.specs.Fault.{of_io}
 use Rattle.bx_commands.specs.declared.fault.Fault.{Fault}
-use Rattle.bx_commands.specs.declared.fault.Fault.TheVariants.{SeekWithoutOutput, Usage}
+use Rattle.bx_commands.specs.declared.fault.Fault.TheVariants as fault
 use Rattle.bx_cli.specs.declared.dump.Done.{Done}
 use Rattle.bx_cli.specs.declared.dump.Done.TheVariants.{Dumped, Copied}
 use Rattle.bx_cli.specs.declared.job.Job.{Job}
@@ -27,15 +27,15 @@ DumpsJob (Strings job) r0 r1 w0 w1 (Dumped n) = WritesAll (strings_of job.option
 DumpsJob (Dd job) r0 r1 w0 w1 (Copied counts) = (job.plan.output ≡ None) × ((job.plan.seek ≡ 0) × IsCopy job.plan r0 r1 w0 w1 counts)
 DumpsJob job r0 r1 w0 w1 done = ⊥
 
--- a dump's fault among those of all crates, and what it leaves
+-- a fault of a stream, and what it leaves
 abbrev pub Stops : (IoFault → Type 0) → Fault → Type 0
-Stops Leaves e = (f : IoFault) × (e ≡ of_io f) × Leaves f
+Stops Leaves e = (f : IoFault) × (e ≡ fault.Io f) × Leaves f
 
 -- Where `of=` names an image, dd is no dump. Else it stopped since the plan seeks, and nothing was read or written; or a front
 -- was written of what it makes of the input that was read, and no more was read than skip and count ask for.
 abbrev pub StopsDd : {A B : Type 0} → Option B → Plan A → Option (List ℕ) → Option (List ℕ) → Option (List ℕ) → Option (List ℕ) → Fault → Type 0
-StopsDd None plan r0 r1 w0 w1 e = ((0 < plan.seek) × (e ≡ SeekWithoutOutput) × (r1 ≡ r0) × (w1 ≡ w0)) ⊎ ((plan.seek ≡ 0) × Stops (StopsCopy plan r0 r1 w0 w1) e)
-StopsDd (Some image) plan r0 r1 w0 w1 e = (e ≡ Usage) × (r1 ≡ r0) × (w1 ≡ w0)
+StopsDd None plan r0 r1 w0 w1 e = ((0 < plan.seek) × (e ≡ fault.Dd SeekWithoutOutput) × (r1 ≡ r0) × (w1 ≡ w0)) ⊎ ((plan.seek ≡ 0) × Stops (StopsCopy plan r0 r1 w0 w1) e)
+StopsDd (Some image) plan r0 r1 w0 w1 e = (e ≡ fault.Usage) × (r1 ≡ r0) × (w1 ≡ w0)
 
 -- what a fault leaves: a front of the text of what was read was written
 abbrev pub StopsJob : Job → Option (List ℕ) → Option (List ℕ) → Option (List ℕ) → Option (List ℕ) → Fault → Type 0
@@ -44,4 +44,4 @@ StopsJob (Hexdump job) r0 r1 w0 w1 e = Stops (WritesFrontOf (hexdump_of job.opti
 StopsJob (Od job) r0 r1 w0 w1 e = Stops (StopsOd job.options r0 r1 w0 w1) e
 StopsJob (Strings job) r0 r1 w0 w1 e = Stops (WritesFrontOf (strings_of job.options) r0 r1 w0 w1) e
 StopsJob (Dd job) r0 r1 w0 w1 e = StopsDd job.plan.output job.plan r0 r1 w0 w1 e
-StopsJob job r0 r1 w0 w1 e = (e ≡ Usage) × (r1 ≡ r0) × (w1 ≡ w0)
+StopsJob job r0 r1 w0 w1 e = (e ≡ fault.Usage) × (r1 ≡ r0) × (w1 ≡ w0)

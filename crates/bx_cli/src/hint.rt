@@ -5,8 +5,11 @@ ghost use Rattle.bx_cli.specs.Hint.{advice_of, hint_of, joined};
 use crate::options::program;
 use crate::plan::{MOST_LEAST, MOST_STEPS, columns, count_or, kind, number, radix, words_of};
 use bx_commands::Fault;
+use bx_dd::DdFault;
 use bx_dump::od::Address;
-use bx_text::{SizeStyle, Words};
+use bx_journal::SessionFault;
+use bx_read::ReadFault;
+use bx_text::{IoFault, SizeStyle, Words};
 use clap::ArgMatches;
 use std::alloc::{AllocError, Allocator, Global};
 
@@ -26,34 +29,73 @@ fn advice(fault: Fault) -> &'static str
     ensures { result.now ≡ advice_of fault }
 {
     match fault {
-        Fault::InputTooLong => "at most 1099511627776 bytes are read",
-        Fault::SkipPastEnd => "give a smaller -j",
-        Fault::BadAddress { .. } | Fault::MissingColon { .. } => {
+        Fault::Io(fault) => io_advice(fault),
+        Fault::Read(fault) => read_advice(fault),
+        Fault::Dd(fault) => dd_advice(fault),
+        Fault::Session(fault) => session_advice(fault),
+        Fault::Usage | Fault::OpenFailed => "",
+    }
+}
+
+fn io_advice(fault: IoFault) -> &'static str
+    ensures { result.now ≡ advice_of (Fault.Io fault) }
+{
+    match fault {
+        IoFault::InputTooLong => "at most 1099511627776 bytes are read",
+        IoFault::SkipPastEnd => "give a smaller -j",
+        _ => "",
+    }
+}
+
+fn read_advice(fault: ReadFault) -> &'static str
+    ensures { result.now ≡ advice_of (Fault.Read fault) }
+{
+    match fault {
+        ReadFault::BadAddress { .. } | ReadFault::MissingColon { .. } => {
             "a line is like '00000002: 7879'; for digits alone give -p"
         }
-        Fault::BadPair { .. } => "bytes are pairs of digits, with at most one space between two",
-        Fault::NoData { .. } => "digits follow the colon, behind at most one space",
-        Fault::AddressTooLarge { .. } => "addresses are below 4611686018427387904",
-        Fault::OddDigits { .. } => "each byte is two digits",
-        Fault::ZeroSize { .. } =>
+        ReadFault::BadPair { .. } =>
+            "bytes are pairs of digits, with at most one space between two",
+        ReadFault::NoData { .. } => "digits follow the colon, behind at most one space",
+        ReadFault::AddressTooLarge { .. } => "addresses are below 4611686018427387904",
+        ReadFault::OddDigits { .. } => "each byte is two digits",
+        _ => "",
+    }
+}
+
+fn dd_advice(fault: DdFault) -> &'static str
+    ensures { result.now ≡ advice_of (Fault.Dd fault) }
+{
+    match fault {
+        DdFault::InputTooLong => "at most 1099511627776 bytes are read",
+        DdFault::ZeroSize(_) =>
             "a size is at least 1, and a product such as 0x4 is 0: give numbers in decimal",
-        Fault::Conflict => "give one of block and unblock, and one of lcase and ucase",
-        Fault::MissingCbs => "block and unblock want cbs=BYTES",
-        Fault::SeekWithoutOutput => "give of=IMAGE too",
-        Fault::TooLarge => "an image has at most 281474976710655 bytes",
-        Fault::DeviceFailed => "nothing was changed",
-        Fault::Damaged { .. } => {
+        DdFault::Conflict => "give one of block and unblock, and one of lcase and ucase",
+        DdFault::MissingCbs => "block and unblock want cbs=BYTES",
+        DdFault::SeekWithoutOutput => "give of=IMAGE too",
+        _ => "",
+    }
+}
+
+fn session_advice(fault: SessionFault) -> &'static str
+    ensures { result.now ≡ advice_of (Fault.Session fault) }
+{
+    match fault {
+        SessionFault::TooLarge => "an image has at most 281474976710655 bytes",
+        SessionFault::DeviceFailed => "nothing was changed",
+        SessionFault::Damaged { .. } => {
             "mend the line; or move journal and redo file away, and with them the older images"
         }
-        Fault::TooFew { .. } => "bx log lists the changes",
-        Fault::JournalFull =>
+        SessionFault::TooFew { .. } => "bx log lists the changes",
+        SessionFault::JournalFull =>
             "move journal and redo file away to go on, and with them the older images",
-        Fault::Interrupted => "the next command on the image finishes or drops what was begun",
-        Fault::LengthDiffers { .. } => {
+        SessionFault::Interrupted =>
+            "the next command on the image finishes or drops what was begun",
+        SessionFault::LengthDiffers { .. } => {
             "give its length back by truncate -s; or move journal and redo file away, and with them the older images"
         }
-        Fault::NothingToRedo { .. } => "a change that is no redo gives up what was undone",
-        Fault::RedoDamaged { .. } =>
+        SessionFault::NothingToRedo { .. } => "a change that is no redo gives up what was undone",
+        SessionFault::RedoDamaged { .. } =>
             "move the redo file away to go on, and with it what was undone",
         _ => "",
     }
@@ -166,11 +208,13 @@ fn usage_of(alloc: Global, name: &str) -> Result<Misuse, Fault> {
 /// The operand that a fault counts, or the first value that isn't one of its option.
 fn wrong_word<'a>(fault: Fault, name: &str, m: &ArgMatches<'a>) -> Option<&'a str> {
     match fault {
-        Fault::UnknownOperand { place }
-        | Fault::BadNumber { place }
-        | Fault::NumberTooLarge { place }
-        | Fault::ZeroSize { place }
-        | Fault::Repeated { place } => {
+        Fault::Dd(
+            DdFault::UnknownOperand(place)
+            | DdFault::BadNumber(place)
+            | DdFault::NumberTooLarge(place)
+            | DdFault::ZeroSize(place)
+            | DdFault::Repeated(place),
+        ) => {
             m.get_strs("operand")?
                 .get(place.checked_sub(1)? as usize)
                 .copied()

@@ -9,7 +9,7 @@ use bx_dump::hexdump::HexdumpOptions;
 use bx_dump::od::{Address, Kind, NumForm, OdOptions, Size};
 use bx_dump::strings::StringsOptions;
 use bx_dump::xxd::XxdOptions;
-use bx_text::{Name, SizeStyle, Words, read_size};
+use bx_text::{IoFault, Name, SizeStyle, Words, read_size};
 use clap::error::ErrorKind;
 use clap::{ArgMatches, Error};
 use std::alloc::Global;
@@ -25,10 +25,10 @@ pub(crate) const MOST_STEPS: u64 = 65_535;
 /// The words as clap takes them, behind the program's name.
 pub(crate) fn words_of(alloc: Global, words: &Words) -> Result<Vec<&str>, Fault> {
     let mut texts = Vec::new(alloc);
-    texts.push("bx").map_err(|_| Fault::NoMemory)?;
+    texts.push("bx").map_err(|_| Fault::Io(IoFault::NoMemory))?;
     for i in 0..words.len() {
         if let Some(word) = words.get(i) {
-            texts.push(word).map_err(|_| Fault::NoMemory)?;
+            texts.push(word).map_err(|_| Fault::Io(IoFault::NoMemory))?;
         }
     }
     Ok(texts)
@@ -57,7 +57,7 @@ fn refused(alloc: Global, error: Error) -> Result<Job, Fault> {
                 text: Name::from_string(text),
             })
         }
-        ErrorKind::OutOfMemory => Err(Fault::NoMemory),
+        ErrorKind::OutOfMemory => Err(Fault::Io(IoFault::NoMemory)),
         _ => Err(Fault::Usage),
     }
 }

@@ -12,11 +12,11 @@ use Rattle.bx_commands.specs.declared.command.Command.TheVariants.{Revert, Rever
 use Rattle.bx_commands.specs.declared.command.Reply.{Reply}
 use Rattle.bx_commands.specs.declared.command.Reply.TheVariants.{Undone, Redone, Refused}
 use Rattle.bx_commands.specs.declared.fault.Fault.{Fault}
+use Rattle.bx_commands.specs.declared.fault.Fault.TheVariants.{Read, Dd}
 use Rattle.bx_commands.specs.Standing.{Standing, PerformUp}
 use Rattle.bx_dd.specs.declared.stream.counts.Counts.{Counts}
 use Rattle.bx_dd.specs.declared.fault.DdFault.{DdFault}
 use Rattle.bx_commands.specs.declared.changes.DdChange.{DdChange}
-use Rattle.bx_commands.specs.Fault.{of_dd, of_read}
 use Rattle.bx_commands.specs.Run.{answered, ReadStep, DdStep, CommandStep, StackStep, StackRun}
 use Rattle.bx_commands.specs.inner.Run.{made_reply, ChangeStep, RedoUp, UndoUp}
 use Rattle.bx_commands.specs.Command.{dump_change, plain_change}
@@ -49,12 +49,12 @@ change_step_adds old new c counts reply made step = change_adds old new c counts
 read_step_adds : {A B : Type 0} (old new : Images) (change : B → Change A) (r : Result B ReadFault) (reply : Reply)
     → IsMade reply → ReadStep (Standing.Up old) change r reply (Standing.Up new) → OneMore old new
 read_step_adds old new change (Ok read) reply made step = change_step_adds old new (change read) None reply made step
-read_step_adds old new change (Err e) reply made step = absurd (not_refused reply (of_read e) made step.0)
+read_step_adds old new change (Err e) reply made step = absurd (not_refused reply (Read e) made step.0)
 
 dd_step_adds : {A : Type 0} (old new : Images) (r : Result (DdChange A) DdFault) (reply : Reply)
     → IsMade reply → DdStep (Standing.Up old) r reply (Standing.Up new) → OneMore old new
 dd_step_adds old new (Ok made_of) reply made step = change_step_adds old new made_of.change (Some made_of.counts) reply made step
-dd_step_adds old new (Err e) reply made step = absurd (not_refused reply (of_dd e) made step.0)
+dd_step_adds old new (Err e) reply made step = absurd (not_refused reply (Dd e) made step.0)
 
 redo_not_made : (r : Result ℕ SessionFault) → IsMade (answered Redone r) → ⊥
 redo_not_made (Ok n) made = made

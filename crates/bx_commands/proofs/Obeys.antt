@@ -3,58 +3,29 @@ use Rattle.std.proofs.Common.{◌≡◌, ◌↔◌, ◌≤◌, ◌<◌, inl, inr
 use Rattle.std.specs.Result.{IsErrOf}
 use Rattle.bx_dd.specs.declared.stream.counts.Counts.{Counts}
 use Rattle.bx_dd.specs.declared.fault.DdFault.{DdFault}
-use Rattle.bx_dd.specs.declared.fault.DdFault.TheVariants as dd
 use Rattle.bx_image.specs.declared.change.Change.{Change}
 use Rattle.bx_image.specs.declared.change.TheConstants.{MAX_LEN}
 use Rattle.bx_image.specs.Change.{effect, Fits}
 use Rattle.bx_journal.specs.Calls.{AfterFault}
 use Rattle.bx_journal.specs.Images.{Images, change_to, redo_of, undo_of, undone_by}
 use Rattle.bx_journal.specs.Machine.{PerformStep, RedoStep, UndoStep, top}
-use Rattle.bx_journal.specs.Session.{FindsEither, HasUndone, IsReady, IsRedoSame, IsSame, IsUnfailed, SessionCounts, SessionFinds}
+use Rattle.bx_journal.specs.Session.{FailsSafely, FindsEither, HasUndone, IsReady, IsRedoSame, IsSame, IsUnfailed, SessionCounts, SessionFinds}
 use Rattle.bx_journal.specs.SessionView.{SessionView}
 use Rattle.bx_journal.specs.Standing.{IsStanding, PerformFault}
 use Rattle.bx_journal.specs.Undoing.{HasCount, RedoFault, UndoFault}
 use Rattle.bx_journal.specs.declared.session.fault.SessionFault.{SessionFault}
 use Rattle.bx_journal.specs.declared.session.fault.SessionFault.TheVariants.{NoMemory, Damaged, TooFew, TooLarge, JournalFull, Interrupted, Broken, NothingToRedo, RedoDamaged}
 use Rattle.bx_read.specs.declared.fault.ReadFault.{ReadFault}
-use Rattle.bx_read.specs.declared.fault.ReadFault.TheVariants as read
 use Rattle.bx_commands.specs.declared.command.Reply.{Reply}
 use Rattle.bx_commands.specs.declared.command.Reply.TheVariants.{Refused, Undone, Redone}
-use Rattle.bx_commands.specs.declared.fault.Fault.{Fault}
-use Rattle.bx_commands.specs.Fault.{of_dd, of_read, of_session}
+use Rattle.bx_commands.specs.declared.fault.Fault.TheVariants.{Read, Dd, Session}
 use Rattle.bx_commands.specs.Obeys.{Obeys}
-use Rattle.bx_commands.specs.Refusal.{IsWholeRefusal}
-use Rattle.bx_commands.specs.inner.Refusal.{IsOwnFault}
 use Rattle.bx_commands.specs.Run.{answered, is_failure, CallStep, Unfailed, ReadStep, DdStep}
 use Rattle.bx_commands.specs.inner.Run.{made_reply, ChangeStep, RedoUp, RedoesStep, UndoUp, UndoesStep}
 use Rattle.bx_commands.specs.Standing.{CountsBy, HoldsAt, PerformUp, Shows, Standing}
-use Rattle.bx_commands.proofs.Refusals.{IsNoRefusal, after_same, both_after, is_interrupted, made_no_refusal, no_failure, no_own, no_whole, redo_same_here, same_here, session_not_own, unfailed_whole, whole_goes_on}
+use Rattle.bx_commands.proofs.Refusals.{IsNoRefusal, after_same, both_after, is_interrupted, made_no_refusal, no_failure, no_own, no_whole, redo_same_here, same_here, unfailed_whole, whole_goes_on}
 use Rattle.bx_commands.proofs.Stays.{holds_same, ready_shows, shows_same}
 use Rattle.bx_commands.proofs.Steps.{refusal, fits_top, perform_stays, redo_stays, undo_stays, counts_least, counts_rise}
-
--- no fault of a text or of dd is a device's
-read_unfailed : (e : ReadFault) → Unfailed (Refused (of_read e))
-read_unfailed read.NoMemory = refl
-read_unfailed (read.BadAddress line) = refl
-read_unfailed (read.MissingColon line) = refl
-read_unfailed (read.BadPair line) = refl
-read_unfailed (read.NoData line) = refl
-read_unfailed (read.TooWide line) = refl
-read_unfailed (read.AddressTooLarge line) = refl
-read_unfailed (read.OddDigits line) = refl
-
-dd_unfailed : (e : DdFault) → Unfailed (Refused (of_dd e))
-dd_unfailed dd.NoMemory = refl
-dd_unfailed dd.ReadFailed = refl
-dd_unfailed dd.InputTooLong = refl
-dd_unfailed (dd.UnknownOperand place) = refl
-dd_unfailed (dd.BadNumber place) = refl
-dd_unfailed (dd.NumberTooLarge place) = refl
-dd_unfailed (dd.ZeroSize place) = refl
-dd_unfailed dd.Conflict = refl
-dd_unfailed dd.MissingCbs = refl
-dd_unfailed (dd.Repeated place) = refl
-dd_unfailed dd.SeekWithoutOutput = refl
 
 -- a call of a session, from where it stands: a stopped session refuses it
 abbrev CallFrom : (Images → Result ℕ SessionFault → Standing → Type 0) → Standing → Result ℕ SessionFault → Standing → Type 0
@@ -66,24 +37,6 @@ called : (made : ℕ → Reply) (Call : Images → Result ℕ SessionFault → S
 called made Call (Standing.Up old) r reply after is from = (r, is, from)
 called made Call (Standing.Down old) r reply after is from = (is ∙ ap (answered made) from.0, from.1)
 
--- what each call that the session refuses says of the session
-pub record IsRefused {D T : Type 0} (hd : D → Type 0) (ht : T → Type 0) (image : D → List ℕ) (text : T → List ℕ) (old new : SessionView D T) (e : SessionFault) : Type 0 where
-  pub broken : (old.is_broken ≡ true) ↔ IsErrOf (refusal e) Broken
-  pub same : hd old.device → ht old.store → AfterFault e (Unit {0}) (IsSame image text old new)
-  pub redo_same : ht old.redo_text → AfterFault e (Unit {0}) (IsRedoSame text old new)
-  pub breaks : IsErrOf (refusal e) Interrupted → (new.is_broken ≡ true) × (new.count ≡ old.count) × (new.undone ≡ old.undone)
-  pub device_honesty : hd new.device ↔ hd old.device
-  pub store_honesty : ht new.store ↔ ht old.store
-  pub redo_honesty : ht new.redo_text ↔ ht old.redo_text
-
--- what each call that the session accepts says of it
-pub record IsAccepted {D T : Type 0} (hd : D → Type 0) (ht : T → Type 0) (fd : D → ℕ) (ft : T → ℕ) (old new : SessionView D T) (n : ℕ) : Type 0 where
-  pub broken : (old.is_broken ≡ true) ↔ IsErrOf (Ok n) Broken
-  pub unfailed : IsUnfailed fd ft old new
-  pub device_honesty : hd new.device ↔ hd old.device
-  pub store_honesty : ht new.store ↔ ht old.store
-  pub redo_honesty : ht new.redo_text ↔ ht old.redo_text
-
 module _ {D T : Type 0} (hd : D → Type 0) (ht : T → Type 0) (image : D → List ℕ) (text : T → List ℕ) (fd : D → ℕ) (ft : T → ℕ) where
   -- a reply that tells of no failure raises no count
   unfailed_counts : (old new : SessionView D T) (reply : Reply) → Unfailed reply → IsUnfailed fd ft old new → CountsBy fd ft old new (cond (is_failure reply) 1 0)
@@ -94,7 +47,7 @@ module _ {D T : Type 0} (hd : D → Type 0) (ht : T → Type 0) (image : D → L
 
   -- a call that was refused raises one count, or none
   fault_counts : (old new : SessionView D T) (e : SessionFault) → SessionCounts fd ft old new e
-      → CountsBy fd ft old new (cond (is_failure (Refused (of_session e))) 1 0)
+      → CountsBy fd ft old new (cond (is_failure (Refused (Session e))) 1 0)
   fault_counts old new e counts =
       let least = counts_least e (fd old.device) (ft old.store) (ft old.redo_text) (fd new.device) (ft new.store) (ft new.redo_text) counts in
       record {
@@ -137,23 +90,18 @@ module _ {D T : Type 0} (hd : D → Type 0) (ht : T → Type 0) (image : D → L
     redo_same = λ redo whole. redo_same_here text s;
   }
 
-  pub read_refused : {A B : Type 0} (change : B → Change A) (s : SessionView D T) (e : ReadFault) (f : Fault) → f ≡ of_read e
-      → Obeys hd ht image text fd ft s s (Refused f) (λ before. ReadStep before change (Err e))
-  read_refused change s e f is =
-      let Goes : Fault → Type 0 = λ f. Unfailed (Refused f) in
-      obeys_refused (λ before. ReadStep before change (Err e)) s (Refused f)
-      (subst Goes (sym is) (read_unfailed e)) (λ before. (ap Refused is, refl))
+  -- a fault of the text, or of dd
+  pub read_refused : {A B : Type 0} (change : B → Change A) (s : SessionView D T) (e : ReadFault)
+      → Obeys hd ht image text fd ft s s (Refused (Read e)) (λ before. ReadStep before change (Err e))
+  read_refused change s e = obeys_refused (λ before. ReadStep before change (Err e)) s (Refused (Read e)) refl (λ before. (refl, refl))
 
-  pub dd_refused : (A : Type 0) (s : SessionView D T) (e : DdFault) (f : Fault) → f ≡ of_dd e
-      → Obeys hd ht image text fd ft s s (Refused f) (λ before. DdStep {A = A} before (Err e))
-  dd_refused A s e f is =
-      let Goes : Fault → Type 0 = λ f. Unfailed (Refused f) in
-      obeys_refused (λ before. DdStep {A = A} before (Err e)) s (Refused f)
-      (subst Goes (sym is) (dd_unfailed e)) (λ before. (ap Refused is, refl))
+  pub dd_refused : (A : Type 0) (s : SessionView D T) (e : DdFault)
+      → Obeys hd ht image text fd ft s s (Refused (Dd e)) (λ before. DdStep {A = A} before (Err e))
+  dd_refused A s e = obeys_refused (λ before. DdStep {A = A} before (Err e)) s (Refused (Dd e)) refl (λ before. (refl, refl))
 
   -- a call that was accepted, from where the session stood
   accepted_step : (From : Standing → Result ℕ SessionFault → Standing → Type 0) (next : Images → Images) (old new : SessionView D T) (n : ℕ)
-      → IsAccepted hd ht fd ft old new n
+      → FailsSafely hd ht image text fd ft old new (Ok n)
       → ((images : Images) → hd old.device → ht old.store → ht old.redo_text → Shows image text old images
       → Shows image text new (next images) × From (Standing.Up images) (Ok n) (Standing.Up (next images)))
       → ((images : Images) → hd old.device → ht old.store → ht old.redo_text → IsReady image text old images.stack → HasUndone image text old images.undone
@@ -162,7 +110,7 @@ module _ {D T : Type 0} (hd : D → Type 0) (ht : T → Type 0) (image : D → L
   accepted_step From next old new n accepted shows sound (Standing.Up images) h =
       let shown = shows images h.0 h.1 h.2 (ready_shows image text old images h.3) in (
         Standing.Up (next images),
-        (accepted.device_honesty.1 h.0, accepted.store_honesty.1 h.1, accepted.redo_honesty.1 h.2, (sound images h.0 h.1 h.2 h.3.0 h.3.1, shown.0.1)),
+        (accepted.honesty.0.1 h.0, accepted.honesty.1.1 h.1, accepted.honesty.2.1 h.2, (sound images h.0 h.1 h.2 h.3.0 h.3.1, shown.0.1)),
         shown.1,
       )
   accepted_step From next old new n accepted shows sound (Standing.Down images) h =
@@ -171,7 +119,7 @@ module _ {D T : Type 0} (hd : D → Type 0) (ht : T → Type 0) (image : D → L
   -- a call that was accepted
   call_accepted : (made : ℕ → Reply) (Call : Images → Result ℕ SessionFault → Standing → Type 0) (next : Images → Images)
       (old new : SessionView D T) (n : ℕ) (reply : Reply) → reply ≡ answered made (Ok n) → IsNoRefusal reply
-      → IsAccepted hd ht fd ft old new n
+      → FailsSafely hd ht image text fd ft old new (Ok n)
       → ((images : Images) → hd old.device → ht old.store → ht old.redo_text → Shows image text old images
       → Shows image text new (next images) × Call images (Ok n) (Standing.Up (next images)))
       → ((images : Images) → hd old.device → ht old.store → ht old.redo_text → IsReady image text old images.stack → HasUndone image text old images.undone
@@ -184,10 +132,10 @@ module _ {D T : Type 0} (hd : D → Type 0) (ht : T → Type 0) (image : D → L
     stands = λ device store redo unfailed images shown.
         let stands = shows images device store redo shown in
         (next images, stands.0, (Ok n, is, stands.1));
-    device_honesty = accepted.device_honesty;
-    store_honesty = accepted.store_honesty;
-    redo_honesty = accepted.redo_honesty;
-    counts = unfailed_counts old new reply (no_failure reply no_refusal) accepted.unfailed;
+    device_honesty = accepted.honesty.0;
+    store_honesty = accepted.honesty.1;
+    redo_honesty = accepted.honesty.2;
+    counts = unfailed_counts old new reply (no_failure reply no_refusal) accepted.counts;
     own = λ own. absurd (no_own reply no_refusal own);
     same = λ whole device store. absurd (no_whole reply no_refusal whole);
     redo_same = λ redo whole. absurd (no_whole reply no_refusal whole);
@@ -195,7 +143,7 @@ module _ {D T : Type 0} (hd : D → Type 0) (ht : T → Type 0) (image : D → L
 
   -- a call that was refused, or stopped, from where the session stood: what is left behind a stop, opening finds
   refused_step : (From : Standing → Result ℕ SessionFault → Standing → Type 0) (Left : Images → Type 0) (old new : SessionView D T) (e : SessionFault)
-      → IsRefused hd ht image text old new e
+      → FailsSafely hd ht image text fd ft old new (refusal e)
       → ((images : Images) → hd old.device → ht old.store → ht old.redo_text → Shows image text old images → (e ≡ Interrupted → ⊥)
       → From (Standing.Up images) (Err e) (Standing.Up images))
       → (hd old.device → ht old.store → ht old.redo_text → (images : Images) → IsReady image text old images.stack → HasUndone image text old images.undone
@@ -211,64 +159,60 @@ module _ {D T : Type 0} (hd : D → Type 0) (ht : T → Type 0) (image : D → L
             let found = stops images (subst After stopped (finds h.0 h.1 h.2 images h.3.0 h.3.1)) in
             let Step : SessionFault → Type 0 = λ f. From (Standing.Up images) (Err f) (Standing.Down found.0) in (
               Standing.Down found.0,
-              (refused.device_honesty.1 h.0, refused.store_honesty.1 h.1, refused.redo_honesty.1 h.2, ((refused.breaks (ap refusal stopped)).0, found.1)),
+              (refused.honesty.0.1 h.0, refused.honesty.1.1 h.1, refused.honesty.2.1 h.2, (subst (λ f. AfterFault f (new.is_broken ≡ true) (new.is_broken ≡ old.is_broken)) stopped refused.unmoved.2, found.1)),
               subst Step (sym stopped) found.2,
             )
         | inr whole ↦
-            let same = after_same (IsSame image text old new) e (refused.same h.0 h.1) whole in
+            let same = after_same (IsSame image text old new) e (refused.refused h.0 h.1) whole in
             let redo_same = after_same (IsRedoSame text old new) e (refused.redo_same h.2) whole in (
               Standing.Up images,
-              holds_same hd ht image text old new (Standing.Up images) refused.device_honesty refused.store_honesty refused.redo_honesty same redo_same h,
+              holds_same hd ht image text old new (Standing.Up images) refused.honesty.0 refused.honesty.1 refused.honesty.2 same redo_same h,
               stays images h.0 h.1 h.2 (ready_shows image text old images h.3) whole,
             )
       ]
   refused_step From Left old new e refused stays finds stops down (Standing.Down images) h =
       let is : refusal e ≡ Err Broken = refused.broken.0 h.3.0 in
       let whole : e ≡ Interrupted → ⊥ = λ stopped. cc in
-      let same = after_same (IsSame image text old new) e (refused.same h.0 h.1) whole in
+      let same = after_same (IsSame image text old new) e (refused.refused h.0 h.1) whole in
       let redo_same = after_same (IsRedoSame text old new) e (refused.redo_same h.2) whole in
       let Step : Result ℕ SessionFault → Type 0 = λ r. From (Standing.Down images) r (Standing.Down images) in (
         Standing.Down images,
-        holds_same hd ht image text old new (Standing.Down images) refused.device_honesty refused.store_honesty refused.redo_honesty same redo_same h,
+        holds_same hd ht image text old new (Standing.Down images) refused.honesty.0 refused.honesty.1 refused.honesty.2 same redo_same h,
         subst Step (sym is) (down images),
       )
 
   -- a call that was refused, or stopped
   call_refused : (made : ℕ → Reply) (Call : Images → Result ℕ SessionFault → Standing → Type 0) (Left : Images → Type 0)
-      (old new : SessionView D T) (e : SessionFault) (f : Fault) → f ≡ of_session e
-      → IsRefused hd ht image text old new e → SessionCounts fd ft old new e
+      (old new : SessionView D T) (e : SessionFault)
+      → FailsSafely hd ht image text fd ft old new (refusal e)
       → ((images : Images) → hd old.device → ht old.store → ht old.redo_text → Shows image text old images → (e ≡ Interrupted → ⊥)
       → Call images (Err e) (Standing.Up images))
       → (hd old.device → ht old.store → ht old.redo_text → (images : Images) → IsReady image text old images.stack → HasUndone image text old images.undone
       → AfterFault e (Left images) (Unit {0}))
       → ((images : Images) → Left images → (found : Images) × SessionFinds image text new found × Call images (Err Interrupted) (Standing.Down found))
-      → Obeys hd ht image text fd ft old new (Refused f) (λ before. CallStep made Call before)
-  call_refused made Call Left old new e f is refused counts stays finds stops =
-      let By : Fault → Type 0 = λ f. CountsBy fd ft old new (cond (is_failure (Refused f)) 1 0) in
-      let Whole : Fault → Type 0 = λ f. IsWholeRefusal (Refused f) in
-      let Goes : Fault → Type 0 = λ f. Unfailed (Refused f) in
-      let reply_is : Refused f ≡ answered made (Err e) = ap Refused is in
+      → Obeys hd ht image text fd ft old new (Refused (Session e)) (λ before. CallStep made Call before)
+  call_refused made Call Left old new e refused stays finds stops =
       record {
         step = λ before h.
             let stands = refused_step (CallFrom Call) Left old new e refused stays finds stops (λ images. (refl, refl)) before h in
-            (stands.0, stands.1, called made Call before (Err e) (Refused f) stands.0 reply_is stands.2);
+            (stands.0, stands.1, called made Call before (Err e) (Refused (Session e)) stands.0 refl stands.2);
         stands = λ device store redo unfailed images shows.
-            let whole = unfailed_whole e (subst Goes is unfailed) in
-            let same = after_same (IsSame image text old new) e (refused.same device store) whole in
+            let whole = unfailed_whole e unfailed in
+            let same = after_same (IsSame image text old new) e (refused.refused device store) whole in
             let redo_same = after_same (IsRedoSame text old new) e (refused.redo_same redo) whole in
-            (images, shows_same image text old new images same redo_same shows, (Err e, reply_is, stays images device store redo shows whole));
-        device_honesty = refused.device_honesty;
-        store_honesty = refused.store_honesty;
-        redo_honesty = refused.redo_honesty;
-        counts = subst By (sym is) (fault_counts old new e counts);
-        own = λ own. absurd (session_not_own e (subst IsOwnFault is own));
-        same = λ whole device store. after_same (IsSame image text old new) e (refused.same device store) (whole_goes_on e (subst Whole is whole));
-        redo_same = λ redo whole. after_same (IsRedoSame text old new) e (refused.redo_same redo) (whole_goes_on e (subst Whole is whole));
+            (images, shows_same image text old new images same redo_same shows, (Err e, refl, stays images device store redo shows whole));
+        device_honesty = refused.honesty.0;
+        store_honesty = refused.honesty.1;
+        redo_honesty = refused.honesty.2;
+        counts = fault_counts old new e refused.counts;
+        own = λ own. absurd own;
+        same = λ whole device store. after_same (IsSame image text old new) e (refused.refused device store) (whole_goes_on e whole);
+        redo_same = λ redo whole. after_same (IsRedoSame text old new) e (refused.redo_same redo) (whole_goes_on e whole);
       }
 
   -- a change that was made
   pub perform_obeys : {A : Type 0} (old new : SessionView D T) (c : Change A) (counts : Option Counts) (n : ℕ) (reply : Reply) → reply ≡ made_reply counts n
-      → IsAccepted hd ht fd ft old new n
+      → FailsSafely hd ht image text fd ft old new (Ok n)
       → (hd old.device → ht old.store → (stack : List (List ℕ)) → IsStanding image text old stack
       → PerformStep stack c (Ok n) (effect c (top stack) ∷ stack) × IsStanding image text new (effect c (top stack) ∷ stack))
       → (hd old.device → ht old.store → (stack : List (List ℕ)) → IsReady image text old stack → IsReady image text new (effect c (top stack) ∷ stack))
@@ -285,7 +229,7 @@ module _ {D T : Type 0} (hd : D → Type 0) (ht : T → Type 0) (image : D → L
 
   -- changes that were taken back
   pub undo_obeys : (old new : SessionView D T) (k left : ℕ)
-      → IsAccepted hd ht fd ft old new left
+      → FailsSafely hd ht image text fd ft old new (Ok left)
       → (hd old.device → ht old.store → (stack : List (List ℕ)) → IsStanding image text old stack
       → UndoStep stack k (Ok left) (drop k stack) × IsStanding image text new (drop k stack))
       → (hd old.device → ht old.store → (stack : List (List ℕ)) → IsReady image text old stack → IsReady image text new (drop k stack))
@@ -301,7 +245,7 @@ module _ {D T : Type 0} (hd : D → Type 0) (ht : T → Type 0) (image : D → L
 
   -- undone changes that were made again
   pub redo_obeys : (old new : SessionView D T) (j n : ℕ)
-      → IsAccepted hd ht fd ft old new n
+      → FailsSafely hd ht image text fd ft old new (Ok n)
       → (hd old.device → ht old.store → ht old.redo_text → (s : Images) → IsStanding image text old s.stack → HasUndone image text old s.undone
       → RedoStep s j (Ok n) (redo_of j s) × IsStanding image text new (redo_of j s).stack × HasUndone image text new (redo_of j s).undone)
       → (hd old.device → ht old.store → ht old.redo_text → (s : Images) → IsReady image text old s.stack → HasUndone image text old s.undone
@@ -315,8 +259,8 @@ module _ {D T : Type 0} (hd : D → Type 0) (ht : T → Type 0) (image : D → L
       (λ images device store redo ready has. (sound device store redo images ready has).0)
 
   -- a change that was refused, or stopped
-  pub unperformed_obeys : {A : Type 0} (old new : SessionView D T) (c : Change A) (counts : Option Counts) (e : SessionFault) (f : Fault) → f ≡ of_session e
-      → IsRefused hd ht image text old new e → SessionCounts fd ft old new e
+  pub unperformed_obeys : {A : Type 0} (old new : SessionView D T) (c : Change A) (counts : Option Counts) (e : SessionFault)
+      → FailsSafely hd ht image text fd ft old new (refusal e)
       → (IsErrOf (refusal e) JournalFull ↔ ((old.is_broken ≡ false) × (65535 ≤ old.count)))
       → (hd old.device → IsErrOf (refusal e) TooLarge → Fits c (length (image old.device)) MAX_LEN → ⊥)
       → (hd old.device → IsErrOf (refusal e) NoMemory → Fits c (length (image old.device)) MAX_LEN)
@@ -324,12 +268,12 @@ module _ {D T : Type 0} (hd : D → Type 0) (ht : T → Type 0) (image : D → L
       → PerformFault e
       → (hd old.device → ht old.store → ht old.redo_text → (s : Images) → IsReady image text old s.stack → HasUndone image text old s.undone
       → AfterFault e (FindsEither image text new s (change_to (effect c (top s.stack)) s)) (Unit {0}))
-      → Obeys hd ht image text fd ft old new (Refused f) (λ before. ChangeStep before c counts)
-  unperformed_obeys old new c counts e f is refused failures full large fits fitted kind finds =
+      → Obeys hd ht image text fd ft old new (Refused (Session e)) (λ before. ChangeStep before c counts)
+  unperformed_obeys old new c counts e refused full large fits fitted kind finds =
       let Made : Images → Images = λ s. change_to (effect c (top s.stack)) s in
       let Left : Images → Type 0 = λ s. FindsEither image text new s (Made s) × Fits c (length (top s.stack)) MAX_LEN in
       let Found : Images → Type 0 = λ s. (found : Images) × SessionFinds image text new found × PerformUp c s (Err Interrupted) (Standing.Down found) in
-      call_refused (made_reply counts) (PerformUp c) Left old new e f is refused failures
+      call_refused (made_reply counts) (PerformUp c) Left old new e refused
       (λ images device store redo shows whole. perform_stays hd image text old c e refused.broken full large fits kind device images shows whole)
       (λ device store redo images ready has.
       both_after (FindsEither image text new images (Made images)) (Fits c (length (top images.stack)) MAX_LEN) e (finds device store redo images ready has)
@@ -340,31 +284,31 @@ module _ {D T : Type 0} (hd : D → Type 0) (ht : T → Type 0) (image : D → L
       ])
 
   -- an undo that was refused, or stopped
-  pub kept_obeys : (old new : SessionView D T) (k : ℕ) (e : SessionFault) (f : Fault) → f ≡ of_session e
-      → IsRefused hd ht image text old new e → SessionCounts fd ft old new e
+  pub kept_obeys : (old new : SessionView D T) (k : ℕ) (e : SessionFault)
+      → FailsSafely hd ht image text fd ft old new (refusal e)
       → (((old.is_broken ≡ false) × (old.count < k)) ↔ IsErrOf (refusal e) (TooFew old.count))
       → UndoFault old.count e
       → (ht old.store → HasCount (text old.store) old.count → (line : ℕ) → e ≡ Damaged line → ⊥)
       → (hd old.device → ht old.store → ht old.redo_text → (s : Images) → IsReady image text old s.stack → HasUndone image text old s.undone
       → AfterFault e ((i : ℕ) × (i ≤ k) × SessionFinds image text new (undo_of i s)) (Unit {0}))
-      → Obeys hd ht image text fd ft old new (Refused f) (λ before. UndoesStep before k)
-  kept_obeys old new k e f is refused failures few kind undamaged finds =
-      call_refused Undone (UndoUp k) (λ s. (i : ℕ) × (i ≤ k) × SessionFinds image text new (undo_of i s)) old new e f is refused failures
+      → Obeys hd ht image text fd ft old new (Refused (Session e)) (λ before. UndoesStep before k)
+  kept_obeys old new k e refused few kind undamaged finds =
+      call_refused Undone (UndoUp k) (λ s. (i : ℕ) × (i ≤ k) × SessionFinds image text new (undo_of i s)) old new e refused
       (λ images device store redo shows whole. undo_stays ht image text old k e refused.broken few kind undamaged store images shows whole)
       finds
       (λ images left. (undo_of left.0 images, left.2, (left.0, left.1, refl)))
 
   -- a redo that was refused, or stopped
-  pub unredone_obeys : (old new : SessionView D T) (j : ℕ) (e : SessionFault) (f : Fault) → f ≡ of_session e
-      → IsRefused hd ht image text old new e → SessionCounts fd ft old new e
+  pub unredone_obeys : (old new : SessionView D T) (j : ℕ) (e : SessionFault)
+      → FailsSafely hd ht image text fd ft old new (refusal e)
       → (((old.is_broken ≡ false) × (old.undone < j)) ↔ IsErrOf (refusal e) (NothingToRedo old.undone))
       → RedoFault old.undone e
       → (ht old.redo_text → HasCount (text old.redo_text) old.undone → (line : ℕ) → e ≡ RedoDamaged line → ⊥)
       → (hd old.device → ht old.store → ht old.redo_text → (s : Images) → IsReady image text old s.stack → HasUndone image text old s.undone
       → AfterFault e ((i : ℕ) × (i ≤ j) × SessionFinds image text new (redo_of i s)) (Unit {0}))
-      → Obeys hd ht image text fd ft old new (Refused f) (λ before. RedoesStep before j)
-  unredone_obeys old new j e f is refused failures nothing kind undamaged finds =
-      call_refused Redone (RedoUp j) (λ s. (i : ℕ) × (i ≤ j) × SessionFinds image text new (redo_of i s)) old new e f is refused failures
+      → Obeys hd ht image text fd ft old new (Refused (Session e)) (λ before. RedoesStep before j)
+  unredone_obeys old new j e refused nothing kind undamaged finds =
+      call_refused Redone (RedoUp j) (λ s. (i : ℕ) × (i ≤ j) × SessionFinds image text new (redo_of i s)) old new e refused
       (λ images device store redo shows whole. redo_stays ht image text old j e refused.broken nothing kind undamaged redo images shows whole)
       finds
       (λ images left. (redo_of left.0 images, left.2, (left.0, left.1, refl)))

@@ -1,5 +1,5 @@
 -- What refused commands leave.
-use Rattle.std.proofs.Common.{◌≡◌, ◌≢◌, ◌∙◌, ◌⊎◌, inl, inr, ℕ, List, Option, None, Some, refl, sym, ap, subst}
+use Rattle.std.proofs.Common.{◌≡◌, ◌∙◌, ◌⊎◌, inl, inr, ℕ, List, Option, None, Some, refl, ap, subst}
 use Rattle.bx_dd.specs.declared.stream.counts.Counts.{Counts}
 use Rattle.bx_journal.specs.Calls.{AfterFault}
 use Rattle.bx_journal.specs.Session.{IsRedoSame, IsSame}
@@ -8,100 +8,11 @@ use Rattle.bx_journal.specs.declared.session.fault.SessionFault.{SessionFault}
 use Rattle.bx_journal.specs.declared.session.fault.SessionFault.TheVariants.{NoMemory, TooLarge, DeviceFailed, Damaged, TooFew, JournalFull, Interrupted, Broken, LengthDiffers, NothingToRedo, RedoDamaged}
 use Rattle.bx_commands.specs.declared.command.Reply.{Reply}
 use Rattle.bx_commands.specs.declared.command.Reply.TheVariants.{Changed, Copied, Undone, Redone, Refused}
-use Rattle.bx_read.specs.declared.fault.ReadFault.{ReadFault}
-use Rattle.bx_read.specs.declared.fault.ReadFault.TheVariants as read
-use Rattle.bx_dd.specs.declared.fault.DdFault.{DdFault}
-use Rattle.bx_dd.specs.declared.fault.DdFault.TheVariants as dd
-use Rattle.bx_commands.specs.declared.fault.Fault.{Fault}
-use Rattle.bx_commands.specs.declared.fault.Fault.TheVariants as fault
-use Rattle.bx_commands.specs.Fault.{of_dd, of_read, of_session}
+use Rattle.bx_commands.specs.declared.fault.Fault.TheVariants.{Session}
 use Rattle.bx_commands.specs.Refusal.{IsOwnRefusal, IsWholeRefusal}
-use Rattle.bx_commands.specs.inner.Refusal.{IsOwnFault, IsListedFault}
 use Rattle.bx_commands.specs.Run.{Unfailed}
 use Rattle.bx_commands.specs.inner.Run.{made_reply}
 use Rattle.bx_commands.proofs.Steps.{true_is_not_false}
-
--- no fault of the session's is a listed one
-session_not_listed : (e : SessionFault) → IsListedFault (of_session e) → ⊥
-session_not_listed NoMemory own = own
-session_not_listed TooLarge own = own
-session_not_listed DeviceFailed own = own
-session_not_listed (Damaged line) own = own
-session_not_listed (TooFew have) own = own
-session_not_listed JournalFull own = own
-session_not_listed Interrupted own = own
-session_not_listed Broken own = own
-session_not_listed (LengthDiffers expected) own = own
-session_not_listed (NothingToRedo have) own = own
-session_not_listed (RedoDamaged line) own = own
-
--- what a text or dd may answer is listed, but for two faults
-listed_read : (f : ReadFault) → of_read f ≢ fault.NoMemory → IsListedFault (of_read f)
-listed_read read.NoMemory some = absurd (some refl)
-listed_read (read.BadAddress line) some = tt
-listed_read (read.MissingColon line) some = tt
-listed_read (read.BadPair line) some = tt
-listed_read (read.NoData line) some = tt
-listed_read (read.TooWide line) some = tt
-listed_read (read.AddressTooLarge line) some = tt
-listed_read (read.OddDigits line) some = tt
-
-listed_dd : (f : DdFault) → of_dd f ≢ fault.NoMemory → of_dd f ≢ fault.SeekWithoutOutput → IsListedFault (of_dd f)
-listed_dd dd.NoMemory some other = absurd (some refl)
-listed_dd dd.SeekWithoutOutput some other = absurd (other refl)
-listed_dd dd.ReadFailed some other = tt
-listed_dd dd.InputTooLong some other = tt
-listed_dd (dd.UnknownOperand at) some other = tt
-listed_dd (dd.BadNumber at) some other = tt
-listed_dd (dd.NumberTooLarge at) some other = tt
-listed_dd (dd.ZeroSize at) some other = tt
-listed_dd dd.Conflict some other = tt
-listed_dd dd.MissingCbs some other = tt
-listed_dd (dd.Repeated at) some other = tt
-
--- a fault of the command's own is a listed one
-listed_of : (e : Fault) → IsOwnFault e → IsListedFault e
-listed_of e (some, other, inl (f, is)) = subst IsListedFault (sym is) (listed_read f (λ none. some (is ∙ none)))
-listed_of e (some, other, inr (f, is)) = subst IsListedFault (sym is) (listed_dd f (λ none. some (is ∙ none)) (λ seeks. other (is ∙ seeks)))
-
--- and each listed one is the command's own
-own_of_listed : (e : Fault) → IsListedFault e → IsOwnFault e
-own_of_listed (fault.BadAddress line) is = (λ e. cc, λ e. cc, inl (read.BadAddress line, refl))
-own_of_listed (fault.MissingColon line) is = (λ e. cc, λ e. cc, inl (read.MissingColon line, refl))
-own_of_listed (fault.BadPair line) is = (λ e. cc, λ e. cc, inl (read.BadPair line, refl))
-own_of_listed (fault.NoData line) is = (λ e. cc, λ e. cc, inl (read.NoData line, refl))
-own_of_listed (fault.TooWide line) is = (λ e. cc, λ e. cc, inl (read.TooWide line, refl))
-own_of_listed (fault.AddressTooLarge line) is = (λ e. cc, λ e. cc, inl (read.AddressTooLarge line, refl))
-own_of_listed (fault.OddDigits line) is = (λ e. cc, λ e. cc, inl (read.OddDigits line, refl))
-own_of_listed fault.ReadFailed is = (λ e. cc, λ e. cc, inr (dd.ReadFailed, refl))
-own_of_listed fault.InputTooLong is = (λ e. cc, λ e. cc, inr (dd.InputTooLong, refl))
-own_of_listed (fault.UnknownOperand at) is = (λ e. cc, λ e. cc, inr (dd.UnknownOperand at, refl))
-own_of_listed (fault.BadNumber at) is = (λ e. cc, λ e. cc, inr (dd.BadNumber at, refl))
-own_of_listed (fault.NumberTooLarge at) is = (λ e. cc, λ e. cc, inr (dd.NumberTooLarge at, refl))
-own_of_listed (fault.ZeroSize at) is = (λ e. cc, λ e. cc, inr (dd.ZeroSize at, refl))
-own_of_listed fault.Conflict is = (λ e. cc, λ e. cc, inr (dd.Conflict, refl))
-own_of_listed fault.MissingCbs is = (λ e. cc, λ e. cc, inr (dd.MissingCbs, refl))
-own_of_listed (fault.Repeated at) is = (λ e. cc, λ e. cc, inr (dd.Repeated at, refl))
-own_of_listed fault.NoMemory is = absurd is
-own_of_listed fault.SeekWithoutOutput is = absurd is
-own_of_listed (fault.WriteFailed k) is = absurd is
-own_of_listed fault.SkipPastEnd is = absurd is
-own_of_listed fault.TooLarge is = absurd is
-own_of_listed fault.DeviceFailed is = absurd is
-own_of_listed (fault.Damaged k) is = absurd is
-own_of_listed (fault.TooFew k) is = absurd is
-own_of_listed fault.JournalFull is = absurd is
-own_of_listed fault.Interrupted is = absurd is
-own_of_listed fault.Broken is = absurd is
-own_of_listed (fault.LengthDiffers k) is = absurd is
-own_of_listed (fault.NothingToRedo k) is = absurd is
-own_of_listed (fault.RedoDamaged k) is = absurd is
-own_of_listed fault.Usage is = absurd is
-own_of_listed fault.OpenFailed is = absurd is
-
--- no fault of the session's is the command's own
-pub session_not_own : (e : SessionFault) → IsOwnFault (of_session e) → ⊥
-session_not_own e own = session_not_listed e (listed_of (of_session e) own)
 
 -- whether a fault is an interruption
 pub is_interrupted : (e : SessionFault) → (e ≡ Interrupted) ⊎ (e ≡ Interrupted → ⊥)
@@ -146,12 +57,12 @@ both_after X Y (NothingToRedo have) left more = tt
 both_after X Y (RedoDamaged line) left more = tt
 
 -- a refusal that tells of no device in the middle of writing, and one that tells of no device at all, is no interruption
-pub whole_goes_on : (e : SessionFault) → IsWholeRefusal (Refused (of_session e)) → e ≡ Interrupted → ⊥
-whole_goes_on e whole stopped = whole (ap of_session stopped)
+pub whole_goes_on : (e : SessionFault) → IsWholeRefusal (Refused (Session e)) → e ≡ Interrupted → ⊥
+whole_goes_on e whole stopped = whole (ap Session stopped)
 
-pub unfailed_whole : (e : SessionFault) → Unfailed (Refused (of_session e)) → e ≡ Interrupted → ⊥
+pub unfailed_whole : (e : SessionFault) → Unfailed (Refused (Session e)) → e ≡ Interrupted → ⊥
 unfailed_whole e unfailed stopped =
-    let Goes : SessionFault → Type 0 = λ f. Unfailed (Refused (of_session f)) in
+    let Goes : SessionFault → Type 0 = λ f. Unfailed (Refused (Session f)) in
     true_is_not_false (subst Goes stopped unfailed)
 
 -- the command was done

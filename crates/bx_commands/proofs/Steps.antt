@@ -16,7 +16,7 @@ use Rattle.bx_journal.specs.Session.{HasUndone}
 use Rattle.bx_journal.proofs.Phases.{length-stack_of}
 use Rattle.bx_journal.proofs.Ready.{top_of}
 use Rattle.bx_commands.specs.declared.command.Reply.TheVariants.{Refused}
-use Rattle.bx_commands.specs.Fault.{of_session}
+use Rattle.bx_commands.specs.declared.fault.Fault.TheVariants.{Session}
 use Rattle.bx_commands.specs.Run.{is_failure}
 use Rattle.bx_commands.specs.Standing.{Standing, PerformUp, Shows}
 use Rattle.bx_commands.specs.inner.Run.{RedoUp, UndoUp}
@@ -155,7 +155,7 @@ counts_least (RedoDamaged line) d t u d_new t_new u_new c = (omega arith, omega 
 
 -- one of them fails where a device's failure is told, and none else
 pub counts_rise : (e : SessionFault) (d t u d_new t_new u_new : ℕ) → ThreeCounts e d t u d_new t_new u_new
-    → d_new + t_new + u_new ≡ d + t + u + cond (is_failure (Refused (of_session e))) 1 0
+    → d_new + t_new + u_new ≡ d + t + u + cond (is_failure (Refused (Session e))) 1 0
 counts_rise NoMemory d t u d_new t_new u_new c = omega arith
 counts_rise TooLarge d t u d_new t_new u_new c = omega arith
 counts_rise DeviceFailed d t u d_new t_new u_new c = omega arith

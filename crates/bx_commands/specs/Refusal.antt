@@ -1,22 +1,23 @@
 -- What a refused command leaves.
-use Rattle.std.specs.Prelude.{◌≡◌, ◌≢◌, ◌⊎◌, ℕ, List}
-use Rattle.bx_read.specs.declared.fault.ReadFault.{ReadFault}
-use Rattle.bx_dd.specs.declared.fault.DdFault.{DdFault}
+use Rattle.std.specs.Prelude.{◌≢◌, ℕ, List}
+use Rattle.bx_read.specs.declared.fault.ReadFault.TheVariants as read
+use Rattle.bx_dd.specs.declared.fault.DdFault.TheVariants as dd
+use Rattle.bx_journal.specs.declared.session.fault.SessionFault.TheVariants.{Interrupted}
 use Rattle.bx_journal.specs.Session.{IsSame}
 use Rattle.bx_journal.specs.SessionView.{SessionView}
 use Rattle.bx_commands.specs.declared.command.Reply.{Reply}
 use Rattle.bx_commands.specs.declared.command.Reply.TheVariants.{Refused}
-use Rattle.bx_commands.specs.declared.fault.Fault.TheVariants.{NoMemory, SeekWithoutOutput, Interrupted}
-use Rattle.bx_commands.specs.Fault.{of_dd, of_read}
+use Rattle.bx_commands.specs.declared.fault.Fault.TheVariants.{Read, Dd, Session}
 
--- the command was refused for a fault of its own
+-- the command was refused for a fault of its own: of its text, of dd's operands or of dd's input, and not for want of memory
 abbrev pub IsOwnRefusal : Reply → Type 0
-IsOwnRefusal (Refused e) = (e ≢ NoMemory) × (e ≢ SeekWithoutOutput) × (((f : ReadFault) × (e ≡ of_read f)) ⊎ ((f : DdFault) × (e ≡ of_dd f)))
+IsOwnRefusal (Refused (Read e)) = e ≢ read.NoMemory
+IsOwnRefusal (Refused (Dd e)) = (e ≢ dd.NoMemory) × (e ≢ dd.SeekWithoutOutput)
 IsOwnRefusal p = ⊥
 
 -- the command was refused, and no device stopped it in the middle of writing
 abbrev pub IsWholeRefusal : Reply → Type 0
-IsWholeRefusal (Refused e) = e ≢ Interrupted
+IsWholeRefusal (Refused e) = e ≢ Session Interrupted
 IsWholeRefusal p = ⊥
 
 -- image, journal and count are as they were, where the two devices are honest

@@ -3,14 +3,16 @@ use Rattle.std.specs.Prelude.{◌≡◌, ℕ, ◌⊎◌, Bool, true, false, Opti
 use Rattle.bx_dd.specs.declared.fault.DdFault.{DdFault}
 use Rattle.bx_image.specs.declared.change.Change.{Change}
 use Rattle.bx_read.specs.declared.fault.ReadFault.{ReadFault}
+use Rattle.bx_read.specs.declared.fault.ReadFault.TheVariants.{NoMemory}
 use Rattle.bx_journal.specs.declared.session.fault.SessionFault.{SessionFault}
+use Rattle.bx_journal.specs.declared.session.fault.SessionFault.TheVariants.{DeviceFailed, Interrupted, Broken}
 use Rattle.bx_read.specs.Plain.{plain_answer}
 use Rattle.bx_read.specs.Text.{dump_pieces}
 use Rattle.bx_commands.specs.declared.command.Command.{Command}
 use Rattle.bx_commands.specs.declared.command.Command.TheVariants.{Revert, RevertPlain, Dd, Undo, Redo}
 use Rattle.bx_commands.specs.declared.command.Reply.{Reply}
 use Rattle.bx_commands.specs.declared.command.Reply.TheVariants.{Changed, Copied, Undone, Redone, Refused}
-use Rattle.bx_commands.specs.declared.fault.Fault.TheVariants.{NoMemory, DeviceFailed, Interrupted, Broken}
+use Rattle.bx_commands.specs.declared.fault.Fault.TheVariants.{Read, Dd, Session}
 use Rattle.bx_journal.specs.Images.{Images, redo_of, undo_of}
 use Rattle.bx_journal.specs.Machine.{RedoStep, UndoStep}
 use Rattle.bx_journal.specs.Session.{IsUnfailed}
@@ -18,34 +20,33 @@ use Rattle.bx_journal.specs.SessionView.{SessionView}
 use Rattle.bx_commands.specs.declared.changes.DdChange.{DdChange}
 use Rattle.bx_commands.specs.Command.{dump_change, plain_change}
 use Rattle.bx_commands.specs.Copy.{Makes}
-use Rattle.bx_commands.specs.Fault.{of_dd, of_read, of_session}
 use Rattle.bx_commands.specs.Standing.{Standing, Leads, MovesUp, PerformUp}
 
 -- the reply that tells what the session answered; `made` tells what was done
 abbrev pub answered : (ℕ → Reply) → Result ℕ SessionFault → Reply
 answered made (Ok n) = made n
-answered made (Err e) = Refused (of_session e)
+answered made (Err e) = Refused (Session e)
 
 -- A call of the session, and the reply to it: `Call` says what it makes of images, and a stopped session refuses it
 abbrev pub CallStep : (ℕ → Reply) → (Images → Result ℕ SessionFault → Standing → Type 0) → Standing → Reply → Standing → Type 0
 CallStep made Call (Standing.Up old) reply after = (r : Result ℕ SessionFault) × (reply ≡ answered made r) × Call old r after
-CallStep made Call (Standing.Down old) reply after = (reply ≡ Refused Broken) × (after ≡ Standing.Down old)
+CallStep made Call (Standing.Down old) reply after = (reply ≡ Refused (Session Broken)) × (after ≡ Standing.Down old)
 
 -- A text that asks for a change, by what it reads as: a fault comes first
 abbrev pub ReadStep : {A B : Type 0} → Standing → (B → Change A) → Result B ReadFault → Reply → Standing → Type 0
 ReadStep before change (Ok read) reply after = CallStep Changed (PerformUp (change read)) before reply after
-ReadStep before change (Err e) reply after = (reply ≡ Refused (of_read e)) × (after ≡ before)
+ReadStep before change (Err e) reply after = (reply ≡ Refused (Read e)) × (after ≡ before)
 
 -- dd, by what its operands make of its input: a fault comes first, and the reply to its change tells the counts
 abbrev pub DdStep : {A : Type 0} → Standing → Result (DdChange A) DdFault → Reply → Standing → Type 0
 DdStep before (Ok made) reply after = CallStep (λ n. Copied n made.counts) (PerformUp made.change) before reply after
-DdStep before (Err e) reply after = (reply ≡ Refused (of_dd e)) × (after ≡ before)
+DdStep before (Err e) reply after = (reply ≡ Refused (Dd e)) × (after ≡ before)
 
--- A text that asks for a change. Want of memory may take the place of reading it.
+-- A text that asks for a change. Want of memory for its reading may take its place.
 abbrev pub TextStep : {A B : Type 0} → Standing → (B → Change A) → Result B ReadFault → Reply → Standing → Type 0
-TextStep before change read reply after = ((reply ≡ Refused NoMemory) × (after ≡ before)) ⊎ ReadStep before change read reply after
+TextStep before change read reply after = ((reply ≡ Refused (Read NoMemory)) × (after ≡ before)) ⊎ ReadStep before change read reply after
 
--- One command, where `remaining` is what a reader gives. Want of memory may take the place of reading its text.
+-- One command, where `remaining` is what a reader gives. Want of memory for the reading of its text may take its place.
 abbrev pub CommandStep : {R A : Type 0} → (R → Option (List ℕ)) → Standing → Command R A → Reply → Standing → Type 0
 CommandStep {A = A} remaining before (Revert text offset) reply after = TextStep before (dump_change {A = A} offset) (dump_pieces text) reply after
 CommandStep {A = A} remaining before (RevertPlain text at) reply after = TextStep before (plain_change {A = A} at) (plain_answer text) reply after
@@ -66,8 +67,8 @@ CommandRun remaining before list replies after = Chain (CommandStep remaining) b
 
 -- whether a device's failure refused the command
 abbrev pub is_failure : Reply → Bool
-is_failure (Refused DeviceFailed) = true
-is_failure (Refused Interrupted) = true
+is_failure (Refused (Session DeviceFailed)) = true
+is_failure (Refused (Session Interrupted)) = true
 is_failure p = false
 
 -- no device's failure refused the command

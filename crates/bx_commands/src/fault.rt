@@ -1,82 +1,37 @@
-//! The faults of all crates, with their numbers and texts.
+//! The faults of all crates, with their numbers.
 ghost use Rattle.std.specs.Prelude.{◌≡◌};
-ghost use Rattle.bx_commands.specs.Fault.{number_of, of_dd, of_io, of_read, of_session};
-ghost use Rattle.bx_commands.specs.declared.fault.Fault.TheVariants.{NoMemory as OutOfMemory};
+ghost use Rattle.bx_commands.specs.Fault.{number_of};
+ghost use Rattle.bx_commands.specs.declared.fault.Fault.TheVariants as of;
+ghost use Rattle.bx_text.specs.declared.fault.IoFault.TheVariants as io;
 
 use bx_dd::DdFault;
 use bx_journal::SessionFault;
 use bx_read::ReadFault;
 use bx_text::{IoFault, NoMemory};
 use std::alloc::AllocError;
-use std::error::Error;
-use std::fmt;
+use thiserror::Error;
 
-/// What can stop the program; its text is what the program shows.
-#[derive(Clone, Copy, Debug, PartialEq, Eq)]
+/// What can stop the program; its text is what the program shows. Want of memory is a fault of each crate's own, with one
+/// number and one text: who asks for the kind alone compares numbers.
+#[derive(Clone, Copy, Debug, PartialEq, Eq, Error)]
 pub enum Fault {
-    /// A growth was refused.
-    NoMemory,
-    /// The input could not be read.
-    ReadFailed,
-    /// The output could not be written; so many bytes were.
-    WriteFailed { written: u64 },
-    /// The input has more bytes than are taken.
-    InputTooLong,
-    /// The input has fewer bytes than are to be skipped.
-    SkipPastEnd,
-    /// The line begins with no hexadecimal digit, or with more than 16. Lines count from 1.
-    BadAddress { line: u64 },
-    /// No colon follows the address.
-    MissingColon { line: u64 },
-    /// What should be pairs of digits, with at most one space between two, is not.
-    BadPair { line: u64 },
-    /// Nothing follows the colon, or two spaces do.
-    NoData { line: u64 },
-    /// More than 256 pairs.
-    TooWide { line: u64 },
-    /// The address is 2^62 or more.
-    AddressTooLarge { line: u64 },
-    /// The last digit of a plain text has no second one.
-    OddDigits { line: u64 },
-    /// An operand of dd has no known name. Operands count from 1.
-    UnknownOperand { place: u64 },
-    /// The value of an operand is no number.
-    BadNumber { place: u64 },
-    /// The value of an operand is too large.
-    NumberTooLarge { place: u64 },
-    /// A size that an operand gives is 0.
-    ZeroSize { place: u64 },
-    /// Two conversions of dd exclude each other.
-    Conflict,
-    /// A conversion of dd needs `cbs=`.
-    MissingCbs,
-    /// An operand was given before.
-    Repeated { place: u64 },
-    /// `seek=` was given without `of=`.
-    SeekWithoutOutput,
-    /// The image would have more than 2^48 - 1 bytes.
-    TooLarge,
-    /// A device failed before anything was written.
-    DeviceFailed,
-    /// The journal's text isn't accepted; the line counts from 1.
-    Damaged { line: u64 },
-    /// There are fewer changes than are to be taken back.
-    TooFew { have: u32 },
-    /// 65,535 changes stand.
-    JournalFull,
-    /// A device failed after something was written: opening again recovers it.
-    Interrupted,
-    /// An earlier call was interrupted.
-    Broken,
-    /// The image hasn't the length that the journal's last finished entry tells.
-    LengthDiffers { expected: u64 },
-    /// There are fewer undone changes than are to be made again.
-    NothingToRedo { have: u32 },
-    /// The redo text isn't accepted beside this image and journal; the line counts from 1.
-    RedoDamaged { line: u64 },
+    /// What stopped the reading of an input or the writing of an output; or a growth was refused, of the program's own too.
+    #[error(transparent)]
+    Io(IoFault),
+    /// What is wrong with a dump's text, or with plain hexadecimal; or a growth was refused where it is read.
+    #[error(transparent)]
+    Read(ReadFault),
+    /// What is wrong with dd's operands, or stopped the reading of its input onto an image.
+    #[error(transparent)]
+    Dd(DdFault),
+    /// What stopped a call of a session, or its opening.
+    #[error(transparent)]
+    Session(SessionFault),
     /// The words of the command line are wrong.
+    #[error("bad arguments")]
     Usage,
     /// A file could not be opened.
+    #[error("cannot open file")]
     OpenFailed,
 }
 
@@ -85,228 +40,124 @@ impl Fault {
     pub fn number(&self) -> u8
         ensures { result ≡ number_of self.now }
     {
-        match self {
-            Fault::NoMemory => 1,
-            Fault::ReadFailed => 2,
-            Fault::WriteFailed { .. } => 3,
-            Fault::InputTooLong => 4,
-            Fault::SkipPastEnd => 5,
-            Fault::BadAddress { .. } => 10,
-            Fault::MissingColon { .. } => 11,
-            Fault::BadPair { .. } => 12,
-            Fault::NoData { .. } => 13,
-            Fault::TooWide { .. } => 14,
-            Fault::AddressTooLarge { .. } => 15,
-            Fault::OddDigits { .. } => 16,
-            Fault::UnknownOperand { .. } => 20,
-            Fault::BadNumber { .. } => 21,
-            Fault::NumberTooLarge { .. } => 22,
-            Fault::ZeroSize { .. } => 23,
-            Fault::Conflict => 24,
-            Fault::MissingCbs => 25,
-            Fault::Repeated { .. } => 26,
-            Fault::SeekWithoutOutput => 27,
-            Fault::TooLarge => 30,
-            Fault::DeviceFailed => 31,
-            Fault::Damaged { .. } => 40,
-            Fault::TooFew { .. } => 41,
-            Fault::JournalFull => 42,
-            Fault::Interrupted => 43,
-            Fault::Broken => 44,
-            Fault::LengthDiffers { .. } => 45,
-            Fault::NothingToRedo { .. } => 46,
-            Fault::RedoDamaged { .. } => 47,
+        match *self {
+            Fault::Io(fault) => io_number(fault),
+            Fault::Read(fault) => read_number(fault),
+            Fault::Dd(fault) => dd_number(fault),
+            Fault::Session(fault) => session_number(fault),
             Fault::Usage => 50,
             Fault::OpenFailed => 51,
         }
     }
+}
 
-    // The text in front of the number that the fault tells, and the text behind it. Where it tells none, the first is all.
-    fn texts(&self) -> (&'static str, &'static str) {
-        match self {
-            Fault::NoMemory => ("out of memory", ""),
-            Fault::ReadFailed => ("read failed", ""),
-            Fault::WriteFailed { .. } => ("write failed after ", " bytes"),
-            Fault::InputTooLong => ("input too long", ""),
-            Fault::SkipPastEnd => ("skip is past the end of the input", ""),
-            Fault::BadAddress { .. } => ("line ", ": bad address"),
-            Fault::MissingColon { .. } => ("line ", ": missing colon"),
-            Fault::BadPair { .. } => ("line ", ": bad pair"),
-            Fault::NoData { .. } => ("line ", ": no bytes"),
-            Fault::TooWide { .. } => ("line ", ": more than 256 bytes"),
-            Fault::AddressTooLarge { .. } => ("line ", ": address too large"),
-            Fault::OddDigits { .. } => ("line ", ": odd number of digits"),
-            Fault::UnknownOperand { .. } => ("operand ", ": unknown"),
-            Fault::BadNumber { .. } => ("operand ", ": bad number"),
-            Fault::NumberTooLarge { .. } => ("operand ", ": number too large"),
-            Fault::ZeroSize { .. } => ("operand ", ": zero size"),
-            Fault::Conflict => ("conflicting conversions", ""),
-            Fault::MissingCbs => ("cbs is missing", ""),
-            Fault::Repeated { .. } => ("operand ", ": given twice"),
-            Fault::SeekWithoutOutput => ("seek needs an output file", ""),
-            Fault::TooLarge => ("image too large", ""),
-            Fault::DeviceFailed => ("device failed", ""),
-            Fault::Damaged { .. } => ("journal line ", " is damaged"),
-            Fault::TooFew { .. } => ("only ", " changes to undo"),
-            Fault::JournalFull => ("journal is full", ""),
-            Fault::Interrupted => ("interrupted: open again to recover", ""),
-            Fault::Broken => ("session is broken", ""),
-            Fault::LengthDiffers { .. } => ("image should have ", " bytes"),
-            Fault::NothingToRedo { .. } => ("only ", " changes to redo"),
-            Fault::RedoDamaged { .. } => ("redo line ", " is damaged"),
-            Fault::Usage => ("bad arguments", ""),
-            Fault::OpenFailed => ("cannot open file", ""),
-        }
-    }
-
-    // The number that the text tells: a line's, an operand's, or how many.
-    fn told(&self) -> Option<u64> {
-        match *self {
-            Fault::WriteFailed { written } => Some(written),
-            Fault::BadAddress { line }
-            | Fault::MissingColon { line }
-            | Fault::BadPair { line }
-            | Fault::NoData { line }
-            | Fault::TooWide { line }
-            | Fault::AddressTooLarge { line }
-            | Fault::OddDigits { line }
-            | Fault::Damaged { line }
-            | Fault::RedoDamaged { line } => Some(line),
-            Fault::UnknownOperand { place }
-            | Fault::BadNumber { place }
-            | Fault::NumberTooLarge { place }
-            | Fault::ZeroSize { place }
-            | Fault::Repeated { place } => Some(place),
-            Fault::TooFew { have } | Fault::NothingToRedo { have } => Some(have as u64),
-            Fault::LengthDiffers { expected } => Some(expected),
-            _ => None,
-        }
+fn io_number(fault: IoFault) -> u8
+    ensures { result ≡ number_of (of.Io fault) }
+{
+    match fault {
+        IoFault::NoMemory => 1,
+        IoFault::ReadFailed => 2,
+        IoFault::WriteFailed { .. } => 3,
+        IoFault::InputTooLong => 4,
+        IoFault::SkipPastEnd => 5,
     }
 }
 
-impl fmt::Display for Fault {
-    fn fmt<W: fmt::Write>(&self, f: &mut fmt::Formatter<W>) -> fmt::Result {
-        let (front, back) = self.texts();
-        match self.told() {
-            Some(number) => write!(f, "{front}{number}{back}"),
-            None => f.write_str(front),
-        }
+fn read_number(fault: ReadFault) -> u8
+    ensures { result ≡ number_of (of.Read fault) }
+{
+    match fault {
+        ReadFault::NoMemory => 1,
+        ReadFault::BadAddress { .. } => 10,
+        ReadFault::MissingColon { .. } => 11,
+        ReadFault::BadPair { .. } => 12,
+        ReadFault::NoData { .. } => 13,
+        ReadFault::TooWide { .. } => 14,
+        ReadFault::AddressTooLarge { .. } => 15,
+        ReadFault::OddDigits { .. } => 16,
     }
 }
 
-impl Error for Fault {}
+fn dd_number(fault: DdFault) -> u8
+    ensures { result ≡ number_of (of.Dd fault) }
+{
+    match fault {
+        DdFault::NoMemory => 1,
+        DdFault::ReadFailed => 2,
+        DdFault::InputTooLong => 4,
+        DdFault::UnknownOperand(_) => 20,
+        DdFault::BadNumber(_) => 21,
+        DdFault::NumberTooLarge(_) => 22,
+        DdFault::ZeroSize(_) => 23,
+        DdFault::Conflict => 24,
+        DdFault::MissingCbs => 25,
+        DdFault::Repeated(_) => 26,
+        DdFault::SeekWithoutOutput => 27,
+    }
+}
+
+fn session_number(fault: SessionFault) -> u8
+    ensures { result ≡ number_of (of.Session fault) }
+{
+    match fault {
+        SessionFault::NoMemory => 1,
+        SessionFault::TooLarge => 30,
+        SessionFault::DeviceFailed => 31,
+        SessionFault::Damaged { .. } => 40,
+        SessionFault::TooFew { .. } => 41,
+        SessionFault::JournalFull => 42,
+        SessionFault::Interrupted => 43,
+        SessionFault::Broken => 44,
+        SessionFault::LengthDiffers { .. } => 45,
+        SessionFault::NothingToRedo { .. } => 46,
+        SessionFault::RedoDamaged { .. } => 47,
+    }
+}
 
 impl From<NoMemory> for Fault {
-    ghost from_gives = { λ _ f. f ≡ OutOfMemory };
+    ghost from_gives = { λ _ f. f ≡ of.Io io.NoMemory };
 
     fn from(_: NoMemory) -> Self {
-        Fault::NoMemory
+        Fault::Io(IoFault::NoMemory)
     }
 }
 
 impl From<AllocError> for Fault {
-    ghost from_gives = { λ _ f. f ≡ OutOfMemory };
+    ghost from_gives = { λ _ f. f ≡ of.Io io.NoMemory };
 
     fn from(_: AllocError) -> Self {
-        Fault::NoMemory
-    }
-}
-
-fn from_io(fault: IoFault) -> Fault
-where
-    ensures { result ≡ of_io fault }
-{
-    match fault {
-        IoFault::NoMemory => Fault::NoMemory,
-        IoFault::ReadFailed => Fault::ReadFailed,
-        IoFault::WriteFailed { written } => Fault::WriteFailed { written },
-        IoFault::InputTooLong => Fault::InputTooLong,
-        IoFault::SkipPastEnd => Fault::SkipPastEnd,
+        Fault::Io(IoFault::NoMemory)
     }
 }
 
 impl From<IoFault> for Fault {
-    ghost from_gives = { λ e f. f ≡ of_io e };
+    ghost from_gives = { λ e f. f ≡ of.Io e };
 
     fn from(fault: IoFault) -> Self {
-        from_io(fault)
-    }
-}
-
-fn from_read(fault: ReadFault) -> Fault
-where
-    ensures { result ≡ of_read fault }
-{
-    match fault {
-        ReadFault::NoMemory => Fault::NoMemory,
-        ReadFault::BadAddress { line } => Fault::BadAddress { line },
-        ReadFault::MissingColon { line } => Fault::MissingColon { line },
-        ReadFault::BadPair { line } => Fault::BadPair { line },
-        ReadFault::NoData { line } => Fault::NoData { line },
-        ReadFault::TooWide { line } => Fault::TooWide { line },
-        ReadFault::AddressTooLarge { line } => Fault::AddressTooLarge { line },
-        ReadFault::OddDigits { line } => Fault::OddDigits { line },
+        Fault::Io(fault)
     }
 }
 
 impl From<ReadFault> for Fault {
-    ghost from_gives = { λ e f. f ≡ of_read e };
+    ghost from_gives = { λ e f. f ≡ of.Read e };
 
     fn from(fault: ReadFault) -> Self {
-        from_read(fault)
-    }
-}
-
-fn from_session(fault: SessionFault) -> Fault
-where
-    ensures { result ≡ of_session fault }
-{
-    match fault {
-        SessionFault::NoMemory => Fault::NoMemory,
-        SessionFault::TooLarge => Fault::TooLarge,
-        SessionFault::DeviceFailed => Fault::DeviceFailed,
-        SessionFault::Damaged { line } => Fault::Damaged { line },
-        SessionFault::TooFew { have } => Fault::TooFew { have },
-        SessionFault::JournalFull => Fault::JournalFull,
-        SessionFault::Interrupted => Fault::Interrupted,
-        SessionFault::Broken => Fault::Broken,
-        SessionFault::LengthDiffers { expected } => Fault::LengthDiffers { expected },
-        SessionFault::NothingToRedo { have } => Fault::NothingToRedo { have },
-        SessionFault::RedoDamaged { line } => Fault::RedoDamaged { line },
-    }
-}
-
-impl From<SessionFault> for Fault {
-    ghost from_gives = { λ e f. f ≡ of_session e };
-
-    fn from(fault: SessionFault) -> Self {
-        from_session(fault)
-    }
-}
-
-fn from_dd(fault: DdFault) -> Fault
-where
-    ensures { result ≡ of_dd fault }
-{
-    match fault {
-        DdFault::NoMemory => Fault::NoMemory,
-        DdFault::ReadFailed => Fault::ReadFailed,
-        DdFault::InputTooLong => Fault::InputTooLong,
-        DdFault::UnknownOperand(place) => Fault::UnknownOperand { place },
-        DdFault::BadNumber(place) => Fault::BadNumber { place },
-        DdFault::NumberTooLarge(place) => Fault::NumberTooLarge { place },
-        DdFault::ZeroSize(place) => Fault::ZeroSize { place },
-        DdFault::Conflict => Fault::Conflict,
-        DdFault::MissingCbs => Fault::MissingCbs,
-        DdFault::Repeated(place) => Fault::Repeated { place },
-        DdFault::SeekWithoutOutput => Fault::SeekWithoutOutput,
+        Fault::Read(fault)
     }
 }
 
 impl From<DdFault> for Fault {
-    ghost from_gives = { λ e f. f ≡ of_dd e };
+    ghost from_gives = { λ e f. f ≡ of.Dd e };
 
     fn from(fault: DdFault) -> Self {
-        from_dd(fault)
+        Fault::Dd(fault)
+    }
+}
+
+impl From<SessionFault> for Fault {
+    ghost from_gives = { λ e f. f ≡ of.Session e };
+
+    fn from(fault: SessionFault) -> Self {
+        Fault::Session(fault)
     }
 }

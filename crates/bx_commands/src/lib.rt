@@ -1,4 +1,4 @@
-//! Commands and their runs on a session, and the faults of all crates; an inner part of `bx_cli`, which exports all of it.
+//! Commands and their runs on a session, and a fault that holds those of all crates; an inner part of `bx_cli`, which exports all of it.
 #![tactic(auto)]
 
 mod changes;

@@ -5,6 +5,7 @@ ghost use Rattle.bx_commands.specs.Listing.{log_line};
 
 use crate::Fault;
 use bx_journal::LogRow;
+use bx_text::IoFault;
 use std::alloc::{AllocError, Allocator};
 use std::fmt::Write;
 
@@ -12,7 +13,7 @@ use std::fmt::Write;
 /// want of memory.
 pub fn log_text<A: Allocator>(alloc: A, rows: &[LogRow]) -> Result<String<A>, Fault>
     ensures text { IfOk result (λ text. string_bytes text ≡ flat_map log_line rows.now) }
-    ensures fault { IsOkUnless result Fault.NoMemory }
+    ensures fault { IsOkUnless result (Fault.Io IoFault.NoMemory) }
 {
     let mut text = String::new(alloc);
     for row in rows {

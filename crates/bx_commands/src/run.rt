@@ -32,7 +32,7 @@ fn run_change<D: Device, T: TextStore, A: Allocator + Clone>(
 {
     match session.perform(change) {
         Ok(number) => made_reply(counts, number),
-        Err(fault) => Reply::Refused(Fault::from(fault)),
+        Err(fault) => Reply::Refused(Fault::Session(fault)),
     }
 }
 
@@ -56,7 +56,7 @@ fn run_undo<D: Device, T: TextStore, A: Allocator + Clone>(
 {
     match session.undo(k) {
         Ok(left) => Reply::Undone { left },
-        Err(fault) => Reply::Refused(Fault::from(fault)),
+        Err(fault) => Reply::Refused(Fault::Session(fault)),
     }
 }
 
@@ -70,7 +70,7 @@ fn run_redo<D: Device, T: TextStore, A: Allocator + Clone>(
 {
     match session.redo(j) {
         Ok(changes) => Reply::Redone { changes },
-        Err(fault) => Reply::Refused(Fault::from(fault)),
+        Err(fault) => Reply::Refused(Fault::Session(fault)),
     }
 }
 
@@ -84,7 +84,7 @@ fn run_read<D: Device, T: TextStore, A: Allocator + Clone>(
 {
     match read {
         Ok(change) => run_change(session, &change, None),
-        Err(read_fault) => Reply::Refused(Fault::from(read_fault)),
+        Err(read_fault) => Reply::Refused(Fault::Read(read_fault)),
     }
 }
 
@@ -98,7 +98,7 @@ fn run_dd<D: Device, T: TextStore, A: Allocator + Clone>(
 {
     match made {
         Ok(made) => run_change(session, &made.change, Some(made.counts)),
-        Err(dd_fault) => Reply::Refused(Fault::from(dd_fault)),
+        Err(dd_fault) => Reply::Refused(Fault::Dd(dd_fault)),
     }
 }
 

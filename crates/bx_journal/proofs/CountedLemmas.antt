@@ -8,7 +8,8 @@ use Rattle.bx_journal.specs.Stack.{HaveLengths, IsSound, Recovers, image_at, rec
 use Rattle.bx_journal.specs.Phase.{IsAtRest}
 use Rattle.bx_journal.specs.declared.session.fault.SessionFault.TheVariants.{DeviceFailed, Damaged, LengthDiffers}
 use Rattle.bx_journal.specs.Calls.{how_of, Differs, OpenFault, AfterFault}
-use Rattle.bx_journal.specs.Opening.{IsOpened, RefusesLength, FaultCounts}
+use Rattle.bx_journal.specs.Opening.{IsOpened, RefusesLength}
+use Rattle.bx_journal.specs.inner.Devices.{FaultCounts}
 use Rattle.bx_entries.specs.inner.Tally.{IsCounted}
 use Rattle.bx_journal.proofs.OpenLemmas.{after_same, begins_told, counts_beside, differs_of, one_told, same_lengths, some_same}
 use Rattle.bx_journal.proofs.Phases.{length-stack_of}

@@ -19,7 +19,8 @@ use Rattle.bx_entries.specs.inner.Journal.{HasRead}
 use Rattle.bx_entries.specs.Parsed.{told_by}
 use Rattle.bx_entries.specs.inner.Parsed.{entries_of, stage_of, reading_of}
 use Rattle.bx_journal.specs.Calls.{how_of, Differs, OpenFault, AfterFault}
-use Rattle.bx_journal.specs.Opening.{IsOpened, RefusesLength, FaultCounts}
+use Rattle.bx_journal.specs.Opening.{IsOpened, RefusesLength}
+use Rattle.bx_journal.specs.inner.Devices.{FaultCounts}
 use Rattle.bx_journal.specs.inner.Opening.{LookFault}
 use Rattle.bx_entries.proofs.ReadLemmas.{length-entries_of}
 use Rattle.bx_journal.proofs.Sane.{IsSane, read_sane, have_lengths, length-restore}

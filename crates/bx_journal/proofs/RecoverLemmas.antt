@@ -8,7 +8,8 @@ use Rattle.bx_entries.specs.declared.read.types.StageRead.TheVariants.{Between a
 use Rattle.bx_journal.specs.declared.session.fault.SessionFault.{SessionFault}
 use Rattle.bx_journal.specs.declared.session.fault.SessionFault.TheVariants.{NoMemory, TooLarge, DeviceFailed, Damaged, TooFew, JournalFull, Interrupted, Broken, LengthDiffers, NothingToRedo, RedoDamaged}
 use Rattle.bx_entries.specs.inner.Journal.{HasRead}
-use Rattle.bx_journal.specs.Opening.{FaultCounts, OneMore, OneMoreOfThree, ThreeCounts}
+use Rattle.bx_journal.specs.Opening.{OneMoreOfThree, ThreeCounts}
+use Rattle.bx_journal.specs.inner.Devices.{FaultCounts, OneMore}
 use Rattle.bx_journal.specs.inner.Judging.{JudgeFault}
 use Rattle.bx_journal.specs.inner.Opening.{LookFault}
 use Rattle.bx_entries.specs.Parsed.{told_by}

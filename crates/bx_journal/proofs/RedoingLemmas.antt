@@ -3,10 +3,11 @@ use Rattle.std.proofs.Common.{◌≡◌, ℕ, zero, suc, ◌+◌, ◌≤◌, Lis
 use Rattle.bx_journal.specs.declared.session.fault.SessionFault.{SessionFault}
 use Rattle.bx_journal.specs.declared.session.fault.SessionFault.TheVariants.{NoMemory, TooLarge, DeviceFailed, Damaged, TooFew, JournalFull, Interrupted, Broken, LengthDiffers, NothingToRedo, RedoDamaged}
 use Rattle.bx_journal.specs.Images.{Images, redo_of, redone_by}
-use Rattle.bx_journal.specs.Opening.{FaultCounts}
+use Rattle.bx_journal.specs.inner.Devices.{FaultCounts}
 use Rattle.bx_entries.specs.Text.{Between}
 use Rattle.bx_journal.specs.Undoing.{AgainFault, HasCount}
-use Rattle.bx_journal.specs.inner.Undoing.{RedoAgainFault, redo_fault}
+use Rattle.bx_journal.specs.inner.Undoing.{RedoAgainFault}
+use Rattle.bx_journal.specs.inner.Fault.{redo_fault}
 use Rattle.bx_journal.proofs.Judged.{undamaged}
 
 pub redo_again : (honest : Type 0) (text : List ℕ) (count : ℕ) (e : SessionFault) → AgainFault honest text count e → RedoAgainFault honest text count (redo_fault e)
@@ -22,7 +23,7 @@ redo_again honest text count (LengthDiffers expected) h = absurd h
 redo_again honest text count (NothingToRedo have) h = absurd h
 redo_again honest text count (RedoDamaged line) h = absurd h
 
-pub redo_counts : (e : SessionFault) (t u : ℕ) → FaultCounts e 0 t 0 u → FaultCounts (redo_fault e) 0 t 0 u
+pub redo_counts : (e : SessionFault) (t u : ℕ) → FaultCounts e t 0 u 0 → FaultCounts (redo_fault e) t 0 u 0
 redo_counts NoMemory t u h = h
 redo_counts TooLarge t u h = h
 redo_counts DeviceFailed t u h = h

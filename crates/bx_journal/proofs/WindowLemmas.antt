@@ -1,17 +1,17 @@
 -- Counting in windows: a window more.
 use Rattle.std.proofs.Common.{◌≡◌, ℕ, ◌+◌, ◌-◌, ◌≤◌, Bool, List, ◌++◌, length, take, drop, ap, sym, ◌∙◌, subst, arith, length-append, length-take, Result, Ok, Err}
 use Rattle.bx_entries.proofs.TallyLemmas.{take_less, take_sum}
-use Rattle.std.specs.Prelude.{IfOk, IfErr}
+use Rattle.std.specs.Prelude.{IfOk, IfErr, OnOk}
 use Rattle.std.proofs.lemmas.List.{take_all}
 use Rattle.bx_entries.specs.Text.{IsDamagedAt}
 use Rattle.bx_entries.specs.declared.read.count.Tally.{Tally}
 use Rattle.bx_entries.specs.declared.read.types.Front.{Front}
 use Rattle.bx_entries.specs.declared.read.window.Passed.{Passed}
-use Rattle.bx_journal.specs.Opening.{FaultCounts}
 use Rattle.bx_journal.specs.declared.recovery.journal.Found.{Found}
 use Rattle.bx_journal.specs.declared.recovery.journal.Found.TheVariants.{Finished, Unfinished}
 use Rattle.bx_journal.specs.declared.session.fault.SessionFault.{SessionFault}
 use Rattle.bx_journal.specs.declared.session.fault.SessionFault.TheVariants.{NoMemory, TooLarge, DeviceFailed, Damaged, TooFew, JournalFull, Interrupted, Broken, LengthDiffers, NothingToRedo, RedoDamaged}
+use Rattle.bx_journal.specs.inner.Devices.{FaultCounts, LooksAt}
 use Rattle.bx_journal.specs.inner.Recovery.{FindFault, IsFoundIn}
 use Rattle.bx_journal.specs.inner.Windows.{IsPassed, IsCountedTo, IsFrontCounted, IsAllCounted}
 
@@ -90,6 +90,12 @@ module _ (H now : Type 0) (stored text : List ℕ) (still : H → now) (same : H
   fault_before (Ok v) f = tt
   fault_before (Err e) f = fault_is e f
 
--- a count of failures that is the same as before
-pub counts_before : {T : Type 0} → (r : Result T SessionFault) (old now new : ℕ) → now ≡ old → IfErr r (λ e. FaultCounts e 0 now 0 new) → IfErr r (λ e. FaultCounts e 0 old 0 new)
-counts_before r old now new same f = subst (λ n. IfErr r (λ e. FaultCounts e 0 n 0 new)) same f
+-- a call that only looks, behind another that did
+pub looks_before : {D V W : Type 0} {honest : D → Type 0} {view : D → List ℕ} {failures : D → ℕ} {v : V} {r : Result W SessionFault} {old now new : D} → LooksAt honest view failures (Ok v) old now
+    → LooksAt honest view failures r now new → LooksAt honest view failures r old new
+looks_before {failures = failures} {r = r} {new = new} first next = record {
+  same = λ h. next.same (first.honesty.1 h) ∙ first.same h;
+  honesty = (λ h. first.honesty.0 (next.honesty.0 h), λ h. next.honesty.1 (first.honesty.1 h));
+  no_failure = subst (λ n. OnOk r (failures new ≡ n)) first.no_failure next.no_failure;
+  counts = subst (λ n. IfErr r (λ e. FaultCounts e n 0 (failures new) 0)) first.no_failure next.counts;
+}

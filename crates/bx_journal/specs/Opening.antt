@@ -24,21 +24,11 @@ abbrev pub RefusesLength : ℕ → SessionFault → Type 0
 RefusesLength n (LengthDiffers m) = m ≡ n
 RefusesLength n e = DeviceFault e
 
--- one more failed call on one of two devices: no count falls, and both together rise by one
-abbrev pub OneMore : ℕ → ℕ → ℕ → ℕ → Type 0
-OneMore d t d_new t_new = (d ≤ d_new) × (t ≤ t_new) × (d_new + t_new ≡ d + t + 1)
-
--- the same of three devices
+-- one more failed call on one of three devices: no count falls, and together they rise by one
 abbrev pub OneMoreOfThree : ℕ → ℕ → ℕ → ℕ → ℕ → ℕ → Type 0
 OneMoreOfThree d t u d_new t_new u_new = (d ≤ d_new) × (t ≤ t_new) × (u ≤ u_new) × (d_new + t_new + u_new ≡ d + t + u + 1)
 
 -- how the counts of failed calls go on: a device's fault raises one of them by one, and another fault none
-abbrev pub FaultCounts : SessionFault → ℕ → ℕ → ℕ → ℕ → Type 0
-FaultCounts DeviceFailed d t d_new t_new = OneMore d t d_new t_new
-FaultCounts Interrupted d t d_new t_new = OneMore d t d_new t_new
-FaultCounts e d t d_new t_new = (d_new ≡ d) × (t_new ≡ t)
-
--- the same of three devices
 abbrev pub ThreeCounts : SessionFault → ℕ → ℕ → ℕ → ℕ → ℕ → ℕ → Type 0
 ThreeCounts DeviceFailed d t u d_new t_new u_new = OneMoreOfThree d t u d_new t_new u_new
 ThreeCounts Interrupted d t u d_new t_new u_new = OneMoreOfThree d t u d_new t_new u_new

@@ -1,11 +1,13 @@
 -- What a session over a device and a store is.
-use Rattle.std.specs.Prelude.{◌≡◌, ◌⊎◌, ℕ, suc, false, true, List, length}
+use Rattle.std.specs.Prelude.{◌≡◌, ◌⊎◌, ◌↔◌, ℕ, suc, false, true, List, length, Result, IfErr, IsErrOf, MatchResult}
 use Rattle.bx_journal.specs.SessionView.{SessionView}
 use Rattle.bx_journal.specs.Phase.{IsAtRest}
 use Rattle.bx_journal.specs.Images.{Images}
+use Rattle.bx_journal.specs.Calls.{AfterFault}
 use Rattle.bx_journal.specs.Opening.{ThreeCounts}
 use Rattle.bx_journal.specs.Redo.{Finds, IsRedoOf}
 use Rattle.bx_journal.specs.declared.session.fault.SessionFault.{SessionFault}
+use Rattle.bx_journal.specs.declared.session.fault.SessionFault.TheVariants.{Broken}
 
 -- the session may go on, and its pair stands for the stack
 pub record IsReady {D T : Type 0} (image : D → List ℕ) (text : T → List ℕ) (s : SessionView D T) (stack : List (List ℕ)) : Type 0 where
@@ -19,18 +21,6 @@ pub record IsSame {D T : Type 0} (image : D → List ℕ) (text : T → List ℕ
   pub text_same : text new.store ≡ text old.store
   pub count : new.count ≡ old.count
   pub broken : new.is_broken ≡ old.is_broken
-
--- the counts of changes and of undone changes, and whether it is broken, are as they were
-abbrev pub IsUnmoved : {D T : Type 0} → SessionView D T → SessionView D T → Type 0
-IsUnmoved old new = (new.count ≡ old.count) × (new.undone ≡ old.undone) × (new.is_broken ≡ old.is_broken)
-
--- after an interruption: the session is broken, and its counts are as they were
-abbrev pub Breaks : {D T : Type 0} → SessionView D T → SessionView D T → Type 0
-Breaks old new = (new.is_broken ≡ true) × (new.count ≡ old.count) × (new.undone ≡ old.undone)
-
--- the devices are the same
-abbrev pub HasSameDevices : {D T : Type 0} → SessionView D T → SessionView D T → Type 0
-HasSameDevices old new = (new.device ≡ old.device) × (new.store ≡ old.store) × (new.redo_text ≡ old.redo_text)
 
 -- the session's redo text and image stand for the undone images
 pub record HasUndone {D T : Type 0} (image : D → List ℕ) (text : T → List ℕ) (s : SessionView D T) (undone : List (List ℕ)) : Type 0 where
@@ -58,3 +48,15 @@ IsUnfailed failures text_failures old new = (failures new.device ≡ failures ol
 abbrev pub SessionCounts : {D T : Type 0} → (D → ℕ) → (T → ℕ) → SessionView D T → SessionView D T → SessionFault → Type 0
 SessionCounts failures text_failures old new e =
     ThreeCounts e (failures old.device) (text_failures old.store) (text_failures old.redo_text) (failures new.device) (text_failures new.store) (text_failures new.redo_text)
+
+-- what a change, an undo and a redo promise alike: a session that is broken refuses, and it alone, and stays as it was; one that refuses
+-- keeps its bytes, one that is interrupted is broken, and each keeps its counts of changes; a failed call is counted where a fault tells of it
+pub record FailsSafely {D T V : Type 0} (honest : D → Type 0) (text_honest : T → Type 0) (image : D → List ℕ) (text : T → List ℕ)
+    (failures : D → ℕ) (text_failures : T → ℕ) (old new : SessionView D T) (result : Result V SessionFault) : Type 0 where
+  pub broken : (old.is_broken ≡ true) ↔ IsErrOf result Broken
+  pub same : IsErrOf result Broken → new ≡ old
+  pub refused : honest old.device → text_honest old.store → IfErr result (λ e. AfterFault e (Unit {0}) (IsSame image text old new))
+  pub redo_same : text_honest old.redo_text → IfErr result (λ e. AfterFault e (Unit {0}) (IsRedoSame text old new))
+  pub unmoved : IfErr result (λ e. (new.count ≡ old.count) × (new.undone ≡ old.undone) × AfterFault e (new.is_broken ≡ true) (new.is_broken ≡ old.is_broken))
+  pub honesty : (honest new.device ↔ honest old.device) × (text_honest new.store ↔ text_honest old.store) × (text_honest new.redo_text ↔ text_honest old.redo_text)
+  pub counts : MatchResult result (λ n. IsUnfailed failures text_failures old new) (SessionCounts failures text_failures old new)

@@ -46,9 +46,8 @@ impl<D: Device, T: TextStore, A: Allocator> Model for Session<D, T, A> {
 }
 
 impl<D: Device, T: TextStore, A: Allocator + Clone> Session<D, T, A> {
-    ghost use Rattle.bx_journal.specs.Calls.{AfterFault};
     ghost use Rattle.bx_journal.specs.Performing.{AppendsEntry, FindsOne, StaysReady, Steps, StopsPerform};
-    ghost use Rattle.bx_journal.specs.Session.{Breaks, HasSameDevices, HasUndone, IsRedoSame, IsSame, IsUnfailed, IsUnmoved, SessionCounts};
+    ghost use Rattle.bx_journal.specs.Session.{FailsSafely, HasUndone};
     ghost use Rattle.bx_journal.specs.Standing.{PerformFault};
 
     /// Changes the image, and answers the change's number, which is how many changes then stand. What was undone is
@@ -76,27 +75,17 @@ impl<D: Device, T: TextStore, A: Allocator + Clone> Session<D, T, A> {
         // An interruption leaves the old stack or the new one, and another fault leaves all as it was.
         ensures fault { D.honest self.old.device → T.honest self.old.store → StopsPerform D.image T.text change.now self.old self.new result }
 
-        ensures refused { D.honest self.old.device → T.honest self.old.store
-            → IfErr result (λ e. AfterFault e (Unit {0}) (IsSame D.image T.text self.old self.new)) }
         ensures finds { D.honest self.old.device → T.honest self.old.store → T.honest self.old.redo_text
             → FindsOne D.image T.text change.now self.old self.new result }
-        ensures redo_same { T.honest self.old.redo_text → IfErr result (λ e. AfterFault e (Unit {0}) (IsRedoSame T.text self.old self.new)) }
-        ensures unmoved { IfErr result (λ e. AfterFault e (Unit {0}) (IsUnmoved self.old self.new)) }
-        ensures breaks { IsErrOf result SessionFault.Interrupted → Breaks self.old self.new }
 
         ensures kind { IfErr result PerformFault }
-        ensures broken { (self.old.is_broken ≡ true) ↔ IsErrOf result SessionFault.Broken }
-        ensures untouched { IsErrOf result SessionFault.Broken → HasSameDevices self.old self.new }
-        ensures same { IsErrOf result SessionFault.Broken → self.new ≡ self.old }
         ensures full { IsErrOf result SessionFault.JournalFull ↔ ((self.old.is_broken ≡ false) × (65535 ≤ self.old.count)) }
         ensures large { D.honest self.old.device → IsErrOf result SessionFault.TooLarge → Fits change.now (length (D.image self.old.device)) MAX_LEN → ⊥ }
         ensures fits { D.honest self.old.device → IsErrOf result SessionFault.NoMemory → Fits change.now (length (D.image self.old.device)) MAX_LEN }
         ensures fitted { D.honest self.old.device → IsErrOf result SessionFault.Interrupted → Fits change.now (length (D.image self.old.device)) MAX_LEN }
-        ensures device_honesty { D.honest self.new.device ↔ D.honest self.old.device }
-        ensures store_honesty { T.honest self.new.store ↔ T.honest self.old.store }
-        ensures redo_honesty { T.honest self.new.redo_text ↔ T.honest self.old.redo_text }
-        ensures no_failure { OnOk result (IsUnfailed D.failures T.failures self.old self.new) }
-        ensures counts { IfErr result (SessionCounts D.failures T.failures self.old self.new) }
+
+        // A refusal changes nothing, an interruption breaks the session, and a broken one refuses all.
+        ensures safe { FailsSafely D.honest T.honest D.image T.text D.failures T.failures self.old self.new result }
     {
         if self.is_broken {
             return Err(SessionFault::Broken);

@@ -4,7 +4,7 @@ use crate::images::{finish, open_session};
 use crate::stopped::{Noted, STANDARD_INPUT, Stopped};
 use bx_cli::{Command, DdJob, Fault, Reply, Texts};
 use bx_dd::{Counts, report};
-use bx_text::{Name, Words};
+use bx_text::{IoFault, Name, Words};
 use std::alloc::Global;
 use std::fs::File;
 use std::io::Read;
@@ -72,6 +72,6 @@ pub fn tell<R: Eprint + AllocGlobal>(rt: &R, counts: &Counts, written: u64) -> R
     let text = report(rt.alloc(), counts)?;
     match eprint!(rt; "{}", str::from_utf8(text.as_slice()).unwrap_or("")) {
         Ok(()) => Ok(()),
-        Err(_) => Err(Fault::WriteFailed { written }),
+        Err(_) => Err(Fault::Io(IoFault::WriteFailed { written })),
     }
 }

@@ -8,7 +8,7 @@ use bx_cli::{Command, Fault, Reply, Texts, log_text, run_all};
 use bx_image::{Device, FileImage, SystemFile};
 use bx_journal::{How, Session};
 use bx_store::{FileText, TextStore};
-use bx_text::Name;
+use bx_text::{Name, NoMemory};
 use std::fs::File;
 use std::io::Read;
 use std::rt::Files;
@@ -91,12 +91,12 @@ where
     requires redo_text { ⟦<FileText as TextStore>⟧.failures session.old.redo_text ≡ 0 }
 {
     let mut list = Vec::new(rt.alloc());
-    list.push(command).map_err(|_| Fault::NoMemory)?;
+    list.push(command).map_err(|_| NoMemory)?;
     let replies = run_all(rt.alloc(), session, list.as_mut_slice())?;
     match replies.first() {
         Some(Reply::Refused(fault)) => Err(*fault),
         Some(reply) => Ok(*reply),
-        None => Err(Fault::NoMemory),
+        None => Err(Fault::from(NoMemory)),
     }
 }
 

@@ -11,7 +11,7 @@ use bx_cli::{
     XxdJob, plan_words, run_dump,
 };
 use bx_dd::Counts;
-use bx_text::{Bytes, Name, Source, Words, dec_field, emit, emit_after};
+use bx_text::{Bytes, IoFault, Name, Source, Words, dec_field, emit, emit_after};
 use std::alloc::Global;
 use std::env;
 use std::fs::File;
@@ -58,7 +58,7 @@ fn planned<R: Env + AllocGlobal>(rt: &R, words: &mut Words) -> Result<Job, Fault
 /// What stopped the reading of the words. One that isn't UTF-8 is a wrong argument.
 fn unread(error: io::Error) -> Fault {
     match error.kind() {
-        io::ErrorKind::OutOfMemory => Fault::NoMemory,
+        io::ErrorKind::OutOfMemory => Fault::Io(IoFault::NoMemory),
         _ => Fault::Usage,
     }
 }
@@ -83,9 +83,8 @@ where
         Err(stopped) => return Err(stopped.on_output(out.error)),
     };
     if out.flush().is_err() {
-        let fault = Fault::WriteFailed {
-            written: out.written,
-        };
+        let written = out.written;
+        let fault = Fault::Io(IoFault::WriteFailed { written });
         return Err(Stopped::from(fault).on_output(out.error));
     }
     if let Some(counts) = counts {

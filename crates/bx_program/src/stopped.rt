@@ -1,8 +1,10 @@
 //! What stopped a job.
 use bx_cli::{Fault, Texts};
+use bx_dd::DdFault;
 use bx_image::{Device, FileImage};
+use bx_journal::SessionFault;
 use bx_store::{FileText, TextStore};
-use bx_text::Name;
+use bx_text::{IoFault, Name};
 use std::io::{self, Read, Seek, SeekFrom};
 
 /// What is said in place of a file's name.
@@ -84,7 +86,9 @@ impl<'a> Stopped<'a> {
     /// The same, or that the input was not read, where it is that.
     pub fn on_input(self, file: &'a str, error: Option<i32>) -> Stopped<'a> {
         match self.fault {
-            Fault::ReadFailed => Stopped::by(self.fault, file, error),
+            Fault::Io(IoFault::ReadFailed) | Fault::Dd(DdFault::ReadFailed) => {
+                Stopped::by(self.fault, file, error)
+            }
             _ => self,
         }
     }
@@ -92,7 +96,9 @@ impl<'a> Stopped<'a> {
     /// The same, or that standard output was not written, where it is that.
     pub fn on_output(self, error: Option<i32>) -> Stopped<'a> {
         match self.fault {
-            Fault::WriteFailed { .. } => Stopped::by(self.fault, "standard output", error),
+            Fault::Io(IoFault::WriteFailed { .. }) => {
+                Stopped::by(self.fault, "standard output", error)
+            }
             _ => self,
         }
     }
@@ -112,11 +118,14 @@ pub struct Devices<'a> {
 impl<'a> Devices<'a> {
     /// The device that stopped a session.
     pub fn stopped(&self, fault: Fault) -> Stopped<'a> {
-        match fault {
-            Fault::DeviceFailed | Fault::Interrupted => self.failed(fault),
-            Fault::LengthDiffers { expected } => self.differs(fault, expected),
-            Fault::Damaged { .. } => Stopped::by(fault, self.texts.journal.as_str(), None),
-            Fault::RedoDamaged { .. } => Stopped::by(fault, self.texts.redo.as_str(), None),
+        let Fault::Session(why) = fault else {
+            return Stopped::from(fault);
+        };
+        match why {
+            SessionFault::DeviceFailed | SessionFault::Interrupted => self.failed(fault),
+            SessionFault::LengthDiffers { expected } => self.differs(fault, expected),
+            SessionFault::Damaged { .. } => Stopped::by(fault, self.texts.journal.as_str(), None),
+            SessionFault::RedoDamaged { .. } => Stopped::by(fault, self.texts.redo.as_str(), None),
             _ => Stopped::from(fault),
         }
     }

@@ -5,6 +5,7 @@ use crate::expected::{assert_bytes, assert_number, run_line, words};
 use crate::sessions::{MemSession, bytes_of, open, run, trio};
 use bx_cli::{Command, Fault, Reply};
 use bx_dd::{Convert, Counts, DdFault, Transfer, parse};
+use bx_journal::SessionFault;
 use std::alloc::Global;
 use std::io;
 use std::io::{ErrorKind, Read};
@@ -198,7 +199,7 @@ fn goes_on(rt: &impl Abort, alloc: Global, session: &mut MemSession) -> Result<(
 // A failed read refuses the command, and nothing was changed; the next command goes on. Four bytes are enough for the first two
 // blocks.
 fn all_inputs(rt: &impl Abort, alloc: Global, session: &mut MemSession) -> Result<(), Fault> {
-    let failed = Reply::Refused(Fault::ReadFailed);
+    let failed = Reply::Refused(Fault::Dd(DdFault::ReadFailed));
     for (interruptions, fails_after) in [(1000, 100), (0, 0), (0, 3), (0, 5)] {
         let input = trickling(b"abcde", interruptions, fails_after);
         let reply = replied(alloc, session, "ibs=2", input)?;
@@ -211,7 +212,7 @@ fn all_inputs(rt: &impl Abort, alloc: Global, session: &mut MemSession) -> Resul
 fn slow_and_broken_inputs(rt: HostRuntime) -> Result<(), Fail> {
     let alloc = rt.alloc();
     let Ok((mut session, _)) = open(alloc, trio(alloc, (b"01234567", b"", b""))?) else {
-        return Err(Fault::Broken.into());
+        return Err(Fault::Session(SessionFault::Broken).into());
     };
     assert!(rt; all_inputs(&rt, alloc, &mut session) == Ok(()));
     let left = session.close();

@@ -1,6 +1,9 @@
 //! The numbers and texts of all faults.
 use bx_cli::Fault;
 use bx_dd::DdFault;
+use bx_journal::SessionFault;
+use bx_read::ReadFault;
+use bx_text::IoFault;
 use std::alloc::Global;
 use std::process::Abort;
 
@@ -21,16 +24,34 @@ fn assert_shown(rt: &impl Abort, alloc: Global, rows: &[(Fault, u8, &str)]) {
 }
 
 static STREAM: [(Fault, u8, &str); 5] = [
-    (Fault::NoMemory, 1, "out of memory"),
-    (Fault::ReadFailed, 2, "read failed"),
+    (Fault::Io(IoFault::NoMemory), 1, "out of memory"),
+    (Fault::Io(IoFault::ReadFailed), 2, "read failed"),
     (
-        Fault::WriteFailed { written: 20 },
+        Fault::Io(IoFault::WriteFailed { written: 20 }),
         3,
         "write failed after 20 bytes",
     ),
-    (Fault::InputTooLong, 4, "input too long"),
-    (Fault::SkipPastEnd, 5, "skip is past the end of the input"),
+    (Fault::Io(IoFault::InputTooLong), 4, "input too long"),
+    (
+        Fault::Io(IoFault::SkipPastEnd),
+        5,
+        "skip is past the end of the input",
+    ),
 ];
+
+// What several crates have has one number and one text.
+static SHARED: [(Fault, u8, &str); 5] = [
+    (Fault::Read(ReadFault::NoMemory), 1, "out of memory"),
+    (Fault::Dd(DdFault::NoMemory), 1, "out of memory"),
+    (Fault::Session(SessionFault::NoMemory), 1, "out of memory"),
+    (Fault::Dd(DdFault::ReadFailed), 2, "read failed"),
+    (Fault::Dd(DdFault::InputTooLong), 4, "input too long"),
+];
+
+#[test]
+fn fault_texts_of_several(rt: HostRuntime) {
+    assert_shown(&rt, rt.alloc(), &SHARED);
+}
 
 #[test]
 fn fault_texts(rt: HostRuntime) {
@@ -38,24 +59,40 @@ fn fault_texts(rt: HostRuntime) {
 }
 
 static DUMP: [(Fault, u8, &str); 7] = [
-    (Fault::BadAddress { line: 1 }, 10, "line 1: bad address"),
-    (Fault::MissingColon { line: 3 }, 11, "line 3: missing colon"),
-    (Fault::BadPair { line: 2 }, 12, "line 2: bad pair"),
-    (Fault::NoData { line: 4 }, 13, "line 4: no bytes"),
     (
-        Fault::TooWide {
+        Fault::Read(ReadFault::BadAddress { line: 1 }),
+        10,
+        "line 1: bad address",
+    ),
+    (
+        Fault::Read(ReadFault::MissingColon { line: 3 }),
+        11,
+        "line 3: missing colon",
+    ),
+    (
+        Fault::Read(ReadFault::BadPair { line: 2 }),
+        12,
+        "line 2: bad pair",
+    ),
+    (
+        Fault::Read(ReadFault::NoData { line: 4 }),
+        13,
+        "line 4: no bytes",
+    ),
+    (
+        Fault::Read(ReadFault::TooWide {
             line: 18446744073709551615,
-        },
+        }),
         14,
         "line 18446744073709551615: more than 256 bytes",
     ),
     (
-        Fault::AddressTooLarge { line: 10 },
+        Fault::Read(ReadFault::AddressTooLarge { line: 10 }),
         15,
         "line 10: address too large",
     ),
     (
-        Fault::OddDigits { line: 7 },
+        Fault::Read(ReadFault::OddDigits { line: 7 }),
         16,
         "line 7: odd number of digits",
     ),
@@ -67,18 +104,34 @@ fn fault_texts_of_dumps(rt: HostRuntime) {
 }
 
 static OPERAND: [(Fault, u8, &str); 8] = [
-    (Fault::UnknownOperand { place: 1 }, 20, "operand 1: unknown"),
-    (Fault::BadNumber { place: 2 }, 21, "operand 2: bad number"),
     (
-        Fault::NumberTooLarge { place: 1 },
+        Fault::Dd(DdFault::UnknownOperand(1)),
+        20,
+        "operand 1: unknown",
+    ),
+    (
+        Fault::Dd(DdFault::BadNumber(2)),
+        21,
+        "operand 2: bad number",
+    ),
+    (
+        Fault::Dd(DdFault::NumberTooLarge(1)),
         22,
         "operand 1: number too large",
     ),
-    (Fault::ZeroSize { place: 3 }, 23, "operand 3: zero size"),
-    (Fault::Conflict, 24, "conflicting conversions"),
-    (Fault::MissingCbs, 25, "cbs is missing"),
-    (Fault::Repeated { place: 2 }, 26, "operand 2: given twice"),
-    (Fault::SeekWithoutOutput, 27, "seek needs an output file"),
+    (Fault::Dd(DdFault::ZeroSize(3)), 23, "operand 3: zero size"),
+    (Fault::Dd(DdFault::Conflict), 24, "conflicting conversions"),
+    (Fault::Dd(DdFault::MissingCbs), 25, "cbs is missing"),
+    (
+        Fault::Dd(DdFault::Repeated(2)),
+        26,
+        "operand 2: given twice",
+    ),
+    (
+        Fault::Dd(DdFault::SeekWithoutOutput),
+        27,
+        "seek needs an output file",
+    ),
 ];
 
 #[test]
@@ -87,24 +140,56 @@ fn fault_texts_of_operands(rt: HostRuntime) {
 }
 
 static SESSION: [(Fault, u8, &str); 12] = [
-    (Fault::TooLarge, 30, "image too large"),
-    (Fault::DeviceFailed, 31, "device failed"),
-    (Fault::Damaged { line: 5 }, 40, "journal line 5 is damaged"),
-    (Fault::TooFew { have: 3 }, 41, "only 3 changes to undo"),
-    (Fault::JournalFull, 42, "journal is full"),
-    (Fault::Interrupted, 43, "interrupted: open again to recover"),
-    (Fault::Broken, 44, "session is broken"),
     (
-        Fault::LengthDiffers { expected: 8 },
+        Fault::Session(SessionFault::TooLarge),
+        30,
+        "image too large",
+    ),
+    (
+        Fault::Session(SessionFault::DeviceFailed),
+        31,
+        "device failed",
+    ),
+    (
+        Fault::Session(SessionFault::Damaged { line: 5 }),
+        40,
+        "journal line 5 is damaged",
+    ),
+    (
+        Fault::Session(SessionFault::TooFew { have: 3 }),
+        41,
+        "only 3 changes to undo",
+    ),
+    (
+        Fault::Session(SessionFault::JournalFull),
+        42,
+        "journal is full",
+    ),
+    (
+        Fault::Session(SessionFault::Interrupted),
+        43,
+        "interrupted: open again to recover",
+    ),
+    (
+        Fault::Session(SessionFault::Broken),
+        44,
+        "session is broken",
+    ),
+    (
+        Fault::Session(SessionFault::LengthDiffers { expected: 8 }),
         45,
         "image should have 8 bytes",
     ),
     (
-        Fault::NothingToRedo { have: 3 },
+        Fault::Session(SessionFault::NothingToRedo { have: 3 }),
         46,
         "only 3 changes to redo",
     ),
-    (Fault::RedoDamaged { line: 5 }, 47, "redo line 5 is damaged"),
+    (
+        Fault::Session(SessionFault::RedoDamaged { line: 5 }),
+        47,
+        "redo line 5 is damaged",
+    ),
     (Fault::Usage, 50, "bad arguments"),
     (Fault::OpenFailed, 51, "cannot open file"),
 ];

@@ -5,7 +5,7 @@ ghost use Rattle.bx_commands.specs.Command.{IsNear};
 use crate::expected::words;
 use crate::sessions::{MemSession, open, run, trio};
 use bx_cli::{Command, Fault, Reply};
-use bx_text::Bytes;
+use bx_text::{Bytes, NoMemory};
 use linked_list_allocator::LocalHeap;
 use std::alloc::{AllocError, Global};
 use std::process::Abort;
@@ -130,5 +130,5 @@ fn nothing_is_lost(rt: HostRuntime) -> Result<(), Fail> {
             Outcome::Some => {}
         }
     }
-    Err(Fault::NoMemory.into())
+    Err(Fault::from(NoMemory).into())
 }

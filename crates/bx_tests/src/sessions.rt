@@ -4,7 +4,7 @@ ghost use Rattle.bx_commands.specs.Command.{IsNear};
 
 use bx_cli::{Command, Fault, Reply, run_all};
 use bx_image::MemImage;
-use bx_journal::{Recovered, Session};
+use bx_journal::{Recovered, Session, SessionFault};
 use bx_store::MemText;
 use std::alloc::{AllocError, Allocator, Global};
 use std::io::Read;
@@ -50,10 +50,10 @@ pub fn run<R: Read + Drop, A: Allocator + Clone>(
     requires { All IsNear list.old }
 {
     if session.faults() > 1000 {
-        return Err(Fault::DeviceFailed);
+        return Err(Fault::Session(SessionFault::DeviceFailed));
     }
     if list.len() > 1000 {
-        return Err(Fault::TooLarge);
+        return Err(Fault::Session(SessionFault::TooLarge));
     }
     Ok(run_all(alloc, session, list)?)
 }

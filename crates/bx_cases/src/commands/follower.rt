@@ -4,6 +4,7 @@ use crate::session::answers::{same_reply, same_reply_text};
 use crate::sweep::images::Images;
 use bx_case_files::{Answer, Ask, Opening, Row};
 use bx_cli::{Fault, Reply};
+use bx_journal::SessionFault;
 use std::alloc::{AllocError, Global};
 
 /// What was stopped in the middle.
@@ -45,7 +46,8 @@ fn stop_of(row: &Row) -> Stop<'_> {
 }
 
 /// The reply is this refusal, or the one that the case tells.
-fn refused_so(alloc: Global, row: &Row, wanted: Fault, reply: Reply) -> Result<(), Wrong> {
+fn refused_so(alloc: Global, row: &Row, wanted: SessionFault, reply: Reply) -> Result<(), Wrong> {
+    let wanted = Fault::Session(wanted);
     if reply == Reply::Refused(wanted) {
         return Ok(());
     }
@@ -102,12 +104,12 @@ impl<'a> Follower<'a> {
     }
 
     /// What a row behind one that was refused is refused for: there are too few changes, since one of them wasn't made.
-    fn lacks(&self, row: &Row) -> Fault {
+    fn lacks(&self, row: &Row) -> SessionFault {
         match &row.ask {
-            Ask::Redo(_) => Fault::NothingToRedo {
+            Ask::Redo(_) => SessionFault::NothingToRedo {
                 have: self.images.undone().min(65_535) as u32,
             },
-            _ => Fault::TooFew {
+            _ => SessionFault::TooFew {
                 have: self.images.changes.min(65_535) as u32,
             },
         }
@@ -130,7 +132,7 @@ impl<'a> Follower<'a> {
     /// What the reply to a row makes of the images.
     pub fn follow(&mut self, alloc: Global, row: &'a Row, reply: Reply) -> Result<(), Wrong> {
         match self.course {
-            Course::Stopped(_) => refused_so(alloc, row, Fault::Broken, reply),
+            Course::Stopped(_) => refused_so(alloc, row, SessionFault::Broken, reply),
             Course::Refused => self.follow_refused(alloc, row, reply),
             Course::Whole => self.follow_whole(alloc, row, reply),
         }
@@ -139,7 +141,7 @@ impl<'a> Follower<'a> {
     /// A row where a call failed before the first that writes.
     fn follow_refused(&mut self, alloc: Global, row: &Row, reply: Reply) -> Result<(), Wrong> {
         match reply {
-            Reply::Refused(Fault::DeviceFailed) => Ok(()),
+            Reply::Refused(Fault::Session(SessionFault::DeviceFailed)) => Ok(()),
             _ => self.go_on_refused(alloc, row, reply),
         }
     }
@@ -147,11 +149,11 @@ impl<'a> Follower<'a> {
     /// A row where no call failed before.
     fn follow_whole(&mut self, alloc: Global, row: &'a Row, reply: Reply) -> Result<(), Wrong> {
         match reply {
-            Reply::Refused(Fault::DeviceFailed) => {
+            Reply::Refused(Fault::Session(SessionFault::DeviceFailed)) => {
                 self.course = Course::Refused;
                 Ok(())
             }
-            Reply::Refused(Fault::Interrupted) => {
+            Reply::Refused(Fault::Session(SessionFault::Interrupted)) => {
                 self.course = Course::Stopped(stop_of(row));
                 Ok(())
             }

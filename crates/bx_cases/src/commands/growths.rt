@@ -1,6 +1,6 @@
 //! Cases of commands with each growth refused in turn.
 use crate::commands::rows::{begun, play_row};
-use crate::report::compare::{Wrong, same_bytes};
+use crate::report::compare::{Wrong, is_out_of_memory, same_bytes};
 use crate::report::tally::{Failure, at};
 use crate::session::answers::{refused, replied, same_reply};
 use crate::session::ask::{Limit, ask_for, log_of, unwanted};
@@ -12,7 +12,7 @@ use crate::sweep::hunt::{Call, each_growth};
 use crate::sweep::weight::is_swept;
 use bumpalo::Bump;
 use bx_case_files::{Ask, CommandsCase, Row};
-use bx_cli::{Fault, Reply};
+use bx_cli::Reply;
 use bx_image::MemImage;
 use bx_ration::{squeeze, used};
 use bx_store::MemText;
@@ -141,7 +141,7 @@ fn lists<'a>(
             same_bytes(alloc, "log", log, found.as_slice())?;
             Ok(true)
         }
-        Err(Fault::NoMemory) => Ok(false),
+        Err(fault) if is_out_of_memory(fault) => Ok(false),
         Err(fault) => Err(unwanted(alloc, "log", fault)),
     }
 }
@@ -203,16 +203,24 @@ fn squeezed<'a>(
     let asked = asked_with(alloc, bump, texts, row, Some((bump, bytes)))?;
     let taken = used(bump, bytes);
     match asked.reply {
-        None | Some(Reply::Refused(Fault::NoMemory)) => {
-            unchanged(alloc, texts, &asked.devices)?;
-            with_room(alloc, bump, texts, row)?;
-            Ok(Some(taken))
-        }
-        Some(reply) => {
+        Some(reply) if !lacks_memory(reply) => {
             same_reply(alloc, &row.answer, reply)?;
             same_image(alloc, row, &asked.devices)?;
             Ok(None)
         }
+        _ => {
+            unchanged(alloc, texts, &asked.devices)?;
+            with_room(alloc, bump, texts, row)?;
+            Ok(Some(taken))
+        }
+    }
+}
+
+/// Whether a command was refused for want of memory.
+fn lacks_memory(reply: Reply) -> bool {
+    match reply {
+        Reply::Refused(fault) => is_out_of_memory(fault),
+        _ => false,
     }
 }
 

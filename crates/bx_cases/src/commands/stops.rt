@@ -16,6 +16,7 @@ use crate::sweep::recovery::{MOST_CALLS, openings, recovered, stands_for};
 use crate::sweep::weight::{opening_step, stop_step};
 use bx_case_files::{Ask, CommandsCase, Row};
 use bx_cli::Fault;
+use bx_journal::SessionFault;
 use std::alloc::Global;
 
 /// Asks for what a row tells, if the list of images can follow it.
@@ -43,7 +44,7 @@ fn run_rows<'a>(
 ) -> Result<Held, Wrong> {
     let mut session = match open(alloc, devices) {
         Ok((session, _)) => session,
-        Err((devices, Fault::DeviceFailed | Fault::Interrupted)) => {
+        Err((devices, Fault::Session(SessionFault::DeviceFailed | SessionFault::Interrupted))) => {
             follower.refuse();
             return held_fused(alloc, devices);
         }

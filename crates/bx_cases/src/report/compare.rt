@@ -180,6 +180,11 @@ pub fn same_faults(alloc: Global, wanted: Fault, found: Fault) -> Result<(), Wro
     same_fault(alloc, wanted.as_str(), found)
 }
 
+/// Whether a growth was refused, whichever crate asked for it.
+pub fn is_out_of_memory(fault: Fault) -> bool {
+    fault.number() == 1
+}
+
 /// No fault was found, where one with this text should be.
 pub fn no_fault(alloc: Global, wanted: &str) -> Wrong {
     differs(alloc, "fault", wanted, "no fault")

@@ -8,7 +8,7 @@ use bumpalo::Bump;
 use bx_case_files::Ask;
 use bx_cli::{Command, Fault, Reply, log_text, run_all};
 use bx_image::{Change, Device};
-use bx_journal::Session;
+use bx_journal::{Session, SessionFault};
 use bx_ration::squeeze;
 use bx_store::TextStore;
 use bx_text::{Bytes, Piece, Pieces, Words};
@@ -182,7 +182,7 @@ pub fn log_of<D: Device, T: TextStore, A: Allocator + Clone>(
     session: &mut Session<D, T, A>,
 ) -> Result<Vec<u8, A>, Fault> {
     if session.faults() > MANY {
-        return Err(Fault::DeviceFailed);
+        return Err(Fault::Session(SessionFault::DeviceFailed));
     }
     match session.log() {
         Ok(rows) => Ok(log_text(alloc, rows.as_slice())?.into_bytes()),

@@ -4,20 +4,20 @@ use crate::session::devices::Devices;
 use bx_case_files::Opening;
 use bx_cli::Fault;
 use bx_image::{Device, MemImage};
-use bx_journal::{How, Recovered, Session};
+use bx_journal::{How, Recovered, Session, SessionFault};
 use bx_store::{MemText, TextStore};
 use std::alloc::{Allocator, Global};
 
 pub type MemSession<A = Global> = Session<MemImage<A>, MemText<A>, A>;
 
 /// Devices, and the fault for which they are handed back.
-fn handed_back<D, T>(image: D, journal: T, redo: T, fault: Fault) -> (Devices<D, T>, Fault) {
+fn handed_back<D, T>(image: D, journal: T, redo: T, fault: SessionFault) -> (Devices<D, T>, Fault) {
     let devices = Devices {
         image,
         journal,
         redo,
     };
-    (devices, fault)
+    (devices, Fault::Session(fault))
 }
 
 /// A session and what was found, or the devices and the fault.
@@ -34,19 +34,17 @@ pub fn open<D: Device, T: TextStore, A: Allocator + Clone>(
         redo,
     } = devices;
     if image.faults() > MANY {
-        return Err(handed_back(image, journal, redo, Fault::DeviceFailed));
+        return Err(handed_back(image, journal, redo, SessionFault::DeviceFailed));
     }
     if journal.faults() > MANY {
-        return Err(handed_back(image, journal, redo, Fault::DeviceFailed));
+        return Err(handed_back(image, journal, redo, SessionFault::DeviceFailed));
     }
     if redo.faults() > MANY {
-        return Err(handed_back(image, journal, redo, Fault::DeviceFailed));
+        return Err(handed_back(image, journal, redo, SessionFault::DeviceFailed));
     }
     match Session::open(alloc, image, journal, redo) {
         Ok((session, found)) => Ok((session, opening_of(found))),
-        Err((image, journal, redo, fault)) => {
-            Err(handed_back(image, journal, redo, Fault::from(fault)))
-        }
+        Err((image, journal, redo, fault)) => Err(handed_back(image, journal, redo, fault)),
     }
 }
 

@@ -10,6 +10,7 @@ use crate::session::standing::{Standing, again};
 use crate::sweep::images::Images;
 use bx_case_files::Opening;
 use bx_cli::{Fault, Reply};
+use bx_journal::SessionFault;
 use std::alloc::Global;
 
 /// No play makes so many calls, and none leaves so much that is opened.
@@ -114,7 +115,8 @@ fn stopped_opening(
 ) -> Result<Option<Held>, Wrong> {
     let devices = match open(alloc, in_fused(alloc, texts, fused)?) {
         Ok(_) => return Ok(None),
-        Err((devices, Fault::DeviceFailed | Fault::Interrupted)) => devices,
+        Err((devices, Fault::Session(SessionFault::DeviceFailed | SessionFault::Interrupted))) =>
+            devices,
         Err((_, fault)) => return Err(refused(alloc, fault)),
     };
     let left = held_fused(alloc, devices)?;

@@ -9,6 +9,7 @@ use crate::session::standing::{Standing, again};
 use crate::sweep::weight::change_step;
 use bx_case_files::Opening;
 use bx_cli::Fault;
+use bx_journal::SessionFault;
 use bx_scripts::judge::{Ending, Finding, Refusal, Verdict, judge};
 use std::alloc::Global;
 
@@ -60,11 +61,11 @@ fn opening_by(wanted: &Finding) -> Opening {
 }
 
 /// The fault for which the judge refuses.
-fn fault_by(refusal: Refusal) -> Fault {
+fn fault_by(refusal: Refusal) -> SessionFault {
     match refusal {
-        Refusal::Damaged { line } => Fault::Damaged { line },
-        Refusal::LengthDiffers { expected } => Fault::LengthDiffers { expected },
-        Refusal::RedoDamaged { line } => Fault::RedoDamaged { line },
+        Refusal::Damaged { line } => SessionFault::Damaged { line },
+        Refusal::LengthDiffers { expected } => SessionFault::LengthDiffers { expected },
+        Refusal::RedoDamaged { line } => SessionFault::RedoDamaged { line },
     }
 }
 
@@ -88,7 +89,7 @@ fn agrees(
 /// A refusal is the one that the judge said.
 fn refused_so(alloc: Global, verdict: &Verdict, found: Fault) -> Result<(), Wrong> {
     match verdict {
-        Err(wanted) => same_faults(alloc, fault_by(*wanted), found),
+        Err(wanted) => same_faults(alloc, Fault::Session(fault_by(*wanted)), found),
         Ok(_) => Err(refused(alloc, found)),
     }
 }

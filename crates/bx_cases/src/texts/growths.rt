@@ -8,6 +8,7 @@ use bumpalo::Bump;
 use bx_case_files::{Opening, TextCase};
 use bx_cli::Fault;
 use bx_image::MemImage;
+use bx_journal::SessionFault;
 use bx_ration::{squeeze, used};
 use bx_store::MemText;
 use std::alloc::Global;
@@ -47,7 +48,7 @@ fn squeezed_opening<'a>(
         Ok((_, found)) => answered(alloc, case, Ok(found)),
         Err((devices, fault)) => {
             unchanged(alloc, texts, &devices)?;
-            if fault != Fault::NoMemory {
+            if fault != Fault::Session(SessionFault::NoMemory) {
                 return answered(alloc, case, Err(fault));
             }
             opens_so(alloc, bump, case, devices)?;

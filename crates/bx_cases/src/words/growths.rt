@@ -7,6 +7,7 @@ use bx_case_files::WordsCase;
 use bx_cli::{Done, Fault, Job, run_dump};
 use bx_dd::report;
 use bx_ration::{squeeze, used};
+use bx_text::IoFault;
 use std::alloc::Global;
 
 /// A run of the job that the words of a case ask for.
@@ -43,7 +44,7 @@ fn ran<'a>(alloc: Global, bump: &'a Bump, run: &RunOf<'_>) -> Result<bool, Wrong
     let mut from = run.input;
     let mut to = Vec::new(alloc);
     let done = run_dump(bump, run.job, &mut from, &mut to);
-    if done == Err(Fault::NoMemory) {
+    if done == Err(Fault::Io(IoFault::NoMemory)) {
         same_bytes(alloc, "output without memory", b"", to.as_slice())?;
         return Ok(false);
     }

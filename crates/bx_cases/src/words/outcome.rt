@@ -8,6 +8,7 @@ use crate::words::streams::Act;
 use bx_case_files::{Records, Refusal, WordsCase};
 use bx_cli::{Done, Fault, Job};
 use bx_dd::{Counts, report};
+use bx_text::IoFault;
 use std::alloc::{AllocError, Global};
 use std::fmt::Write;
 
@@ -128,14 +129,20 @@ pub fn turned_right(
             let (front, _) = input.split_at(ran.given.min(input.len()));
             ended(alloc, job, front, ran.done, output)
         }
-        Act::Fail if reads => stopped(alloc, case, ran.done, Fault::ReadFailed, output),
+        Act::Fail if reads => stopped(
+            alloc,
+            case,
+            ran.done,
+            Fault::Io(IoFault::ReadFailed),
+            output,
+        ),
         Act::Fail | Act::Nothing => {
             let written = output.len() as u64;
             stopped(
                 alloc,
                 case,
                 ran.done,
-                Fault::WriteFailed { written },
+                Fault::Io(IoFault::WriteFailed { written }),
                 output,
             )
         }

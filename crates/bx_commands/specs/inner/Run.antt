@@ -11,8 +11,8 @@ use Rattle.bx_read.specs.Plain.{plain_answer}
 use Rattle.bx_read.specs.Text.{dump_pieces}
 use Rattle.bx_commands.specs.declared.command.Reply.{Reply}
 use Rattle.bx_commands.specs.declared.command.Reply.TheVariants.{Changed, Copied, Undone, Redone, Refused}
+use Rattle.bx_commands.specs.declared.fault.Fault.TheVariants.{Read}
 use Rattle.bx_commands.specs.Command.{dump_change, plain_change}
-use Rattle.bx_commands.specs.Fault.{of_read}
 use Rattle.bx_commands.specs.Run.{CallStep, TextStep}
 use Rattle.bx_commands.specs.Standing.{CountsBy, MovesUp, PerformUp, Standing}
 
@@ -31,7 +31,7 @@ ChangeStep before c counts reply after = CallStep (made_reply counts) (PerformUp
 
 -- nothing is done for this fault of the command's own
 abbrev pub RefusesStep : Standing → ReadFault → Reply → Standing → Type 0
-RefusesStep before e reply after = (reply ≡ Refused (of_read e)) × (after ≡ before)
+RefusesStep before e reply after = (reply ≡ Refused (Read e)) × (after ≡ before)
 
 -- an undo of k, from images
 abbrev pub UndoUp : ℕ → Images → Result ℕ SessionFault → Standing → Type 0

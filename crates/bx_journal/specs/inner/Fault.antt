@@ -2,9 +2,14 @@
 use Rattle.bx_store.specs.declared.fault.TextFault.{TextFault}
 use Rattle.bx_store.specs.declared.fault.TextFault.TheVariants.{NoMemory as TextMemory, DeviceFailed as TextFailed}
 use Rattle.bx_journal.specs.declared.session.fault.SessionFault.{SessionFault}
-use Rattle.bx_journal.specs.declared.session.fault.SessionFault.TheVariants.{NoMemory, DeviceFailed}
+use Rattle.bx_journal.specs.declared.session.fault.SessionFault.TheVariants.{NoMemory, DeviceFailed, Damaged, RedoDamaged}
 
 -- what a fault of reading the text is
 abbrev pub reading_fault : TextFault → SessionFault
 reading_fault TextMemory = NoMemory
 reading_fault TextFailed = DeviceFailed
+
+-- a fault of reading a journal's text, where the text is the redo text
+abbrev pub redo_fault : SessionFault → SessionFault
+redo_fault (Damaged line) = RedoDamaged line
+redo_fault e = e

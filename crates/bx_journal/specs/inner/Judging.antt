@@ -1,7 +1,8 @@
 -- What proofs alone need: whether a text is a redo text, and at which line it isn't.
 use Rattle.std.specs.Prelude.{◌≡◌, ◌⊎◌, ◌≤◌, ℕ, suc, ◌+◌, is_some, IsTrue, Option, None, Some, List, [], ◌++◌, ◌∷◌, length, take}
 use Rattle.bx_journal.specs.declared.session.fault.SessionFault.{SessionFault}
-use Rattle.bx_journal.specs.declared.session.fault.SessionFault.TheVariants.{NoMemory, TooLarge, DeviceFailed, Damaged, TooFew, JournalFull, Interrupted, Broken, LengthDiffers, NothingToRedo, RedoDamaged}
+use Rattle.bx_journal.specs.declared.session.fault.SessionFault.TheVariants.{NoMemory, DeviceFailed, RedoDamaged}
+use Rattle.bx_journal.specs.Fault.{DeviceFault}
 use Rattle.bx_entries.specs.declared.read.types.EntryRead.{EntryRead}
 use Rattle.bx_entries.specs.Parsed.{told_by}
 use Rattle.bx_entries.specs.Finished.{AllTell, IsFinished}
@@ -29,43 +30,12 @@ pub record IsRedoCounted (text : List ℕ) (changes count : ℕ) (told : Option 
 abbrev pub RedoTextFault : List ℕ → ℕ → SessionFault → Type 0
 RedoTextFault text changes NoMemory = Unit {0}
 RedoTextFault text changes (RedoDamaged line) = IsUnfitAt text changes line
-RedoTextFault text changes TooLarge = ⊥
-RedoTextFault text changes DeviceFailed = ⊥
-RedoTextFault text changes (Damaged line) = ⊥
-RedoTextFault text changes (TooFew have) = ⊥
-RedoTextFault text changes JournalFull = ⊥
-RedoTextFault text changes Interrupted = ⊥
-RedoTextFault text changes Broken = ⊥
-RedoTextFault text changes (LengthDiffers expected) = ⊥
-RedoTextFault text changes (NothingToRedo have) = ⊥
+RedoTextFault text changes e = ⊥
 
 -- which fault judging the redo text of an image may answer
 abbrev pub JudgeFault : Type 0 → List ℕ → List ℕ → ℕ → SessionFault → Type 0
-JudgeFault honest text x changes NoMemory = Unit {0}
-JudgeFault honest text x changes DeviceFailed = Unit {0}
 JudgeFault honest text x changes (RedoDamaged line) = honest → IsRefusedAt text x changes line
-JudgeFault honest text x changes TooLarge = ⊥
-JudgeFault honest text x changes (Damaged line) = ⊥
-JudgeFault honest text x changes (TooFew have) = ⊥
-JudgeFault honest text x changes JournalFull = ⊥
-JudgeFault honest text x changes Interrupted = ⊥
-JudgeFault honest text x changes Broken = ⊥
-JudgeFault honest text x changes (LengthDiffers expected) = ⊥
-JudgeFault honest text x changes (NothingToRedo have) = ⊥
-
--- a fault of reading a journal's text, where the text is the redo text
-abbrev pub redo_fault : SessionFault → SessionFault
-redo_fault (Damaged line) = RedoDamaged line
-redo_fault NoMemory = NoMemory
-redo_fault TooLarge = TooLarge
-redo_fault DeviceFailed = DeviceFailed
-redo_fault (TooFew have) = TooFew have
-redo_fault JournalFull = JournalFull
-redo_fault Interrupted = Interrupted
-redo_fault Broken = Broken
-redo_fault (LengthDiffers expected) = LengthDiffers expected
-redo_fault (NothingToRedo have) = NothingToRedo have
-redo_fault (RedoDamaged line) = RedoDamaged line
+JudgeFault honest text x changes e = DeviceFault e
 
 -- each entry that was read tells the length after it
 abbrev pub AllTold : {A : Type 0} → List (EntryRead A) → Type 0

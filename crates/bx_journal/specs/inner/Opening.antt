@@ -1,7 +1,8 @@
 -- What proofs alone need: what opening a pair finds and leaves.
 use Rattle.std.specs.Prelude.{◌≤◌, ℕ, List}
 use Rattle.bx_journal.specs.declared.session.fault.SessionFault.{SessionFault}
-use Rattle.bx_journal.specs.declared.session.fault.SessionFault.TheVariants.{NoMemory, TooLarge, DeviceFailed, Damaged, TooFew, JournalFull, Interrupted, Broken, LengthDiffers, NothingToRedo, RedoDamaged}
+use Rattle.bx_journal.specs.declared.session.fault.SessionFault.TheVariants.{LengthDiffers}
+use Rattle.bx_journal.specs.Fault.{DeviceFault}
 use Rattle.bx_entries.specs.declared.read.types.StageRead.{StageRead}
 use Rattle.bx_entries.specs.declared.read.types.StageRead.TheVariants.{Between as BetweenRead, Saving as SavingRead, Ending as EndingRead}
 use Rattle.bx_entries.specs.Text.{Entry}
@@ -9,17 +10,8 @@ use Rattle.bx_journal.specs.Calls.{Differs}
 
 -- which fault may come between reading the text and the first write
 abbrev pub LookFault : Type 0 → List Entry → List ℕ → SessionFault → Type 0
-LookFault honest es x NoMemory = Unit {0}
-LookFault honest es x DeviceFailed = Unit {0}
 LookFault honest es x (LengthDiffers n) = honest → Differs es x n
-LookFault honest es x TooLarge = ⊥
-LookFault honest es x (Damaged line) = ⊥
-LookFault honest es x (TooFew have) = ⊥
-LookFault honest es x JournalFull = ⊥
-LookFault honest es x Interrupted = ⊥
-LookFault honest es x Broken = ⊥
-LookFault honest es x (NothingToRedo have) = ⊥
-LookFault honest es x (RedoDamaged line) = ⊥
+LookFault honest es x e = DeviceFault e
 
 -- restoring what is unfinished takes no more memory
 abbrev pub HasRoomFor : {A : Type 0} → StageRead A → ℕ → Type 0

@@ -2,7 +2,8 @@
 use Rattle.std.specs.Prelude.{◌≡◌, ◌⊎◌, ◌≤◌, ℕ, Option, Some, List, length, IfSome, Result, IfOk, MatchResult, OnOk, OnErr}
 use Rattle.bx_journal.specs.declared.session.answers.Recovered.{Recovered}
 use Rattle.bx_journal.specs.declared.session.fault.SessionFault.{SessionFault}
-use Rattle.bx_journal.specs.declared.session.fault.SessionFault.TheVariants.{NoMemory, TooLarge, DeviceFailed, Damaged, TooFew, JournalFull, Interrupted, Broken, LengthDiffers, NothingToRedo, RedoDamaged}
+use Rattle.bx_journal.specs.declared.session.fault.SessionFault.TheVariants.{DeviceFailed, Damaged, Interrupted, LengthDiffers, RedoDamaged}
+use Rattle.bx_journal.specs.Fault.{DeviceFault}
 use Rattle.bx_journal.specs.declared.recovery.journal.Found.{Found}
 use Rattle.bx_journal.specs.declared.recovery.journal.Found.TheVariants.{Finished, Unfinished}
 use Rattle.bx_entries.specs.declared.read.whole.JournalRead.{JournalRead}
@@ -52,31 +53,14 @@ KeepsStack result text x new y =
 
 -- which fault reading the journal may answer
 abbrev pub FindFault : Type 0 → List ℕ → SessionFault → Type 0
-FindFault honest text NoMemory = Unit {0}
-FindFault honest text DeviceFailed = Unit {0}
 FindFault honest text (Damaged line) = honest → IsDamagedAt text line
-FindFault honest text TooLarge = ⊥
-FindFault honest text (TooFew have) = ⊥
-FindFault honest text JournalFull = ⊥
-FindFault honest text Interrupted = ⊥
-FindFault honest text Broken = ⊥
-FindFault honest text (LengthDiffers expected) = ⊥
-FindFault honest text (NothingToRedo have) = ⊥
-FindFault honest text (RedoDamaged line) = ⊥
+FindFault honest text e = DeviceFault e
 
 -- which fault taking back what is unfinished may answer
 abbrev pub RecoverFault : SessionFault → Type 0
-RecoverFault NoMemory = Unit {0}
-RecoverFault DeviceFailed = Unit {0}
 RecoverFault (LengthDiffers expected) = Unit {0}
 RecoverFault Interrupted = Unit {0}
-RecoverFault TooLarge = ⊥
-RecoverFault (Damaged line) = ⊥
-RecoverFault (TooFew have) = ⊥
-RecoverFault JournalFull = ⊥
-RecoverFault Broken = ⊥
-RecoverFault (NothingToRedo have) = ⊥
-RecoverFault (RedoDamaged line) = ⊥
+RecoverFault e = DeviceFault e
 
 -- the redo text of an image and so many changes has so many undone images
 abbrev pub HasUndoneCount : List ℕ → List ℕ → ℕ → ℕ → Type 0
@@ -96,17 +80,9 @@ HasOtherLength told x n = (told ≡ Some n) × (length x ≡ n → ⊥)
 
 -- which fault opening beside finished entries alone may answer: of the image, and of the image and the redo text, if honest
 abbrev pub FinishedFault : Type 0 → Type 0 → List ℕ → List ℕ → ℕ → Option ℕ → SessionFault → Type 0
-FinishedFault image both redo x changes told NoMemory = Unit {0}
-FinishedFault image both redo x changes told DeviceFailed = Unit {0}
 FinishedFault image both redo x changes told (LengthDiffers n) = image → HasOtherLength told x n
 FinishedFault image both redo x changes told (RedoDamaged line) = (image → HasToldLength told x) × (both → IsRefusedAt redo x changes line)
-FinishedFault image both redo x changes told TooLarge = ⊥
-FinishedFault image both redo x changes told (Damaged line) = ⊥
-FinishedFault image both redo x changes told (TooFew have) = ⊥
-FinishedFault image both redo x changes told JournalFull = ⊥
-FinishedFault image both redo x changes told Interrupted = ⊥
-FinishedFault image both redo x changes told Broken = ⊥
-FinishedFault image both redo x changes told (NothingToRedo have) = ⊥
+FinishedFault image both redo x changes told e = DeviceFault e
 
 -- a length that is told and that the image, if honest, doesn't have, or a failed device
 abbrev pub LengthFault : Type 0 → Option ℕ → List ℕ → SessionFault → Type 0

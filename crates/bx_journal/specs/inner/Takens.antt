@@ -8,8 +8,6 @@ use Rattle.bx_image.specs.Image.{zeros}
 use Rattle.bx_image.specs.Runs.{LieBelow}
 use Rattle.bx_entries.specs.Kept.{kept_of}
 use Rattle.bx_entries.specs.Entry.{entry_text}
-use Rattle.bx_journal.specs.declared.session.fault.SessionFault.{SessionFault}
-use Rattle.bx_journal.specs.declared.session.fault.SessionFault.TheVariants.{NoMemory, TooLarge, DeviceFailed, Damaged, TooFew, JournalFull, Interrupted, Broken, LengthDiffers, NothingToRedo, RedoDamaged}
 use Rattle.bx_entries.specs.declared.read.types.EntryRead.{EntryRead}
 
 -- a record with zeros of what restoring an entry overwrites in an image of this length, if an entry can tell it
@@ -59,17 +57,3 @@ IsFirstBelow len (t ∷ ts) = LieBelow len t.runs
 abbrev pub length_at : {A : Type 0} → List (EntryRead A) → ℕ → ℕ
 length_at [] len = len
 length_at (e ∷ es) len = e.kept.len
-
--- which fault taking may meet before its first write
-abbrev pub TakenFault : SessionFault → Type 0
-TakenFault NoMemory = Unit {0}
-TakenFault DeviceFailed = Unit {0}
-TakenFault TooLarge = ⊥
-TakenFault (Damaged line) = ⊥
-TakenFault (TooFew have) = ⊥
-TakenFault JournalFull = ⊥
-TakenFault Interrupted = ⊥
-TakenFault Broken = ⊥
-TakenFault (LengthDiffers expected) = ⊥
-TakenFault (NothingToRedo have) = ⊥
-TakenFault (RedoDamaged line) = ⊥

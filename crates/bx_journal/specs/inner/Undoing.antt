@@ -1,7 +1,8 @@
 -- What proofs alone need: what undoing starts from and leaves.
 use Rattle.std.specs.Prelude.{◌≡◌, ◌≤◌, ◌<◌, ◌+◌, ◌-◌, ◌^◌, ℕ, List, [], ◌++◌, length, take, drop, Option, Result, IfSome, OnOk}
 use Rattle.bx_journal.specs.declared.session.fault.SessionFault.{SessionFault}
-use Rattle.bx_journal.specs.declared.session.fault.SessionFault.TheVariants.{NoMemory, TooLarge, DeviceFailed, Damaged, TooFew, JournalFull, Interrupted, Broken, LengthDiffers, NothingToRedo, RedoDamaged}
+use Rattle.bx_journal.specs.declared.session.fault.SessionFault.TheVariants.{RedoDamaged}
+use Rattle.bx_journal.specs.Fault.{DeviceFault}
 use Rattle.bx_entries.specs.declared.read.types.EntryRead.{EntryRead}
 use Rattle.bx_entries.specs.declared.read.lines.LinesRead.{LinesRead}
 use Rattle.bx_entries.specs.declared.read.types.Front.{Front}
@@ -77,30 +78,7 @@ pub record AreReadFrom {A : Type 0} (honest : Type 0) (stored : List ℕ) (es : 
   pub mark : IsMark text (length text) (record { entries = entries_onto older es; stage = Between })
   pub marked : AreMarked text older 0 es (length text)
 
--- what a fault of reading is, where the redo text was read
-abbrev pub redo_fault : SessionFault → SessionFault
-redo_fault (Damaged line) = RedoDamaged line
-redo_fault NoMemory = NoMemory
-redo_fault TooLarge = TooLarge
-redo_fault DeviceFailed = DeviceFailed
-redo_fault (TooFew have) = TooFew have
-redo_fault JournalFull = JournalFull
-redo_fault Interrupted = Interrupted
-redo_fault Broken = Broken
-redo_fault (LengthDiffers expected) = LengthDiffers expected
-redo_fault (NothingToRedo have) = NothingToRedo have
-redo_fault (RedoDamaged line) = RedoDamaged line
-
 -- which fault reading the redo text again may answer
 abbrev pub RedoAgainFault : Type 0 → List ℕ → ℕ → SessionFault → Type 0
-RedoAgainFault honest text count NoMemory = Unit {0}
-RedoAgainFault honest text count DeviceFailed = Unit {0}
 RedoAgainFault honest text count (RedoDamaged line) = honest → IsOutOfStep text count line
-RedoAgainFault honest text count TooLarge = ⊥
-RedoAgainFault honest text count (Damaged line) = ⊥
-RedoAgainFault honest text count (TooFew have) = ⊥
-RedoAgainFault honest text count JournalFull = ⊥
-RedoAgainFault honest text count Interrupted = ⊥
-RedoAgainFault honest text count Broken = ⊥
-RedoAgainFault honest text count (LengthDiffers expected) = ⊥
-RedoAgainFault honest text count (NothingToRedo have) = ⊥
+RedoAgainFault honest text count e = DeviceFault e

@@ -4,10 +4,9 @@ ghost use Rattle.bx_entries.specs.Kept.{kept_of};
 ghost use Rattle.bx_image.specs.Change.{effect, saved, AllWithin, IsAsGood};
 ghost use Rattle.bx_image.specs.Device.{GoesOn};
 ghost use Rattle.bx_entries.specs.Entry.{head_text};
-ghost use Rattle.bx_journal.specs.inner.Devices.{AreBelow, ImageIsFirst, StepsOn};
+ghost use Rattle.bx_journal.specs.inner.Devices.{AreBelow, ImageIsFirst, OneMore, StepsOn};
 ghost use Rattle.bx_journal.specs.inner.Phase.{StaysOpenFor};
 ghost use Rattle.bx_journal.specs.inner.Step.{EndRests, EndStops, HeadOpens, HeadStops};
-ghost use Rattle.bx_journal.specs.Opening.{OneMore};
 ghost use Rattle.bx_journal.specs.inner.Turns.{place_of};
 ghost use Rattle.bx_journal.specs.inner.Written.{EntryRests, EntryStops, Left};
 

@@ -2,9 +2,8 @@
 ghost use Rattle.std.specs.Prelude.{◌≡◌, ◌↔◌, ◌+◌, ◌-◌, ◌<◌, ◌≤◌, [], length, take, drop, reverse, nat_le, vec_capacity, if◌then◌else◌, IfOk, OnOk, OnErr};
 ghost use Rattle.bx_image.specs.Change.{restore, Covers, IsAsGood};
 ghost use Rattle.bx_entries.specs.Kept.{kept_of};
-ghost use Rattle.bx_journal.specs.Opening.{OneMore};
 ghost use Rattle.bx_entries.specs.inner.Parsed.{AllKept};
-ghost use Rattle.bx_journal.specs.inner.Devices.{AreBelow, ImageIsFirst, StepsOn};
+ghost use Rattle.bx_journal.specs.inner.Devices.{AreBelow, ImageIsFirst, OneMore, StepsOn};
 ghost use Rattle.bx_journal.specs.Undoing.{LeavesFront};
 ghost use Rattle.bx_journal.specs.inner.Entries.{DropsRest, DropsSome, DropsStand, UndoAll, UndoSome};
 ghost use Rattle.bx_journal.specs.inner.Phase.{RestoresAlike, StaysOpen};

@@ -1,6 +1,7 @@
 //! Opening beside a journal of finished entries alone: the redo text is read and judged.
 ghost use Rattle.std.specs.Prelude.{◌≡◌, ◌↔◌, ◌⊎◌, ◌+◌, ◌<◌, ◌≤◌, ℕ, OnOk, IfOk, IfErr, IfSome, MatchResult};
-ghost use Rattle.bx_journal.specs.Opening.{FaultCounts, RefusesLength};
+ghost use Rattle.bx_journal.specs.Opening.{RefusesLength};
+ghost use Rattle.bx_journal.specs.inner.Devices.{FaultCounts, LooksAt};
 ghost use Rattle.bx_journal.specs.inner.Recovery.{FaultBeside, HasOtherLength, HasToldLength, RefusesBeside, TellsCount};
 ghost use Rattle.bx_journal.specs.inner.RedoFound.{IsRedoCountedIn, IsRedoIn};
 
@@ -24,10 +25,7 @@ fn count_redo<T: TextStore, A: Allocator + Clone>(
     requires few { changes ≤ 65535 }
     ensures counted { IfOk result (λ found. IfSome found (IsRedoCountedIn (T.honest redo_text.old) (T.text redo_text.old) changes)) }
     ensures fault { IfErr result (λ e. (e ≡ SessionFault.NoMemory) ⊎ (e ≡ SessionFault.DeviceFailed)) }
-    ensures text { T.honest redo_text.old → T.text redo_text.new ≡ T.text redo_text.old }
-    ensures honesty { T.honest redo_text.new ↔ T.honest redo_text.old }
-    ensures no_failure { OnOk result (T.failures redo_text.new ≡ T.failures redo_text.old) }
-    ensures counts { IfErr result (λ e. FaultCounts e 0 (T.failures redo_text.old) 0 (T.failures redo_text.new)) }
+    ensures looks { LooksAt T.honest T.text T.failures result redo_text.old redo_text.new }
 {
     let found = match count_text(alloc, redo_text, true) {
         Ok(found) => found,
@@ -53,10 +51,7 @@ fn find_redo<T: TextStore, A: Allocator + Clone>(
     requires few { changes ≤ 65535 }
     ensures found { IfOk result (IsRedoIn (T.honest redo_text.old) (T.text redo_text.old) changes) }
     ensures fault { IfErr result (λ e. (e ≡ SessionFault.NoMemory) ⊎ (e ≡ SessionFault.DeviceFailed)) }
-    ensures text { T.honest redo_text.old → T.text redo_text.new ≡ T.text redo_text.old }
-    ensures honesty { T.honest redo_text.new ↔ T.honest redo_text.old }
-    ensures no_failure { OnOk result (T.failures redo_text.new ≡ T.failures redo_text.old) }
-    ensures counts { IfErr result (λ e. FaultCounts e 0 (T.failures redo_text.old) 0 (T.failures redo_text.new)) }
+    ensures looks { LooksAt T.honest T.text T.failures result redo_text.old redo_text.new }
 {
     let counted = match count_redo(alloc, redo_text, changes) {
         Ok(counted) => counted,

@@ -1,7 +1,7 @@
 //! What reading a journal finds when a pair is opened.
 ghost use Rattle.std.specs.Prelude.{◌≡◌, ◌↔◌, ◌<◌, ◌≤◌, List, ℕ, length, OnOk, IfOk, IfErr, IfSome, IfNone};
 ghost use Rattle.bx_entries.specs.inner.Journal.{HasRead};
-ghost use Rattle.bx_journal.specs.Opening.{FaultCounts};
+ghost use Rattle.bx_journal.specs.inner.Devices.{LooksAt};
 ghost use Rattle.bx_entries.specs.inner.Tally.{IsCounted};
 
 use crate::SessionFault;
@@ -53,10 +53,7 @@ fn read_whole<T: TextStore, A: Allocator + Clone>(
     requires { T.failures store.old < u64.MAX }
     ensures found { IfOk result (IsFoundIn (T.honest store.old) (T.text store.old)) }
     ensures fault { IfErr result (FindFault (T.honest store.old) (T.text store.old)) }
-    ensures text { T.honest store.old → T.text store.new ≡ T.text store.old }
-    ensures honesty { T.honest store.new ↔ T.honest store.old }
-    ensures no_failure { OnOk result (T.failures store.new ≡ T.failures store.old) }
-    ensures counts { IfErr result (λ e. FaultCounts e 0 (T.failures store.old) 0 (T.failures store.new)) }
+    ensures looks { LooksAt T.honest T.text T.failures result store.old store.new }
 {
     let bytes = match store.read_all(alloc.clone()?) {
         Ok(bytes) => bytes,
@@ -82,10 +79,7 @@ pub fn read_text<T: TextStore, A: Allocator + Clone>(
     requires { T.failures store.old < u64.MAX }
     ensures found { IfOk result (IsFoundIn (T.honest store.old) (T.text store.old)) }
     ensures fault { IfErr result (FindFault (T.honest store.old) (T.text store.old)) }
-    ensures text { T.honest store.old → T.text store.new ≡ T.text store.old }
-    ensures honesty { T.honest store.new ↔ T.honest store.old }
-    ensures no_failure { OnOk result (T.failures store.new ≡ T.failures store.old) }
-    ensures counts { IfErr result (λ e. FaultCounts e 0 (T.failures store.old) 0 (T.failures store.new)) }
+    ensures looks { LooksAt T.honest T.text T.failures result store.old store.new }
 {
     let counted = match count_text(alloc, store, false) {
         Ok(counted) => counted,

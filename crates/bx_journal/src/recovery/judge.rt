@@ -3,13 +3,14 @@ ghost use Rattle.std.specs.Prelude.{◌≡◌, ◌⊎◌, ◌+◌, ◌<◌, ◌�
 ghost use Rattle.bx_entries.specs.inner.Journal.{HasRead};
 ghost use Rattle.bx_journal.specs.Judging.{RefusesRedo};
 ghost use Rattle.bx_journal.specs.inner.Devices.{LooksAt};
-ghost use Rattle.bx_journal.specs.inner.Judging.{AllTold, IsBeyondAt, IsFit, IsRedoCounted, IsUnfitAt, IsUnfitFrom, IsUntoldAt, JudgeFault, LastLineFault, RedoTextFault, redo_fault};
+ghost use Rattle.bx_journal.specs.inner.Judging.{AllTold, IsBeyondAt, IsFit, IsRedoCounted, IsUnfitAt, IsUnfitFrom, IsUntoldAt, JudgeFault, LastLineFault, RedoTextFault};
 ghost use Rattle.bx_journal.specs.inner.Recovery.{HasUndoneCount};
 ghost use Rattle.bx_entries.specs.inner.Parsed.{entries_of};
 ghost use Rattle.bx_entries.specs.Text.{split};
 
 use crate::SessionFault;
 use crate::recovery::windows::CountedText;
+use crate::session::fault::of_redo;
 use crate::session::read::read_journal;
 use bx_entries::{Counted, EntryRead, JournalRead, MOST_CHANGES, StageRead, told_length};
 use bx_image::Device;
@@ -92,17 +93,6 @@ pub fn unfit_place<A: Allocator>(journal: &JournalRead<A>, len: u64, changes: u3
         }
         StageRead::Saving { begins, .. } => Some(*begins),
         StageRead::Ending { begins, .. } => Some(*begins),
-    }
-}
-
-/// What a fault of reading a journal's text is where the text is the redo text.
-pub fn of_redo(fault: SessionFault) -> SessionFault
-where
-    ensures { result ≡ redo_fault fault }
-{
-    match fault {
-        SessionFault::Damaged { line } => SessionFault::RedoDamaged { line },
-        other => other,
     }
 }
 

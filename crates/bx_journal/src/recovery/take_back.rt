@@ -4,7 +4,7 @@ ghost use Rattle.bx_image.specs.Change.{AllWithin, restore};
 ghost use Rattle.bx_image.specs.Device.{GoesOn};
 ghost use Rattle.bx_entries.specs.Kept.{run_of, kept_of};
 ghost use Rattle.bx_journal.specs.inner.Step.{StopsTail, TailRests, TailStops, TakesTail};
-ghost use Rattle.bx_journal.specs.Opening.{OneMore};
+ghost use Rattle.bx_journal.specs.inner.Devices.{OneMore};
 
 use crate::protocol::image::restore_image;
 use bx_image::{Device, DeviceFailed, Saved};

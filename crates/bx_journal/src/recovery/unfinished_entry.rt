@@ -3,8 +3,8 @@ ghost use Rattle.std.specs.Prelude.{◌≡◌, ◌↔◌, ◌⊎◌, Some, ◌+�
 ghost use Rattle.bx_journal.specs.Calls.{AfterFault, OpenFault};
 ghost use Rattle.bx_entries.specs.inner.Journal.{HasRead};
 ghost use Rattle.bx_journal.specs.Opened.{RefusesDiffering};
-ghost use Rattle.bx_journal.specs.Opening.{OneMore, RefusesText};
-ghost use Rattle.bx_journal.specs.inner.Devices.{AreBelow, AreCounted, AreUnfailed, LooksAt, StepsOn};
+ghost use Rattle.bx_journal.specs.Opening.{RefusesText};
+ghost use Rattle.bx_journal.specs.inner.Devices.{AreBelow, AreCounted, AreUnfailed, LooksAt, OneMore, StepsOn};
 ghost use Rattle.bx_journal.specs.inner.Opening.{HasRoomFor};
 ghost use Rattle.bx_entries.specs.inner.Parsed.{entries_of};
 ghost use Rattle.bx_journal.specs.Recovery.{OpenKind};

@@ -1,7 +1,7 @@
 //! A text that is counted in windows: so much of it is in memory at a time, however long it is.
 ghost use Rattle.std.specs.Prelude.{◌≡◌, ◌↔◌, ◌⊎◌, ◌<◌, ◌≤◌, length, is_err, OnOk, IfOk, IfErr, IfSome};
 ghost use Rattle.bx_image.specs.Device.{GoesOn};
-ghost use Rattle.bx_journal.specs.Opening.{FaultCounts};
+ghost use Rattle.bx_journal.specs.inner.Devices.{LooksAt};
 ghost use Rattle.bx_journal.specs.inner.Windows.{IsAllCounted, IsFrontCounted, IsPassed};
 
 use crate::SessionFault;
@@ -110,10 +110,7 @@ pub fn count_front<T: TextStore, A: Allocator + Clone>(
     ensures counted { IfOk result (λ found. IfSome found (IsFrontCounted (T.honest store.old) (T.text store.old) only_second)) }
     ensures within { IfOk result (λ found. IfSome found (λ f. f.at ≤ len)) }
     ensures fault { IfErr result (λ e. (e ≡ SessionFault.NoMemory) ⊎ (e ≡ SessionFault.DeviceFailed)) }
-    ensures text { T.honest store.old → T.text store.new ≡ T.text store.old }
-    ensures honesty { T.honest store.new ↔ T.honest store.old }
-    ensures no_failure { OnOk result (T.failures store.new ≡ T.failures store.old) }
-    ensures counts { IfErr result (λ e. FaultCounts e 0 (T.failures store.old) 0 (T.failures store.new)) }
+    ensures looks { LooksAt T.honest T.text T.failures result store.old store.new }
 {
     let size = WINDOW.min(len) as usize;
     let mut window = vec![in alloc.clone()?; 0u8; size]?;
@@ -131,10 +128,7 @@ pub fn count_text<T: TextStore, A: Allocator + Clone>(
     requires { T.failures store.old < u64.MAX }
     ensures counted { IfOk result (λ found. IfSome found (IsAllCounted (T.honest store.old) (T.text store.old) only_second)) }
     ensures fault { IfErr result (λ e. (e ≡ SessionFault.NoMemory) ⊎ (e ≡ SessionFault.DeviceFailed)) }
-    ensures text { T.honest store.old → T.text store.new ≡ T.text store.old }
-    ensures honesty { T.honest store.new ↔ T.honest store.old }
-    ensures no_failure { OnOk result (T.failures store.new ≡ T.failures store.old) }
-    ensures counts { IfErr result (λ e. FaultCounts e 0 (T.failures store.old) 0 (T.failures store.new)) }
+    ensures looks { LooksAt T.honest T.text T.failures result store.old store.new }
 {
     let len = store.len()?;
     let found = count_front(alloc, store, len, only_second, ALL)?;

@@ -2,7 +2,7 @@
 ghost use Rattle.std.specs.Prelude.{◌≡◌};
 ghost use Rattle.bx_journal.specs.declared.session.fault.SessionFault.TheVariants.{NoMemory as OutOfMemory, TooLarge as ImageTooLarge, DeviceFailed as CallFailed};
 ghost use Rattle.bx_journal.specs.Fault.{fault_of};
-ghost use Rattle.bx_journal.specs.inner.Fault.{reading_fault};
+ghost use Rattle.bx_journal.specs.inner.Fault.{reading_fault, redo_fault};
 
 use bx_image::{DeviceFailed, ImageFault, TooLarge};
 use bx_store::TextFault;
@@ -99,6 +99,17 @@ where
     match fault {
         TextFault::NoMemory => SessionFault::NoMemory,
         TextFault::DeviceFailed => SessionFault::DeviceFailed,
+    }
+}
+
+/// What a fault of reading a journal's text is where the text is the redo text.
+pub fn of_redo(fault: SessionFault) -> SessionFault
+where
+    ensures { result ≡ redo_fault fault }
+{
+    match fault {
+        SessionFault::Damaged { line } => SessionFault::RedoDamaged { line },
+        other => other,
     }
 }
 

@@ -55,7 +55,7 @@ fn rows<A: Allocator + Clone>(
     Ok(rows)
 }
 
-ghost use Rattle.bx_journal.specs.Opening.{FaultCounts};
+ghost use Rattle.bx_journal.specs.inner.Devices.{LooksAt};
 ghost use Rattle.bx_journal.specs.inner.Rows.{AreRowsOf};
 
 /// The rows of a text that is to be so many finished entries alone, and is read whole.
@@ -67,10 +67,7 @@ fn rows_of_whole<T: TextStore, A: Allocator + Clone>(
     requires { T.failures store.old < u64.MAX }
     ensures rows { IfOk result (λ rows. AreRowsOf (T.honest store.old) (T.text store.old) rows.items count) }
     ensures fault { IfErr result (AgainFault (T.honest store.old) (T.text store.old) count) }
-    ensures text { T.honest store.old → T.text store.new ≡ T.text store.old }
-    ensures honesty { T.honest store.new ↔ T.honest store.old }
-    ensures no_failure { OnOk result (T.failures store.new ≡ T.failures store.old) }
-    ensures counts { IfErr result (λ e. FaultCounts e 0 (T.failures store.old) 0 (T.failures store.new)) }
+    ensures looks { LooksAt T.honest T.text T.failures result store.old store.new }
 {
     let read = match read_again(alloc, store, count) {
         Ok(read) => read,
@@ -89,10 +86,7 @@ fn rows_of_text<T: TextStore, A: Allocator + Clone>(
     requires { T.failures store.old < u64.MAX }
     ensures rows { IfOk result (λ rows. AreRowsOf (T.honest store.old) (T.text store.old) rows.items count) }
     ensures fault { IfErr result (AgainFault (T.honest store.old) (T.text store.old) count) }
-    ensures text { T.honest store.old → T.text store.new ≡ T.text store.old }
-    ensures honesty { T.honest store.new ↔ T.honest store.old }
-    ensures no_failure { OnOk result (T.failures store.new ≡ T.failures store.old) }
-    ensures counts { IfErr result (λ e. FaultCounts e 0 (T.failures store.old) 0 (T.failures store.new)) }
+    ensures looks { LooksAt T.honest T.text T.failures result store.old store.new }
 {
     let found = match rows_in_windows(alloc, store, count) {
         Ok(found) => found,
@@ -105,29 +99,27 @@ fn rows_of_text<T: TextStore, A: Allocator + Clone>(
 }
 
 impl<D: Device, T: TextStore, A: Allocator + Clone> Session<D, T, A> {
+    ghost use Rattle.bx_journal.specs.Session.{FailsSafely};
+
     /// One row for each change, the oldest first. It reads the journal's text again, and changes nothing.
     pub fn log(&mut self) -> Result<Vec<LogRow, A>, SessionFault>
         requires { T.failures self.old.store < u64.MAX }
         ensures rows { T.honest self.old.store → (es : List Entry) → IsFinished (T.text self.old.store) es → IfOk result (λ rows. rows.items ≡ rows_of es) }
 
         // Nothing is changed. A broken session isn't even read.
+        ensures safe { FailsSafely D.honest T.honest D.image T.text D.failures T.failures self.old self.new result }
         ensures text { T.honest self.old.store → T.text self.new.store ≡ T.text self.old.store }
         ensures device { self.new.device ≡ self.old.device }
         ensures redo_text { self.new.redo_text ≡ self.old.redo_text }
         ensures count { self.new.count ≡ self.old.count }
         ensures undone { self.new.undone ≡ self.old.undone }
         ensures is_broken { self.new.is_broken ≡ self.old.is_broken }
-        ensures broken { (self.old.is_broken ≡ true) ↔ IsErrOf result SessionFault.Broken }
-        ensures untouched { IsErrOf result SessionFault.Broken → self.new.store ≡ self.old.store }
         ensures fault { IfErr result (λ e. (e ≡ SessionFault.Broken → ⊥) → AgainFault (T.honest self.old.store) (T.text self.old.store) self.old.count e) }
 
         // The text is called damaged exactly where it isn't so many finished entries alone.
         ensures undamaged { T.honest self.old.store → HasCount (T.text self.old.store) self.old.count
             → IfErr result (λ e. (n : ℕ) → e ≡ SessionFault.Damaged n → ⊥) }
         ensures whole { T.honest self.old.store → OnOk result (HasCount (T.text self.old.store) self.old.count) }
-        ensures store_honesty { T.honest self.new.store ↔ T.honest self.old.store }
-        ensures no_failure { OnOk result (T.failures self.new.store ≡ T.failures self.old.store) }
-        ensures counts { IfErr result (λ e. FaultCounts e 0 (T.failures self.old.store) 0 (T.failures self.new.store)) }
     {
         if self.is_broken {
             return Err(SessionFault::Broken);

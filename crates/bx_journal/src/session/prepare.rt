@@ -3,7 +3,7 @@ ghost use Rattle.std.specs.Prelude.{◌≡◌, ◌↔◌, ◌+◌, ◌<◌, ◌�
 ghost use Rattle.bx_image.specs.Change.{effect, saved, AllWithin, Fits, IsOf};
 ghost use Rattle.bx_entries.specs.Kept.{kept_of};
 ghost use Rattle.bx_entries.specs.Entry.{end_text};
-ghost use Rattle.bx_journal.specs.Opening.{FaultCounts};
+ghost use Rattle.bx_journal.specs.inner.Devices.{FaultCounts};
 ghost use Rattle.bx_journal.specs.inner.Standing.{PrepareFault};
 ghost use Rattle.bx_journal.specs.inner.Step.{HasEntryRoom};
 

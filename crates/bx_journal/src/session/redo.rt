@@ -1,36 +1,18 @@
 //! Making undone changes again.
 ghost use Rattle.std.specs.Prelude.{◌≡◌, ◌↔◌, ◌+◌, ◌<◌, ◌≤◌, ℕ, length, true, false, IfOk, IfErr, OnOk, IsErrOf};
 ghost use Rattle.bx_journal.specs.Images.{redo_of};
-ghost use Rattle.bx_journal.specs.Opening.{FaultCounts};
+ghost use Rattle.bx_journal.specs.inner.Devices.{LooksAt};
 ghost use Rattle.bx_entries.specs.Text.{IsPrefix};
-ghost use Rattle.bx_journal.specs.inner.Undoing.{IsLastFrom, RedoAgainFault, redo_fault};
+ghost use Rattle.bx_journal.specs.inner.Undoing.{IsLastFrom, RedoAgainFault};
 
 use crate::protocol::redo_entry::redo_entries;
+use crate::session::fault::of_redo;
 use crate::session::prepare::records::prepare_takens;
 use crate::session::read::entries::{FinishedRead, read_last_of};
 use crate::{Session, SessionFault};
 use bx_image::Device;
 use bx_store::TextStore;
 use std::alloc::Allocator;
-
-/// What a fault of reading the redo text is in a session.
-fn of_redo(fault: SessionFault) -> SessionFault
-    ensures { result ≡ redo_fault fault }
-{
-    match fault {
-        SessionFault::Damaged { line } => SessionFault::RedoDamaged { line },
-        SessionFault::NoMemory => SessionFault::NoMemory,
-        SessionFault::TooLarge => SessionFault::TooLarge,
-        SessionFault::DeviceFailed => SessionFault::DeviceFailed,
-        SessionFault::TooFew { have } => SessionFault::TooFew { have },
-        SessionFault::JournalFull => SessionFault::JournalFull,
-        SessionFault::Interrupted => SessionFault::Interrupted,
-        SessionFault::Broken => SessionFault::Broken,
-        SessionFault::LengthDiffers { expected } => SessionFault::LengthDiffers { expected },
-        SessionFault::NothingToRedo { have } => SessionFault::NothingToRedo { have },
-        SessionFault::RedoDamaged { line } => SessionFault::RedoDamaged { line },
-    }
-}
 
 /// Reads the last j entries of a redo text that is to be so many finished entries alone. It changes nothing.
 fn read_undone<T: TextStore, A: Allocator + Clone>(
@@ -44,10 +26,7 @@ fn read_undone<T: TextStore, A: Allocator + Clone>(
     ensures read { IfOk result (λ o. IsLastFrom (T.honest redo_text.old) (T.text redo_text.old) o.len o.entries.items undone) }
     ensures few { IfOk result (λ o. j ≤ length o.entries.items) }
     ensures fault { IfErr result (RedoAgainFault (T.honest redo_text.old) (T.text redo_text.old) undone) }
-    ensures text { T.honest redo_text.old → T.text redo_text.new ≡ T.text redo_text.old }
-    ensures honesty { T.honest redo_text.new ↔ T.honest redo_text.old }
-    ensures no_failure { OnOk result (T.failures redo_text.new ≡ T.failures redo_text.old) }
-    ensures counts { IfErr result (λ e. FaultCounts e 0 (T.failures redo_text.old) 0 (T.failures redo_text.new)) }
+    ensures looks { LooksAt T.honest T.text T.failures result redo_text.old redo_text.new }
 {
     match read_last_of(alloc, redo_text, undone, j) {
         Ok(read) => Ok(read),
@@ -73,8 +52,7 @@ fn undone_left(undone: u32, made: u32) -> u32
 }
 
 impl<D: Device, T: TextStore, A: Allocator + Clone> Session<D, T, A> {
-    ghost use Rattle.bx_journal.specs.Session.{Breaks, HasSameDevices, IsRedoSame, IsSame, IsUnfailed, IsUnmoved, SessionCounts};
-    ghost use Rattle.bx_journal.specs.Calls.{AfterFault};
+    ghost use Rattle.bx_journal.specs.Session.{FailsSafely};
     ghost use Rattle.bx_journal.specs.Performing.{FindsSome, RedoesImages, StaysRedone};
     ghost use Rattle.bx_journal.specs.Undoing.{HasCount, IsOutOfStep, LeavesFront, RedoFault};
     ghost use Rattle.bx_journal.specs.declared.session.fault.SessionFault.TheVariants.{RedoDamaged};
@@ -106,16 +84,8 @@ impl<D: Device, T: TextStore, A: Allocator + Clone> Session<D, T, A> {
         // An interruption leaves the old stack with some of the images made again, and another fault leaves all as it was.
         ensures finds { D.honest self.old.device → T.honest self.old.store → T.honest self.old.redo_text
             → FindsSome D.image T.text self.old self.new redo_of j result }
-        ensures refused { D.honest self.old.device → T.honest self.old.store
-            → IfErr result (λ e. AfterFault e (Unit {0}) (IsSame D.image T.text self.old self.new)) }
-        ensures redo_same { T.honest self.old.redo_text → IfErr result (λ e. AfterFault e (Unit {0}) (IsRedoSame T.text self.old self.new)) }
-        ensures unmoved { IfErr result (λ e. AfterFault e (Unit {0}) (IsUnmoved self.old self.new)) }
-        ensures breaks { IsErrOf result SessionFault.Interrupted → Breaks self.old self.new }
 
         ensures kind { IfErr result (RedoFault self.old.undone) }
-        ensures broken { (self.old.is_broken ≡ true) ↔ IsErrOf result SessionFault.Broken }
-        ensures untouched { IsErrOf result SessionFault.Broken → HasSameDevices self.old self.new }
-        ensures same { IsErrOf result SessionFault.Broken → self.new ≡ self.old }
         ensures nothing { ((self.old.is_broken ≡ false) × (self.old.undone < j)) ↔ IsErrOf result (SessionFault.NothingToRedo self.old.undone) }
 
         // The redo text is called damaged exactly where it isn't so many finished entries alone.
@@ -125,11 +95,8 @@ impl<D: Device, T: TextStore, A: Allocator + Clone> Session<D, T, A> {
             → IfErr result (λ e. (n : ℕ) → e ≡ RedoDamaged n → ⊥) }
         ensures whole { T.honest self.old.redo_text → OnOk result (HasCount (T.text self.old.redo_text) self.old.undone) }
 
-        ensures device_honesty { D.honest self.new.device ↔ D.honest self.old.device }
-        ensures store_honesty { T.honest self.new.store ↔ T.honest self.old.store }
-        ensures redo_honesty { T.honest self.new.redo_text ↔ T.honest self.old.redo_text }
-        ensures no_failure { OnOk result (IsUnfailed D.failures T.failures self.old self.new) }
-        ensures counts { IfErr result (SessionCounts D.failures T.failures self.old self.new) }
+        // A refusal changes nothing, an interruption breaks the session, and a broken one refuses all.
+        ensures safe { FailsSafely D.honest T.honest D.image T.text D.failures T.failures self.old self.new result }
     {
         if self.is_broken {
             return Err(SessionFault::Broken);

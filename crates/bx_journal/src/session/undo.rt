@@ -21,8 +21,7 @@ fn count_left(count: u32, undone: u32) -> u32
 }
 
 impl<D: Device, T: TextStore, A: Allocator + Clone> Session<D, T, A> {
-    ghost use Rattle.bx_journal.specs.Session.{Breaks, HasSameDevices, IsRedoSame, IsSame, IsUnfailed, IsUnmoved, SessionCounts};
-    ghost use Rattle.bx_journal.specs.Calls.{AfterFault};
+    ghost use Rattle.bx_journal.specs.Session.{FailsSafely};
     ghost use Rattle.bx_journal.specs.Performing.{FindsSome, StaysReady, Steps, StopsUndo, UndoesImages};
     ghost use Rattle.bx_journal.specs.Undoing.{HasCount, IsOutOfStep, LeavesFront, UndoFault};
 
@@ -52,18 +51,10 @@ impl<D: Device, T: TextStore, A: Allocator + Clone> Session<D, T, A> {
 
         // An interruption leaves the stack without some of the images, and another fault leaves all as it was.
         ensures fault { D.honest self.old.device → T.honest self.old.store → StopsUndo D.image T.text k self.old self.new result }
-        ensures refused { D.honest self.old.device → T.honest self.old.store
-            → IfErr result (λ e. AfterFault e (Unit {0}) (IsSame D.image T.text self.old self.new)) }
         ensures finds { D.honest self.old.device → T.honest self.old.store → T.honest self.old.redo_text
             → FindsSome D.image T.text self.old self.new undo_of k result }
-        ensures redo_same { T.honest self.old.redo_text → IfErr result (λ e. AfterFault e (Unit {0}) (IsRedoSame T.text self.old self.new)) }
-        ensures unmoved { IfErr result (λ e. AfterFault e (Unit {0}) (IsUnmoved self.old self.new)) }
-        ensures breaks { IsErrOf result SessionFault.Interrupted → Breaks self.old self.new }
 
         ensures kind { IfErr result (UndoFault self.old.count) }
-        ensures broken { (self.old.is_broken ≡ true) ↔ IsErrOf result SessionFault.Broken }
-        ensures untouched { IsErrOf result SessionFault.Broken → HasSameDevices self.old self.new }
-        ensures same { IsErrOf result SessionFault.Broken → self.new ≡ self.old }
         ensures few { ((self.old.is_broken ≡ false) × (self.old.count < k)) ↔ IsErrOf result (SessionFault.TooFew self.old.count) }
 
         // The text is called damaged exactly where it isn't so many finished entries alone.
@@ -73,11 +64,8 @@ impl<D: Device, T: TextStore, A: Allocator + Clone> Session<D, T, A> {
             → IfErr result (λ e. (n : ℕ) → e ≡ SessionFault.Damaged n → ⊥) }
         ensures whole { T.honest self.old.store → OnOk result (HasCount (T.text self.old.store) self.old.count) }
 
-        ensures device_honesty { D.honest self.new.device ↔ D.honest self.old.device }
-        ensures store_honesty { T.honest self.new.store ↔ T.honest self.old.store }
-        ensures redo_honesty { T.honest self.new.redo_text ↔ T.honest self.old.redo_text }
-        ensures no_failure { OnOk result (IsUnfailed D.failures T.failures self.old self.new) }
-        ensures counts { IfErr result (SessionCounts D.failures T.failures self.old self.new) }
+        // A refusal changes nothing, an interruption breaks the session, and a broken one refuses all.
+        ensures safe { FailsSafely D.honest T.honest D.image T.text D.failures T.failures self.old self.new result }
     {
         if self.is_broken {
             return Err(SessionFault::Broken);

@@ -7,8 +7,7 @@ returns-in-Ok g c =
     record {
       obeys = undo_obeys g.D.Device.honest g.T.TextStore.honest g.D.Device.image g.T.TextStore.text g.D.Device.failures g.T.TextStore.failures
           c.args.session.now c.undo.new.self c.args.k c.in-Ok.left
-          (record { broken = e.broken; unfailed = e.no_failure; device_honesty = e.device_honesty; store_honesty = e.store_honesty; redo_honesty = e.redo_honesty })
-          e.accepted e.sound e.undone;
+          e.safe e.accepted e.sound e.undone;
     }
 
 pub returns-in-Err : goal.returns-in-Err
@@ -16,7 +15,6 @@ returns-in-Err g c =
     let e = c.in-Err.ensures in
     record {
       obeys = kept_obeys g.D.Device.honest g.T.TextStore.honest g.D.Device.image g.T.TextStore.text g.D.Device.failures g.T.TextStore.failures
-          c.args.session.now c.undo.new.self c.args.k c.in-Err.fault c.from.result c.from.ensures
-          (record { broken = e.broken; same = e.refused; redo_same = e.redo_same; breaks = e.breaks; device_honesty = e.device_honesty; store_honesty = e.store_honesty; redo_honesty = e.redo_honesty })
-          e.counts e.few e.kind e.undamaged e.finds;
+          c.args.session.now c.undo.new.self c.args.k c.in-Err.fault
+          e.safe e.few e.kind e.undamaged e.finds;
     }

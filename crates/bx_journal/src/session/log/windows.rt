@@ -1,6 +1,6 @@
 //! The rows of a log, from a text that is read in windows: so much of it is in memory at a time, however long it is.
 ghost use Rattle.std.specs.Prelude.{◌≡◌, ◌↔◌, ◌⊎◌, ◌<◌, ◌≤◌, ◌++◌, [], length, true, OnOk, IfOk, IfErr, IfSome};
-ghost use Rattle.bx_journal.specs.Opening.{FaultCounts};
+ghost use Rattle.bx_journal.specs.inner.Devices.{LooksAt};
 ghost use Rattle.bx_journal.specs.inner.Rows.{AreListed, AreRowsOf, IsListedAt, IsListedIn, ended_row};
 
 use crate::{LogRow, SessionFault};
@@ -80,10 +80,7 @@ fn list_window<T: TextStore, A: Allocator>(
     ensures listed { IfOk result (λ found. IfSome found
         (IsListedAt (T.honest store.old) (T.text store.old) at len sums rows.old.items rows.new.items)) }
     ensures fault { IfErr result (λ e. (e ≡ SessionFault.NoMemory) ⊎ (e ≡ SessionFault.DeviceFailed)) }
-    ensures text { T.honest store.old → T.text store.new ≡ T.text store.old }
-    ensures honesty { T.honest store.new ↔ T.honest store.old }
-    ensures no_failure { OnOk result (T.failures store.new ≡ T.failures store.old) }
-    ensures counts { IfErr result (λ e. FaultCounts e 0 (T.failures store.old) 0 (T.failures store.new)) }
+    ensures looks { LooksAt T.honest T.text T.failures result store.old store.new }
 {
     let more = (window.len() as u64).min(len - at) as usize;
     let (now, _) = window.split_at_mut(more);
@@ -111,10 +108,7 @@ fn list_windows<T: TextStore, A: Allocator>(
     requires empty { rows.old.items ≡ [] }
     ensures listed { IfOk result (λ found. IfSome found (λ sums. AreListed (T.honest store.old) (T.text store.old) sums rows.new.items)) }
     ensures fault { IfErr result (λ e. (e ≡ SessionFault.NoMemory) ⊎ (e ≡ SessionFault.DeviceFailed)) }
-    ensures text { T.honest store.old → T.text store.new ≡ T.text store.old }
-    ensures honesty { T.honest store.new ↔ T.honest store.old }
-    ensures no_failure { OnOk result (T.failures store.new ≡ T.failures store.old) }
-    ensures counts { IfErr result (λ e. FaultCounts e 0 (T.failures store.old) 0 (T.failures store.new)) }
+    ensures looks { LooksAt T.honest T.text T.failures result store.old store.new }
 {
     let mut at: u64 = 0;
     let mut sums = nothing_summed();
@@ -150,10 +144,7 @@ pub fn rows_in_windows<T: TextStore, A: Allocator + Clone>(
     requires { T.failures store.old < u64.MAX }
     ensures rows { IfOk result (λ found. IfSome found (λ rows. AreRowsOf (T.honest store.old) (T.text store.old) rows.items count)) }
     ensures fault { IfErr result (λ e. (e ≡ SessionFault.NoMemory) ⊎ (e ≡ SessionFault.DeviceFailed)) }
-    ensures text { T.honest store.old → T.text store.new ≡ T.text store.old }
-    ensures honesty { T.honest store.new ↔ T.honest store.old }
-    ensures no_failure { OnOk result (T.failures store.new ≡ T.failures store.old) }
-    ensures counts { IfErr result (λ e. FaultCounts e 0 (T.failures store.old) 0 (T.failures store.new)) }
+    ensures looks { LooksAt T.honest T.text T.failures result store.old store.new }
 {
     let len = store.len()?;
     let size = WINDOW.min(len) as usize;

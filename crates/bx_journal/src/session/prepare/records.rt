@@ -1,8 +1,9 @@
 //! What some undos, or some redos, take before their first write: records of what they will overwrite, a page and room.
 ghost use Rattle.std.specs.Prelude.{◌≡◌, ◌↔◌, ◌+◌, ◌-◌, ◌^◌, ◌<◌, ◌≤◌, [], length, drop, min, reverse, vec_capacity, All, IfOk, IfErr, OnOk};
 ghost use Rattle.bx_image.specs.Change.{AllWithin};
+ghost use Rattle.bx_journal.specs.Fault.{DeviceFault};
 ghost use Rattle.bx_journal.specs.inner.Devices.{AreCounted, AreUnfailed};
-ghost use Rattle.bx_journal.specs.inner.Takens.{AreZeros, AreReady, AllShaped, IsZeros, TakenFault, length_at, entries_len as entries_long};
+ghost use Rattle.bx_journal.specs.inner.Takens.{AreZeros, AreReady, AllShaped, IsZeros, length_at, entries_len as entries_long};
 ghost use Rattle.bx_journal.specs.inner.Undoing.{HasRoomFor};
 
 use crate::SessionFault;
@@ -158,7 +159,7 @@ pub fn prepare_takens<D: Device, T: TextStore, A: Allocator + Clone>(
     ensures roomed { T.honest to.old → IfOk result (λ o. length (T.text to.new) + entries_long o.takens.items ≤ T.room to.new) }
     ensures empty { IfOk result (λ o. o.page.items ≡ []) }
     ensures page_room { IfOk result (λ o. 82 ≤ vec_capacity o.page) }
-    ensures kind { IfErr result TakenFault }
+    ensures kind { IfErr result DeviceFault }
     ensures image { D.honest device.old → D.image device.new ≡ D.image device.old }
     ensures from_text { T.honest from.old → T.text from.new ≡ T.text from.old }
     ensures to_text { T.honest to.old → T.text to.new ≡ T.text to.old }

@@ -1,7 +1,7 @@
 //! The journal of an open session, read once more: all of it, or its last entries alone.
 ghost use Rattle.std.specs.Prelude.{◌≡◌, ◌↔◌, ◌⊎◌, ◌<◌, ◌≤◌, List, ℕ, false, length, IfOk, IfErr, IfSome, IfNone, OnOk};
 ghost use Rattle.bx_entries.specs.inner.Journal.{HasRead};
-ghost use Rattle.bx_journal.specs.Opening.{FaultCounts};
+ghost use Rattle.bx_journal.specs.inner.Devices.{LooksAt};
 ghost use Rattle.bx_journal.specs.Undoing.{AgainFault, HasCount};
 ghost use Rattle.bx_journal.specs.inner.Undoing.{FindsLast, IsLastFrom, IsReadAgain, IsReadBehind, IsReadFrom, IsReadOn};
 ghost use Rattle.bx_journal.specs.inner.Windows.{IsFrontCounted};
@@ -59,10 +59,7 @@ pub fn read_again<T: TextStore, A: Allocator + Clone>(
     requires { T.failures store.old < u64.MAX }
     ensures read { IfOk result (λ o. IsReadFrom (T.honest store.old) (T.text store.old) o.len o.entries.items count) }
     ensures fault { IfErr result (AgainFault (T.honest store.old) (T.text store.old) count) }
-    ensures text { T.honest store.old → T.text store.new ≡ T.text store.old }
-    ensures honesty { T.honest store.new ↔ T.honest store.old }
-    ensures no_failure { OnOk result (T.failures store.new ≡ T.failures store.old) }
-    ensures counts { IfErr result (λ e. FaultCounts e 0 (T.failures store.old) 0 (T.failures store.new)) }
+    ensures looks { LooksAt T.honest T.text T.failures result store.old store.new }
 {
     let bytes = match store.read_all(alloc.clone()?) {
         Ok(bytes) => bytes,
@@ -94,10 +91,7 @@ fn read_window<T: TextStore, A: Allocator + Clone>(
     requires below { read.at ≤ len }
     ensures read { IfOk result (λ found. IfSome found (IsReadOn (T.honest store.old) (T.text store.old) front len read)) }
     ensures fault { IfErr result (λ e. (e ≡ SessionFault.NoMemory) ⊎ (e ≡ SessionFault.DeviceFailed)) }
-    ensures text { T.honest store.old → T.text store.new ≡ T.text store.old }
-    ensures honesty { T.honest store.new ↔ T.honest store.old }
-    ensures no_failure { OnOk result (T.failures store.new ≡ T.failures store.old) }
-    ensures counts { IfErr result (λ e. FaultCounts e 0 (T.failures store.old) 0 (T.failures store.new)) }
+    ensures looks { LooksAt T.honest T.text T.failures result store.old store.new }
 {
     let at = read.at;
     let more = (window.len() as u64).min(len - at) as usize;
@@ -130,10 +124,7 @@ fn read_windows<T: TextStore, A: Allocator + Clone>(
     ensures read { IfOk result (λ found. IfSome found (IsReadBehind (T.honest store.old) (T.text store.old) front)) }
     ensures all { IfOk result (λ found. IfSome found (λ r. r.at ≡ len)) }
     ensures fault { IfErr result (λ e. (e ≡ SessionFault.NoMemory) ⊎ (e ≡ SessionFault.DeviceFailed)) }
-    ensures text { T.honest store.old → T.text store.new ≡ T.text store.old }
-    ensures honesty { T.honest store.new ↔ T.honest store.old }
-    ensures no_failure { OnOk result (T.failures store.new ≡ T.failures store.old) }
-    ensures counts { IfErr result (λ e. FaultCounts e 0 (T.failures store.old) 0 (T.failures store.new)) }
+    ensures looks { LooksAt T.honest T.text T.failures result store.old store.new }
 {
     let mut read = nothing_read(alloc, front)?;
     while read.at < len {
@@ -193,10 +184,7 @@ fn read_from<T: TextStore, A: Allocator + Clone>(
     ensures read { IfOk result (λ found. IfSome found (λ o. IsLastFrom (T.honest store.old) (T.text store.old) o.len o.entries.items count)) }
     ensures few { IfOk result (λ found. IfSome found (λ o. k ≤ length o.entries.items)) }
     ensures fault { IfErr result (λ e. (e ≡ SessionFault.NoMemory) ⊎ (e ≡ SessionFault.DeviceFailed)) }
-    ensures text { T.honest store.old → T.text store.new ≡ T.text store.old }
-    ensures honesty { T.honest store.new ↔ T.honest store.old }
-    ensures no_failure { OnOk result (T.failures store.new ≡ T.failures store.old) }
-    ensures counts { IfErr result (λ e. FaultCounts e 0 (T.failures store.old) 0 (T.failures store.new)) }
+    ensures looks { LooksAt T.honest T.text T.failures result store.old store.new }
 {
     let size = WINDOW.min(len - front.at) as usize;
     let mut window = vec![in alloc.clone()?; 0u8; size]?;
@@ -220,10 +208,7 @@ fn find_last<T: TextStore, A: Allocator + Clone>(
     ensures read { IfOk result (λ found. IfSome found (λ o. IsLastFrom (T.honest store.old) (T.text store.old) o.len o.entries.items count)) }
     ensures few { IfOk result (λ found. IfSome found (λ o. k ≤ length o.entries.items)) }
     ensures fault { IfErr result (λ e. (e ≡ SessionFault.NoMemory) ⊎ (e ≡ SessionFault.DeviceFailed)) }
-    ensures text { T.honest store.old → T.text store.new ≡ T.text store.old }
-    ensures honesty { T.honest store.new ↔ T.honest store.old }
-    ensures no_failure { OnOk result (T.failures store.new ≡ T.failures store.old) }
-    ensures counts { IfErr result (λ e. FaultCounts e 0 (T.failures store.old) 0 (T.failures store.new)) }
+    ensures looks { LooksAt T.honest T.text T.failures result store.old store.new }
 {
     let len = store.len()?;
     let found = count_front(alloc, store, len, false, count - k)?;
@@ -246,10 +231,7 @@ pub fn read_last_of<T: TextStore, A: Allocator + Clone>(
     ensures read { IfOk result (λ o. IsLastFrom (T.honest store.old) (T.text store.old) o.len o.entries.items count) }
     ensures few { IfOk result (λ o. k ≤ length o.entries.items) }
     ensures fault { IfErr result (AgainFault (T.honest store.old) (T.text store.old) count) }
-    ensures text { T.honest store.old → T.text store.new ≡ T.text store.old }
-    ensures honesty { T.honest store.new ↔ T.honest store.old }
-    ensures no_failure { OnOk result (T.failures store.new ≡ T.failures store.old) }
-    ensures counts { IfErr result (λ e. FaultCounts e 0 (T.failures store.old) 0 (T.failures store.new)) }
+    ensures looks { LooksAt T.honest T.text T.failures result store.old store.new }
 {
     let found = match find_last(alloc, store, count, k) {
         Ok(found) => found,

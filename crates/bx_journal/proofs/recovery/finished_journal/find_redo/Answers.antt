@@ -11,6 +11,6 @@ returns-in-Some-clause-found g c =
 pub returns-in-Ok-read_all-clause-found : goal.returns-in-Ok-read_all-clause-found
 returns-in-Ok-read_all-clause-found g c = record {
   text = c.in-Ok-read_all.bytes.items;
-  is = λ h. sym (c.in-Ok-read_all.ensures.bytes (c.count_redo.ensures.honesty.1 h) ∙ c.count_redo.ensures.text h);
+  is = λ h. sym (c.in-Ok-read_all.ensures.bytes (c.count_redo.ensures.looks.honesty.1 h) ∙ c.count_redo.ensures.looks.same h);
   found = refl;
 }

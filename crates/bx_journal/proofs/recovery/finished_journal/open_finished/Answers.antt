@@ -8,13 +8,13 @@ returns-in-Err-judge_redo-clause-fault g c =
     let redo = c.in-Ok.ensures.found in
     judged_finished (g.D.Device.honest c.args.device.now) (g.D.Device.honest c.check_length.new.device) (g.T.TextStore.honest c.args.redo_text.now) (g.T.TextStore.text c.args.redo_text.now) redo.text
     (g.D.Device.image c.args.device.now) (g.D.Device.image c.check_length.new.device) c.args.found.count c.args.found.told c.in-Err-judge_redo.fault
-    c.check_length.ensures.looks.honesty.1 redo.is c.check_length.ensures.looks.image c.in_default.ensures.same_length (c.in-Err-judge_redo.ensures.fault redo.text redo.found)
+    c.check_length.ensures.looks.honesty.1 redo.is c.check_length.ensures.looks.same c.in_default.ensures.same_length (c.in-Err-judge_redo.ensures.fault redo.text redo.found)
 
 pub returns-in-Err-judge_redo-clause-unfit : goal.returns-in-Err-judge_redo-clause-unfit
 returns-in-Err-judge_redo-clause-unfit g c dh rh line told refused =
     let redo = c.in-Ok.ensures.found in
     c.in-Err-judge_redo.ensures.unfit (c.check_length.ensures.looks.honesty.1 dh) redo.text redo.found line
-    (refused_at _ _ _ _ c.args.found.count line (redo.is rh) (sym (c.check_length.ensures.looks.image dh)) refused)
+    (refused_at _ _ _ _ c.args.found.count line (redo.is rh) (sym (c.check_length.ensures.looks.same dh)) refused)
 
 pub returns-clause-undone : goal.returns-clause-undone
 returns-clause-undone g c dh rh =
@@ -23,7 +23,7 @@ returns-clause-undone g c dh rh =
     let changes : ℕ = c.args.found.count in
     let undone : ℕ = c.in-Ok-judge_redo.undone in
     subst (λ t. HasUndoneCount t x changes undone) (sym (redo.is rh))
-    (subst (λ z. HasUndoneCount redo.text z changes undone) (c.check_length.ensures.looks.image dh) (c.in-Ok-judge_redo.ensures.undone (c.check_length.ensures.looks.honesty.1 dh) redo.text redo.found))
+    (subst (λ z. HasUndoneCount redo.text z changes undone) (c.check_length.ensures.looks.same dh) (c.in-Ok-judge_redo.ensures.undone (c.check_length.ensures.looks.honesty.1 dh) redo.text redo.found))
 
 pub returns-clause-sum : goal.returns-clause-sum
 returns-clause-sum g c = let redo = c.in-Ok.ensures.found in c.in-Ok-judge_redo.ensures.sum redo.text redo.found
@@ -32,4 +32,4 @@ pub returns-clause-unfit : goal.returns-clause-unfit
 returns-clause-unfit g c dh rh line told refused =
     let redo = c.in-Ok.ensures.found in
     c.in-Ok-judge_redo.ensures.unfit (c.check_length.ensures.looks.honesty.1 dh) redo.text redo.found line
-    (refused_at _ _ _ _ c.args.found.count line (redo.is rh) (sym (c.check_length.ensures.looks.image dh)) refused)
+    (refused_at _ _ _ _ c.args.found.count line (redo.is rh) (sym (c.check_length.ensures.looks.same dh)) refused)

@@ -1,7 +1,7 @@
 use Rattle.std.proofs.Common.{false, subst}
 use Rattle.std.specs.Prelude.{IfSome}
 use Rattle.bx_journal.specs.inner.Windows.{IsAllCounted}
-use Rattle.bx_journal.proofs.WindowLemmas.{found_before, fault_before, counts_before}
+use Rattle.bx_journal.proofs.WindowLemmas.{found_before, fault_before, looks_before}
 use Rattle.bx_journal.proofs.recovery.journal.read_text.Goals as goal
 
 pub returns-in-Some-clause-found : goal.returns-in-Some-clause-found
@@ -12,13 +12,12 @@ returns-in-Some-clause-found g c =
 pub returns-in-None-clause-found : goal.returns-in-None-clause-found
 returns-in-None-clause-found g c =
     found_before (g.T.TextStore.honest c.args.store.now) (g.T.TextStore.honest c.count_text.new.store) (g.T.TextStore.text c.args.store.now) (g.T.TextStore.text c.count_text.new.store)
-    c.count_text.ensures.honesty.1 c.count_text.ensures.text c.read_whole.result c.read_whole.ensures.found
+    c.count_text.ensures.looks.honesty.1 c.count_text.ensures.looks.same c.read_whole.result c.read_whole.ensures.found
 
 pub returns-in-None-clause-fault : goal.returns-in-None-clause-fault
 returns-in-None-clause-fault g c =
     fault_before (g.T.TextStore.honest c.args.store.now) (g.T.TextStore.honest c.count_text.new.store) (g.T.TextStore.text c.args.store.now) (g.T.TextStore.text c.count_text.new.store)
-    c.count_text.ensures.honesty.1 c.count_text.ensures.text c.read_whole.result c.read_whole.ensures.fault
+    c.count_text.ensures.looks.honesty.1 c.count_text.ensures.looks.same c.read_whole.result c.read_whole.ensures.fault
 
-pub returns-in-None-clause-counts : goal.returns-in-None-clause-counts
-returns-in-None-clause-counts g c =
-    counts_before c.read_whole.result (g.T.TextStore.failures c.args.store.now) (g.T.TextStore.failures c.count_text.new.store) (g.T.TextStore.failures c.read_whole.new.store) c.in-Ok.ensures.no_failure c.read_whole.ensures.counts
+pub returns-in-None-clause-looks : goal.returns-in-None-clause-looks
+returns-in-None-clause-looks g c = looks_before c.in-Ok.ensures.looks c.read_whole.ensures.looks

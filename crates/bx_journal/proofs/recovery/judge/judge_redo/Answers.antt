@@ -44,7 +44,7 @@ returns-clause-unfit g c dh text found line refused =
 
 pub returns-in-Err-clause-looks : goal.returns-in-Err-clause-looks
 returns-in-Err-clause-looks g c = record {
-  image = λ h. refl;
+  same = λ h. refl;
   honesty = (λ h. h, λ h. h);
   no_failure = tt;
   counts = text_counts c.in-Err.ensures.kind.0 c.args.changes (g.D.Device.failures c.args.device.now) 0 c.in-Err.fault c.in-Err.ensures.kind.1;

@@ -26,19 +26,19 @@ returns-in-Finished-clause-opened g c dh th r reads =
     let text : List ℕ = g.T.TextStore.text c.args.store.now in
     let is = found_counted (g.T.TextStore.honest c.args.store.now) text c.in-Ok.found c.in-Finished.counted c.in-Ok.ensures.found c.in-Finished.is th in
     finished_opened text (g.D.Device.image c.args.device.now) c.in-Finished.counted.count c.in-Finished.counted.told is c.open_finished.result _ _ r reads
-    (c.read_text.ensures.text th) (c.open_finished.ensures.image dh) c.open_finished.ensures.clean (c.open_finished.ensures.same_length dh)
+    (c.read_text.ensures.looks.same th) (c.open_finished.ensures.image dh) c.open_finished.ensures.clean (c.open_finished.ensures.same_length dh)
 
 pub returns-in-Finished-clause-left : goal.returns-in-Finished-clause-left
 returns-in-Finished-clause-left g c th r reads =
     let text : List ℕ = g.T.TextStore.text c.args.store.now in
     let is = found_counted (g.T.TextStore.honest c.args.store.now) text c.in-Ok.found c.in-Finished.counted c.in-Ok.ensures.found c.in-Finished.is th in
-    ok_always c.open_finished.result (left_whole text _ c.in-Finished.counted.count c.in-Finished.counted.told r is reads (c.read_text.ensures.text th))
+    ok_always c.open_finished.result (left_whole text _ c.in-Finished.counted.count c.in-Finished.counted.told r is reads (c.read_text.ensures.looks.same th))
 
 pub returns-in-Finished-clause-keeps : goal.returns-in-Finished-clause-keeps
 returns-in-Finished-clause-keeps g c dh th stack rec =
     let text : List ℕ = g.T.TextStore.text c.args.store.now in
     let y : List ℕ = g.D.Device.image c.open_finished.new.device in
-    let same = sym (c.read_text.ensures.text th) in
+    let same = sym (c.read_text.ensures.looks.same th) in
     let is = found_counted (g.T.TextStore.honest c.args.store.now) text c.in-Ok.found c.in-Finished.counted c.in-Ok.ensures.found c.in-Finished.is th in (
       ok_always c.open_finished.result
           (subst (λ t. IsAtRest t y stack) same
@@ -47,12 +47,12 @@ returns-in-Finished-clause-keeps g c dh th stack rec =
     )
 
 pub returns-in-Err-clause-keeps : goal.returns-in-Err-clause-keeps
-returns-in-Err-clause-keeps g c dh th stack rec = (tt, subst (λ t. Recovers t (g.D.Device.image c.args.device.now) stack) (sym (c.read_text.ensures.text th)) rec)
+returns-in-Err-clause-keeps g c dh th stack rec = (tt, subst (λ t. Recovers t (g.D.Device.image c.args.device.now) stack) (sym (c.read_text.ensures.looks.same th)) rec)
 
 pub returns-in-Unfinished-clause-keeps : goal.returns-in-Unfinished-clause-keeps
 returns-in-Unfinished-clause-keeps g c dh th stack rec =
-    c.recover_read.ensures.keeps dh (c.read_text.ensures.honesty.1 th) stack
-    (subst (λ t. Recovers t (g.D.Device.image c.args.device.now) stack) (sym (c.read_text.ensures.text th)) rec)
+    c.recover_read.ensures.keeps dh (c.read_text.ensures.looks.honesty.1 th) stack
+    (subst (λ t. Recovers t (g.D.Device.image c.args.device.now) stack) (sym (c.read_text.ensures.looks.same th)) rec)
 
 pub returns-in-Finished-clause-counted : goal.returns-in-Finished-clause-counted
 returns-in-Finished-clause-counted g c dh th stack rec =
@@ -102,8 +102,8 @@ pub returns-in-Unfinished-clause-finds_err : goal.returns-in-Unfinished-clause-f
 returns-in-Unfinished-clause-finds_err g c dh th rh s finds =
     let text : List ℕ = g.T.TextStore.text c.args.store.now in
     let x : List ℕ = g.D.Device.image c.args.device.now in
-    let same = c.read_text.ensures.text th in
-    let mid = c.read_text.ensures.honesty.1 th in
+    let same = c.read_text.ensures.looks.same th in
+    let mid = c.read_text.ensures.looks.honesty.1 th in
     let i = found_read (g.T.TextStore.honest c.args.store.now) text c.in-Ok.found c.in-Unfinished.journal c.in-Ok.ensures.found c.in-Unfinished.is in
     unfinished_finds text x (g.T.TextStore.text c.args.redo_text.now) _ _ _ s finds
     (found_unclean (g.T.TextStore.honest c.args.store.now) text c.in-Unfinished.journal i th)

@@ -24,10 +24,10 @@ returns-in-Err-clause-differs g c dh th r n reads differs =
     (subst (λ (q : Reading). Differs q.entries (image_at q.stage x) n) (sym same) differs) c.in-Err.ensures.fault
 
 pub returns-in-Err-clause-keeps : goal.returns-in-Err-clause-keeps
-returns-in-Err-clause-keeps g c dh th stack rec = (tt, subst (λ x. Recovers (g.T.TextStore.text c.args.store.now) x stack) (sym (c.prepare.ensures.looks.image dh)) rec)
+returns-in-Err-clause-keeps g c dh th stack rec = (tt, subst (λ x. Recovers (g.T.TextStore.text c.args.store.now) x stack) (sym (c.prepare.ensures.looks.same dh)) rec)
 
 pub returns-in-Err-clause-refused : goal.returns-in-Err-clause-refused
-returns-in-Err-clause-refused g c dh th = after_same c.in-Err.fault _ (refl, c.prepare.ensures.looks.image dh)
+returns-in-Err-clause-refused g c dh th = after_same c.in-Err.fault _ (refl, c.prepare.ensures.looks.same dh)
 
 pub returns-in-Err-clause-counts : goal.returns-in-Err-clause-counts
 returns-in-Err-clause-counts g c =
@@ -42,7 +42,7 @@ returns-in-Err-clause-redo_same g c th = after_same c.in-Err.fault _ refl
 pub returns-in-Ok-clause-opened : goal.returns-in-Ok-clause-opened
 returns-in-Ok-clause-opened g c dh th r reads =
     let x : List ℕ = g.D.Device.image c.args.device.now in
-    let image = c.prepare.ensures.looks.image dh in
+    let image = c.prepare.ensures.looks.same dh in
     let same : reading_of c.args.journal.entries.items c.args.journal.stage ≡ r = read_once (g.T.TextStore.text c.args.store.now) c.requires.read.text c.args.journal r c.requires.read.read (c.requires.read.is th) reads in
     let lengths = c.in_default.ensures.lengths dh c.requires.read.text c.requires.read.read in
     let found = c.in-Ok.ensures.opened (c.prepare.ensures.looks.honesty.1 dh) th (subst (λ z. HaveLengths (entries_of c.args.journal.entries.items) (image_at (stage_of c.args.journal.stage) z)) (sym image) lengths) in
@@ -64,7 +64,7 @@ returns-in-Ok-clause-differs g c dh th r n reads differs =
 pub returns-in-Ok-clause-keeps : goal.returns-in-Ok-clause-keeps
 returns-in-Ok-clause-keeps g c dh th stack rec =
     let kept = c.in-Ok.ensures.keeps (c.prepare.ensures.looks.honesty.1 dh) th stack
-    (subst (λ x. Recovers (g.T.TextStore.text c.args.store.now) x stack) (sym (c.prepare.ensures.looks.image dh)) rec) in
+    (subst (λ x. Recovers (g.T.TextStore.text c.args.store.now) x stack) (sym (c.prepare.ensures.looks.same dh)) rec) in
     (kept.0, tt)
 
 pub returns-in-Ok-clause-counted : goal.returns-in-Ok-clause-counted
@@ -82,7 +82,7 @@ returns-in-Err-finish-clause-differs g c dh th r n reads differs =
 pub returns-in-Err-finish-clause-keeps : goal.returns-in-Err-finish-clause-keeps
 returns-in-Err-finish-clause-keeps g c dh th stack rec =
     let kept = c.in-Err-finish.ensures.keeps (c.prepare.ensures.looks.honesty.1 dh) th stack
-    (subst (λ x. Recovers (g.T.TextStore.text c.args.store.now) x stack) (sym (c.prepare.ensures.looks.image dh)) rec) in
+    (subst (λ x. Recovers (g.T.TextStore.text c.args.store.now) x stack) (sym (c.prepare.ensures.looks.same dh)) rec) in
     (tt, kept.1)
 
 pub returns-in-Err-finish-clause-device_honesty : goal.returns-in-Err-finish-clause-device_honesty

@@ -23,6 +23,3 @@ pub returns-clause-whole : goal.returns-clause-whole
 returns-clause-whole g c =
     rw (← c.self.view_is) (λ th.
     let rows = c.in_ok-rows.ensures.rows in (rows.entries, subst (λ t. IsFinished t rows.entries) (sym (rows.is th)) rows.finished, rows.counted))
-
-pub returns-clause-store_honesty : goal.returns-clause-store_honesty
-returns-clause-store_honesty g c = rw (← c.self.view_is) c.rows_of_text.ensures.honesty

@@ -46,7 +46,7 @@ redo_entries-requires-clause-read g c =
       older = again.read.older;
       is = λ rh.
           let before = c.prepare_takens.ensures.from_honesty.0 rh in
-          c.prepare_takens.ensures.from_text before ∙ c.read_undone.ensures.text (c.read_undone.ensures.honesty.0 before) ∙ again.is (c.read_undone.ensures.honesty.0 before);
+          c.prepare_takens.ensures.from_text before ∙ c.read_undone.ensures.looks.same (c.read_undone.ensures.looks.honesty.0 before) ∙ again.is (c.read_undone.ensures.looks.honesty.0 before);
       mark = again.read.mark;
       marked = again.read.marked;
     }
@@ -70,10 +70,10 @@ returns-in-Ok-clause-accepted g c =
     let redo_new : List ℕ = g.T.TextStore.text c.redo_entries.new.redo_text in
     let image : x ≡ g.D.Device.image c.self.inside.device = c.prepare_takens.ensures.image dh in
     let same : text ≡ g.T.TextStore.text c.self.inside.store = c.prepare_takens.ensures.to_text th in
-    let redo_same : redo ≡ g.T.TextStore.text c.self.inside.redo_text = c.prepare_takens.ensures.from_text (c.read_undone.ensures.honesty.1 rh) ∙ c.read_undone.ensures.text rh in
+    let redo_same : redo ≡ g.T.TextStore.text c.self.inside.redo_text = c.prepare_takens.ensures.from_text (c.read_undone.ensures.looks.honesty.1 rh) ∙ c.read_undone.ensures.looks.same rh in
     let d = c.prepare_takens.ensures.device_honesty.1 dh in
     let t = c.prepare_takens.ensures.to_honesty.1 th in
-    let r = c.prepare_takens.ensures.from_honesty.1 (c.read_undone.ensures.honesty.1 rh) in
+    let r = c.prepare_takens.ensures.from_honesty.1 (c.read_undone.ensures.looks.honesty.1 rh) in
     let kept : IsRedoOf redo x (changes_of s.stack) s.undone = redo_moved (g.T.TextStore.text c.self.inside.redo_text) (g.D.Device.image c.self.inside.device) redo x c.self.inside.count s standing.count redo_same image has.redo in
     let stands : StandsFor text x s.stack = subst (λ z. StandsFor z x s.stack) (sym same) (subst (λ z. StandsFor (g.T.TextStore.text c.self.inside.store) z s.stack) (sym image) standing.stands) in
     let counted : c.self.inside.count ≡ changes_of s.stack = omega (arith, standing.count) in
@@ -100,10 +100,10 @@ returns-in-Ok-clause-sound g c =
     let redo_new : List ℕ = g.T.TextStore.text c.redo_entries.new.redo_text in
     let image : x ≡ g.D.Device.image c.self.inside.device = c.prepare_takens.ensures.image dh in
     let same : text ≡ g.T.TextStore.text c.self.inside.store = c.prepare_takens.ensures.to_text th in
-    let redo_same : redo ≡ g.T.TextStore.text c.self.inside.redo_text = c.prepare_takens.ensures.from_text (c.read_undone.ensures.honesty.1 rh) ∙ c.read_undone.ensures.text rh in
+    let redo_same : redo ≡ g.T.TextStore.text c.self.inside.redo_text = c.prepare_takens.ensures.from_text (c.read_undone.ensures.looks.honesty.1 rh) ∙ c.read_undone.ensures.looks.same rh in
     let d = c.prepare_takens.ensures.device_honesty.1 dh in
     let t = c.prepare_takens.ensures.to_honesty.1 th in
-    let r = c.prepare_takens.ensures.from_honesty.1 (c.read_undone.ensures.honesty.1 rh) in
+    let r = c.prepare_takens.ensures.from_honesty.1 (c.read_undone.ensures.looks.honesty.1 rh) in
     let kept : IsRedoOf redo x (changes_of s.stack) s.undone = redo_moved (g.T.TextStore.text c.self.inside.redo_text) (g.D.Device.image c.self.inside.device) redo x c.self.inside.count s ready.count redo_same image has.redo in
     let at : IsAtRest text x s.stack = subst (λ z. IsAtRest z x s.stack) (sym same) (subst (λ z. IsAtRest (g.T.TextStore.text c.self.inside.store) z s.stack) (sym image) ready.rest) in
     let counted : c.self.inside.count ≡ changes_of s.stack = omega (arith, ready.count) in
@@ -128,10 +128,10 @@ returns-in-Ok-clause-text g c =
     rw (← c.self.view_is) (λ rh entries finished.
     let redo : List ℕ = g.T.TextStore.text c.self.inside.redo_text in
     let redo_new : List ℕ = g.T.TextStore.text c.redo_entries.new.redo_text in
-    let text : g.T.TextStore.text c.prepare_takens.new.from ≡ redo = c.prepare_takens.ensures.from_text (c.read_undone.ensures.honesty.1 rh) ∙ c.read_undone.ensures.text rh in
+    let text : g.T.TextStore.text c.prepare_takens.new.from ≡ redo = c.prepare_takens.ensures.from_text (c.read_undone.ensures.looks.honesty.1 rh) ∙ c.read_undone.ensures.looks.same rh in
     subst (λ t. HasLeft t redo_new (drop c.args.j entries)) text
     (subst (λ n. HasLeft (g.T.TextStore.text c.prepare_takens.new.from) redo_new (drop n entries)) c.in_ok-taking.ensures.count
-    (c.in-Ok.ensures.left (c.prepare_takens.ensures.from_honesty.1 (c.read_undone.ensures.honesty.1 rh)) entries (subst (λ t. IsFinished t entries) (sym text) finished))))
+    (c.in-Ok.ensures.left (c.prepare_takens.ensures.from_honesty.1 (c.read_undone.ensures.looks.honesty.1 rh)) entries (subst (λ t. IsFinished t entries) (sym text) finished))))
 
 pub returns-in-Ok-clause-front : goal.returns-in-Ok-clause-front
 returns-in-Ok-clause-front g c =
@@ -149,10 +149,10 @@ returns-clause-finds g c =
     let redo_new : List ℕ = g.T.TextStore.text c.redo_entries.new.redo_text in
     let image : x ≡ g.D.Device.image c.self.inside.device = c.prepare_takens.ensures.image dh in
     let same : text ≡ g.T.TextStore.text c.self.inside.store = c.prepare_takens.ensures.to_text th in
-    let redo_same : redo ≡ g.T.TextStore.text c.self.inside.redo_text = c.prepare_takens.ensures.from_text (c.read_undone.ensures.honesty.1 rh) ∙ c.read_undone.ensures.text rh in
+    let redo_same : redo ≡ g.T.TextStore.text c.self.inside.redo_text = c.prepare_takens.ensures.from_text (c.read_undone.ensures.looks.honesty.1 rh) ∙ c.read_undone.ensures.looks.same rh in
     let d = c.prepare_takens.ensures.device_honesty.1 dh in
     let t = c.prepare_takens.ensures.to_honesty.1 th in
-    let r = c.prepare_takens.ensures.from_honesty.1 (c.read_undone.ensures.honesty.1 rh) in
+    let r = c.prepare_takens.ensures.from_honesty.1 (c.read_undone.ensures.looks.honesty.1 rh) in
     let kept : IsRedoOf redo x (changes_of s.stack) s.undone = redo_moved (g.T.TextStore.text c.self.inside.redo_text) (g.D.Device.image c.self.inside.device) redo x c.self.inside.count s ready.count redo_same image has.redo in
     let at : IsAtRest text x s.stack = subst (λ z. IsAtRest z x s.stack) (sym same) (subst (λ z. IsAtRest (g.T.TextStore.text c.self.inside.store) z s.stack) (sym image) ready.rest) in
     let counted : c.self.inside.count ≡ changes_of s.stack = omega (arith, ready.count) in

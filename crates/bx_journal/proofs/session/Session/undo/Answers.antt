@@ -43,7 +43,7 @@ undo_entries-requires-clause-read g c =
       older = again.read.older;
       is = λ th.
           let before = c.prepare_takens.ensures.from_honesty.0 th in
-          c.prepare_takens.ensures.from_text before ∙ c.read_last_of.ensures.text (c.read_last_of.ensures.honesty.0 before) ∙ again.is (c.read_last_of.ensures.honesty.0 before);
+          c.prepare_takens.ensures.from_text before ∙ c.read_last_of.ensures.looks.same (c.read_last_of.ensures.looks.honesty.0 before) ∙ again.is (c.read_last_of.ensures.looks.honesty.0 before);
       mark = again.read.mark;
       marked = again.read.marked;
     }
@@ -58,13 +58,13 @@ returns-in-Ok-clause-accepted g c =
     rw (← c.self.view_is) (λ dh th stack standing.
     let counted : length stack ≡ suc c.self.inside.count = standing.count in
     let image : g.D.Device.image c.prepare_takens.new.device ≡ g.D.Device.image c.self.inside.device = c.prepare_takens.ensures.image dh in
-    let text : g.T.TextStore.text c.prepare_takens.new.from ≡ g.T.TextStore.text c.self.inside.store = c.prepare_takens.ensures.from_text (c.read_last_of.ensures.honesty.1 th) ∙ c.read_last_of.ensures.text th in
+    let text : g.T.TextStore.text c.prepare_takens.new.from ≡ g.T.TextStore.text c.self.inside.store = c.prepare_takens.ensures.from_text (c.read_last_of.ensures.looks.honesty.1 th) ∙ c.read_last_of.ensures.looks.same th in
     let stands : StandsFor (g.T.TextStore.text c.prepare_takens.new.from) (g.D.Device.image c.prepare_takens.new.device) stack =
     subst (λ t. StandsFor t (g.D.Device.image c.prepare_takens.new.device) stack) (sym text) (subst (λ x. StandsFor (g.T.TextStore.text c.self.inside.store) x stack) (sym image) standing.stands) in (
       (omega (arith, counted), omega (arith, counted), refl),
       record {
         stands = subst (λ n. StandsFor (g.T.TextStore.text c.undo_entries.new.store) (g.D.Device.image c.undo_entries.new.device) (drop n stack)) c.in_ok-taking.ensures.count
-            (c.in-Ok.ensures.stands (c.prepare_takens.ensures.device_honesty.1 dh) (c.prepare_takens.ensures.from_honesty.1 (c.read_last_of.ensures.honesty.1 th)) stack stands);
+            (c.in-Ok.ensures.stands (c.prepare_takens.ensures.device_honesty.1 dh) (c.prepare_takens.ensures.from_honesty.1 (c.read_last_of.ensures.looks.honesty.1 th)) stack stands);
         count = omega (arith, counted, length-drop c.args.k stack);
         whole = standing.whole;
       },
@@ -74,12 +74,12 @@ pub returns-in-Ok-clause-sound : goal.returns-in-Ok-clause-sound
 returns-in-Ok-clause-sound g c =
     rw (← c.self.view_is) (λ dh th stack ready.
     let image : g.D.Device.image c.prepare_takens.new.device ≡ g.D.Device.image c.self.inside.device = c.prepare_takens.ensures.image dh in
-    let text : g.T.TextStore.text c.prepare_takens.new.from ≡ g.T.TextStore.text c.self.inside.store = c.prepare_takens.ensures.from_text (c.read_last_of.ensures.honesty.1 th) ∙ c.read_last_of.ensures.text th in
+    let text : g.T.TextStore.text c.prepare_takens.new.from ≡ g.T.TextStore.text c.self.inside.store = c.prepare_takens.ensures.from_text (c.read_last_of.ensures.looks.honesty.1 th) ∙ c.read_last_of.ensures.looks.same th in
     let rest : IsAtRest (g.T.TextStore.text c.prepare_takens.new.from) (g.D.Device.image c.prepare_takens.new.device) stack =
     subst (λ t. IsAtRest t (g.D.Device.image c.prepare_takens.new.device) stack) (sym text) (subst (λ x. IsAtRest (g.T.TextStore.text c.self.inside.store) x stack) (sym image) ready.rest) in
     record {
       rest = subst (λ n. IsAtRest (g.T.TextStore.text c.undo_entries.new.store) (g.D.Device.image c.undo_entries.new.device) (drop n stack)) c.in_ok-taking.ensures.count
-          (c.in-Ok.ensures.ok (c.prepare_takens.ensures.device_honesty.1 dh) (c.prepare_takens.ensures.from_honesty.1 (c.read_last_of.ensures.honesty.1 th)) stack rest);
+          (c.in-Ok.ensures.ok (c.prepare_takens.ensures.device_honesty.1 dh) (c.prepare_takens.ensures.from_honesty.1 (c.read_last_of.ensures.looks.honesty.1 th)) stack rest);
       count = omega (arith, ready.count, length-drop c.args.k stack);
       whole = ready.whole;
     })
@@ -94,20 +94,20 @@ returns-in-Ok-clause-text g c =
     rw (← c.self.view_is) (λ th entries finished.
     let old : List ℕ = g.T.TextStore.text c.self.inside.store in
     let new : List ℕ = g.T.TextStore.text c.undo_entries.new.store in
-    let text : g.T.TextStore.text c.prepare_takens.new.from ≡ old = c.prepare_takens.ensures.from_text (c.read_last_of.ensures.honesty.1 th) ∙ c.read_last_of.ensures.text th in
+    let text : g.T.TextStore.text c.prepare_takens.new.from ≡ old = c.prepare_takens.ensures.from_text (c.read_last_of.ensures.looks.honesty.1 th) ∙ c.read_last_of.ensures.looks.same th in
     subst (λ t. HasLeft t new (drop c.args.k entries)) text
     (subst (λ n. HasLeft (g.T.TextStore.text c.prepare_takens.new.from) new (drop n entries)) c.in_ok-taking.ensures.count
-    (c.in-Ok.ensures.left (c.prepare_takens.ensures.from_honesty.1 (c.read_last_of.ensures.honesty.1 th)) entries (subst (λ t. IsFinished t entries) (sym text) finished))))
+    (c.in-Ok.ensures.left (c.prepare_takens.ensures.from_honesty.1 (c.read_last_of.ensures.looks.honesty.1 th)) entries (subst (λ t. IsFinished t entries) (sym text) finished))))
 
 pub returns-clause-fault : goal.returns-clause-fault
 returns-clause-fault g c =
     rw (← c.self.view_is) (λ dh th stack ready.
     let image : g.D.Device.image c.prepare_takens.new.device ≡ g.D.Device.image c.self.inside.device = c.prepare_takens.ensures.image dh in
-    let text : g.T.TextStore.text c.prepare_takens.new.from ≡ g.T.TextStore.text c.self.inside.store = c.prepare_takens.ensures.from_text (c.read_last_of.ensures.honesty.1 th) ∙ c.read_last_of.ensures.text th in
+    let text : g.T.TextStore.text c.prepare_takens.new.from ≡ g.T.TextStore.text c.self.inside.store = c.prepare_takens.ensures.from_text (c.read_last_of.ensures.looks.honesty.1 th) ∙ c.read_last_of.ensures.looks.same th in
     let rest : IsAtRest (g.T.TextStore.text c.prepare_takens.new.from) (g.D.Device.image c.prepare_takens.new.device) stack =
     subst (λ t. IsAtRest t (g.D.Device.image c.prepare_takens.new.device) stack) (sym text) (subst (λ x. IsAtRest (g.T.TextStore.text c.self.inside.store) x stack) (sym image) ready.rest) in
     subst (λ n. (j : ℕ) × (j ≤ n) × Recovers (g.T.TextStore.text c.undo_entries.new.store) (g.D.Device.image c.undo_entries.new.device) (drop j stack)) c.in_ok-taking.ensures.count
-    (c.in-Err.ensures.fault (c.prepare_takens.ensures.device_honesty.1 dh) (c.prepare_takens.ensures.from_honesty.1 (c.read_last_of.ensures.honesty.1 th)) stack rest))
+    (c.in-Err.ensures.fault (c.prepare_takens.ensures.device_honesty.1 dh) (c.prepare_takens.ensures.from_honesty.1 (c.read_last_of.ensures.looks.honesty.1 th)) stack rest))
 
 pub returns-in-Ok-clause-undone : goal.returns-in-Ok-clause-undone
 returns-in-Ok-clause-undone g c =
@@ -119,13 +119,13 @@ returns-in-Ok-clause-undone g c =
     let new : List ℕ = g.T.TextStore.text c.undo_entries.new.store in
     let redo_new : List ℕ = g.T.TextStore.text c.undo_entries.new.redo_text in
     let image : x ≡ g.D.Device.image c.self.inside.device = c.prepare_takens.ensures.image dh in
-    let same : text ≡ g.T.TextStore.text c.self.inside.store = c.prepare_takens.ensures.from_text (c.read_last_of.ensures.honesty.1 th) ∙ c.read_last_of.ensures.text th in
+    let same : text ≡ g.T.TextStore.text c.self.inside.store = c.prepare_takens.ensures.from_text (c.read_last_of.ensures.looks.honesty.1 th) ∙ c.read_last_of.ensures.looks.same th in
     let redo_same : redo ≡ g.T.TextStore.text c.self.inside.redo_text = c.prepare_takens.ensures.to_text rh in
     let stands : StandsFor text x s.stack = subst (λ t. StandsFor t x s.stack) (sym same) (subst (λ z. StandsFor (g.T.TextStore.text c.self.inside.store) z s.stack) (sym image) standing.stands) in
     let kept : IsRedoOf redo x (changes_of s.stack) s.undone = redo_moved (g.T.TextStore.text c.self.inside.redo_text) (g.D.Device.image c.self.inside.device) redo x c.self.inside.count s standing.count redo_same image has.redo in
     let done : (c.in-Ok.undone ≡ length (undo_of c.args.k s).undone) × AreStanding new y redo_new (undo_of c.args.k s) =
     subst (λ n. (c.in-Ok.undone ≡ length (undo_of n s).undone) × AreStanding new y redo_new (undo_of n s)) c.in_ok-taking.ensures.count
-    (c.in-Ok.ensures.images (c.prepare_takens.ensures.device_honesty.1 dh) (c.prepare_takens.ensures.from_honesty.1 (c.read_last_of.ensures.honesty.1 th)) (c.prepare_takens.ensures.to_honesty.1 rh) s (record { stands = stands; undone = kept }) has.counted) in
+    (c.in-Ok.ensures.images (c.prepare_takens.ensures.device_honesty.1 dh) (c.prepare_takens.ensures.from_honesty.1 (c.read_last_of.ensures.looks.honesty.1 th)) (c.prepare_takens.ensures.to_honesty.1 rh) s (record { stands = stands; undone = kept }) has.counted) in
     let left : changes_of (drop c.args.k s.stack) ≡ c.count_left-self-inside.result = changes_left s.stack c.self.inside.count c.args.k c.count_left-self-inside.result standing.count c.count_left-self-inside.ensures in
     record { redo = subst (λ n. IsRedoOf redo_new y n (undo_of c.args.k s).undone) left done.1.undone; counted = done.0 })
 
@@ -137,9 +137,9 @@ returns-clause-finds g c =
     let text : List ℕ = g.T.TextStore.text c.prepare_takens.new.from in
     let redo : List ℕ = g.T.TextStore.text c.prepare_takens.new.to in
     let image : x ≡ g.D.Device.image c.self.inside.device = c.prepare_takens.ensures.image dh in
-    let same : text ≡ g.T.TextStore.text c.self.inside.store = c.prepare_takens.ensures.from_text (c.read_last_of.ensures.honesty.1 th) ∙ c.read_last_of.ensures.text th in
+    let same : text ≡ g.T.TextStore.text c.self.inside.store = c.prepare_takens.ensures.from_text (c.read_last_of.ensures.looks.honesty.1 th) ∙ c.read_last_of.ensures.looks.same th in
     let redo_same : redo ≡ g.T.TextStore.text c.self.inside.redo_text = c.prepare_takens.ensures.to_text rh in
     let rest : IsAtRest text x s.stack = subst (λ t. IsAtRest t x s.stack) (sym same) (subst (λ z. IsAtRest (g.T.TextStore.text c.self.inside.store) z s.stack) (sym image) ready.rest) in
     let kept : IsRedoOf redo x (changes_of s.stack) s.undone = redo_moved (g.T.TextStore.text c.self.inside.redo_text) (g.D.Device.image c.self.inside.device) redo x c.self.inside.count s ready.count redo_same image has.redo in
     subst (λ n. (i : ℕ) × (i ≤ n) × Finds (g.T.TextStore.text c.undo_entries.new.store) y (g.T.TextStore.text c.undo_entries.new.redo_text) (undo_of i s)) c.in_ok-taking.ensures.count
-    (c.in-Err.ensures.finds (c.prepare_takens.ensures.device_honesty.1 dh) (c.prepare_takens.ensures.from_honesty.1 (c.read_last_of.ensures.honesty.1 th)) (c.prepare_takens.ensures.to_honesty.1 rh) s (record { rest = rest; undone = kept }) has.counted))
+    (c.in-Err.ensures.finds (c.prepare_takens.ensures.device_honesty.1 dh) (c.prepare_takens.ensures.from_honesty.1 (c.read_last_of.ensures.looks.honesty.1 th)) (c.prepare_takens.ensures.to_honesty.1 rh) s (record { rest = rest; undone = kept }) has.counted))

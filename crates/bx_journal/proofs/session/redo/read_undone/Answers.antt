@@ -1,5 +1,5 @@
 use Rattle.std.proofs.Common.{sym, subst}
-use Rattle.bx_journal.specs.Opening.{FaultCounts}
+use Rattle.bx_journal.specs.inner.Devices.{FaultCounts}
 use Rattle.bx_journal.specs.inner.Undoing.{RedoAgainFault}
 use Rattle.bx_journal.proofs.RedoingLemmas.{redo_again, redo_counts}
 use Rattle.bx_journal.proofs.session.redo.read_undone.Goals as goal
@@ -9,7 +9,11 @@ returns-in-Err-clause-fault g c =
     subst (RedoAgainFault (g.T.TextStore.honest c.args.redo_text.now) (g.T.TextStore.text c.args.redo_text.now) c.args.undone) (sym c.of_redo.ensures)
     (redo_again (g.T.TextStore.honest c.args.redo_text.now) (g.T.TextStore.text c.args.redo_text.now) c.args.undone c.in-Err.fault c.in-Err.ensures.fault)
 
-pub returns-in-Err-clause-counts : goal.returns-in-Err-clause-counts
-returns-in-Err-clause-counts g c =
-    subst (λ e. FaultCounts e 0 (g.T.TextStore.failures c.args.redo_text.now) 0 (g.T.TextStore.failures c.read_last_of.new.store)) (sym c.of_redo.ensures)
-    (redo_counts c.in-Err.fault (g.T.TextStore.failures c.args.redo_text.now) (g.T.TextStore.failures c.read_last_of.new.store) c.in-Err.ensures.counts)
+pub returns-in-Err-clause-looks : goal.returns-in-Err-clause-looks
+returns-in-Err-clause-looks g c = record {
+  same = c.read_last_of.ensures.looks.same;
+  honesty = c.read_last_of.ensures.looks.honesty;
+  no_failure = tt;
+  counts = subst (λ e. FaultCounts e (g.T.TextStore.failures c.args.redo_text.now) 0 (g.T.TextStore.failures c.read_last_of.new.store) 0) (sym c.of_redo.ensures)
+      (redo_counts c.in-Err.fault (g.T.TextStore.failures c.args.redo_text.now) (g.T.TextStore.failures c.read_last_of.new.store) c.in-Err.ensures.looks.counts);
+}

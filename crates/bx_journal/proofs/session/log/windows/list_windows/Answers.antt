@@ -25,7 +25,7 @@ loop-at-preserved g c =
     record {
       listed = listed_to (g.T.TextStore.honest c.args.store.now) stored c.loop-at.at c.args.len c.loop-at.sums c.loop-at.rows.items c.list_window.new.rows.items c.in-Some.listed inv.listed listed;
       below = listed.within;
-      text = λ h. now.text (inv.honesty.1 h) ∙ inv.text h;
-      honesty = ((λ h. inv.honesty.0 (now.honesty.0 h)), λ h. now.honesty.1 (inv.honesty.1 h));
-      failures = now.no_failure ∙ inv.failures;
+      text = λ h. now.looks.same (inv.honesty.1 h) ∙ inv.text h;
+      honesty = ((λ h. inv.honesty.0 (now.looks.honesty.0 h)), λ h. now.looks.honesty.1 (inv.honesty.1 h));
+      failures = now.looks.no_failure ∙ inv.failures;
     }

@@ -11,17 +11,17 @@ read_from-requires-clause-within g c = subst (λ o. IfSome o (λ (f : Front). f.
 
 pub read_from-requires-clause-long : goal.read_from-requires-clause-long
 read_from-requires-clause-long g c h =
-    let before = c.count_front.ensures.honesty.0 h in
+    let before = c.count_front.ensures.looks.honesty.0 h in
     let first = c.len.ensures.goes_on.honesty.0 before in
-    c.in_ok-len.ensures.len first ∙ sym (ap length (c.count_front.ensures.text before ∙ c.len.ensures.text first))
+    c.in_ok-len.ensures.len first ∙ sym (ap length (c.count_front.ensures.looks.same before ∙ c.len.ensures.text first))
 
 pub read_from-requires-clause-front : goal.read_from-requires-clause-front
 read_from-requires-clause-front g c =
     front_after (g.T.TextStore.honest c.len.new.self) (g.T.TextStore.honest c.count_front.new.store) (g.T.TextStore.text c.len.new.self) (g.T.TextStore.text c.count_front.new.store) false c.in-Some.front
-    c.count_front.ensures.honesty.0 c.count_front.ensures.text
+    c.count_front.ensures.looks.honesty.0 c.count_front.ensures.looks.same
     (subst (λ o. IfSome o (IsFrontCounted (g.T.TextStore.honest c.len.new.self) (g.T.TextStore.text c.len.new.self) false)) c.in-Some.is c.in_ok-found.ensures.counted)
 
 pub returns-clause-read : goal.returns-clause-read
 returns-clause-read g c =
     found_last_before (g.T.TextStore.honest c.args.store.now) (g.T.TextStore.honest c.count_front.new.store) (g.T.TextStore.text c.args.store.now) (g.T.TextStore.text c.count_front.new.store)
-    (λ h. c.count_front.ensures.honesty.1 (c.len.ensures.goes_on.honesty.1 h)) (λ h. c.count_front.ensures.text (c.len.ensures.goes_on.honesty.1 h) ∙ c.len.ensures.text h) c.args.count c.read_from.result c.read_from.ensures.read
+    (λ h. c.count_front.ensures.looks.honesty.1 (c.len.ensures.goes_on.honesty.1 h)) (λ h. c.count_front.ensures.looks.same (c.len.ensures.goes_on.honesty.1 h) ∙ c.len.ensures.text h) c.args.count c.read_from.result c.read_from.ensures.read

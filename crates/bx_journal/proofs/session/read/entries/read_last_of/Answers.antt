@@ -3,7 +3,7 @@ use Rattle.std.specs.Prelude.{IfSome}
 use Rattle.bx_journal.specs.declared.session.read.entries.FinishedRead.{FinishedRead}
 use Rattle.bx_journal.specs.inner.Undoing.{IsLastFrom}
 use Rattle.bx_journal.proofs.LastLemmas.{again_last, again_before, again_fault, few_of_all}
-use Rattle.bx_journal.proofs.WindowLemmas.{counts_before}
+use Rattle.bx_journal.proofs.WindowLemmas.{looks_before}
 use Rattle.bx_journal.proofs.session.read.entries.read_last_of.Goals as goal
 
 pub returns-in-Err-clause-fault : goal.returns-in-Err-clause-fault
@@ -19,7 +19,7 @@ returns-in-Some-clause-few g c = subst (λ o. IfSome o (λ (f : FinishedRead g.r
 pub returns-in-None-clause-read : goal.returns-in-None-clause-read
 returns-in-None-clause-read g c =
     again_last (g.T.TextStore.honest c.args.store.now) (g.T.TextStore.honest c.find_last.new.store) (g.T.TextStore.text c.args.store.now) (g.T.TextStore.text c.find_last.new.store)
-    c.find_last.ensures.honesty.1 c.find_last.ensures.text c.args.count c.read_again.result c.read_again.ensures.read
+    c.find_last.ensures.looks.honesty.1 c.find_last.ensures.looks.same c.args.count c.read_again.result c.read_again.ensures.read
 
 pub returns-in-None-clause-few : goal.returns-in-None-clause-few
 returns-in-None-clause-few g c =
@@ -28,8 +28,7 @@ returns-in-None-clause-few g c =
 pub returns-in-None-clause-fault : goal.returns-in-None-clause-fault
 returns-in-None-clause-fault g c =
     again_before (g.T.TextStore.honest c.args.store.now) (g.T.TextStore.honest c.find_last.new.store) (g.T.TextStore.text c.args.store.now) (g.T.TextStore.text c.find_last.new.store)
-    c.find_last.ensures.honesty.1 c.find_last.ensures.text c.args.count c.read_again.result c.read_again.ensures.fault
+    c.find_last.ensures.looks.honesty.1 c.find_last.ensures.looks.same c.args.count c.read_again.result c.read_again.ensures.fault
 
-pub returns-in-None-clause-counts : goal.returns-in-None-clause-counts
-returns-in-None-clause-counts g c =
-    counts_before c.read_again.result (g.T.TextStore.failures c.args.store.now) (g.T.TextStore.failures c.find_last.new.store) (g.T.TextStore.failures c.read_again.new.store) c.in-Ok.ensures.no_failure c.read_again.ensures.counts
+pub returns-in-None-clause-looks : goal.returns-in-None-clause-looks
+returns-in-None-clause-looks g c = looks_before c.in-Ok.ensures.looks c.read_again.ensures.looks

@@ -30,7 +30,7 @@ loop-read-preserved g c =
     record {
       read = behind_on honest stored c.args.front c.args.len c.loop-read.read c.in-Some.next inv.read on;
       below = on.within;
-      text = λ h. now.text (inv.honesty.1 h) ∙ inv.text h;
-      honesty = ((λ h. inv.honesty.0 (now.honesty.0 h)), λ h. now.honesty.1 (inv.honesty.1 h));
-      failures = now.no_failure ∙ inv.failures;
+      text = λ h. now.looks.same (inv.honesty.1 h) ∙ inv.text h;
+      honesty = ((λ h. inv.honesty.0 (now.looks.honesty.0 h)), λ h. now.looks.honesty.1 (inv.honesty.1 h));
+      failures = now.looks.no_failure ∙ inv.failures;
     }
