@@ -34,7 +34,8 @@ Stops Leaves e = (f : IoFault) × (e ≡ fault.Io f) × Leaves f
 -- Where `of=` names an image, dd is no dump. Else it stopped since the plan seeks, and nothing was read or written; or a front
 -- was written of what it makes of the input that was read, and no more was read than skip and count ask for.
 abbrev pub StopsDd : {A B : Type 0} → Option B → Plan A → Option (List ℕ) → Option (List ℕ) → Option (List ℕ) → Option (List ℕ) → Fault → Type 0
-StopsDd None plan r0 r1 w0 w1 e = ((0 < plan.seek) × (e ≡ fault.Dd SeekWithoutOutput) × (r1 ≡ r0) × (w1 ≡ w0)) ⊎ ((plan.seek ≡ 0) × Stops (StopsCopy plan r0 r1 w0 w1) e)
+StopsDd None plan r0 r1 w0 w1 e = ((0 < plan.seek) × (e ≡ fault.Dd SeekWithoutOutput) × (r1 ≡ r0) × (w1 ≡ w0))
+    ⊎ ((plan.seek ≡ 0) × Stops (StopsCopy plan r0 r1 w0 w1) e)
 StopsDd (Some image) plan r0 r1 w0 w1 e = (e ≡ fault.Usage) × (r1 ≡ r0) × (w1 ≡ w0)
 
 -- what a fault leaves: a front of the text of what was read was written

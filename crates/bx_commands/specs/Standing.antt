@@ -41,7 +41,8 @@ PerformUp c old (Ok n) after = (new : Images) × (after ≡ Up new) × PerformSt
 PerformUp c old (Err DeviceFailed) after = after ≡ Up old
 PerformUp c old (Err JournalFull) after = (65535 ≤ changes_of old.stack) × (after ≡ Up old)
 PerformUp c old (Err NoMemory) after = (after ≡ Up old) × Fits c (length (top old.stack)) MAX_LEN
-PerformUp c old (Err Interrupted) after = ((after ≡ Down old) ⊎ (after ≡ Down (change_to (effect c (top old.stack)) old))) × Fits c (length (top old.stack)) MAX_LEN
+PerformUp c old (Err Interrupted) after = ((after ≡ Down old) ⊎ (after ≡ Down (change_to (effect c (top old.stack)) old)))
+    × Fits c (length (top old.stack)) MAX_LEN
 PerformUp c old (Err e) after = (after ≡ Up old) × PerformStep old.stack c (Err e) old.stack
 
 -- An undo or a redo of k: `Step` is its step, and `moved` tells the images behind it. A device that fails before the first

@@ -13,7 +13,8 @@ use Rattle.bx_journal.specs.Stack.{image_at}
 -- a row for each entry, the oldest first
 abbrev pub rows_of : List Entry → List LogRow
 rows_of [] = []
-rows_of (e ∷ entries) = rows_of entries ++ record { number = suc (length entries); old_len = e.saved.len; saved = sum (map (λ (run : Run). length run.bytes) e.saved.runs) } ∷ []
+rows_of (e ∷ entries) = rows_of entries
+    ++ record { number = suc (length entries); old_len = e.saved.len; saved = sum (map (λ (run : Run). length run.bytes) e.saved.runs) } ∷ []
 
 -- what was found: `rest` is what follows the last newline
 abbrev pub how_of : Reading → List ℕ → How

@@ -28,7 +28,8 @@ StandsRecovered image text d r s = IsStanding image text s (recovered r (image d
 
 -- where a length differs, that is the fault, unless another came before
 abbrev pub RefusesDiffering : {V E : Type 0} → Result V E → (E → SessionFault) → List ℕ → List ℕ → Type 0
-RefusesDiffering result fault text x = (r : Reading) (n : ℕ) → Reads text r → Differs r.entries (image_at r.stage x) n → MatchResult result (λ v. ⊥) (λ e. RefusesLength n (fault e))
+RefusesDiffering result fault text x = (r : Reading) (n : ℕ) → Reads text r → Differs r.entries (image_at r.stage x) n
+    → MatchResult result (λ v. ⊥) (λ e. RefusesLength n (fault e))
 
 -- opening finds the stack that it found before
 abbrev pub KeepsFound : List ℕ → List ℕ → List ℕ → List ℕ → Type 0

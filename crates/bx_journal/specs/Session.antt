@@ -42,12 +42,14 @@ FindsEither image text s old new = SessionFinds image text s old ⊎ SessionFind
 
 -- no call of a device failed
 abbrev pub IsUnfailed : {D T : Type 0} → (D → ℕ) → (T → ℕ) → SessionView D T → SessionView D T → Type 0
-IsUnfailed failures text_failures old new = (failures new.device ≡ failures old.device) × (text_failures new.store ≡ text_failures old.store) × (text_failures new.redo_text ≡ text_failures old.redo_text)
+IsUnfailed failures text_failures old new = (failures new.device ≡ failures old.device) × (text_failures new.store ≡ text_failures old.store)
+    × (text_failures new.redo_text ≡ text_failures old.redo_text)
 
 -- how the counts of failed calls of the session's three devices go on
 abbrev pub SessionCounts : {D T : Type 0} → (D → ℕ) → (T → ℕ) → SessionView D T → SessionView D T → SessionFault → Type 0
 SessionCounts failures text_failures old new e =
-    ThreeCounts e (failures old.device) (text_failures old.store) (text_failures old.redo_text) (failures new.device) (text_failures new.store) (text_failures new.redo_text)
+    ThreeCounts e (failures old.device) (text_failures old.store) (text_failures old.redo_text) (failures new.device) (text_failures new.store)
+    (text_failures new.redo_text)
 
 -- what a change, an undo and a redo promise alike: a session that is broken refuses, and it alone, and stays as it was; one that refuses
 -- keeps its bytes, one that is interrupted is broken, and each keeps its counts of changes; a failed call is counted where a fault tells of it
@@ -58,5 +60,6 @@ pub record FailsSafely {D T V : Type 0} (honest : D → Type 0) (text_honest : T
   pub refused : honest old.device → text_honest old.store → IfErr result (λ e. AfterFault e (Unit {0}) (IsSame image text old new))
   pub redo_same : text_honest old.redo_text → IfErr result (λ e. AfterFault e (Unit {0}) (IsRedoSame text old new))
   pub unmoved : IfErr result (λ e. (new.count ≡ old.count) × (new.undone ≡ old.undone) × AfterFault e (new.is_broken ≡ true) (new.is_broken ≡ old.is_broken))
-  pub honesty : (honest new.device ↔ honest old.device) × (text_honest new.store ↔ text_honest old.store) × (text_honest new.redo_text ↔ text_honest old.redo_text)
+  pub honesty : (honest new.device ↔ honest old.device) × (text_honest new.store ↔ text_honest old.store)
+      × (text_honest new.redo_text ↔ text_honest old.redo_text)
   pub counts : MatchResult result (λ n. IsUnfailed failures text_failures old new) (SessionCounts failures text_failures old new)

@@ -10,7 +10,8 @@ piece_at piece cells k = take piece (drop (piece * k) cells) ++ 32 ∷ []
 -- the characters in pieces, a space after each that is whole, and spaces up to the width
 abbrev pub grouped : ℕ → List ℕ → ℕ → List ℕ
 grouped piece cells width =
-    flat_map (piece_at piece cells) (range_with_len 0 (length cells / piece)) ++ (drop (piece * (length cells / piece)) cells ++ replicate (width - (length cells + length cells / piece)) 32)
+    flat_map (piece_at piece cells) (range_with_len 0 (length cells / piece))
+    ++ (drop (piece * (length cells / piece)) cells ++ replicate (width - (length cells + length cells / piece)) 32)
 
 -- value k of so many bytes each: a space, and the digits of its bytes, the last byte first
 abbrev pub hex_value : ℕ → List ℕ → ℕ → List ℕ

@@ -28,7 +28,8 @@ pub record WritesPart (text : List ℕ → List ℕ) (skip : ℕ) (limit : Optio
 
 -- Some input was read after `from` bytes, no more of it than skip and limit ask for, and a front of its text was written
 -- after `before` bytes, which the fault counts too; reading is no more than a block ahead.
-pub record WritesFrontBut (slack : ℕ) (text : List ℕ → List ℕ) (skip : ℕ) (limit : Option ℕ) (from before : ℕ) (r0 r1 w0 w1 : Option (List ℕ)) (fault : IoFault) : Type 0 where
+pub record WritesFrontBut (slack : ℕ) (text : List ℕ → List ℕ) (skip : ℕ) (limit : Option ℕ) (from before : ℕ) (r0 r1 w0 w1 : Option (List ℕ))
+    (fault : IoFault) : Type 0 where
   pub input : List ℕ
   pub written : ℕ
   pub consumed : Consumes r0 r1 input
@@ -74,10 +75,12 @@ WritesTextOf text skip limit r0 r1 w0 w1 part = WritesPart (λ input. text (part
 
 -- a front of it was written, after `before` bytes of other texts
 abbrev pub StopsTextOf : ℕ → (List ℕ → List ℕ) → ℕ → Option ℕ → ℕ → Option (List ℕ) → Option (List ℕ) → Option (List ℕ) → Option (List ℕ) → IoFault → Type 0
-StopsTextOf slack text skip limit before r0 r1 w0 w1 fault = WritesFrontBut slack (λ input. text (part_of skip limit input)) skip limit 0 before r0 r1 w0 w1 fault
+StopsTextOf slack text skip limit before r0 r1 w0 w1 fault =
+    WritesFrontBut slack (λ input. text (part_of skip limit input)) skip limit 0 before r0 r1 w0 w1 fault
 
 -- the same of what was answered
-abbrev pub StopsPart : (List ℕ → List ℕ) → ℕ → Option ℕ → ℕ → Option (List ℕ) → Option (List ℕ) → Option (List ℕ) → Option (List ℕ) → Result Part IoFault → Type 0
+abbrev pub StopsPart : (List ℕ → List ℕ) → ℕ → Option ℕ → ℕ → Option (List ℕ) → Option (List ℕ) → Option (List ℕ) → Option (List ℕ) → Result Part IoFault
+    → Type 0
 StopsPart text skip limit before r0 r1 w0 w1 outcome = IfErr outcome (StopsTextOf 0 text skip limit before r0 r1 w0 w1)
 
 -- Some bytes were read of `wanted` that were asked for, and then no more could be.

@@ -47,7 +47,8 @@ EndsQuiet (b ∷ c ∷ bs) = EndsQuiet (c ∷ bs)
 
 -- whether the four bytes from a place on all print
 abbrev pub four_print : List ℕ → ℕ → Bool
-four_print x k = is_printable (slice_index x k) && (is_printable (slice_index x (k + 1)) && (is_printable (slice_index x (k + 2)) && is_printable (slice_index x (k + 3))))
+four_print x k = is_printable (slice_index x k)
+    && (is_printable (slice_index x (k + 1)) && (is_printable (slice_index x (k + 2)) && is_printable (slice_index x (k + 3))))
 
 -- the place of the lowest bit that is set, or n
 abbrev pub first_set : ℕ → ℕ → ℕ

@@ -25,7 +25,8 @@ abbrev pub WritesLines : (ℕ → List ℕ → List ℕ) → ℕ → ℕ → Xxd
 WritesLines line cols at o r0 r1 w0 w1 part = WritesText (in_lines line cols at) o r0 r1 w0 w1 part
 
 -- and where they stop
-abbrev pub StopsLines : (ℕ → List ℕ → List ℕ) → ℕ → ℕ → XxdOptions → ℕ → Option (List ℕ) → Option (List ℕ) → Option (List ℕ) → Option (List ℕ) → Result Part IoFault → Type 0
+abbrev pub StopsLines : (ℕ → List ℕ → List ℕ) → ℕ → ℕ → XxdOptions → ℕ → Option (List ℕ) → Option (List ℕ) → Option (List ℕ) → Option (List ℕ)
+    → Result Part IoFault → Type 0
 StopsLines line cols at o before r0 r1 w0 w1 outcome = IfErr outcome (StopsText 0 (in_lines line cols at) o before r0 r1 w0 w1)
 
 -- where items stop
