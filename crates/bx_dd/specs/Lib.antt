@@ -1,7 +1,6 @@
 pub mod Output
 pub mod Counting
 pub mod Standing
-pub mod Convert
 pub mod Plan
 pub mod Transfer
 pub mod Streaming

@@ -4,6 +4,7 @@ ghost use Rattle.bx_dd.specs.Counting.{counts_of};
 ghost use Rattle.bx_dd.specs.Output.{converted, joined, unfinished};
 ghost use Rattle.bx_dd.specs.inner.Output.{block_of};
 ghost use Rattle.bx_dd.specs.Plan.{form_of};
+ghost use Rattle.bx_dd.specs.Standing.{IsAfter};
 ghost use Rattle.bx_dd.specs.inner.Paged.{Takes, TakesWithin};
 ghost use Rattle.bx_dd.specs.inner.Standing.{last_of, HasSizes};
 ghost use Rattle.bx_dd.specs.declared.convert.form.Shape.TheVariants.{Flat, Unblock};
@@ -22,6 +23,7 @@ use crate::stream::counts::{Counts, Transfer};
 use crate::stream::page::Page;
 use bx_text::Bytes;
 use std::alloc::{AllocError, Allocator, Global};
+use std::marker::Model;
 
 /// A conversion under way: the output so far, and the bytes of the record that may go on.
 #[derive(Drop)]
@@ -33,22 +35,29 @@ pub struct Convert<A: Allocator = Global> {
     held: Vec<u8, A>,
     over: bool,
     cut: u64,
-    ghost some_ibs: { 0 < form.ibs },
-    ghost few_ibs: { form.ibs ≤ 16777216 },
-    ghost some_obs: { 0 < form.obs },
-    ghost some_cbs: { form.shape ≢ Flat → 0 < form.cbs },
-    ghost few_cbs: { form.cbs ≤ 16777216 },
-    ghost room: { length held.items ≤ form.cbs },
-    ghost space: { form.shape ≢ Flat → form.cbs ≤ vec_capacity held },
-    ghost part: { form.shape ≡ Unblock → length held.items < form.cbs },
-    ghost few: { taken ≤ 2 ^ 40 },
-    ghost few_cut: { cut ≤ taken + 16777216 },
-    ghost whole: { taken % form.ibs ≡ 0 → cut ≤ taken },
+}
+
+impl<A: Allocator> Model for Convert<A> {
+    ghost use Rattle.bx_dd.specs.Standing.{Progress};
+
+    ghost Value = { Progress };
+
+    ghost use Rattle.bx_dd.specs.declared.convert.form.Shape.TheVariants.{Flat, Unblock};
+    ghost use Rattle.std.specs.Prelude.{length, vec_capacity, ◌<◌, ◌≤◌, ◌≡◌, ◌≢◌, ◌+◌, ◌%◌, ◌^◌};
+    ghost use Rattle.bx_dd.specs.inner.Standing.{HasSizes};
+
+    ghost view = { λ c. record { form = c.form; taken = c.taken; out = c.out.items; held = c.held.items; over = c.over; cut = c.cut } };
+
+    ghost invariant = { λ c. HasSizes c.form
+        × (length c.held.items ≤ c.form.cbs)
+        × (c.form.shape ≢ Flat → c.form.cbs ≤ vec_capacity c.held)
+        × (c.form.shape ≡ Unblock → length c.held.items < c.form.cbs)
+        × (c.taken ≤ 2 ^ 40)
+        × (c.cut ≤ c.taken + 16777216)
+        × (c.taken % c.form.ibs ≡ 0 → c.cut ≤ c.taken) };
 }
 
 impl<A: Allocator + Clone> Convert<A> {
-    ghost use Rattle.bx_dd.specs.Convert.{IsAfter};
-
     /// Nothing converted yet. The one fault is want of memory.
     pub fn new<P: Allocator>(alloc: A, plan: &Plan<P>) -> Result<Convert<A>, DdFault>
         ensures form { IfOk result (λ c. c.form ≡ form_of plan.now) }
@@ -71,8 +80,6 @@ impl<A: Allocator + Clone> Convert<A> {
 }
 
 impl<A: Allocator> Convert<A> {
-    ghost use Rattle.bx_dd.specs.Convert.{IsAfter};
-
     /// The next block: 1 to `ibs` bytes, after whole blocks alone. The one fault is want of memory, and the conversion is then given up.
     pub fn block(self, b: &[u8]) -> Result<Convert<A>, DdFault>
         requires some { 0 < length b.now }
@@ -84,25 +91,17 @@ impl<A: Allocator> Convert<A> {
         ensures after { (input : List ℕ) → IsAfter input self → IfOk result (λ c. IsAfter (input ++ b.now) c) }
         ensures fault { IsOkUnless result DdFault.NoMemory }
     {
-        let Convert {
-            alloc,
-            form,
-            taken,
-            mut out,
-            mut held,
-            over,
-            cut,
-        } = self;
-        let tail = take_block(&alloc, &mut out, &mut held, Tail { over, cut }, b, form)?;
-        Ok(Convert {
-            alloc,
-            form,
-            taken: taken + b.len() as u64,
-            out,
-            held,
-            over: tail.over,
-            cut: tail.cut,
-        })
+        let mut next = self;
+        let form = next.form;
+        let tail = Tail {
+            over: next.over,
+            cut: next.cut,
+        };
+        let tail = take_block(&next.alloc, &mut next.out, &mut next.held, tail, b, form)?;
+        next.over = tail.over;
+        next.cut = tail.cut;
+        next.taken += b.len() as u64;
+        Ok(next)
     }
 
     /// The output and the counts. The one fault is want of memory.
@@ -145,7 +144,7 @@ impl<A: Allocator> Convert<A> {
 
     /// How many bytes of the record that may go on are kept.
     pub fn held(&self) -> u64
-        ensures held { result ≡ length self.now.held.items }
+        ensures held { result ≡ length self.now.held }
         ensures kept { (x : List ℕ) → IsAfter x self.now →
             let form = self.now.form in result ≡ min form.cbs (unfinished form.shape form.cbs (joined form x)) }
     {
@@ -154,7 +153,7 @@ impl<A: Allocator> Convert<A> {
 
     /// What the records that are finished give.
     pub fn out(&self) -> &[u8]
-        ensures out { result.now ≡ self.now.out.items }
+        ensures out { result.now ≡ self.now.out }
     {
         self.out.as_slice()
     }

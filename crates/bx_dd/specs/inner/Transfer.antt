@@ -7,8 +7,7 @@ use Rattle.bx_text.specs.declared.stream.State.{State}
 use Rattle.bx_text.specs.declared.stream.State.TheVariants.{Open, Ended}
 use Rattle.bx_dd.specs.declared.fault.DdFault.{DdFault}
 use Rattle.bx_dd.specs.declared.fault.DdFault.TheVariants.{NoMemory, ReadFailed, InputTooLong}
-use Rattle.bx_dd.specs.declared.convert.Convert.{Convert}
-use Rattle.bx_dd.specs.Convert.{IsAfter}
+use Rattle.bx_dd.specs.Standing.{IsAfter, Progress}
 
 -- what follows `skip` blocks, at most `count` blocks of it
 abbrev pub selected : ℕ → ℕ → Option ℕ → List ℕ → List ℕ
@@ -41,6 +40,6 @@ abbrev pub ReadsBlocks : Option (List ℕ) → Option (List ℕ) → ℕ → ℕ
 ReadsBlocks old new n size before after = (input : List ℕ) × HasRead old new n size after.state input × (after.taken ≡ before.taken + length input)
 
 -- blocks were read and converted, and counted
-abbrev pub TakesBlocks : {A : Type 0} → Option (List ℕ) → Option (List ℕ) → ℕ → ℕ → Meter → Meter → Convert A → Type 0
+abbrev pub TakesBlocks : Option (List ℕ) → Option (List ℕ) → ℕ → ℕ → Meter → Meter → Progress → Type 0
 TakesBlocks old new n size before after c =
     (input : List ℕ) × IsAfter input c × HasRead old new n size after.state input × (after.taken ≡ before.taken + length input)

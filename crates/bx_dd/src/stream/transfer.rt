@@ -2,7 +2,7 @@
 ghost use Rattle.std.specs.Prelude.{◌≡◌, ℕ, ◌+◌, ◌-◌, ◌*◌, ◌^◌, ◌<◌, ◌≤◌, [], length, take, IfOk, IfErr, OnOk, OnErr, ◌⊎◌};
 ghost use Rattle.std.specs.Io.KnownBytes.{Consumes, IsAtEnd};
 ghost use Rattle.bx_text.specs.Stream.{IsReadCause};
-ghost use Rattle.bx_dd.specs.Convert.{IsAfter};
+ghost use Rattle.bx_dd.specs.Standing.{IsAfter};
 ghost use Rattle.bx_dd.specs.Transfer.{Copies, HasStopped, ReadsWithin};
 ghost use Rattle.bx_dd.specs.inner.Transfer.{IsStopCause, ReadsBlocks, StopsWithin, TakesBlocks};
 

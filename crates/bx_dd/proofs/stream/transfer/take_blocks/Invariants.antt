@@ -1,7 +1,7 @@
 use Rattle.std.proofs.Common.{◌≡◌, ◌+◌, ◌*◌, ◌⊎◌, List, ℕ, length}
 use Rattle.std.specs.Io.KnownBytes.{Consumes, IsAtEnd}
 use Rattle.bx_text.specs.declared.stream.State.TheVariants.{Open, Ended}
-use Rattle.bx_dd.specs.Convert.{IsAfter}
+use Rattle.bx_dd.specs.Standing.{IsAfter}
 use Rattle.bx_dd.proofs.stream.transfer.take_blocks.Given as goal
 
 -- whole blocks were read and converted
