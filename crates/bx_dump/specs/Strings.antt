@@ -1,5 +1,5 @@
 -- The printable runs of an input, and the text of strings (POSIX strings).
-use Rattle.std.specs.Prelude.{ℕ, ◌+◌, ◌-◌, ◌==◌, Bool, false, ◌&&◌, not, nat_le, if◌then◌else◌, List, [], ◌++◌, length, take, drop, slice_index, codes, None}
+use Rattle.std.specs.Prelude.{ℕ, zero, suc, ◌+◌, Bool, false, ◌&&◌, not, nat_le, if◌then◌else◌, List, [], ◌++◌, length, take, drop, slice_index, codes, None}
 use Rattle.std.specs.List.{flat_map, range_with_len, prefix_len}
 use Rattle.std.specs.Fmt.{digits}
 use Rattle.std.specs.Option.{option_map_or}
@@ -11,7 +11,8 @@ use Rattle.bx_dump.specs.declared.od.options.Address.{Address}
 
 -- Whether a printable run begins at a place: its byte prints, and the one before doesn't. `before` is whether the byte in front of x prints
 abbrev pub is_run_start : Bool → List ℕ → ℕ → Bool
-is_run_start before x a = is_printable (slice_index x a) && not (if a == 0 then before else is_printable (slice_index x (a - 1)))
+is_run_start before x zero = is_printable (slice_index x 0) && not before
+is_run_start before x (suc a) = is_printable (slice_index x (suc a)) && not (is_printable (slice_index x a))
 
 -- the place of a run, and a space
 abbrev pub place_text : Address → ℕ → List ℕ
