@@ -27,6 +27,7 @@ pub mod StopLemmas
 pub mod Shapes
 pub mod TakenLemmas
 pub mod TakingLemmas
+pub mod DeviceLemmas
 pub mod LoopLemmas
 pub mod RedoLoop
 pub mod RedoStanding

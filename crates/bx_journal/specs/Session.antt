@@ -51,8 +51,7 @@ SessionCounts failures text_failures old new e =
     ThreeCounts e (failures old.device) (text_failures old.store) (text_failures old.redo_text) (failures new.device) (text_failures new.store)
     (text_failures new.redo_text)
 
--- what a change, an undo and a redo promise alike: a session that is broken refuses, and it alone, and stays as it was; one that refuses
--- keeps its bytes, one that is interrupted is broken, and each keeps its counts of changes; a failed call is counted where a fault tells of it
+-- what a call promises: a broken session refuses it and stays, another refusal changes nothing, an interruption breaks the session, and counts tell what failed
 pub record FailsSafely {D T V : Type 0} (honest : D → Type 0) (text_honest : T → Type 0) (image : D → List ℕ) (text : T → List ℕ)
     (failures : D → ℕ) (text_failures : T → ℕ) (old new : SessionView D T) (result : Result V SessionFault) : Type 0 where
   pub broken : (old.is_broken ≡ true) ↔ IsErrOf result Broken

@@ -1,5 +1,5 @@
-use Rattle.std.proofs.Common.{◌≡◌, ◌∙◌, ◌+◌, ◌-◌, ◌++◌, ◌∷◌, [], ◌<◌, ◌≤◌, ℕ, List, length, drop, take, refl, ap, sym, subst, arith, append-nil, length-append, Result, Ok, Err}
-use Rattle.std.specs.Prelude.{OnErr, OnOk, reverse}
+use Rattle.std.proofs.Common.{◌≡◌, ◌∙◌, ◌+◌, ◌-◌, ◌++◌, ◌∷◌, [], ◌<◌, ℕ, List, length, drop, take, refl, ap, sym, subst, arith, append-nil, length-append}
+use Rattle.std.specs.Prelude.{reverse}
 use Rattle.std.proofs.lemmas.List.{take_all}
 use Rattle.std.proofs.lemmas.Result.{err_from_is_err_and}
 use Rattle.bx_image.specs.Change.{effect, saved, restore, IsAsGood}
@@ -7,74 +7,52 @@ use Rattle.bx_entries.specs.Kept.{kept_of}
 use Rattle.bx_entries.specs.Entry.{head_text, end_text}
 use Rattle.bx_journal.specs.Images.{redo_of}
 use Rattle.bx_entries.specs.Finished.{IsFinished}
-use Rattle.bx_entries.specs.inner.Parsed.{AllKept}
 use Rattle.bx_journal.specs.Phase.{IsAtRest}
 use Rattle.bx_journal.specs.Redo.{Finds}
 use Rattle.bx_journal.specs.inner.Redo.{LeavesEither}
 use Rattle.bx_journal.specs.inner.Step.{WritesEntry}
-use Rattle.bx_journal.specs.inner.Takens.{AreReady, AllShaped, entries_len}
+use Rattle.bx_journal.specs.inner.Takens.{AreReady, entries_len}
 use Rattle.bx_journal.specs.inner.Turns.{AreAtRest, AreStanding, side_of}
 use Rattle.bx_entries.proofs.KeptLemmas.{within_out, same_restore}
-use Rattle.bx_journal.proofs.LoopLemmas.{change_back, ready_pop, first_below, zeros_at}
+use Rattle.bx_journal.proofs.DeviceLemmas.{always_err, filling_fails, goes_further, none_yet, step_fails}
+use Rattle.bx_journal.proofs.LoopLemmas.{IsTurn, turn_of, change_back, first_below, zeros_at}
 use Rattle.bx_journal.proofs.RedoLoop.{redone, redo_stopped, writes_again, writes_redo, redoes_from, redoes_one, at_entry, change_is}
 use Rattle.bx_journal.proofs.RedoStanding.{redone_stands, redone_standing, prefix_more}
 use Rattle.bx_journal.proofs.Shapes.{entry_long}
-use Rattle.bx_journal.proofs.TakenLemmas.{shaped_pop, len_pop}
 use Rattle.bx_journal.proofs.TurnLemmas.{rest_is_found}
-use Rattle.bx_journal.proofs.UndoLoop.{IsUndone, popped, kept_more, long_at, cut_at}
-use Rattle.bx_journal.proofs.UndoStands.{kept_next, left_at, dropped_next}
+use Rattle.bx_journal.proofs.UndoLoop.{popped, kept_more, long_at, cut_at}
+use Rattle.bx_journal.proofs.UndoStands.{left_at, dropped_next}
 use Rattle.bx_journal.proofs.protocol.redo_entry.redo_entries.Goals as goal
+use Rattle.bx_journal.proofs.protocol.redo_entry.redo_entries.Goals.{In-Some-pop}
 
-none_ok : {T E : Type 0} (P : Type 0) (r : Result T E) (e : E) → r ≡ Err e → OnOk r P
-none_ok P r e is = subst (λ q. OnOk q P) (sym is) tt
-
-always_err : {T E P : Type 0} (r : Result T E) → P → OnErr r P
-always_err (Ok x) p = tt
-always_err (Err e) p = p
+turn : (g : _) (c : In-Some-pop g) → IsTurn c.loop-i.invariant.place.text c.loop-i.invariant.place.to (g.D.Device.room c.loop-i.device) (length c.args.entries.now.items - length c.args.takens.now.items) (g.D.Device.honest c.args.device.now) (g.D.Device.image c.loop-i.device)
+    c.loop-i.entries.items c.loop-i.takens.items c.pop-in-loop-i.new.self.items c.in-Some-pop.entry c.pop.new.self.items c.in-Some.taken
+turn g c =
+    let inv = c.loop-i.invariant in
+    turn_of c.loop-i.i c.in-Some-pop.ensures.items c.in-Some.ensures.items inv.left inv.more inv.few inv.place.undone inv.shaped inv.kept inv.ready
 
 pub write_entry-requires-clause-kept_within : goal.write_entry-requires-clause-kept_within
 write_entry-requires-clause-kept_within g c =
-    let inv = c.loop-i.invariant in
-    let es = c.pop-in-loop-i.new.self.items in
-    let e = c.in-Some-pop.entry in
-    let ts = c.pop.new.self.items in
-    let t = c.in-Some.taken in
-    let u : IsUndone inv.place.text (es ++ e ∷ []) inv.place.to = subst (λ fs. IsUndone inv.place.text fs inv.place.to) c.in-Some-pop.ensures.items inv.place.undone in
-    let long : length es + 1 ≡ length c.loop-i.entries.items = sym (ap length c.in-Some-pop.ensures.items ∙ length-append es (e ∷ [])) in
-    let most : length ts + 1 ≡ length c.loop-i.takens.items = sym (ap length c.in-Some.ensures.items ∙ length-append ts (t ∷ [])) in
-    (shaped_pop ts t (subst AllShaped c.in-Some.ensures.items inv.shaped)).1
+    let last = turn g (goal.at.write_entry-requires-clause-kept_within g c).In-Some-pop in
+    last.shaped.1
 
 pub write_entry-requires-clause-image_room : goal.write_entry-requires-clause-image_room
 write_entry-requires-clause-image_room g c =
-    let inv = c.loop-i.invariant in
-    let es = c.pop-in-loop-i.new.self.items in
     let e = c.in-Some-pop.entry in
-    let ts = c.pop.new.self.items in
-    let t = c.in-Some.taken in
-    let u : IsUndone inv.place.text (es ++ e ∷ []) inv.place.to = subst (λ fs. IsUndone inv.place.text fs inv.place.to) c.in-Some-pop.ensures.items inv.place.undone in
-    let long : length es + 1 ≡ length c.loop-i.entries.items = sym (ap length c.in-Some-pop.ensures.items ∙ length-append es (e ∷ [])) in
-    let most : length ts + 1 ≡ length c.loop-i.takens.items = sym (ap length c.in-Some.ensures.items ∙ length-append ts (t ∷ [])) in
-    let n : ℕ = length c.args.entries.now.items - length c.args.takens.now.items in
-    let inside : n ≤ length es = omega (arith, long, most, inv.left, inv.more, inv.few) in
-    let kept = kept_next (g.D.Device.room c.loop-i.device) n es e inside (subst (λ fs. AllKept (g.D.Device.room c.loop-i.device) (drop n fs)) c.in-Some-pop.ensures.items inv.kept) in
-    omega (arith, c.into_change-change.ensures.reach (within_out e.kept.len e.kept.runs kept.1), kept.2)
+    let last = turn g (goal.at.write_entry-requires-clause-image_room g c).In-Some-pop in
+    omega (arith, c.into_change-change.ensures.reach (within_out e.kept.len e.kept.runs last.kept.1), last.kept.2)
 
 pub write_entry-requires-clause-text_room : goal.write_entry-requires-clause-text_room
 write_entry-requires-clause-text_room g c now =
     let inv = c.loop-i.invariant in
-    let es = c.pop-in-loop-i.new.self.items in
     let e = c.in-Some-pop.entry in
-    let ts = c.pop.new.self.items in
     let t = c.in-Some.taken in
-    let u : IsUndone inv.place.text (es ++ e ∷ []) inv.place.to = subst (λ fs. IsUndone inv.place.text fs inv.place.to) c.in-Some-pop.ensures.items inv.place.undone in
-    let long : length es + 1 ≡ length c.loop-i.entries.items = sym (ap length c.in-Some-pop.ensures.items ∙ length-append es (e ∷ [])) in
-    let most : length ts + 1 ≡ length c.loop-i.takens.items = sym (ap length c.in-Some.ensures.items ∙ length-append ts (t ∷ [])) in
+    let last = turn g (goal.at.write_entry-requires-clause-text_room g c).In-Some-pop in
     let end_is : c.as_bytes.result.now ≡ end_text (c.loop-i.count + 1) e.kept.len = c.as_bytes.ensures.value ∙ c.entry_end-end.ensures.text in
     omega (
       arith,
-      inv.fits (inv.store_honest.0 now),
-      ap entries_len c.in-Some.ensures.items,
-      len_pop ts t,
+      inv.fits (inv.steps_on.store_honesty.0 now),
+      last.lens,
       entry_long (c.loop-i.count + 1) 0 (kept_of t) (kept_of t) e.kept.len 0 refl,
       length-append (head_text (c.loop-i.count + 1) (kept_of t)) (end_text (c.loop-i.count + 1) e.kept.len),
       ap length end_is,
@@ -85,45 +63,34 @@ write_entry-requires-clause-within g c now =
     let inv = c.loop-i.invariant in
     let es = c.pop-in-loop-i.new.self.items in
     let e = c.in-Some-pop.entry in
-    let ts = c.pop.new.self.items in
-    let t = c.in-Some.taken in
-    let u : IsUndone inv.place.text (es ++ e ∷ []) inv.place.to = subst (λ fs. IsUndone inv.place.text fs inv.place.to) c.in-Some-pop.ensures.items inv.place.undone in
-    let long : length es + 1 ≡ length c.loop-i.entries.items = sym (ap length c.in-Some-pop.ensures.items ∙ length-append es (e ∷ [])) in
-    let most : length ts + 1 ≡ length c.loop-i.takens.items = sym (ap length c.in-Some.ensures.items ∙ length-append ts (t ∷ [])) in
-    omega (arith, (popped inv.place.text es e inv.place.to u).1.order, long_at inv.place.text (g.T.TextStore.text c.loop-i.redo_text) es e inv.place.to u (inv.place.left (inv.redo_honest.0 now)))
+    let last = turn g (goal.at.write_entry-requires-clause-within g c).In-Some-pop in
+    omega (arith, (popped inv.place.text es e inv.place.to last.undone).1.order, long_at inv.place.text (g.T.TextStore.text c.loop-i.redo_text) es e inv.place.to last.undone (inv.place.left (inv.steps_on.redo_honesty.0 now)))
 
 pub returns-in_err-write_entry-clause-finds : goal.returns-in_err-write_entry-clause-finds
 returns-in_err-write_entry-clause-finds g c dh th rh s rest count =
     let inv = c.loop-i.invariant in
     let es = c.pop-in-loop-i.new.self.items in
     let e = c.in-Some-pop.entry in
-    let ts = c.pop.new.self.items in
     let t = c.in-Some.taken in
-    let u : IsUndone inv.place.text (es ++ e ∷ []) inv.place.to = subst (λ fs. IsUndone inv.place.text fs inv.place.to) c.in-Some-pop.ensures.items inv.place.undone in
-    let long : length es + 1 ≡ length c.loop-i.entries.items = sym (ap length c.in-Some-pop.ensures.items ∙ length-append es (e ∷ [])) in
-    let most : length ts + 1 ≡ length c.loop-i.takens.items = sym (ap length c.in-Some.ensures.items ∙ length-append ts (t ∷ [])) in
-    let n : ℕ = length c.args.entries.now.items - length c.args.takens.now.items in
-    let inside : n ≤ length es = omega (arith, long, most, inv.left, inv.more, inv.few) in
-    let kept = kept_next (g.D.Device.room c.loop-i.device) n es e inside (subst (λ fs. AllKept (g.D.Device.room c.loop-i.device) (drop n fs)) c.in-Some-pop.ensures.items inv.kept) in
+    let last = turn g (goal.at.returns-in_err-write_entry-clause-finds g c).In-Some-pop in
     let x : List ℕ = g.D.Device.image c.loop-i.device in
     let r : List ℕ = g.T.TextStore.text c.loop-i.redo_text in
     let text : List ℕ = g.T.TextStore.text c.loop-i.store in
     let change = c.into_change-change.result in
     let same : change ≡ change_back e = change_is change e c.into_change-change.ensures.base c.into_change-change.ensures.writes in
-    let ready = ready_pop x es e ts t (subst (λ us. AreReady x (reverse (es ++ e ∷ [])) (reverse us)) c.in-Some.ensures.items (subst (λ fs. AreReady x (reverse fs) (reverse c.loop-i.takens.items)) c.in-Some-pop.ensures.items (inv.ready dh))) in
     let end_is : c.as_bytes.result.now ≡ end_text (c.loop-i.count + 1) e.kept.len = c.as_bytes.ensures.value ∙ c.entry_end-end.ensures.text in
     let here = inv.found dh th rh s rest count in
-    let at = at_entry inv.place.text r es e inv.place.to u (inv.place.left rh) in
-    let one = redoes_one text x r (redo_of c.loop-i.i s) es e at here.0 kept.1 in
+    let at = at_entry inv.place.text r es e inv.place.to last.undone (inv.place.left rh) in
+    let one = redoes_one text x r (redo_of c.loop-i.i s) es e at here.0 last.kept.1 in
     let stack : List (List ℕ) = (redo_of c.loop-i.i s).stack in
     let head : List ℕ = head_text (c.loop-i.count + 1) (kept_of t) in
     let writes : WritesEntry change text x stack head c.as_bytes.result.now = subst (λ d. WritesEntry d text x stack head c.as_bytes.result.now) (sym same)
-    (subst (WritesEntry (change_back e) text x stack head) (sym end_is) (writes_redo text x r (redo_of c.loop-i.i s) es e t c.loop-i.count at here.0 kept.1 ready.0 here.1)) in
+    (subst (WritesEntry (change_back e) text x stack head) (sym end_is) (writes_redo text x r (redo_of c.loop-i.i s) es e t c.loop-i.count at here.0 last.kept.1 (last.ready dh).0 here.1)) in
     let less : c.loop-i.i < length c.args.takens.now.items = omega (arith, c.loop-i-test.true, c.len-k.ensures) in
     let new : List ℕ = g.T.TextStore.text c.write_entry.new.store in
     let y : List ℕ = g.D.Device.image c.write_entry.new.device in
     let r_new : List ℕ = g.T.TextStore.text c.write_entry.new.redo in
-    let leaves = c.in_err-write_entry.ensures.left (inv.device_honest.1 dh) (inv.store_honest.1 th) (inv.redo_honest.1 rh) stack writes in
+    let leaves = c.in_err-write_entry.ensures.left (inv.steps_on.device_honesty.1 dh) (inv.steps_on.store_honesty.1 th) (inv.steps_on.redo_honesty.1 rh) stack writes in
     always_err c.from_residual.result
     (redo_stopped text x r new y r_new s e c.loop-i.i (length c.args.takens.now.items) less here.0 one
     (subst (λ d. LeavesEither new y r_new (side_of stack x r) (side_of (effect d x ∷ stack) (effect d x) (take e.begins r))) same leaves))
@@ -134,57 +101,39 @@ fill_last-requires-clause-range g c now =
     let es = c.pop-in-loop-i.new.self.items in
     let e = c.in-Some-pop.entry in
     let ts = c.pop.new.self.items in
-    let t = c.in-Some.taken in
-    let u : IsUndone inv.place.text (es ++ e ∷ []) inv.place.to = subst (λ fs. IsUndone inv.place.text fs inv.place.to) c.in-Some-pop.ensures.items inv.place.undone in
-    let long : length es + 1 ≡ length c.loop-i.entries.items = sym (ap length c.in-Some-pop.ensures.items ∙ length-append es (e ∷ [])) in
-    let most : length ts + 1 ≡ length c.loop-i.takens.items = sym (ap length c.in-Some.ensures.items ∙ length-append ts (t ∷ [])) in
-    let n : ℕ = length c.args.entries.now.items - length c.args.takens.now.items in
-    let inside : n ≤ length es = omega (arith, long, most, inv.left, inv.more, inv.few) in
-    let kept = kept_next (g.D.Device.room c.loop-i.device) n es e inside (subst (λ fs. AllKept (g.D.Device.room c.loop-i.device) (drop n fs)) c.in-Some-pop.ensures.items inv.kept) in
-    let dh = inv.device_honest.0 (c.write_entry.ensures.steps_on.device_honesty.0 now) in
+    let last = turn g (goal.at.fill_last-requires-clause-range g c).In-Some-pop in
+    let dh = inv.steps_on.device_honesty.0 (c.write_entry.ensures.steps_on.device_honesty.0 now) in
     let x : List ℕ = g.D.Device.image c.loop-i.device in
-    let r : List ℕ = g.T.TextStore.text c.loop-i.redo_text in
-    let text : List ℕ = g.T.TextStore.text c.loop-i.store in
-    let change = c.into_change-change.result in
-    let same : change ≡ change_back e = change_is change e c.into_change-change.ensures.base c.into_change-change.ensures.writes in
-    let ready = ready_pop x es e ts t (subst (λ us. AreReady x (reverse (es ++ e ∷ [])) (reverse us)) c.in-Some.ensures.items (subst (λ fs. AreReady x (reverse fs) (reverse c.loop-i.takens.items)) c.in-Some-pop.ensures.items (inv.ready dh))) in
     let y : List ℕ = g.D.Device.image c.write_entry.new.device in
-    let restored : y ≡ restore (kept_of e.kept) x = c.in_ok-write_entry.ensures.image (inv.device_honest.1 dh) ∙ c.into_change-change.ensures.restores (within_out e.kept.len e.kept.runs kept.1) x ∙ sym (same_restore e.kept x) in
-    first_below (length y) (reverse es) (reverse ts) (zeros_at x y e (reverse es) (reverse ts) restored ready.1)
+    let restored : y ≡ restore (kept_of e.kept) x = c.in_ok-write_entry.ensures.image (inv.steps_on.device_honesty.1 dh) ∙ c.into_change-change.ensures.restores (within_out e.kept.len e.kept.runs last.kept.1) x ∙ sym (same_restore e.kept x) in
+    first_below (length y) (reverse es) (reverse ts) (zeros_at x y e (reverse es) (reverse ts) restored (last.ready dh).1)
 
 pub returns-in_err-fill_last-clause-finds : goal.returns-in_err-fill_last-clause-finds
 returns-in_err-fill_last-clause-finds g c dh th rh s rest count =
     let inv = c.loop-i.invariant in
     let es = c.pop-in-loop-i.new.self.items in
     let e = c.in-Some-pop.entry in
-    let ts = c.pop.new.self.items in
     let t = c.in-Some.taken in
-    let u : IsUndone inv.place.text (es ++ e ∷ []) inv.place.to = subst (λ fs. IsUndone inv.place.text fs inv.place.to) c.in-Some-pop.ensures.items inv.place.undone in
-    let long : length es + 1 ≡ length c.loop-i.entries.items = sym (ap length c.in-Some-pop.ensures.items ∙ length-append es (e ∷ [])) in
-    let most : length ts + 1 ≡ length c.loop-i.takens.items = sym (ap length c.in-Some.ensures.items ∙ length-append ts (t ∷ [])) in
-    let n : ℕ = length c.args.entries.now.items - length c.args.takens.now.items in
-    let inside : n ≤ length es = omega (arith, long, most, inv.left, inv.more, inv.few) in
-    let kept = kept_next (g.D.Device.room c.loop-i.device) n es e inside (subst (λ fs. AllKept (g.D.Device.room c.loop-i.device) (drop n fs)) c.in-Some-pop.ensures.items inv.kept) in
+    let last = turn g (goal.at.returns-in_err-fill_last-clause-finds g c).In-Some-pop in
     let x : List ℕ = g.D.Device.image c.loop-i.device in
     let r : List ℕ = g.T.TextStore.text c.loop-i.redo_text in
     let text : List ℕ = g.T.TextStore.text c.loop-i.store in
     let change = c.into_change-change.result in
     let same : change ≡ change_back e = change_is change e c.into_change-change.ensures.base c.into_change-change.ensures.writes in
-    let ready = ready_pop x es e ts t (subst (λ us. AreReady x (reverse (es ++ e ∷ [])) (reverse us)) c.in-Some.ensures.items (subst (λ fs. AreReady x (reverse fs) (reverse c.loop-i.takens.items)) c.in-Some-pop.ensures.items (inv.ready dh))) in
     let end_is : c.as_bytes.result.now ≡ end_text (c.loop-i.count + 1) e.kept.len = c.as_bytes.ensures.value ∙ c.entry_end-end.ensures.text in
     let here = inv.found dh th rh s rest count in
-    let at = at_entry inv.place.text r es e inv.place.to u (inv.place.left rh) in
-    let one = redoes_one text x r (redo_of c.loop-i.i s) es e at here.0 kept.1 in
+    let at = at_entry inv.place.text r es e inv.place.to last.undone (inv.place.left rh) in
+    let one = redoes_one text x r (redo_of c.loop-i.i s) es e at here.0 last.kept.1 in
     let stack : List (List ℕ) = (redo_of c.loop-i.i s).stack in
     let head : List ℕ = head_text (c.loop-i.count + 1) (kept_of t) in
     let writes : WritesEntry change text x stack head c.as_bytes.result.now = subst (λ d. WritesEntry d text x stack head c.as_bytes.result.now) (sym same)
-    (subst (WritesEntry (change_back e) text x stack head) (sym end_is) (writes_redo text x r (redo_of c.loop-i.i s) es e t c.loop-i.count at here.0 kept.1 ready.0 here.1)) in
+    (subst (WritesEntry (change_back e) text x stack head) (sym end_is) (writes_redo text x r (redo_of c.loop-i.i s) es e t c.loop-i.count at here.0 last.kept.1 (last.ready dh).0 here.1)) in
     let y : List ℕ = g.D.Device.image c.write_entry.new.device in
-    let changed : y ≡ effect (change_back e) x = c.in_ok-write_entry.ensures.image (inv.device_honest.1 dh) ∙ ap (λ d. effect d x) same in
-    let at_rest = subst (λ d. IsAtRest (g.T.TextStore.text c.write_entry.new.store) y (effect d x ∷ stack)) same (c.in_ok-write_entry.ensures.ok (inv.device_honest.1 dh) (inv.store_honest.1 th) stack writes) in
+    let changed : y ≡ effect (change_back e) x = c.in_ok-write_entry.ensures.image (inv.steps_on.device_honesty.1 dh) ∙ ap (λ d. effect d x) same in
+    let at_rest = subst (λ d. IsAtRest (g.T.TextStore.text c.write_entry.new.store) y (effect d x ∷ stack)) same (c.in_ok-write_entry.ensures.ok (inv.steps_on.device_honesty.1 dh) (inv.steps_on.store_honesty.1 th) stack writes) in
     let next = redone text x r (g.T.TextStore.text c.write_entry.new.store) y (g.T.TextStore.text c.write_entry.new.redo) s e c.loop-i.i c.loop-i.count here.0 here.1 one changed
-    (c.in_ok-write_entry.ensures.redo (inv.redo_honest.1 rh)) at_rest in
-    let still : g.D.Device.image c.fill_last.new.device ≡ y = c.fill_last.ensures.image (c.write_entry.ensures.steps_on.device_honesty.1 (inv.device_honest.1 dh)) in
+    (c.in_ok-write_entry.ensures.redo (inv.steps_on.redo_honesty.1 rh)) at_rest in
+    let still : g.D.Device.image c.fill_last.new.device ≡ y = c.fill_last.ensures.image (c.write_entry.ensures.steps_on.device_honesty.1 (inv.steps_on.device_honesty.1 dh)) in
     let found = rest_is_found (g.T.TextStore.text c.write_entry.new.store) y (g.T.TextStore.text c.write_entry.new.redo) (redo_of (c.loop-i.i + 1) s) next.0 in
     always_err c.from_residual-in_err-fill_last.result (
       c.loop-i.i + 1,
@@ -199,63 +148,50 @@ loop-i-preserved g c =
     let e = c.in-Some-pop.entry in
     let ts = c.pop.new.self.items in
     let t = c.in-Some.taken in
-    let u : IsUndone inv.place.text (es ++ e ∷ []) inv.place.to = subst (λ fs. IsUndone inv.place.text fs inv.place.to) c.in-Some-pop.ensures.items inv.place.undone in
-    let long : length es + 1 ≡ length c.loop-i.entries.items = sym (ap length c.in-Some-pop.ensures.items ∙ length-append es (e ∷ [])) in
-    let most : length ts + 1 ≡ length c.loop-i.takens.items = sym (ap length c.in-Some.ensures.items ∙ length-append ts (t ∷ [])) in
-    let n : ℕ = length c.args.entries.now.items - length c.args.takens.now.items in
-    let inside : n ≤ length es = omega (arith, long, most, inv.left, inv.more, inv.few) in
-    let kept = kept_next (g.D.Device.room c.loop-i.device) n es e inside (subst (λ fs. AllKept (g.D.Device.room c.loop-i.device) (drop n fs)) c.in-Some-pop.ensures.items inv.kept) in
+    let last = turn g (goal.at.loop-i-preserved g c).In-Some-pop in
     let end_is : c.as_bytes.result.now ≡ end_text (c.loop-i.count + 1) e.kept.len = c.as_bytes.ensures.value ∙ c.entry_end-end.ensures.text in
-    let p = popped inv.place.text es e inv.place.to u in
-    let shaped = shaped_pop ts t (subst AllShaped c.in-Some.ensures.items inv.shaped) in
+    let p = popped inv.place.text es e inv.place.to last.undone in
     let wrote = c.in_ok-write_entry.ensures in
     record {
-      left = omega (arith, inv.left, long);
-      more = omega (arith, inv.more, most, c.fill_last.ensures.count);
+      left = omega (arith, inv.left, last.long);
+      more = omega (arith, inv.more, last.most, c.fill_last.ensures.count);
       made = omega (arith, inv.made);
       few = inv.few;
-      bound = omega (arith, inv.bound, most, c.fill_last.ensures.count);
-      dropped = λ rh all finished. dropped_next inv.place.text (g.T.TextStore.text c.loop-i.redo_text) (g.T.TextStore.text c.write_entry.new.redo) es e all inv.place.to c.loop-i.i u (inv.place.left rh) (wrote.redo (inv.redo_honest.1 rh))
+      bound = omega (arith, inv.bound, last.most, c.fill_last.ensures.count);
+      dropped = λ rh all finished. dropped_next inv.place.text (g.T.TextStore.text c.loop-i.redo_text) (g.T.TextStore.text c.write_entry.new.redo) es e all inv.place.to c.loop-i.i last.undone (inv.place.left rh) (wrote.redo (inv.steps_on.redo_honesty.1 rh))
           (inv.dropped rh all finished);
-      front = λ th. prefix_more (g.T.TextStore.text c.args.store.now) (g.T.TextStore.text c.loop-i.store) (g.T.TextStore.text c.write_entry.new.store) (head_text (c.loop-i.count + 1) (kept_of t)) c.as_bytes.result.now (inv.front th) (wrote.text (inv.store_honest.1 th));
-      kept = kept_more (g.D.Device.room c.loop-i.device) (g.D.Device.room c.fill_last.new.device) (drop n es) kept.0 (omega (arith, c.write_entry.ensures.room, c.fill_last.ensures.goes_on.no_less_room));
-      device_honest = ((λ h. inv.device_honest.0 (c.write_entry.ensures.steps_on.device_honesty.0 (c.fill_last.ensures.goes_on.honesty.0 h))), λ h. c.fill_last.ensures.goes_on.honesty.1 (c.write_entry.ensures.steps_on.device_honesty.1 (inv.device_honest.1 h)));
-      store_honest = ((λ h. inv.store_honest.0 (c.write_entry.ensures.steps_on.store_honesty.0 h)), λ h. c.write_entry.ensures.steps_on.store_honesty.1 (inv.store_honest.1 h));
-      redo_honest = ((λ h. inv.redo_honest.0 (c.write_entry.ensures.steps_on.redo_honesty.0 h)), λ h. c.write_entry.ensures.steps_on.redo_honesty.1 (inv.redo_honest.1 h));
-      device_countable = c.in_ok-fill_last.ensures.goes_on.counted ∙ wrote.steps_on.no_failure.0 ∙ inv.device_countable;
-      store_countable = wrote.steps_on.no_failure.1 ∙ inv.store_countable;
-      redo_countable = wrote.steps_on.no_failure.2 ∙ inv.redo_countable;
+      front = λ th. prefix_more (g.T.TextStore.text c.args.store.now) (g.T.TextStore.text c.loop-i.store) (g.T.TextStore.text c.write_entry.new.store) (head_text (c.loop-i.count + 1) (kept_of t)) c.as_bytes.result.now (inv.front th) (wrote.text (inv.steps_on.store_honesty.1 th));
+      kept = kept_more (g.D.Device.room c.loop-i.device) (g.D.Device.room c.fill_last.new.device) (drop (length c.args.entries.now.items - length c.args.takens.now.items) es) last.kept.0 (omega (arith, c.write_entry.ensures.room, c.fill_last.ensures.goes_on.no_less_room));
+      steps_on = goes_further inv.steps_on c.in_ok-write_entry.ensures.steps_on c.in_ok-fill_last.ensures.goes_on;
       place = record {
         text = inv.place.text;
         to = e.begins;
         undone = p.0;
         is = inv.place.is;
-        left = λ rh. cut_at inv.place.text (g.T.TextStore.text c.loop-i.redo_text) (g.T.TextStore.text c.write_entry.new.redo) es e inv.place.to u (inv.place.left rh) (wrote.redo (inv.redo_honest.1 rh));
+        left = λ rh. cut_at inv.place.text (g.T.TextStore.text c.loop-i.redo_text) (g.T.TextStore.text c.write_entry.new.redo) es e inv.place.to last.undone (inv.place.left rh) (wrote.redo (inv.steps_on.redo_honesty.1 rh));
       };
-      shaped = c.fill_last.ensures.shaped shaped.0;
+      shaped = c.fill_last.ensures.shaped last.shaped.0;
       ready = λ dh.
           let x : List ℕ = g.D.Device.image c.loop-i.device in
           let r : List ℕ = g.T.TextStore.text c.loop-i.redo_text in
           let text : List ℕ = g.T.TextStore.text c.loop-i.store in
           let change = c.into_change-change.result in
           let same : change ≡ change_back e = change_is change e c.into_change-change.ensures.base c.into_change-change.ensures.writes in
-          let ready = ready_pop x es e ts t (subst (λ us. AreReady x (reverse (es ++ e ∷ [])) (reverse us)) c.in-Some.ensures.items (subst (λ fs. AreReady x (reverse fs) (reverse c.loop-i.takens.items)) c.in-Some-pop.ensures.items (inv.ready dh))) in
           let y : List ℕ = g.D.Device.image c.write_entry.new.device in
-          let here = c.write_entry.ensures.steps_on.device_honesty.1 (inv.device_honest.1 dh) in
-          let restored : y ≡ restore (kept_of e.kept) x = wrote.image (inv.device_honest.1 dh) ∙ c.into_change-change.ensures.restores (within_out e.kept.len e.kept.runs kept.1) x ∙ sym (same_restore e.kept x) in
+          let here = c.write_entry.ensures.steps_on.device_honesty.1 (inv.steps_on.device_honesty.1 dh) in
+          let restored : y ≡ restore (kept_of e.kept) x = wrote.image (inv.steps_on.device_honesty.1 dh) ∙ c.into_change-change.ensures.restores (within_out e.kept.len e.kept.runs last.kept.1) x ∙ sym (same_restore e.kept x) in
           subst (λ z. AreReady z (reverse es) (reverse c.fill_last.new.takens.items)) (sym (c.fill_last.ensures.image here))
-          (c.in_ok-fill_last.ensures.filled here (reverse es) (zeros_at x y e (reverse es) (reverse ts) restored ready.1));
+          (c.in_ok-fill_last.ensures.filled here (reverse es) (zeros_at x y e (reverse es) (reverse ts) restored (last.ready dh).1));
       fits = λ th.
           let head : List ℕ = head_text (c.loop-i.count + 1) (kept_of t) in
           omega (
             arith,
             inv.fits th,
-            ap entries_len c.in-Some.ensures.items,
-            len_pop ts t,
+            last.lens,
             entry_long (c.loop-i.count + 1) 0 (kept_of t) (kept_of t) e.kept.len 0 refl,
             length-append head (end_text (c.loop-i.count + 1) e.kept.len),
             ap length end_is,
-            ap length (wrote.text (inv.store_honest.1 th)),
+            ap length (wrote.text (inv.steps_on.store_honesty.1 th)),
             length-append (g.T.TextStore.text c.loop-i.store ++ head) c.as_bytes.result.now,
             length-append (g.T.TextStore.text c.loop-i.store) head,
             c.write_entry.ensures.store_room,
@@ -269,21 +205,20 @@ loop-i-preserved g c =
           let text : List ℕ = g.T.TextStore.text c.loop-i.store in
           let change = c.into_change-change.result in
           let same : change ≡ change_back e = change_is change e c.into_change-change.ensures.base c.into_change-change.ensures.writes in
-          let ready = ready_pop x es e ts t (subst (λ us. AreReady x (reverse (es ++ e ∷ [])) (reverse us)) c.in-Some.ensures.items (subst (λ fs. AreReady x (reverse fs) (reverse c.loop-i.takens.items)) c.in-Some-pop.ensures.items (inv.ready dh))) in
           let end_is : c.as_bytes.result.now ≡ end_text (c.loop-i.count + 1) e.kept.len = c.as_bytes.ensures.value ∙ c.entry_end-end.ensures.text in
           let here = inv.found dh th rh s rest count in
-          let at = at_entry inv.place.text r es e inv.place.to u (inv.place.left rh) in
-          let one = redoes_one text x r (redo_of c.loop-i.i s) es e at here.0 kept.1 in
+          let at = at_entry inv.place.text r es e inv.place.to last.undone (inv.place.left rh) in
+          let one = redoes_one text x r (redo_of c.loop-i.i s) es e at here.0 last.kept.1 in
           let stack : List (List ℕ) = (redo_of c.loop-i.i s).stack in
           let head : List ℕ = head_text (c.loop-i.count + 1) (kept_of t) in
           let writes : WritesEntry change text x stack head c.as_bytes.result.now = subst (λ d. WritesEntry d text x stack head c.as_bytes.result.now) (sym same)
-          (subst (WritesEntry (change_back e) text x stack head) (sym end_is) (writes_redo text x r (redo_of c.loop-i.i s) es e t c.loop-i.count at here.0 kept.1 ready.0 here.1)) in
+          (subst (WritesEntry (change_back e) text x stack head) (sym end_is) (writes_redo text x r (redo_of c.loop-i.i s) es e t c.loop-i.count at here.0 last.kept.1 (last.ready dh).0 here.1)) in
           let y : List ℕ = g.D.Device.image c.write_entry.new.device in
-          let changed : y ≡ effect (change_back e) x = c.in_ok-write_entry.ensures.image (inv.device_honest.1 dh) ∙ ap (λ d. effect d x) same in
-          let at_rest = subst (λ d. IsAtRest (g.T.TextStore.text c.write_entry.new.store) y (effect d x ∷ stack)) same (c.in_ok-write_entry.ensures.ok (inv.device_honest.1 dh) (inv.store_honest.1 th) stack writes) in
+          let changed : y ≡ effect (change_back e) x = c.in_ok-write_entry.ensures.image (inv.steps_on.device_honesty.1 dh) ∙ ap (λ d. effect d x) same in
+          let at_rest = subst (λ d. IsAtRest (g.T.TextStore.text c.write_entry.new.store) y (effect d x ∷ stack)) same (c.in_ok-write_entry.ensures.ok (inv.steps_on.device_honesty.1 dh) (inv.steps_on.store_honesty.1 th) stack writes) in
           let next = redone text x r (g.T.TextStore.text c.write_entry.new.store) y (g.T.TextStore.text c.write_entry.new.redo) s e c.loop-i.i c.loop-i.count here.0 here.1 one changed
-          (c.in_ok-write_entry.ensures.redo (inv.redo_honest.1 rh)) at_rest in
-          let still : g.D.Device.image c.fill_last.new.device ≡ y = c.fill_last.ensures.image (c.write_entry.ensures.steps_on.device_honesty.1 (inv.device_honest.1 dh)) in (
+          (c.in_ok-write_entry.ensures.redo (inv.steps_on.redo_honesty.1 rh)) at_rest in
+          let still : g.D.Device.image c.fill_last.new.device ≡ y = c.fill_last.ensures.image (c.write_entry.ensures.steps_on.device_honesty.1 (inv.steps_on.device_honesty.1 dh)) in (
             subst (λ z. AreAtRest (g.T.TextStore.text c.write_entry.new.store) z (g.T.TextStore.text c.write_entry.new.redo) (redo_of (c.loop-i.i + 1) s)) (sym still) next.0,
             next.1,
           );
@@ -294,21 +229,20 @@ loop-i-preserved g c =
           let new : List ℕ = g.T.TextStore.text c.write_entry.new.store in
           let change = c.into_change-change.result in
           let same : change ≡ change_back e = change_is change e c.into_change-change.ensures.base c.into_change-change.ensures.writes in
-          let ready = ready_pop x es e ts t (subst (λ us. AreReady x (reverse (es ++ e ∷ [])) (reverse us)) c.in-Some.ensures.items (subst (λ fs. AreReady x (reverse fs) (reverse c.loop-i.takens.items)) c.in-Some-pop.ensures.items (inv.ready dh))) in
           let here = inv.images dh th rh s rest count in
-          let at = at_entry inv.place.text r es e inv.place.to u (inv.place.left rh) in
-          let one = redoes_from text x r (redo_of c.loop-i.i s) es e at here.0.stands here.0.undone kept.1 in
+          let at = at_entry inv.place.text r es e inv.place.to last.undone (inv.place.left rh) in
+          let one = redoes_from text x r (redo_of c.loop-i.i s) es e at here.0.stands here.0.undone last.kept.1 in
           let stack : List (List ℕ) = (redo_of c.loop-i.i s).stack in
           let head : List ℕ = head_text (c.loop-i.count + 1) (kept_of t) in
           let line : List ℕ = end_text (c.loop-i.count + 1) e.kept.len in
-          let again = writes_again text x r (redo_of c.loop-i.i s) es e t c.loop-i.count at here.0.stands here.0.undone kept.1 ready.0 here.1 in
+          let again = writes_again text x r (redo_of c.loop-i.i s) es e t c.loop-i.count at here.0.stands here.0.undone last.kept.1 (last.ready dh).0 here.1 in
           let y : List ℕ = g.D.Device.image c.write_entry.new.device in
-          let changed : y ≡ effect (change_back e) x = wrote.image (inv.device_honest.1 dh) ∙ ap (λ d. effect d x) same in
-          let good : IsAsGood (kept_of (saved (change_back e) x)) x y = subst (λ d. IsAsGood (kept_of (saved d x)) x y) same (wrote.back (inv.device_honest.1 dh)) in
-          let written : new ≡ text ++ head ++ line = wrote.text (inv.store_honest.1 th) ∙ ap (λ l. text ++ head ++ l) end_is in
+          let changed : y ≡ effect (change_back e) x = wrote.image (inv.steps_on.device_honesty.1 dh) ∙ ap (λ d. effect d x) same in
+          let good : IsAsGood (kept_of (saved (change_back e) x)) x y = subst (λ d. IsAsGood (kept_of (saved d x)) x y) same (wrote.back (inv.steps_on.device_honesty.1 dh)) in
+          let written : new ≡ text ++ head ++ line = wrote.text (inv.steps_on.store_honesty.1 th) ∙ ap (λ l. text ++ head ++ l) end_is in
           let stands = redone_stands (change_back e) text new x y stack head line again here.0.stands changed good written in
-          let next = redone_standing text x r new y (g.T.TextStore.text c.write_entry.new.redo) s e c.loop-i.i c.loop-i.count here.0 here.1 one changed (wrote.redo (inv.redo_honest.1 rh)) stands in
-          let still : g.D.Device.image c.fill_last.new.device ≡ y = c.fill_last.ensures.image (c.write_entry.ensures.steps_on.device_honesty.1 (inv.device_honest.1 dh)) in (
+          let next = redone_standing text x r new y (g.T.TextStore.text c.write_entry.new.redo) s e c.loop-i.i c.loop-i.count here.0 here.1 one changed (wrote.redo (inv.steps_on.redo_honesty.1 rh)) stands in
+          let still : g.D.Device.image c.fill_last.new.device ≡ y = c.fill_last.ensures.image (c.write_entry.ensures.steps_on.device_honesty.1 (inv.steps_on.device_honesty.1 dh)) in (
             subst (λ z. AreStanding new z (g.T.TextStore.text c.write_entry.new.redo) (redo_of (c.loop-i.i + 1) s)) (sym still) next.0,
             next.1,
           );
@@ -325,12 +259,7 @@ loop-i-init g c =
       dropped = λ rh all finished. finished;
       front = λ th. ([], sym (append-nil (g.T.TextStore.text c.args.store.now)));
       kept = c.requires.kept;
-      device_honest = ((λ h. h), λ h. h);
-      store_honest = ((λ h. h), λ h. h);
-      redo_honest = ((λ h. h), λ h. h);
-      device_countable = refl;
-      store_countable = refl;
-      redo_countable = refl;
+      steps_on = none_yet;
       place = record {
         text = text;
         to = length text;
@@ -372,39 +301,9 @@ returns-clause-left g c rh entries finished =
     (subst (λ n. IsFinished (g.T.TextStore.text c.loop-i.redo_text) (drop n entries)) all (inv.dropped rh entries finished))
 
 pub returns-in_err-write_entry-clause-steps_on : goal.returns-in_err-write_entry-clause-steps_on
-returns-in_err-write_entry-clause-steps_on g c =
-    let inv = c.loop-i.invariant in
-    let s = c.write_entry.ensures.steps_on in
-    let f = c.in_err-write_entry.ensures.steps_on.failure in
-    record {
-      device_honesty = ((λ h. inv.device_honest.0 (s.device_honesty.0 h)), λ h. s.device_honesty.1 (inv.device_honest.1 h));
-      store_honesty = ((λ h. inv.store_honest.0 (s.store_honesty.0 h)), λ h. s.store_honesty.1 (inv.store_honest.1 h));
-      redo_honesty = ((λ h. inv.redo_honest.0 (s.redo_honesty.0 h)), λ h. s.redo_honesty.1 (inv.redo_honest.1 h));
-      no_failure = none_ok _ c.from_residual.result _ (err_from_is_err_and c.from_residual.result c.from_residual.ensures.1).1;
-      failure = always_err c.from_residual.result (
-        omega (arith, f.0, inv.device_countable),
-        omega (arith, f.1, inv.store_countable),
-        omega (arith, f.2, inv.redo_countable),
-        omega (arith, f.3, inv.device_countable, inv.store_countable, inv.redo_countable),
-      );
-    }
+returns-in_err-write_entry-clause-steps_on g c = step_fails c.from_residual.result (err_from_is_err_and c.from_residual.result c.from_residual.ensures.1).1 c.loop-i.invariant.steps_on c.in_err-write_entry.ensures.steps_on
 
 pub returns-in_err-fill_last-clause-steps_on : goal.returns-in_err-fill_last-clause-steps_on
 returns-in_err-fill_last-clause-steps_on g c =
-    let inv = c.loop-i.invariant in
-    let s = c.write_entry.ensures.steps_on in
-    let same = c.in_ok-write_entry.ensures.steps_on.no_failure in
-    let filled = c.fill_last.ensures.goes_on.honesty in
-    let more : g.D.Device.failures c.fill_last.new.device ≡ g.D.Device.failures c.write_entry.new.device + 1 = c.in_err-fill_last.ensures.goes_on.counted in
-    record {
-      device_honesty = ((λ h. inv.device_honest.0 (s.device_honesty.0 (filled.0 h))), λ h. filled.1 (s.device_honesty.1 (inv.device_honest.1 h)));
-      store_honesty = ((λ h. inv.store_honest.0 (s.store_honesty.0 h)), λ h. s.store_honesty.1 (inv.store_honest.1 h));
-      redo_honesty = ((λ h. inv.redo_honest.0 (s.redo_honesty.0 h)), λ h. s.redo_honesty.1 (inv.redo_honest.1 h));
-      no_failure = none_ok _ c.from_residual-in_err-fill_last.result _ (err_from_is_err_and c.from_residual-in_err-fill_last.result c.from_residual-in_err-fill_last.ensures.1).1;
-      failure = always_err c.from_residual-in_err-fill_last.result (
-        omega (arith, more, same.0, inv.device_countable),
-        omega (arith, same.1, inv.store_countable),
-        omega (arith, same.2, inv.redo_countable),
-        omega (arith, more, same.0, same.1, same.2, inv.device_countable, inv.store_countable, inv.redo_countable),
-      );
-    }
+    filling_fails c.from_residual-in_err-fill_last.result (err_from_is_err_and c.from_residual-in_err-fill_last.result c.from_residual-in_err-fill_last.ensures.1).1 c.loop-i.invariant.steps_on c.in_ok-write_entry.ensures.steps_on
+    c.in_err-fill_last.ensures.goes_on

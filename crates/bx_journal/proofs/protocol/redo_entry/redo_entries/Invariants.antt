@@ -1,4 +1,4 @@
-use Rattle.std.proofs.Common.{◌≡◌, ◌+◌, ◌≤◌, ◌↔◌, ◌-◌, [], List, length, drop}
+use Rattle.std.proofs.Common.{◌≡◌, ◌+◌, ◌≤◌, ◌-◌, [], List, length, drop}
 use Rattle.std.specs.Prelude.{reverse, vec_capacity}
 use Rattle.bx_journal.specs.Images.{Images, redo_of}
 use Rattle.bx_journal.specs.Machine.{changes_of}
@@ -7,6 +7,7 @@ use Rattle.bx_entries.specs.inner.Parsed.{AllKept}
 use Rattle.bx_journal.specs.inner.Takens.{AreReady, AllShaped, entries_len}
 use Rattle.bx_entries.specs.Text.{Entry, IsPrefix}
 use Rattle.bx_journal.specs.inner.Turns.{AreAtRest, AreStanding}
+use Rattle.bx_journal.proofs.DeviceLemmas.{HaveGoneOn}
 use Rattle.bx_journal.proofs.UndoLoop.{IsUndoing}
 use Rattle.bx_journal.proofs.protocol.redo_entry.redo_entries.Given as goal
 
@@ -20,12 +21,7 @@ invariant-loop-i g l = record {
   kept : AllKept (g.D.Device.room l.device) (drop (length l.fn.entries.items - length l.fn.takens.items) l.entries.items);
   dropped : g.T.TextStore.honest l.fn.redo_text → (all : List Entry) → IsFinished (g.T.TextStore.text l.fn.redo_text) all → IsFinished (g.T.TextStore.text l.redo_text) (drop l.i all);
   front : g.T.TextStore.honest l.fn.store → IsPrefix (g.T.TextStore.text l.fn.store) (g.T.TextStore.text l.store);
-  device_honest : g.D.Device.honest l.device ↔ g.D.Device.honest l.fn.device;
-  store_honest : g.T.TextStore.honest l.store ↔ g.T.TextStore.honest l.fn.store;
-  redo_honest : g.T.TextStore.honest l.redo_text ↔ g.T.TextStore.honest l.fn.redo_text;
-  device_countable : g.D.Device.failures l.device ≡ g.D.Device.failures l.fn.device;
-  store_countable : g.T.TextStore.failures l.store ≡ g.T.TextStore.failures l.fn.store;
-  redo_countable : g.T.TextStore.failures l.redo_text ≡ g.T.TextStore.failures l.fn.redo_text;
+  steps_on : HaveGoneOn g.D.Device.honest g.T.TextStore.honest g.D.Device.failures g.T.TextStore.failures l.fn.device l.fn.store l.fn.redo_text l.device l.store l.redo_text;
   place : IsUndoing (g.T.TextStore.honest l.fn.redo_text) (g.T.TextStore.text l.fn.redo_text) (g.T.TextStore.text l.redo_text) l.entries.items;
   shaped : AllShaped l.takens.items;
   ready : g.D.Device.honest l.fn.device → AreReady (g.D.Device.image l.device) (reverse l.entries.items) (reverse l.takens.items);

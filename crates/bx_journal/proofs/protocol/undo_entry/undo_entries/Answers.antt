@@ -1,5 +1,5 @@
-use Rattle.std.proofs.Common.{◌≡◌, ◌∙◌, ◌+◌, ◌-◌, ◌++◌, ◌∷◌, [], ◌<◌, ◌≤◌, ℕ, Bool, true, false, List, length, drop, refl, ap, sym, subst, arith, inl, inr, length-append, Result, Ok, Err}
-use Rattle.std.specs.Prelude.{OnErr, OnOk, reverse, nat_le, if◌then◌else◌}
+use Rattle.std.proofs.Common.{◌≡◌, ◌∙◌, ◌+◌, ◌-◌, ◌∷◌, ◌<◌, ◌≤◌, ℕ, Bool, true, false, List, length, drop, refl, ap, sym, subst, arith, inl, inr}
+use Rattle.std.specs.Prelude.{reverse, nat_le, if◌then◌else◌}
 use Rattle.std.proofs.lemmas.List.{take_all}
 use Rattle.std.proofs.lemmas.Result.{err_from_is_err_and}
 use Rattle.bx_image.specs.declared.change.TheConstants.{MAX_LEN}
@@ -8,70 +8,56 @@ use Rattle.bx_entries.specs.Kept.{kept_of}
 use Rattle.bx_entries.specs.Entry.{entry_text}
 use Rattle.bx_journal.specs.Images.{undo_of}
 use Rattle.bx_entries.specs.Finished.{IsFinished}
-use Rattle.bx_entries.specs.inner.Parsed.{AllKept, entry_of}
+use Rattle.bx_entries.specs.inner.Parsed.{entry_of}
 use Rattle.bx_journal.specs.Phase.{IsAtRest}
 use Rattle.bx_journal.specs.Redo.{Finds}
 use Rattle.bx_journal.specs.Stack.{Recovers, StandsFor}
-use Rattle.bx_journal.specs.inner.Takens.{AreReady, AllShaped, entries_len}
+use Rattle.bx_journal.specs.inner.Takens.{AreReady, entries_len}
 use Rattle.bx_journal.specs.inner.Turns.{AreAtRest, AreStanding}
-use Rattle.bx_journal.proofs.LoopLemmas.{ready_pop, first_below, zeros_at, undoes_one, turned, stopped, room_left}
+use Rattle.bx_journal.proofs.DeviceLemmas.{always_err, filling_fails, goes_further, none_yet, step_fails}
+use Rattle.bx_journal.proofs.LoopLemmas.{IsTurn, turn_of, first_below, zeros_at, undoes_one, turned, stopped, room_left}
 use Rattle.bx_journal.proofs.Phases.{rest_recovers}
 use Rattle.bx_journal.proofs.Shapes.{entry_long}
-use Rattle.bx_journal.proofs.TakenLemmas.{shaped_pop, len_pop}
 use Rattle.bx_journal.proofs.TurnLemmas.{rest_is_found}
-use Rattle.bx_journal.proofs.UndoLoop.{IsUndone, popped, takes_back, shape_of, drop_one, kept_more, long_at, cut_at}
-use Rattle.bx_journal.proofs.UndoStands.{kept_next, stood_next, left_at, dropped_next}
+use Rattle.bx_journal.proofs.UndoLoop.{popped, takes_back, shape_of, drop_one, kept_more, long_at, cut_at}
+use Rattle.bx_journal.proofs.UndoStands.{stood_next, left_at, dropped_next}
 use Rattle.bx_journal.proofs.StandingLoop.{undoes_standing, turned_standing}
 use Rattle.bx_journal.proofs.protocol.undo_entry.undo_entries.Goals as goal
+use Rattle.bx_journal.proofs.protocol.undo_entry.undo_entries.Goals.{In-Some-pop}
 
-none_ok : {T E : Type 0} (P : Type 0) (r : Result T E) (e : E) → r ≡ Err e → OnOk r P
-none_ok P r e is = subst (λ q. OnOk q P) (sym is) tt
-
-always_err : {T E P : Type 0} (r : Result T E) → P → OnErr r P
-always_err (Ok x) p = tt
-always_err (Err e) p = p
+turn : (g : _) (c : In-Some-pop g) → IsTurn c.loop-i.invariant.place.text c.loop-i.invariant.place.to (g.D.Device.room c.loop-i.device) (length c.args.entries.now.items - length c.args.takens.now.items) (g.D.Device.honest c.args.device.now) (g.D.Device.image c.loop-i.device)
+    c.loop-i.entries.items c.loop-i.takens.items c.pop-in-loop-i.new.self.items c.in-Some-pop.entry c.pop.new.self.items c.in-Some.taken
+turn g c =
+    let inv = c.loop-i.invariant in
+    turn_of c.loop-i.i c.in-Some-pop.ensures.items c.in-Some.ensures.items inv.left inv.more inv.few inv.place.undone inv.shaped inv.kept inv.ready
 
 pub undo_entry-requires-clause-order : goal.undo_entry-requires-clause-order
 undo_entry-requires-clause-order g c =
     let inv = c.loop-i.invariant in
     let es = c.pop-in-loop-i.new.self.items in
     let e = c.in-Some-pop.entry in
-    let ts = c.pop.new.self.items in
-    let t = c.in-Some.taken in
-    let u : IsUndone inv.place.text (es ++ e ∷ []) inv.place.to = subst (λ fs. IsUndone inv.place.text fs inv.place.to) c.in-Some-pop.ensures.items inv.place.undone in
-    let long : length es + 1 ≡ length c.loop-i.entries.items = sym (ap length c.in-Some-pop.ensures.items ∙ length-append es (e ∷ [])) in
-    let most : length ts + 1 ≡ length c.loop-i.takens.items = sym (ap length c.in-Some.ensures.items ∙ length-append ts (t ∷ [])) in
-    (popped inv.place.text es e inv.place.to u).1.order
+    let last = turn g (goal.at.undo_entry-requires-clause-order g c).In-Some-pop in
+    (popped inv.place.text es e inv.place.to last.undone).1.order
 
 pub undo_entry-requires-clause-within_text : goal.undo_entry-requires-clause-within_text
 undo_entry-requires-clause-within_text g c th =
     let inv = c.loop-i.invariant in
     let es = c.pop-in-loop-i.new.self.items in
     let e = c.in-Some-pop.entry in
-    let ts = c.pop.new.self.items in
-    let t = c.in-Some.taken in
-    let u : IsUndone inv.place.text (es ++ e ∷ []) inv.place.to = subst (λ fs. IsUndone inv.place.text fs inv.place.to) c.in-Some-pop.ensures.items inv.place.undone in
-    let long : length es + 1 ≡ length c.loop-i.entries.items = sym (ap length c.in-Some-pop.ensures.items ∙ length-append es (e ∷ [])) in
-    let most : length ts + 1 ≡ length c.loop-i.takens.items = sym (ap length c.in-Some.ensures.items ∙ length-append ts (t ∷ [])) in
-    long_at inv.place.text (g.T.TextStore.text c.loop-i.store) es e inv.place.to u (inv.place.left (inv.store_honest.0 th))
+    let last = turn g (goal.at.undo_entry-requires-clause-within_text g c).In-Some-pop in
+    long_at inv.place.text (g.T.TextStore.text c.loop-i.store) es e inv.place.to last.undone (inv.place.left (inv.steps_on.store_honesty.0 th))
 
 pub undo_entry-requires-clause-ready : goal.undo_entry-requires-clause-ready
 undo_entry-requires-clause-ready g c =
     let inv = c.loop-i.invariant in
-    let es = c.pop-in-loop-i.new.self.items in
     let e = c.in-Some-pop.entry in
-    let ts = c.pop.new.self.items in
     let t = c.in-Some.taken in
-    let long : length es + 1 ≡ length c.loop-i.entries.items = sym (ap length c.in-Some-pop.ensures.items ∙ length-append es (e ∷ [])) in
-    let most : length ts + 1 ≡ length c.loop-i.takens.items = sym (ap length c.in-Some.ensures.items ∙ length-append ts (t ∷ [])) in
-    let n : ℕ = length c.args.entries.now.items - length c.args.takens.now.items in
-    let inside : n ≤ length es = omega (arith, long, most, inv.left, inv.more, inv.few) in
-    let kept = kept_next (g.D.Device.room c.loop-i.device) n es e inside (subst (λ fs. AllKept (g.D.Device.room c.loop-i.device) (drop n fs)) c.in-Some-pop.ensures.items inv.kept) in
+    let last = turn g (goal.at.undo_entry-requires-clause-ready g c).In-Some-pop in
     record {
-      within = kept.1;
-      image_room = kept.2;
-      taken_within = (shaped_pop ts t (subst AllShaped c.in-Some.ensures.items inv.shaped)).1;
-      fits = λ now. omega (arith, inv.fits (inv.redo_honest.0 now), ap entries_len c.in-Some.ensures.items, len_pop ts t, entry_long (c.loop-i.undone + 1) 0 (kept_of t) (kept_of t) e.kept.len 0 refl);
+      within = last.kept.1;
+      image_room = last.kept.2;
+      taken_within = last.shaped.1;
+      fits = λ now. omega (arith, inv.fits (inv.steps_on.redo_honesty.0 now), last.lens, entry_long (c.loop-i.undone + 1) 0 (kept_of t) (kept_of t) e.kept.len 0 refl);
       empty = inv.empty;
       page_room = inv.page_room;
     }
@@ -81,40 +67,33 @@ returns-in_err-undo_entry-clause-finds g c dh th rh s rest count =
     let inv = c.loop-i.invariant in
     let es = c.pop-in-loop-i.new.self.items in
     let e = c.in-Some-pop.entry in
-    let ts = c.pop.new.self.items in
     let t = c.in-Some.taken in
-    let u : IsUndone inv.place.text (es ++ e ∷ []) inv.place.to = subst (λ fs. IsUndone inv.place.text fs inv.place.to) c.in-Some-pop.ensures.items inv.place.undone in
-    let long : length es + 1 ≡ length c.loop-i.entries.items = sym (ap length c.in-Some-pop.ensures.items ∙ length-append es (e ∷ [])) in
-    let most : length ts + 1 ≡ length c.loop-i.takens.items = sym (ap length c.in-Some.ensures.items ∙ length-append ts (t ∷ [])) in
-    let n : ℕ = length c.args.entries.now.items - length c.args.takens.now.items in
-    let inside : n ≤ length es = omega (arith, long, most, inv.left, inv.more, inv.few) in
-    let kept = kept_next (g.D.Device.room c.loop-i.device) n es e inside (subst (λ fs. AllKept (g.D.Device.room c.loop-i.device) (drop n fs)) c.in-Some-pop.ensures.items inv.kept) in
+    let last = turn g (goal.at.returns-in_err-undo_entry-clause-finds g c).In-Some-pop in
     let x : List ℕ = g.D.Device.image c.loop-i.device in
     let r : List ℕ = g.T.TextStore.text c.loop-i.redo_text in
     let text : List ℕ = g.T.TextStore.text c.loop-i.store in
-    let ready = ready_pop x es e ts t (subst (λ us. AreReady x (reverse (es ++ e ∷ [])) (reverse us)) c.in-Some.ensures.items (subst (λ fs. AreReady x (reverse fs) (reverse c.loop-i.takens.items)) c.in-Some-pop.ensures.items (inv.ready dh))) in
     let here = inv.found dh th rh s rest count in
-    let one = undoes_one inv.place.text text x r (undo_of c.loop-i.i s) es e t inv.place.to u (inv.place.left th) here.0 kept.1 ready.0 in
-    let back = takes_back inv.place.text text x (undo_of c.loop-i.i s).stack es e inv.place.to u (inv.place.left th) here.0.rest in
+    let one = undoes_one inv.place.text text x r (undo_of c.loop-i.i s) es e t inv.place.to last.undone (inv.place.left th) here.0 last.kept.1 (last.ready dh).0 in
+    let back = takes_back inv.place.text text x (undo_of c.loop-i.i s).stack es e inv.place.to last.undone (inv.place.left th) here.0.rest in
     let below : List (List ℕ) = drop 1 (undo_of c.loop-i.i s).stack in
     let less : c.loop-i.i < length c.args.takens.now.items = omega (arith, c.loop-i-test.true, c.len-k.ensures) in
     always_err c.from_residual.result
     (stopped text x r (g.T.TextStore.text c.undo_entry.new.store) (g.D.Device.image c.undo_entry.new.device) (g.T.TextStore.text c.undo_entry.new.redo) s e t c.loop-i.i (length c.args.takens.now.items) c.loop-i.undone less here.0 here.1 one
-    (c.in_err-undo_entry.ensures.left (inv.device_honest.1 dh) (inv.store_honest.1 th) (inv.redo_honest.1 rh) below e.version (entry_of e) back refl))
+    (c.in_err-undo_entry.ensures.left (inv.steps_on.device_honesty.1 dh) (inv.steps_on.store_honesty.1 th) (inv.steps_on.redo_honesty.1 rh) below e.version (entry_of e) back refl))
 
 pub returns-in_err-undo_entry-clause-fault : goal.returns-in_err-undo_entry-clause-fault
 returns-in_err-undo_entry-clause-fault g c dh th stack rest =
     let inv = c.loop-i.invariant in
     let es = c.pop-in-loop-i.new.self.items in
     let e = c.in-Some-pop.entry in
-    let u : IsUndone inv.place.text (es ++ e ∷ []) inv.place.to = subst (λ fs. IsUndone inv.place.text fs inv.place.to) c.in-Some-pop.ensures.items inv.place.undone in
+    let last = turn g (goal.at.returns-in_err-undo_entry-clause-fault g c).In-Some-pop in
     let x : List ℕ = g.D.Device.image c.loop-i.device in
     let text : List ℕ = g.T.TextStore.text c.loop-i.store in
     let here : IsAtRest text x (drop c.loop-i.i stack) = inv.rest dh th stack rest in
-    let back = takes_back inv.place.text text x (drop c.loop-i.i stack) es e inv.place.to u (inv.place.left th) here in
-    let shape : drop c.loop-i.i stack ≡ x ∷ drop 1 (drop c.loop-i.i stack) = shape_of inv.place.text text x (drop c.loop-i.i stack) es e inv.place.to u (inv.place.left th) here in
+    let back = takes_back inv.place.text text x (drop c.loop-i.i stack) es e inv.place.to last.undone (inv.place.left th) here in
+    let shape : drop c.loop-i.i stack ≡ x ∷ drop 1 (drop c.loop-i.i stack) = shape_of inv.place.text text x (drop c.loop-i.i stack) es e inv.place.to last.undone (inv.place.left th) here in
     let less : c.loop-i.i < length c.args.takens.now.items = omega (arith, c.loop-i-test.true, c.len-k.ensures) in
-    always_err c.from_residual.result (elim (c.in_err-undo_entry.ensures.fault (inv.device_honest.1 dh) (inv.store_honest.1 th) (drop 1 (drop c.loop-i.i stack)) e.version (entry_of e) back refl) [
+    always_err c.from_residual.result (elim (c.in_err-undo_entry.ensures.fault (inv.steps_on.device_honesty.1 dh) (inv.steps_on.store_honesty.1 th) (drop 1 (drop c.loop-i.i stack)) e.version (entry_of e) back refl) [
       | inl f ↦ (c.loop-i.i, omega (arith, less), subst (Recovers (g.T.TextStore.text c.undo_entry.new.store) (g.D.Device.image c.undo_entry.new.device)) (sym shape) f)
       | inr f ↦ (c.loop-i.i + 1, omega (arith, less), subst (Recovers (g.T.TextStore.text c.undo_entry.new.store) (g.D.Device.image c.undo_entry.new.device)) (drop_one c.loop-i.i stack) f)
     ])
@@ -125,44 +104,31 @@ fill_last-requires-clause-range g c now =
     let es = c.pop-in-loop-i.new.self.items in
     let e = c.in-Some-pop.entry in
     let ts = c.pop.new.self.items in
-    let t = c.in-Some.taken in
-    let u : IsUndone inv.place.text (es ++ e ∷ []) inv.place.to = subst (λ fs. IsUndone inv.place.text fs inv.place.to) c.in-Some-pop.ensures.items inv.place.undone in
-    let long : length es + 1 ≡ length c.loop-i.entries.items = sym (ap length c.in-Some-pop.ensures.items ∙ length-append es (e ∷ [])) in
-    let most : length ts + 1 ≡ length c.loop-i.takens.items = sym (ap length c.in-Some.ensures.items ∙ length-append ts (t ∷ [])) in
-    let dh = inv.device_honest.0 (c.undo_entry.ensures.steps_on.device_honesty.0 now) in
+    let last = turn g (goal.at.fill_last-requires-clause-range g c).In-Some-pop in
+    let dh = inv.steps_on.device_honesty.0 (c.undo_entry.ensures.steps_on.device_honesty.0 now) in
     let x : List ℕ = g.D.Device.image c.loop-i.device in
-    let r : List ℕ = g.T.TextStore.text c.loop-i.redo_text in
-    let text : List ℕ = g.T.TextStore.text c.loop-i.store in
-    let ready = ready_pop x es e ts t (subst (λ us. AreReady x (reverse (es ++ e ∷ [])) (reverse us)) c.in-Some.ensures.items (subst (λ fs. AreReady x (reverse fs) (reverse c.loop-i.takens.items)) c.in-Some-pop.ensures.items (inv.ready dh))) in
     let y : List ℕ = g.D.Device.image c.undo_entry.new.device in
-    first_below (length y) (reverse es) (reverse ts) (zeros_at x y e (reverse es) (reverse ts) (c.in_ok-undo_entry.ensures.undoes.image_is (inv.device_honest.1 dh)) ready.1)
+    first_below (length y) (reverse es) (reverse ts) (zeros_at x y e (reverse es) (reverse ts) (c.in_ok-undo_entry.ensures.undoes.image_is (inv.steps_on.device_honesty.1 dh)) (last.ready dh).1)
 
 pub returns-in_err-fill_last-clause-finds : goal.returns-in_err-fill_last-clause-finds
 returns-in_err-fill_last-clause-finds g c dh th rh s rest count =
     let inv = c.loop-i.invariant in
     let es = c.pop-in-loop-i.new.self.items in
     let e = c.in-Some-pop.entry in
-    let ts = c.pop.new.self.items in
     let t = c.in-Some.taken in
-    let u : IsUndone inv.place.text (es ++ e ∷ []) inv.place.to = subst (λ fs. IsUndone inv.place.text fs inv.place.to) c.in-Some-pop.ensures.items inv.place.undone in
-    let long : length es + 1 ≡ length c.loop-i.entries.items = sym (ap length c.in-Some-pop.ensures.items ∙ length-append es (e ∷ [])) in
-    let most : length ts + 1 ≡ length c.loop-i.takens.items = sym (ap length c.in-Some.ensures.items ∙ length-append ts (t ∷ [])) in
-    let n : ℕ = length c.args.entries.now.items - length c.args.takens.now.items in
-    let inside : n ≤ length es = omega (arith, long, most, inv.left, inv.more, inv.few) in
-    let kept = kept_next (g.D.Device.room c.loop-i.device) n es e inside (subst (λ fs. AllKept (g.D.Device.room c.loop-i.device) (drop n fs)) c.in-Some-pop.ensures.items inv.kept) in
+    let last = turn g (goal.at.returns-in_err-fill_last-clause-finds g c).In-Some-pop in
     let x : List ℕ = g.D.Device.image c.loop-i.device in
     let r : List ℕ = g.T.TextStore.text c.loop-i.redo_text in
     let text : List ℕ = g.T.TextStore.text c.loop-i.store in
-    let ready = ready_pop x es e ts t (subst (λ us. AreReady x (reverse (es ++ e ∷ [])) (reverse us)) c.in-Some.ensures.items (subst (λ fs. AreReady x (reverse fs) (reverse c.loop-i.takens.items)) c.in-Some-pop.ensures.items (inv.ready dh))) in
     let here = inv.found dh th rh s rest count in
-    let one = undoes_one inv.place.text text x r (undo_of c.loop-i.i s) es e t inv.place.to u (inv.place.left th) here.0 kept.1 ready.0 in
-    let back = takes_back inv.place.text text x (undo_of c.loop-i.i s).stack es e inv.place.to u (inv.place.left th) here.0.rest in
+    let one = undoes_one inv.place.text text x r (undo_of c.loop-i.i s) es e t inv.place.to last.undone (inv.place.left th) here.0 last.kept.1 (last.ready dh).0 in
+    let back = takes_back inv.place.text text x (undo_of c.loop-i.i s).stack es e inv.place.to last.undone (inv.place.left th) here.0.rest in
     let below : List (List ℕ) = drop 1 (undo_of c.loop-i.i s).stack in
     let y : List ℕ = g.D.Device.image c.undo_entry.new.device in
-    let restored : y ≡ restore (kept_of e.kept) x = c.in_ok-undo_entry.ensures.undoes.image_is (inv.device_honest.1 dh) in
+    let restored : y ≡ restore (kept_of e.kept) x = c.in_ok-undo_entry.ensures.undoes.image_is (inv.steps_on.device_honesty.1 dh) in
     let next = turned text x r (g.T.TextStore.text c.undo_entry.new.store) y (g.T.TextStore.text c.undo_entry.new.redo) s e t c.loop-i.i c.loop-i.undone here.0 here.1 one restored
-    (c.in_ok-undo_entry.ensures.undoes.redo_is (inv.redo_honest.1 rh)) (c.in_ok-undo_entry.ensures.ok (inv.device_honest.1 dh) (inv.store_honest.1 th) below e.version (entry_of e) back refl) in
-    let same : g.D.Device.image c.fill_last.new.device ≡ y = c.fill_last.ensures.image (c.undo_entry.ensures.steps_on.device_honesty.1 (inv.device_honest.1 dh)) in
+    (c.in_ok-undo_entry.ensures.undoes.redo_is (inv.steps_on.redo_honesty.1 rh)) (c.in_ok-undo_entry.ensures.ok (inv.steps_on.device_honesty.1 dh) (inv.steps_on.store_honesty.1 th) below e.version (entry_of e) back refl) in
+    let same : g.D.Device.image c.fill_last.new.device ≡ y = c.fill_last.ensures.image (c.undo_entry.ensures.steps_on.device_honesty.1 (inv.steps_on.device_honesty.1 dh)) in
     let found = rest_is_found (g.T.TextStore.text c.undo_entry.new.store) y (g.T.TextStore.text c.undo_entry.new.redo) (undo_of (c.loop-i.i + 1) s) next.0 in
     always_err c.from_residual-in_err-fill_last.result (
       c.loop-i.i + 1,
@@ -175,16 +141,16 @@ returns-in_err-fill_last-clause-fault g c dh th stack rest =
     let inv = c.loop-i.invariant in
     let es = c.pop-in-loop-i.new.self.items in
     let e = c.in-Some-pop.entry in
-    let u : IsUndone inv.place.text (es ++ e ∷ []) inv.place.to = subst (λ fs. IsUndone inv.place.text fs inv.place.to) c.in-Some-pop.ensures.items inv.place.undone in
+    let last = turn g (goal.at.returns-in_err-fill_last-clause-fault g c).In-Some-pop in
     let x : List ℕ = g.D.Device.image c.loop-i.device in
     let text : List ℕ = g.T.TextStore.text c.loop-i.store in
     let new : List ℕ = g.T.TextStore.text c.undo_entry.new.store in
-    let back = takes_back inv.place.text text x (drop c.loop-i.i stack) es e inv.place.to u (inv.place.left th) (inv.rest dh th stack rest) in
-    let dev = inv.device_honest.1 dh in
+    let back = takes_back inv.place.text text x (drop c.loop-i.i stack) es e inv.place.to last.undone (inv.place.left th) (inv.rest dh th stack rest) in
+    let dev = inv.steps_on.device_honesty.1 dh in
     let same : g.D.Device.image c.fill_last.new.device ≡ g.D.Device.image c.undo_entry.new.device = c.fill_last.ensures.image (c.undo_entry.ensures.steps_on.device_honesty.1 dev) in
     let next : IsAtRest new (g.D.Device.image c.undo_entry.new.device) (drop (c.loop-i.i + 1) stack) =
     subst (IsAtRest new (g.D.Device.image c.undo_entry.new.device)) (drop_one c.loop-i.i stack)
-    (c.in_ok-undo_entry.ensures.ok dev (inv.store_honest.1 th) (drop 1 (drop c.loop-i.i stack)) e.version (entry_of e) back refl) in
+    (c.in_ok-undo_entry.ensures.ok dev (inv.steps_on.store_honesty.1 th) (drop 1 (drop c.loop-i.i stack)) e.version (entry_of e) back refl) in
     always_err c.from_residual-in_err-fill_last.result (
       c.loop-i.i + 1,
       omega (arith, c.loop-i-test.true, c.len-k.ensures),
@@ -198,52 +164,40 @@ loop-i-preserved g c =
     let e = c.in-Some-pop.entry in
     let ts = c.pop.new.self.items in
     let t = c.in-Some.taken in
-    let u : IsUndone inv.place.text (es ++ e ∷ []) inv.place.to = subst (λ fs. IsUndone inv.place.text fs inv.place.to) c.in-Some-pop.ensures.items inv.place.undone in
-    let long : length es + 1 ≡ length c.loop-i.entries.items = sym (ap length c.in-Some-pop.ensures.items ∙ length-append es (e ∷ [])) in
-    let most : length ts + 1 ≡ length c.loop-i.takens.items = sym (ap length c.in-Some.ensures.items ∙ length-append ts (t ∷ [])) in
-    let n : ℕ = length c.args.entries.now.items - length c.args.takens.now.items in
-    let inside : n ≤ length es = omega (arith, long, most, inv.left, inv.more, inv.few) in
-    let kept = kept_next (g.D.Device.room c.loop-i.device) n es e inside (subst (λ fs. AllKept (g.D.Device.room c.loop-i.device) (drop n fs)) c.in-Some-pop.ensures.items inv.kept) in
-    let p = popped inv.place.text es e inv.place.to u in
-    let shaped = shaped_pop ts t (subst AllShaped c.in-Some.ensures.items inv.shaped) in
+    let last = turn g (goal.at.loop-i-preserved g c).In-Some-pop in
+    let p = popped inv.place.text es e inv.place.to last.undone in
     let undo = c.in_ok-undo_entry.ensures in
     let dev = g.D.Device.image c.undo_entry.new.device in
     record {
-      left = omega (arith, inv.left, long);
-      more = omega (arith, inv.more, most, c.fill_last.ensures.count);
+      left = omega (arith, inv.left, last.long);
+      more = omega (arith, inv.more, last.most, c.fill_last.ensures.count);
       few = inv.few;
-      bound = by_len (nat_le t.len MAX_LEN) c.loop-i.undone c.undone_with-undone.result (length ts) (length c.fill_last.new.takens.items) (c.args.undone + length c.args.takens.now.items) c.undone_with-undone.ensures c.fill_last.ensures.count (omega (arith, inv.bound, most));
-      kept = kept_more (g.D.Device.room c.loop-i.device) (g.D.Device.room c.fill_last.new.device) (drop n es) kept.0 (omega (arith, c.undo_entry.ensures.undoes.room_kept, c.fill_last.ensures.goes_on.no_less_room));
-      dropped = λ th all finished. dropped_next inv.place.text (g.T.TextStore.text c.loop-i.store) (g.T.TextStore.text c.undo_entry.new.store) es e all inv.place.to c.loop-i.i u (inv.place.left th) (undo.text (inv.store_honest.1 th))
+      bound = by_len (nat_le t.len MAX_LEN) c.loop-i.undone c.undone_with-undone.result (length ts) (length c.fill_last.new.takens.items) (c.args.undone + length c.args.takens.now.items) c.undone_with-undone.ensures c.fill_last.ensures.count (omega (arith, inv.bound, last.most));
+      kept = kept_more (g.D.Device.room c.loop-i.device) (g.D.Device.room c.fill_last.new.device) (drop (length c.args.entries.now.items - length c.args.takens.now.items) es) last.kept.0 (omega (arith, c.undo_entry.ensures.undoes.room_kept, c.fill_last.ensures.goes_on.no_less_room));
+      dropped = λ th all finished. dropped_next inv.place.text (g.T.TextStore.text c.loop-i.store) (g.T.TextStore.text c.undo_entry.new.store) es e all inv.place.to c.loop-i.i last.undone (inv.place.left th) (undo.text (inv.steps_on.store_honesty.1 th))
           (inv.dropped th all finished);
-      device_honest = ((λ h. inv.device_honest.0 (c.undo_entry.ensures.steps_on.device_honesty.0 (c.fill_last.ensures.goes_on.honesty.0 h))), λ h. c.fill_last.ensures.goes_on.honesty.1 (c.undo_entry.ensures.steps_on.device_honesty.1 (inv.device_honest.1 h)));
-      store_honest = ((λ h. inv.store_honest.0 (c.undo_entry.ensures.steps_on.store_honesty.0 h)), λ h. c.undo_entry.ensures.steps_on.store_honesty.1 (inv.store_honest.1 h));
-      redo_honest = ((λ h. inv.redo_honest.0 (c.undo_entry.ensures.steps_on.redo_honesty.0 h)), λ h. c.undo_entry.ensures.steps_on.redo_honesty.1 (inv.redo_honest.1 h));
-      device_countable = c.in_ok-fill_last.ensures.goes_on.counted ∙ undo.steps_on.no_failure.0 ∙ inv.device_countable;
-      store_countable = undo.steps_on.no_failure.1 ∙ inv.store_countable;
-      redo_countable = undo.steps_on.no_failure.2 ∙ inv.redo_countable;
+      steps_on = goes_further inv.steps_on c.in_ok-undo_entry.ensures.steps_on c.in_ok-fill_last.ensures.goes_on;
       place = record {
         text = inv.place.text;
         to = e.begins;
         undone = p.0;
         is = inv.place.is;
-        left = λ th. cut_at inv.place.text (g.T.TextStore.text c.loop-i.store) (g.T.TextStore.text c.undo_entry.new.store) es e inv.place.to u (inv.place.left th) (undo.text (inv.store_honest.1 th));
+        left = λ th. cut_at inv.place.text (g.T.TextStore.text c.loop-i.store) (g.T.TextStore.text c.undo_entry.new.store) es e inv.place.to last.undone (inv.place.left th) (undo.text (inv.steps_on.store_honesty.1 th));
       };
-      shaped = c.fill_last.ensures.shaped shaped.0;
+      shaped = c.fill_last.ensures.shaped last.shaped.0;
       ready = λ dh.
           let x : List ℕ = g.D.Device.image c.loop-i.device in
           let r : List ℕ = g.T.TextStore.text c.loop-i.redo_text in
           let text : List ℕ = g.T.TextStore.text c.loop-i.store in
-          let ready = ready_pop x es e ts t (subst (λ us. AreReady x (reverse (es ++ e ∷ [])) (reverse us)) c.in-Some.ensures.items (subst (λ fs. AreReady x (reverse fs) (reverse c.loop-i.takens.items)) c.in-Some-pop.ensures.items (inv.ready dh))) in
           let y : List ℕ = g.D.Device.image c.undo_entry.new.device in
-          let here = c.undo_entry.ensures.steps_on.device_honesty.1 (inv.device_honest.1 dh) in
+          let here = c.undo_entry.ensures.steps_on.device_honesty.1 (inv.steps_on.device_honesty.1 dh) in
           subst (λ z. AreReady z (reverse es) (reverse c.fill_last.new.takens.items)) (sym (c.fill_last.ensures.image here))
-          (c.in_ok-fill_last.ensures.filled here (reverse es) (zeros_at x y e (reverse es) (reverse ts) (undo.undoes.image_is (inv.device_honest.1 dh)) ready.1));
+          (c.in_ok-fill_last.ensures.filled here (reverse es) (zeros_at x y e (reverse es) (reverse ts) (undo.undoes.image_is (inv.steps_on.device_honesty.1 dh)) (last.ready dh).1));
       fits = λ rh.
           let was = inv.fits rh in
-          let sum : length (g.T.TextStore.text c.loop-i.redo_text) + (entries_len ts + length (entry_text 0 (kept_of t) 0)) ≤ g.T.TextStore.room c.loop-i.redo_text = omega (arith, was, ap entries_len c.in-Some.ensures.items, len_pop ts t) in
+          let sum : length (g.T.TextStore.text c.loop-i.redo_text) + (entries_len ts + length (entry_text 0 (kept_of t) 0)) ≤ g.T.TextStore.room c.loop-i.redo_text = omega (arith, was, last.lens) in
           let room = room_left (g.T.TextStore.text c.loop-i.redo_text) (g.T.TextStore.text c.undo_entry.new.redo) ts t (c.loop-i.undone + 1) e.kept.len (g.T.TextStore.room c.loop-i.redo_text) (g.T.TextStore.room c.undo_entry.new.redo)
-          (undo.undoes.redo_is (inv.redo_honest.1 rh)) sum c.undo_entry.ensures.undoes.redo_room in
+          (undo.undoes.redo_is (inv.steps_on.redo_honesty.1 rh)) sum c.undo_entry.ensures.undoes.redo_room in
           omega (arith, room, c.fill_last.ensures.entries_len);
       empty = undo.emptied;
       page_room = omega (arith, inv.page_room, c.undo_entry.ensures.page_kept);
@@ -251,31 +205,30 @@ loop-i-preserved g c =
           let x : List ℕ = g.D.Device.image c.loop-i.device in
           let text : List ℕ = g.T.TextStore.text c.loop-i.store in
           let new : List ℕ = g.T.TextStore.text c.undo_entry.new.store in
-          let back = takes_back inv.place.text text x (drop c.loop-i.i stack) es e inv.place.to u (inv.place.left th) (inv.rest dh th stack rest) in
-          let same : g.D.Device.image c.fill_last.new.device ≡ dev = c.fill_last.ensures.image (c.undo_entry.ensures.steps_on.device_honesty.1 (inv.device_honest.1 dh)) in
+          let back = takes_back inv.place.text text x (drop c.loop-i.i stack) es e inv.place.to last.undone (inv.place.left th) (inv.rest dh th stack rest) in
+          let same : g.D.Device.image c.fill_last.new.device ≡ dev = c.fill_last.ensures.image (c.undo_entry.ensures.steps_on.device_honesty.1 (inv.steps_on.device_honesty.1 dh)) in
           subst (λ z. IsAtRest new z (drop (c.loop-i.i + 1) stack)) (sym same) (subst (IsAtRest new dev) (drop_one c.loop-i.i stack)
-          (undo.ok (inv.device_honest.1 dh) (inv.store_honest.1 th) (drop 1 (drop c.loop-i.i stack)) e.version (entry_of e) back refl));
+          (undo.ok (inv.steps_on.device_honesty.1 dh) (inv.steps_on.store_honesty.1 th) (drop 1 (drop c.loop-i.i stack)) e.version (entry_of e) back refl));
       stood = λ dh th stack stands.
           let x : List ℕ = g.D.Device.image c.loop-i.device in
           let text : List ℕ = g.T.TextStore.text c.loop-i.store in
           let new : List ℕ = g.T.TextStore.text c.undo_entry.new.store in
-          let same : g.D.Device.image c.fill_last.new.device ≡ dev = c.fill_last.ensures.image (c.undo_entry.ensures.steps_on.device_honesty.1 (inv.device_honest.1 dh)) in
+          let same : g.D.Device.image c.fill_last.new.device ≡ dev = c.fill_last.ensures.image (c.undo_entry.ensures.steps_on.device_honesty.1 (inv.steps_on.device_honesty.1 dh)) in
           subst (λ z. StandsFor new z (drop (c.loop-i.i + 1) stack)) (sym same) (subst (StandsFor new dev) (drop_one c.loop-i.i stack)
-          (stood_next inv.place.text text new x dev (drop c.loop-i.i stack) es e inv.place.to u (inv.place.left th) (undo.text (inv.store_honest.1 th)) (undo.undoes.image_is (inv.device_honest.1 dh)) (inv.stood dh th stack stands)));
+          (stood_next inv.place.text text new x dev (drop c.loop-i.i stack) es e inv.place.to last.undone (inv.place.left th) (undo.text (inv.steps_on.store_honesty.1 th)) (undo.undoes.image_is (inv.steps_on.device_honesty.1 dh)) (inv.stood dh th stack stands)));
       found = λ dh th rh s rest count.
           let x : List ℕ = g.D.Device.image c.loop-i.device in
           let r : List ℕ = g.T.TextStore.text c.loop-i.redo_text in
           let text : List ℕ = g.T.TextStore.text c.loop-i.store in
-          let ready = ready_pop x es e ts t (subst (λ us. AreReady x (reverse (es ++ e ∷ [])) (reverse us)) c.in-Some.ensures.items (subst (λ fs. AreReady x (reverse fs) (reverse c.loop-i.takens.items)) c.in-Some-pop.ensures.items (inv.ready dh))) in
           let here = inv.found dh th rh s rest count in
-          let one = undoes_one inv.place.text text x r (undo_of c.loop-i.i s) es e t inv.place.to u (inv.place.left th) here.0 kept.1 ready.0 in
-          let back = takes_back inv.place.text text x (undo_of c.loop-i.i s).stack es e inv.place.to u (inv.place.left th) here.0.rest in
+          let one = undoes_one inv.place.text text x r (undo_of c.loop-i.i s) es e t inv.place.to last.undone (inv.place.left th) here.0 last.kept.1 (last.ready dh).0 in
+          let back = takes_back inv.place.text text x (undo_of c.loop-i.i s).stack es e inv.place.to last.undone (inv.place.left th) here.0.rest in
           let below : List (List ℕ) = drop 1 (undo_of c.loop-i.i s).stack in
           let y : List ℕ = g.D.Device.image c.undo_entry.new.device in
-          let restored : y ≡ restore (kept_of e.kept) x = c.in_ok-undo_entry.ensures.undoes.image_is (inv.device_honest.1 dh) in
+          let restored : y ≡ restore (kept_of e.kept) x = c.in_ok-undo_entry.ensures.undoes.image_is (inv.steps_on.device_honesty.1 dh) in
           let next = turned text x r (g.T.TextStore.text c.undo_entry.new.store) y (g.T.TextStore.text c.undo_entry.new.redo) s e t c.loop-i.i c.loop-i.undone here.0 here.1 one restored
-          (c.in_ok-undo_entry.ensures.undoes.redo_is (inv.redo_honest.1 rh)) (c.in_ok-undo_entry.ensures.ok (inv.device_honest.1 dh) (inv.store_honest.1 th) below e.version (entry_of e) back refl) in
-          let same : g.D.Device.image c.fill_last.new.device ≡ y = c.fill_last.ensures.image (c.undo_entry.ensures.steps_on.device_honesty.1 (inv.device_honest.1 dh)) in (
+          (c.in_ok-undo_entry.ensures.undoes.redo_is (inv.steps_on.redo_honesty.1 rh)) (c.in_ok-undo_entry.ensures.ok (inv.steps_on.device_honesty.1 dh) (inv.steps_on.store_honesty.1 th) below e.version (entry_of e) back refl) in
+          let same : g.D.Device.image c.fill_last.new.device ≡ y = c.fill_last.ensures.image (c.undo_entry.ensures.steps_on.device_honesty.1 (inv.steps_on.device_honesty.1 dh)) in (
             subst (λ z. AreAtRest (g.T.TextStore.text c.undo_entry.new.store) z (g.T.TextStore.text c.undo_entry.new.redo) (undo_of (c.loop-i.i + 1) s)) (sym same) next.0,
             c.undone_with-undone.ensures ∙ next.1,
           );
@@ -283,23 +236,21 @@ loop-i-preserved g c =
           let x : List ℕ = g.D.Device.image c.loop-i.device in
           let r : List ℕ = g.T.TextStore.text c.loop-i.redo_text in
           let text : List ℕ = g.T.TextStore.text c.loop-i.store in
-          let ready = ready_pop x es e ts t (subst (λ us. AreReady x (reverse (es ++ e ∷ [])) (reverse us)) c.in-Some.ensures.items (subst (λ fs. AreReady x (reverse fs) (reverse c.loop-i.takens.items)) c.in-Some-pop.ensures.items (inv.ready dh))) in
           let here = inv.images dh th rh s rest count in
-          let one = undoes_standing inv.place.text text x r (undo_of c.loop-i.i s) es e t inv.place.to u (inv.place.left th) here.0 kept.1 ready.0 in
-          let below : List (List ℕ) = drop 1 (undo_of c.loop-i.i s).stack in
+          let one = undoes_standing inv.place.text text x r (undo_of c.loop-i.i s) es e t inv.place.to last.undone (inv.place.left th) here.0 last.kept.1 (last.ready dh).0 in
           let y : List ℕ = g.D.Device.image c.undo_entry.new.device in
-          let restored : y ≡ restore (kept_of e.kept) x = c.in_ok-undo_entry.ensures.undoes.image_is (inv.device_honest.1 dh) in
+          let restored : y ≡ restore (kept_of e.kept) x = c.in_ok-undo_entry.ensures.undoes.image_is (inv.steps_on.device_honesty.1 dh) in
           let next = turned_standing text x r (g.T.TextStore.text c.undo_entry.new.store) y (g.T.TextStore.text c.undo_entry.new.redo) s e t c.loop-i.i c.loop-i.undone here.0 here.1 one restored
-          (c.in_ok-undo_entry.ensures.undoes.redo_is (inv.redo_honest.1 rh)) (stood_next inv.place.text text (g.T.TextStore.text c.undo_entry.new.store) x y (undo_of c.loop-i.i s).stack es e inv.place.to u (inv.place.left th) (undo.text (inv.store_honest.1 th)) restored here.0.stands) in
-          let same : g.D.Device.image c.fill_last.new.device ≡ y = c.fill_last.ensures.image (c.undo_entry.ensures.steps_on.device_honesty.1 (inv.device_honest.1 dh)) in (
+          (c.in_ok-undo_entry.ensures.undoes.redo_is (inv.steps_on.redo_honesty.1 rh)) (stood_next inv.place.text text (g.T.TextStore.text c.undo_entry.new.store) x y (undo_of c.loop-i.i s).stack es e inv.place.to last.undone (inv.place.left th) (undo.text (inv.steps_on.store_honesty.1 th)) restored here.0.stands) in
+          let same : g.D.Device.image c.fill_last.new.device ≡ y = c.fill_last.ensures.image (c.undo_entry.ensures.steps_on.device_honesty.1 (inv.steps_on.device_honesty.1 dh)) in (
             subst (λ z. AreStanding (g.T.TextStore.text c.undo_entry.new.store) z (g.T.TextStore.text c.undo_entry.new.redo) (undo_of (c.loop-i.i + 1) s)) (sym same) next.0,
             c.undone_with-undone.ensures ∙ next.1,
           );
     }
   where
     by_len : (b : Bool) (n m k l limit : ℕ) → m ≡ (if b then n + 1 else 0) → l ≡ k → n + (k + 1) ≤ limit → m + l ≤ limit
-    by_len true n m k l limit is same most = omega (arith, is, same, most)
-    by_len false n m k l limit is same most = omega (arith, is, same, most)
+    by_len true n m k l limit is same most = omega (arith, is, same, last.most)
+    by_len false n m k l limit is same most = omega (arith, is, same, last.most)
 
 pub loop-i-init : goal.loop-i-init
 loop-i-init g c =
@@ -310,12 +261,7 @@ loop-i-init g c =
       bound = omega arith;
       kept = c.requires.kept;
       dropped = λ th all finished. finished;
-      device_honest = ((λ h. h), λ h. h);
-      store_honest = ((λ h. h), λ h. h);
-      redo_honest = ((λ h. h), λ h. h);
-      device_countable = refl;
-      store_countable = refl;
-      redo_countable = refl;
+      steps_on = none_yet;
       place = record {
         text = text;
         to = length text;
@@ -360,39 +306,9 @@ returns-clause-left g c th entries finished =
     (subst (λ n. IsFinished (g.T.TextStore.text c.loop-i.store) (drop n entries)) all (inv.dropped th entries finished))
 
 pub returns-in_err-undo_entry-clause-steps_on : goal.returns-in_err-undo_entry-clause-steps_on
-returns-in_err-undo_entry-clause-steps_on g c =
-    let inv = c.loop-i.invariant in
-    let s = c.undo_entry.ensures.steps_on in
-    let f = c.in_err-undo_entry.ensures.steps_on.failure in
-    record {
-      device_honesty = ((λ h. inv.device_honest.0 (s.device_honesty.0 h)), λ h. s.device_honesty.1 (inv.device_honest.1 h));
-      store_honesty = ((λ h. inv.store_honest.0 (s.store_honesty.0 h)), λ h. s.store_honesty.1 (inv.store_honest.1 h));
-      redo_honesty = ((λ h. inv.redo_honest.0 (s.redo_honesty.0 h)), λ h. s.redo_honesty.1 (inv.redo_honest.1 h));
-      no_failure = none_ok _ c.from_residual.result _ (err_from_is_err_and c.from_residual.result c.from_residual.ensures.1).1;
-      failure = always_err c.from_residual.result (
-        omega (arith, f.0, inv.device_countable),
-        omega (arith, f.1, inv.store_countable),
-        omega (arith, f.2, inv.redo_countable),
-        omega (arith, f.3, inv.device_countable, inv.store_countable, inv.redo_countable),
-      );
-    }
+returns-in_err-undo_entry-clause-steps_on g c = step_fails c.from_residual.result (err_from_is_err_and c.from_residual.result c.from_residual.ensures.1).1 c.loop-i.invariant.steps_on c.in_err-undo_entry.ensures.steps_on
 
 pub returns-in_err-fill_last-clause-steps_on : goal.returns-in_err-fill_last-clause-steps_on
 returns-in_err-fill_last-clause-steps_on g c =
-    let inv = c.loop-i.invariant in
-    let s = c.undo_entry.ensures.steps_on in
-    let same = c.in_ok-undo_entry.ensures.steps_on.no_failure in
-    let filled = c.fill_last.ensures.goes_on.honesty in
-    let more : g.D.Device.failures c.fill_last.new.device ≡ g.D.Device.failures c.undo_entry.new.device + 1 = c.in_err-fill_last.ensures.goes_on.counted in
-    record {
-      device_honesty = ((λ h. inv.device_honest.0 (s.device_honesty.0 (filled.0 h))), λ h. filled.1 (s.device_honesty.1 (inv.device_honest.1 h)));
-      store_honesty = ((λ h. inv.store_honest.0 (s.store_honesty.0 h)), λ h. s.store_honesty.1 (inv.store_honest.1 h));
-      redo_honesty = ((λ h. inv.redo_honest.0 (s.redo_honesty.0 h)), λ h. s.redo_honesty.1 (inv.redo_honest.1 h));
-      no_failure = none_ok _ c.from_residual-in_err-fill_last.result _ (err_from_is_err_and c.from_residual-in_err-fill_last.result c.from_residual-in_err-fill_last.ensures.1).1;
-      failure = always_err c.from_residual-in_err-fill_last.result (
-        omega (arith, more, same.0, inv.device_countable),
-        omega (arith, same.1, inv.store_countable),
-        omega (arith, same.2, inv.redo_countable),
-        omega (arith, more, same.0, same.1, same.2, inv.device_countable, inv.store_countable, inv.redo_countable),
-      );
-    }
+    filling_fails c.from_residual-in_err-fill_last.result (err_from_is_err_and c.from_residual-in_err-fill_last.result c.from_residual-in_err-fill_last.ensures.1).1 c.loop-i.invariant.steps_on c.in_ok-undo_entry.ensures.steps_on
+    c.in_err-fill_last.ensures.goes_on

@@ -1,4 +1,4 @@
-use Rattle.std.proofs.Common.{◌≡◌, ◌+◌, ◌≤◌, ◌↔◌, ◌-◌, ℕ, [], List, length, drop}
+use Rattle.std.proofs.Common.{◌≡◌, ◌+◌, ◌≤◌, ◌-◌, ℕ, [], List, length, drop}
 use Rattle.std.specs.Prelude.{reverse, vec_capacity}
 use Rattle.bx_journal.specs.Images.{Images, undo_of}
 use Rattle.bx_entries.specs.Finished.{IsFinished}
@@ -8,6 +8,7 @@ use Rattle.bx_journal.specs.Phase.{IsAtRest}
 use Rattle.bx_journal.specs.Stack.{StandsFor}
 use Rattle.bx_journal.specs.inner.Takens.{AreReady, AllShaped, entries_len}
 use Rattle.bx_journal.specs.inner.Turns.{AreAtRest, AreStanding}
+use Rattle.bx_journal.proofs.DeviceLemmas.{HaveGoneOn}
 use Rattle.bx_journal.proofs.UndoLoop.{IsUndoing}
 use Rattle.bx_journal.proofs.protocol.undo_entry.undo_entries.Given as goal
 
@@ -19,12 +20,7 @@ invariant-loop-i g l = record {
   bound : l.undone + length l.takens.items ≤ l.fn.undone + length l.fn.takens.items;
   kept : AllKept (g.D.Device.room l.device) (drop (length l.fn.entries.items - length l.fn.takens.items) l.entries.items);
   dropped : g.T.TextStore.honest l.fn.store → (all : List Entry) → IsFinished (g.T.TextStore.text l.fn.store) all → IsFinished (g.T.TextStore.text l.store) (drop l.i all);
-  device_honest : g.D.Device.honest l.device ↔ g.D.Device.honest l.fn.device;
-  store_honest : g.T.TextStore.honest l.store ↔ g.T.TextStore.honest l.fn.store;
-  redo_honest : g.T.TextStore.honest l.redo_text ↔ g.T.TextStore.honest l.fn.redo_text;
-  device_countable : g.D.Device.failures l.device ≡ g.D.Device.failures l.fn.device;
-  store_countable : g.T.TextStore.failures l.store ≡ g.T.TextStore.failures l.fn.store;
-  redo_countable : g.T.TextStore.failures l.redo_text ≡ g.T.TextStore.failures l.fn.redo_text;
+  steps_on : HaveGoneOn g.D.Device.honest g.T.TextStore.honest g.D.Device.failures g.T.TextStore.failures l.fn.device l.fn.store l.fn.redo_text l.device l.store l.redo_text;
   place : IsUndoing (g.T.TextStore.honest l.fn.store) (g.T.TextStore.text l.fn.store) (g.T.TextStore.text l.store) l.entries.items;
   shaped : AllShaped l.takens.items;
   ready : g.D.Device.honest l.fn.device → AreReady (g.D.Device.image l.device) (reverse l.entries.items) (reverse l.takens.items);
