@@ -64,88 +64,29 @@ fn go_on_in<A: Allocator>(
     ensures same_length { length window.new ≡ length window.old }
     ensures read { IfOk result (λ g. StageGoesOnBy (drop from window.old) stage g.stage g.gathered.count) }
 {
-    match stage {
-        StageRead::Saving {
-            version,
-            len,
-            mut runs,
-            begins,
-        } => {
-            let gathered = gather_last(len, &mut runs, left, from, window)?;
-            let stage = StageRead::Saving {
-                version,
-                len,
-                runs,
-                begins,
-            };
-            Ok(GoneOn { stage, gathered })
+    let mut stage = stage;
+    let gathered = if let StageRead::Saving { len, runs, .. } = &mut stage {
+        gather_last(*len, runs, left, from, window)?
+    } else {
+        Gathered {
+            count: 0,
+            has_room: false,
         }
-        StageRead::Between => {
-            let gathered = Gathered {
-                count: 0,
-                has_room: false,
-            };
-            Ok(GoneOn {
-                stage: StageRead::Between,
-                gathered,
-            })
-        }
-        StageRead::Ending {
-            version,
-            kept,
-            begins,
-            saved,
-        } => {
-            let stage = StageRead::Ending {
-                version,
-                kept,
-                begins,
-                saved,
-            };
-            let gathered = Gathered {
-                count: 0,
-                has_room: false,
-            };
-            Ok(GoneOn { stage, gathered })
-        }
-    }
+    };
+    Ok(GoneOn { stage, gathered })
 }
 
 /// The stage without the room that its last run has for lines that come later, where it has some.
 fn without_room<A: Allocator>(stage: StageRead<A>, has_room: bool) -> Result<StageRead<A>, NoMemory>
     ensures { IfOk result (IsReadAlike stage) }
 {
-    if !has_room {
-        return Ok(stage);
-    }
-    match stage {
-        StageRead::Saving {
-            version,
-            len,
-            mut runs,
-            begins,
-        } => {
-            trim_last(&mut runs)?;
-            Ok(StageRead::Saving {
-                version,
-                len,
-                runs,
-                begins,
-            })
+    let mut stage = stage;
+    if let StageRead::Saving { runs, .. } = &mut stage {
+        if has_room {
+            trim_last(runs)?;
         }
-        StageRead::Between => Ok(StageRead::Between),
-        StageRead::Ending {
-            version,
-            kept,
-            begins,
-            saved,
-        } => Ok(StageRead::Ending {
-            version,
-            kept,
-            begins,
-            saved,
-        }),
     }
+    Ok(stage)
 }
 
 /// Takes the whole lines at the start of a window, with which the text goes on behind what was read; `left` bytes of text

@@ -56,44 +56,11 @@ pub fn go_on<A: Allocator + Clone>(
     ensures left { IfOk result (λ g. drop g.text.from g.text.bytes.items ≡ drop (68 * g.count) (drop text.from text.bytes.items)) }
     ensures read { IfOk result (λ g. ReadingGoesOnBy (drop text.from text.bytes.items) stage g.stage g.count) }
 {
-    match stage {
-        StageRead::Saving {
-            version,
-            len,
-            mut runs,
-            begins,
-        } => {
-            let Followed { count, text } = extend_last(alloc, len, &mut runs, text)?;
-            let stage = StageRead::Saving {
-                version,
-                len,
-                runs,
-                begins,
-            };
-            Ok(GoneOn { stage, count, text })
-        }
-        StageRead::Between => Ok(GoneOn {
-            stage: StageRead::Between,
-            count: 0,
-            text,
-        }),
-        StageRead::Ending {
-            version,
-            kept,
-            begins,
-            saved,
-        } => {
-            let stage = StageRead::Ending {
-                version,
-                kept,
-                begins,
-                saved,
-            };
-            Ok(GoneOn {
-                stage,
-                count: 0,
-                text,
-            })
-        }
-    }
+    let mut stage = stage;
+    let Followed { count, text } = if let StageRead::Saving { len, runs, .. } = &mut stage {
+        extend_last(alloc, *len, runs, text)?
+    } else {
+        Followed { count: 0, text }
+    };
+    Ok(GoneOn { stage, count, text })
 }
