@@ -62,7 +62,7 @@ abbrev pub FindsAgain : {D T V : Type 0} → (D → Type 0) → (D → List ℕ)
 FindsAgain honest image text_honest text d t u d_new t_new u_new result =
     honest d → text_honest t → text_honest u → (s : Images) → Finds (text t) (image d) (text u) s
     → IfErr result (λ e. AfterFault e (Finds (text t_new) (image d_new) (text u_new) (record { stack = s.stack; undone = [] }))
-        (Finds (text t_new) (image d_new) (text u_new) s))
+    (Finds (text t_new) (image d_new) (text u_new) s))
 
 -- a redo text of which opening finds images is never refused
 abbrev pub KeepsRedoText : {D T V : Type 0} → (D → Type 0) → (D → List ℕ) → (T → Type 0) → (T → List ℕ) → D → T → T → Result V SessionFault → Type 0
