@@ -5,7 +5,7 @@ use Rattle.std.proofs.Math.Nat.{div-add-mod, mod-eq_of_lt, mul-add-mod_self_left
 use Rattle.std.proofs.lemmas.List.{length-append, length-drop, take-append-le, take_all, length-take-le, drop-append-le}
 use Rattle.std.proofs.Common.{drop_of_length-le}
 use Rattle.std.specs.Io.KnownBytes.{Appends, Consumes, IsAtEnd}
-use Rattle.bx_text.proofs.KnownLemmas.{Appends-nil, Consumes-trans}
+use Rattle.bx_text.proofs.KnownLemmas.{Appends-nil, Consumes-nil, Consumes-trans}
 use Rattle.bx_text.specs.Stream.{IsReadCause}
 use Rattle.bx_text.specs.inner.Stream.{StopsAfter}
 use Rattle.bx_text.specs.Writing.{WritesFront}
@@ -290,7 +290,7 @@ module _ {A : Type 0} (plan : Plan A) (input : List ℕ) (few : length input ≤
   )
 
 skip_fault : (e : IoFault) (wanted n size : ℕ) → IsReadCause e wanted (2 ^ 40) n → IsCopyFault e n 0 size
-skip_fault ReadFailed wanted n size p = p.1
+skip_fault ReadFailed wanted n size p = omega (arith, p.1)
 skip_fault InputTooLong wanted n size p = omega (arith, p.1)
 skip_fault NoMemory wanted n size p = absurd p
 skip_fault (WriteFailed m) wanted n size p = absurd p
@@ -321,3 +321,12 @@ module _ {A : Type 0} (plan : Plan A) (form : Form) (most before : ℕ) (r0 r1 r
       stopped plan skipped stop.input len (subst (λ (m : ℕ). length stop.input ≤ m) is_most stop.within) r0 r1 r2 w0 w1 e before stop.written is_before skips stop.consumed
       (subst (λ (f : Form). Appends w0 w1 (take stop.written (converted f stop.input))) is_form stop.appended)
       (subst (λ (f : Form). IsCopyFault e (before + length stop.input) stop.written (length (converted f stop.input))) is_form stop.cause)
+
+-- want of memory, before anything is read
+pub stopped_none : {A : Type 0} (plan : Plan A) (r w : Option (List ℕ)) → StopsCopy plan r r w w NoMemory
+stopped_none plan r w = record {
+  read = ([], Consumes-nil r, asked_skip plan.ibs plan.skip 0 plan.count (omega arith));
+  written = 0;
+  appended = Appends-nil w;
+  cause = (refl, refl);
+}
