@@ -249,8 +249,8 @@ loop-i-preserved g c =
     }
   where
     by_len : (b : Bool) (n m k l limit : ℕ) → m ≡ (if b then n + 1 else 0) → l ≡ k → n + (k + 1) ≤ limit → m + l ≤ limit
-    by_len true n m k l limit is same most = omega (arith, is, same, last.most)
-    by_len false n m k l limit is same most = omega (arith, is, same, last.most)
+    by_len true n m k l limit is same most = omega (arith, is, same, most)
+    by_len false n m k l limit is same most = omega (arith, is, same, most)
 
 pub loop-i-init : goal.loop-i-init
 loop-i-init g c =

@@ -17,7 +17,11 @@ use Rattle.bx_journal.specs.inner.Undoing.{RedoAgainFault}
 use Rattle.bx_journal.proofs.AgainLemmas.{has_count}
 use Rattle.bx_journal.proofs.RedoingLemmas.{redo_in_step, length_redone}
 use Rattle.bx_journal.proofs.TakingLemmas.{redo_moved}
+use Rattle.std.proofs.lemmas.Result.{err_from_is_err_and}
+use Rattle.bx_journal.proofs.DeviceLemmas.{HaveGoneOn, both_ways, one_more}
+use Rattle.bx_journal.proofs.SafeLemmas.{accepts, interrupts, refuses}
 use Rattle.bx_journal.proofs.session.Session.redo.Goals as goal
+use Rattle.bx_journal.proofs.session.Session.redo.Goals.{After-redo_entries}
 
 pub returns-in_err-read-clause-undamaged : goal.returns-in_err-read-clause-undamaged
 returns-in_err-read-clause-undamaged g c =
@@ -158,3 +162,28 @@ returns-clause-finds g c =
     let counted : c.self.inside.count ≡ changes_of s.stack = omega (arith, ready.count) in
     subst (λ n. (i : ℕ) × (i ≤ n) × Finds new y redo_new (redo_of i s)) c.in_ok-taking.ensures.count
     (c.in-Err.ensures.finds d t r s (record { rest = at; undone = kept }) counted))
+
+-- what was read and taken before the first write
+prepared : (g : _) (c : After-redo_entries g) → HaveGoneOn g.D.Device.honest g.T.TextStore.honest g.D.Device.failures g.T.TextStore.failures c.self.inside.device c.self.inside.store c.self.inside.redo_text c.prepare_takens.new.device c.prepare_takens.new.to c.prepare_takens.new.from
+prepared g c =
+    let read = c.in_ok-read.ensures.looks in
+    let taken = c.in_ok-taking.ensures in
+    record { device_honesty = taken.device_honesty; store_honesty = taken.to_honesty; redo_honesty = both_ways taken.from_honesty read.honesty; no_failure = (taken.no_failure.0, taken.no_failure.2, taken.no_failure.1 ∙ read.no_failure); failure = tt }
+
+pub returns-in_err-taking-clause-safe : goal.returns-in_err-taking-clause-safe
+returns-in_err-taking-clause-safe g c =
+    let read = c.in_ok-read.ensures.looks in
+    let taken = c.in_err-taking.ensures in
+    let found = err_from_is_err_and c.from_residual-in_err-taking.result c.from_residual-in_err-taking.ensures.1 in
+    rw (← c.self.view_is) (
+    refuses c.from_residual-in_err-taking.result c.in_err-taking.field-0.0 (grind (arith, common_steps, found.1, found.2)) taken.kind c.if-self.false refl refl refl
+    (taken.device_honesty, taken.to_honesty, both_ways taken.from_honesty read.honesty) taken.image taken.to_text (λ h. taken.from_text (read.honesty.1 h) ∙ read.same h)
+    taken.counts (λ h. (h.0, h.2, omega (arith, h.1, read.no_failure), omega (arith, h.3, read.no_failure))) (λ h. (h.0, h.2, h.1 ∙ read.no_failure)))
+
+pub returns-in-Ok-clause-safe : goal.returns-in-Ok-clause-safe
+returns-in-Ok-clause-safe g c =
+    rw (← c.self.view_is) (accepts c.if-self.false (one_more _ (prepared g (goal.at.returns-in-Ok-clause-safe g c).After-redo_entries) c.in-Ok.ensures.steps_on))
+
+pub returns-clause-safe : goal.returns-clause-safe
+returns-clause-safe g c =
+    rw (← c.self.view_is) (interrupts c.if-self.false refl refl refl (one_more _ (prepared g (goal.at.returns-clause-safe g c).After-redo_entries) c.in-Err.ensures.steps_on))

@@ -1,5 +1,6 @@
 use Rattle.std.proofs.Common.{◌+◌, ◌-◌, ◌≤◌, ◌++◌, length, take, drop, subst, arith}
 use Rattle.std.specs.Prelude.{IfSome}
+use Rattle.std.proofs.Common.{rules}
 use Rattle.bx_journal.proofs.WindowLemmas.{front_of}
 use Rattle.bx_entries.specs.inner.Lines.{IsReadUpTo}
 use Rattle.bx_journal.proofs.session.read.entries.read_window.Goals as goal
@@ -17,3 +18,11 @@ returns-clause-read g c =
       some = omega (arith, forth);
       within = omega (arith, within, c.read_at.auto.buf, c.split_at_mut-now.ensures.front_len, c.min-more.ensures, c.requires.below);
     }
+
+pub returns-in_err-read_at-clause-looks : goal.returns-in_err-read_at-clause-looks
+returns-in_err-read_at-clause-looks g c = record {
+  same = c.read_at.ensures.text;
+  honesty = c.read_at.ensures.goes_on.honesty;
+  no_failure = search rules;
+  counts = search rules;
+}
