@@ -128,9 +128,11 @@ fn empty_buffer_makes_no_read(rt: HostRuntime) {
 #[test]
 fn full_buffer_looks_no_further(rt: HostRuntime) {
     let mut three = [0u8; 3];
+    let mut text = b"abcd".as_slice();
+    assert_fill(&rt, &mut Source::new(&mut text, 3), &mut three, Ok(3));
+    assert!(rt; text.len() == 1);
     let mut source = Source::new(b"abcd".as_slice(), 3);
     assert_fill(&rt, &mut source, &mut three, Ok(3));
-    assert!(rt; source.reader.len() == 1);
     assert_fill(&rt, &mut source, &mut three, Err(IoFault::InputTooLong));
 }
 
