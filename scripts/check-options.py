@@ -17,6 +17,14 @@ import subprocess
 import sys
 import tempfile
 
+# the file of each fault: its texts, and in the last one the numbers of all
+FAULTS = {
+    "IoFault": "bx_text/src/fault.rt",
+    "ReadFault": "bx_read/src/fault.rt",
+    "DdFault": "bx_dd/src/fault.rt",
+    "SessionFault": "bx_journal/src/session/fault.rt",
+    "Fault": "bx_commands/src/fault.rt",
+}
 COMMANDS = ["xxd", "od", "hexdump", "strings", "dd", "revert", "undo", "redo", "log"]
 VALUES = ["1", "x", "x1", "other"]
 OPERANDS = ["if", "of", "ibs", "obs", "bs", "cbs", "skip", "seek", "count", "conv", "files", "status", "iflag", "oflag"]
@@ -132,11 +140,14 @@ def fish_options(text, command):
     return {letter: bool(value) for letter, value in found}
 
 
-def fault_texts(source):
-    """Numbers and texts of the faults, as the program's source has them."""
-    texts = {name: f"{front}N{back}" if back or front.endswith(" ") else front
-             for name, front, back in re.findall(r'Fault::(\w+)(?: \{ \.\. \})? => \("(.*?)", "(.*?)"\)', source)}
-    return {int(number): texts[name] for name, number in re.findall(r"Fault::(\w+)(?: \{ \.\. \})? => (\d+),", source)}
+def fault_texts():
+    """Numbers and texts of the faults, as the sources of the crates have them."""
+    texts = {}
+    for kind, name in FAULTS.items():
+        for text, variant in re.findall(r'#\[error\("(.*?)"\)\]\s+(\w+)', read(f"crates/{name}")):
+            texts[kind, variant] = re.sub(r"\{\w+\}", "N", text)
+    numbers = re.findall(r"(\w*Fault)::(\w+)(?: \{ \.\. \}|\(_\))? => (\d+),", read(f"crates/{FAULTS['Fault']}"))
+    return {int(number): texts[kind, variant] for kind, variant, number in numbers}
 
 
 def sources():
@@ -191,7 +202,7 @@ def main():
                 report.same(f"operands in {name}", operands, set(re.findall(r"\b(\w+)=(?=[ ':\\])", text)) & set(OPERANDS))
             for name, text in (("bx.bash", bash), ("_bx", zsh), ("bx.fish", fish)):
                 report.same(f"words of conv in {name}", words, {w for w in WORDS if re.search(rf"\b{w}\b", text)})
-    faults = fault_texts(read("crates/bx_commands/src/fault.rt"))
+    faults = fault_texts()
     table = {int(n): text for n, text in re.findall(r"^\| (\d+) \| `(.*?)` \|$", read("docs/FORMATS.md"), re.M)}
     report.same("faults in docs/FORMATS.md", faults, table)
     names = set(re.findall(r"[A-Za-z_]+", sources()))
