@@ -114,12 +114,12 @@ where
             count,
             image,
             texts,
-        } => undo(rt, *count, image, texts, out)?,
+        } => step(rt, Command::Undo { k: *count }, image, texts, out)?,
         Job::Redo {
             count,
             image,
             texts,
-        } => redo(rt, *count, image, texts, out)?,
+        } => step(rt, Command::Redo { j: *count }, image, texts, out)?,
         Job::Log { image, texts } => show_log(rt, image, texts, out)?,
     }
     Ok(None)
@@ -188,10 +188,10 @@ fn whole<I: Read + Drop>(alloc: Global, name: &str, input: I) -> Result<Vec<u8>,
     }
 }
 
-/// Takes changes back, and shows how many are left.
-fn undo<'a, R, W: Write>(
+/// Takes changes back or makes undone ones again, and shows how many then stand.
+fn step<'a, R, W: Write>(
     rt: &R,
-    count: u32,
+    asked: Command,
     image: &'a Name,
     texts: &'a Texts,
     out: &mut W,
@@ -199,31 +199,13 @@ fn undo<'a, R, W: Write>(
 where
     R: Files<File = File> + Eprint + AllocGlobal,
 {
-    let asked: Command = Command::Undo { k: count };
     let session = open_session(rt, image, texts, false)?;
-    if let Reply::Undone { left } = finish(rt, session, asked, image, texts)? {
-        show_number(out, left)?;
+    match finish(rt, session, asked, image, texts)? {
+        Reply::Undone { left: standing } | Reply::Redone { changes: standing } => {
+            Ok(show_number(out, standing)?)
+        }
+        _ => Ok(()),
     }
-    Ok(())
-}
-
-/// Makes undone changes again, and shows how many then stand.
-fn redo<'a, R, W: Write>(
-    rt: &R,
-    count: u32,
-    image: &'a Name,
-    texts: &'a Texts,
-    out: &mut W,
-) -> Result<(), Stopped<'a>>
-where
-    R: Files<File = File> + Eprint + AllocGlobal,
-{
-    let asked: Command = Command::Redo { j: count };
-    let session = open_session(rt, image, texts, false)?;
-    if let Reply::Redone { changes } = finish(rt, session, asked, image, texts)? {
-        show_number(out, changes)?;
-    }
-    Ok(())
 }
 
 /// Shows the changes that stand.

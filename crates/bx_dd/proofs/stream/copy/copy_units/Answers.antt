@@ -1,14 +1,17 @@
-use Rattle.std.proofs.Common.{◌≡◌, ◌+◌, ◌-◌, ◌≤◌, ◌++◌, [], ℕ, length, take, drop, cond, sym, ap, ◌∙◌, arith, append-nil, subst}
+use Rattle.std.proofs.Common.{◌≡◌, ◌+◌, ◌-◌, ◌≤◌, ◌++◌, [], ℕ, Option, length, take, drop, cond, sym, ap, ◌∙◌, arith, append-nil, subst}
 use Rattle.std.proofs.lemmas.Bool.{ne_eqb}
 use Rattle.std.proofs.lemmas.List.{length-drop, length-take-le}
 use Rattle.std.specs.Prelude.{List}
 use Rattle.bx_text.proofs.KnownLemmas.{Consumes-nil, Consumes-trans, take-put_mid_more}
 use Rattle.bx_text.specs.Writing.{WritesFront}
+use Rattle.bx_text.specs.declared.fault.IoFault.{IoFault}
 use Rattle.bx_text.specs.declared.stream.State.TheVariants.{Open, Ended}
 use Rattle.bx_dd.specs.declared.convert.form.Shape.TheVariants.{Flat, Unblock}
 use Rattle.bx_dd.specs.Output.{converted}
+use Rattle.bx_dd.specs.inner.Streaming.{StopsPass}
 use Rattle.bx_dd.proofs.CopyLemmas.{read_sizes, read_stops, stage_read, stage_sent, stage_start, stage_unsent, unit_some, write_stops}
 use Rattle.bx_dd.proofs.stream.copy.copy_units.Goals as goal
+use Rattle.bx_dd.proofs.stream.copy.copy_units.Goals.{In-Ok}
 
 pub loop-left-init : goal.loop-left-init
 loop-left-init g c = record {
@@ -43,59 +46,64 @@ returns-in-Err-clause-err g c =
     read_stops c.args.form _ _ _ _ _ now.0 _ _ _ _ _ c.args.most c.args.meter.now.taken _ _ _ c.in-Err.fault c.requires.fresh.sizes now.5 now.4 (c.in-Err.ensures.stopped open_now)
     (omega (arith, size, now.1, c.min-want.ensures)) (omega (arith, now.2, before.limit, c.loop-left.meter.within))
 
-pub returns-in-Err-pass-clause-err : goal.returns-in-Err-pass-clause-err
-returns-in-Err-pass-clause-err g c =
+-- the input with what this turn read
+more_of : (g : _) (c : In-Ok g) → List ℕ
+more_of g c = c.loop-left.invariant.so_far.0 ++ take c.in-Ok.n c.read.new.buf
+
+-- there was room for it behind the bytes that waited
+fits_in : (g : _) (c : In-Ok g) → c.loop-left.turn.have + c.min-want.result ≤ length c.loop-left.buf
+fits_in g c = omega (arith, c.min-want.ensures, c.loop-left.invariant.pending, c.requires.fresh.inside, c.loop-left.auto.buf)
+
+sizes_of : (g : _) (c : In-Ok g) → (length c.read.new.buf ≡ c.min-want.result) × (length (more_of g c) ≡ length c.loop-left.invariant.so_far.0 + c.in-Ok.n)
+sizes_of g c = read_sizes c.loop-left.buf c.read.new.buf c.loop-left.invariant.so_far.0 c.loop-left.turn.have c.min-want.result c.in-Ok.n (fits_in g c) c.read.auto.buf c.in-Ok.ensures.bound.0
+
+-- a write of it failed
+unwritten : (g : _) (c : In-Ok g) (w : Option (List ℕ)) (e : IoFault) → WritesFront 0 (g.W.Write.contents c.args.w.now) w (converted c.args.form (more_of g c)) e
+    → StopsPass c.args.form c.args.most c.args.meter.now.taken (g.R.Read.remaining c.args.r.now) (g.R.Read.remaining c.read.new.r) (g.W.Write.contents c.args.w.now) w e
+unwritten g c w e stop =
     let before = c.loop-left.invariant in
     let now = before.so_far in
-    let have = c.loop-left.turn.have in
-    let want = c.min-want.result in
-    let buf = c.loop-left.buf in
-    let n = c.in-Ok.n in
     let read = c.in-Ok.ensures in
-    let fits : have + want ≤ length buf = omega (arith, c.min-want.ensures, before.pending, c.requires.fresh.inside, c.loop-left.auto.buf) in
-    let chunk = take n c.read.new.buf in
-    let sizes = read_sizes buf c.read.new.buf now.0 have want n fits c.read.auto.buf read.bound.0 in
-    let stage = stage_read now.5 chunk _ (take-put_mid_more buf c.read.new.buf have (have + want - have) n (omega (arith, fits)) read.bound.0) in
-    let stop = c.in-Err-pass.ensures.err (now.0 ++ chunk) (g.W.Write.contents c.args.w.now) stage [] in
-    write_stops c.args.form _ _ _ _ (now.0 ++ chunk) c.args.most c.args.meter.now.taken c.in-Err-pass.fault (Consumes-trans _ _ _ _ _ now.4 read.bytes)
-    (omega (arith, sizes.1, now.1, sizes.0, read.bound.0, c.min-want.ensures)) (omega (arith, sizes.1, now.2, read.taken, read.limit, before.limit, c.read.new.self.within))
-    (subst (λ (l : List ℕ). WritesFront 0 (g.W.Write.contents c.args.w.now) (g.W.Write.contents c.pass.new.w) (converted c.args.form l) c.in-Err-pass.fault) (append-nil (now.0 ++ chunk)) stop)
+    let sizes = sizes_of g c in
+    write_stops c.args.form _ _ _ _ (more_of g c) c.args.most c.args.meter.now.taken e (Consumes-trans _ _ _ _ _ now.4 read.bytes)
+    (omega (arith, sizes.1, now.1, sizes.0, read.bound.0, c.min-want.ensures)) (omega (arith, sizes.1, now.2, read.taken, read.limit, before.limit, c.read.new.self.within)) stop
+
+pub returns-in-Err-pass-clause-err : goal.returns-in-Err-pass-clause-err
+returns-in-Err-pass-clause-err g c =
+    let at = (goal.at.returns-in-Err-pass-clause-err g c).In-Ok in
+    let more = more_of g at in
+    let have = c.loop-left.turn.have in
+    let fits = fits_in g at in
+    let stage = stage_read c.loop-left.invariant.so_far.5 (take c.in-Ok.n c.read.new.buf) _ (take-put_mid_more c.loop-left.buf c.read.new.buf have (have + c.min-want.result - have) c.in-Ok.n (omega (arith, fits)) c.in-Ok.ensures.bound.0) in
+    let stop = c.in-Err-pass.ensures.err more (g.W.Write.contents c.args.w.now) stage [] in
+    unwritten g at _ c.in-Err-pass.fault
+    (subst (λ (l : List ℕ). WritesFront 0 (g.W.Write.contents c.args.w.now) (g.W.Write.contents c.pass.new.w) (converted c.args.form l) c.in-Err-pass.fault) (append-nil more) stop)
 
 pub returns-in-Err-pause-clause-err : goal.returns-in-Err-pause-clause-err
 returns-in-Err-pause-clause-err g c =
-    let before = c.loop-left.invariant in
-    let now = before.so_far in
+    let at = (goal.at.returns-in-Err-pause-clause-err g c).In-Ok in
     let have = c.loop-left.turn.have in
-    let want = c.min-want.result in
-    let buf = c.loop-left.buf in
-    let n = c.in-Ok.n in
-    let read = c.in-Ok.ensures in
-    let fits : have + want ≤ length buf = omega (arith, c.min-want.ensures, before.pending, c.requires.fresh.inside, c.loop-left.auto.buf) in
-    let chunk = take n c.read.new.buf in
-    let sizes = read_sizes buf c.read.new.buf now.0 have want n fits c.read.auto.buf read.bound.0 in
-    let stage = c.in-Ok-pass.ensures.ok (now.0 ++ chunk) (g.W.Write.contents c.args.w.now) (stage_read now.5 chunk _ (take-put_mid_more buf c.read.new.buf have (have + want - have) n (omega (arith, fits)) read.bound.0)) in
+    let fits = fits_in g at in
+    let stage = c.in-Ok-pass.ensures.ok (more_of g at) (g.W.Write.contents c.args.w.now) (stage_read c.loop-left.invariant.so_far.5 (take c.in-Ok.n c.read.new.buf) _ (take-put_mid_more c.loop-left.buf c.read.new.buf have (have + c.min-want.result - have) c.in-Ok.n (omega (arith, fits)) c.in-Ok.ensures.bound.0)) in
     let stop = c.in-Err-pause.ensures.err (g.W.Write.contents c.args.w.now) stage.flows.text stage.flows.goes in
-    write_stops c.args.form _ _ _ _ (now.0 ++ chunk) c.args.most c.args.meter.now.taken c.in-Err-pause.fault (Consumes-trans _ _ _ _ _ now.4 read.bytes)
-    (omega (arith, sizes.1, now.1, sizes.0, read.bound.0, c.min-want.ensures)) (omega (arith, sizes.1, now.2, read.taken, read.limit, before.limit, c.read.new.self.within))
-    (stage_unsent stage _ c.in-Err-pause.fault c.requires.fresh.sizes stop)
+    unwritten g at _ c.in-Err-pause.fault (stage_unsent stage _ c.in-Err-pause.fault c.requires.fresh.sizes stop)
 
 pub loop-left-preserved : goal.loop-left-preserved
 loop-left-preserved g c =
+    let at = (goal.at.loop-left-preserved g c).In-Ok in
     let before = c.loop-left.invariant in
     let now = before.so_far in
+    let more = more_of g at in
     let have = c.loop-left.turn.have in
-    let want = c.min-want.result in
-    let buf = c.loop-left.buf in
     let n = c.in-Ok.n in
     let read = c.in-Ok.ensures in
     let passed = c.in-Ok-pass.ensures in
-    let fits : have + want ≤ length buf = omega (arith, c.min-want.ensures, before.pending, c.requires.fresh.inside, c.loop-left.auto.buf) in
-    let chunk = take n c.read.new.buf in
-    let sizes = read_sizes buf c.read.new.buf now.0 have want n fits c.read.auto.buf read.bound.0 in
+    let fits = fits_in g at in
+    let sizes = sizes_of g at in
     let less : n ≤ c.loop-left.left = omega (arith, sizes.0, read.bound.0, c.min-want.ensures) in
-    let stage = passed.ok (now.0 ++ chunk) (g.W.Write.contents c.args.w.now) (stage_read now.5 chunk _ (take-put_mid_more buf c.read.new.buf have (have + want - have) n (omega (arith, fits)) read.bound.0)) in
+    let stage = passed.ok more (g.W.Write.contents c.args.w.now) (stage_read now.5 (take n c.read.new.buf) _ (take-put_mid_more c.loop-left.buf c.read.new.buf have (have + c.min-want.result - have) n (omega (arith, fits)) read.bound.0)) in
     record {
-      open_now = λ more. read.state ∙ ap (λ b. cond b Ended Open) (ne_eqb n 0 c.if-n-eq0.false);
+      open_now = λ left. read.state ∙ ap (λ b. cond b Ended Open) (ne_eqb n 0 c.if-n-eq0.false);
       limit = read.limit ∙ before.limit;
       few = omega (arith, before.few);
       room = passed.within.0;
@@ -103,7 +111,7 @@ loop-left-preserved g c =
       part = passed.part;
       pending = passed.within.2;
       so_far = (
-        now.0 ++ chunk,
+        more,
         omega (arith, sizes.1, now.1, less),
         omega (arith, sizes.1, now.2, read.taken),
         omega (arith, sizes.1, now.3, passed.within.1),
