@@ -47,7 +47,7 @@ returns-in-Err-clause-err g c =
     (omega (arith, size, now.1, c.min-want.ensures)) (omega (arith, now.2, before.limit, c.loop-left.meter.within))
 
 -- the input with what this turn read
-more_of : (g : _) (c : In-Ok g) → List ℕ
+abbrev more_of : (g : _) (c : In-Ok g) → List ℕ
 more_of g c = c.loop-left.invariant.so_far.0 ++ take c.in-Ok.n c.read.new.buf
 
 -- there was room for it behind the bytes that waited
@@ -59,7 +59,7 @@ sizes_of g c = read_sizes c.loop-left.buf c.read.new.buf c.loop-left.invariant.s
 
 -- a write of it failed
 unwritten : (g : _) (c : In-Ok g) (w : Option (List ℕ)) (e : IoFault) → WritesFront 0 (g.W.Write.contents c.args.w.now) w (converted c.args.form (more_of g c)) e
-    → StopsPass c.args.form c.args.most c.args.meter.now.taken (g.R.Read.remaining c.args.r.now) (g.R.Read.remaining c.read.new.r) (g.W.Write.contents c.args.w.now) w e
+    → StopsPass c.args.form c.args.most c.args.meter.now.taken (g.R.Read.remaining c.args.r.now) (g.R.Read.remaining c.read.new.reader) (g.W.Write.contents c.args.w.now) w e
 unwritten g c w e stop =
     let before = c.loop-left.invariant in
     let now = before.so_far in
