@@ -1,15 +1,17 @@
 -- Numbers in fields of a fixed width.
-use Rattle.std.proofs.Common.{◌≡◌, ℕ, zero, suc, ◌+◌, ◌-◌, ◌*◌, ◌/◌, ◌^◌, ◌<◌, ◌≤◌, List, [], ◌∷◌, ◌++◌, length, replicate, get_or, take, drop, refl, sym, ap, ◌∙◌, arith, add-one, Fits, w8, w64}
+use Rattle.std.proofs.Common.{◌≡◌, ℕ, zero, suc, ◌+◌, ◌-◌, ◌*◌, ◌/◌, ◌^◌, ◌<◌, ◌≤◌, List, [], ◌∷◌, ◌++◌, length, min, replicate, get_or, take, drop, refl, sym, ap, ◌∙◌, arith, add-one, Fits, w8, w64}
 use Rattle.std.proofs.Math.ListN.{set}
 use Rattle.std.specs.Int.{from_le_bytes}
-use Rattle.std.proofs.Math.Nat.{pow-suc, pow-zero, pow-le-pow_right}
+use Rattle.std.proofs.Math.Nat.{mul-le-mul_left, pow-suc, pow-zero, pow-le-pow_right}
 use Rattle.std.proofs.lemmas.Nat.{div_below}
 use Rattle.std.proofs.lemmas.List.{take-replicate, get_or-drop, length-drop, length-append, length-take-le, take_more_set}
 use borrow.Rule.Slice.PartMut.{put_mid, post_of}
 use Rattle.bx_text.specs.Field.{left_filled}
 use Rattle.bx_text.proofs.KnownLemmas.{take-put_mid_more}
 use Rattle.bx_dump.specs.Od.{value_of, width_of}
-use Rattle.bx_dump.specs.inner.Od.{size_of, field_width}
+use Rattle.bx_dump.specs.Lines.{in_lines}
+use Rattle.bx_dump.specs.inner.Od.{size_of, field_width, value_text}
+use Rattle.bx_dump.proofs.LinesLemmas.{line_begin, lines_next_at}
 use Rattle.bx_dump.specs.declared.od.options.NumForm.TheVariants as form
 use Rattle.bx_dump.specs.declared.od.options.Size.{Size}
 use Rattle.bx_dump.specs.declared.od.options.Size.TheVariants.{One, Two, Four, Eight}
@@ -110,6 +112,24 @@ values_fit (Number form.Signed One) n few = omega arith
 values_fit (Number form.Signed Two) n few = omega arith
 values_fit (Number form.Signed Four) n few = omega arith
 values_fit (Number form.Signed Eight) n few = omega arith
+
+-- one value more, behind those of a line so far
+pub value_next : (kind : Kind) (bytes text new : List ℕ) (k width used n : ℕ) → length bytes ≤ 16 → 80 ≤ length text → width ≡ width_of kind → 0 < width_of kind
+    → k < (length bytes + width_of kind - 1) / width_of kind → used ≡ (field_width kind + 1) * k → length new ≡ length (take (length text - used) (drop used text)) → n ≡ field_width kind + 1
+    → take used text ≡ in_lines (value_text kind) (width_of kind) 0 (take (width_of kind * k) bytes)
+    → take n new ≡ value_text kind (0 + width * k) (take (min (width * k + width_of kind) (length bytes) - width * k) (drop (width * k) bytes))
+    → (used + n ≡ (field_width kind + 1) * (k + 1)) × (take (used + n) (put_mid used (length text - used) text new) ≡ in_lines (value_text kind) (width_of kind) 0 (take (width_of kind * (k + 1)) bytes))
+value_next kind bytes text new k width used n few room value pos below at long one before put =
+    let W = width_of kind in
+    let F = field_width kind + 1 in
+    let inside : W * k < length bytes = line_begin (length bytes) W k pos below in
+    let begin : width * k ≡ W * k = ap (λ n. n * k) value in
+    let count : F * (k + 1) ≤ F * ((length bytes + W - 1) / W) = mul-le-mul_left {m = k + 1} {n = (length bytes + W - 1) / W} F (omega arith) in
+    let fits : F * ((length bytes + W - 1) / W) ≤ 80 = values_fit kind (length bytes) few in
+    let more_used : F * (k + 1) ≡ F * k + F = omega arith in
+    let left : length new ≡ length text - used = long ∙ length-take-le (length text - used) (drop used text) (omega (arith, length-drop used text)) in
+    let more = take-put_mid_more text new used (length text - used) n (omega (arith, at, count, fits, more_used, room)) (omega (arith, left, one, at, count, fits, more_used, room)) in
+    (omega (arith, at, one, more_used), more ∙ lines_next_at (value_text kind) W 0 k (width * k) bytes _ _ pos begin (omega (arith, inside, begin)) before put)
 
 -- all bytes of each value of a full line are there
 pub whole_value : (kind : Kind) (k : ℕ) → k < (16 + width_of kind - 1) / width_of kind → width_of kind * k + width_of kind ≤ 16
