@@ -266,6 +266,15 @@ fn with_rows<'a>(
     Ok(command)
 }
 
+/// A group of which at most one option may be given.
+fn group_of<'a>(
+    alloc: Global,
+    id: &'static str,
+    members: &[&'static str],
+) -> Result<ArgGroup<'a>, AllocError> {
+    ArgGroup::new(alloc, id).args(members)
+}
+
 /// The command with at most one of these options at a time.
 fn with_group<'a>(
     alloc: Global,
@@ -273,8 +282,7 @@ fn with_group<'a>(
     id: &'static str,
     members: &[&'static str],
 ) -> Result<Command<'a>, AllocError> {
-    let group = ArgGroup::new(alloc, id).args(members)?;
-    command.group(group)
+    command.group(group_of(alloc, id, members)?)
 }
 
 /// A command that reads FILE, or standard input.
