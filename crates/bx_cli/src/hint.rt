@@ -169,19 +169,23 @@ pub fn misuse_of(alloc: Global, words: &Words, fault: Fault) -> Result<Misuse, F
 
 /// What clap says of words that it refuses: its first lines, and the usage.
 fn told(alloc: Global, text: &str) -> Result<Misuse, AllocError> {
-    let mut word = String::new(alloc);
-    let mut usage = String::new(alloc);
-    let mut is_word = true;
-    for line in text.strip_prefix("error: ").unwrap_or(text).lines() {
-        if line.is_empty() {
-            is_word = false;
-        } else if is_word {
-            push_part(&mut word, " ", line.trim())?;
-        } else if line.starts_with("Usage: ") {
-            push_part(&mut usage, " ", line)?;
+    let text = text.strip_prefix("error: ").unwrap_or(text);
+    let (word, rest) = text.split_once("\n\n").unwrap_or((text, ""));
+    Ok(Misuse {
+        word: lines_with(alloc, word, "")?,
+        usage: lines_with(alloc, rest, "Usage: ")?,
+    })
+}
+
+/// The lines that begin so, with spaces between them.
+fn lines_with(alloc: Global, text: &str, front: &str) -> Result<String, AllocError> {
+    let mut all = String::new(alloc);
+    for line in text.lines() {
+        if line.starts_with(front) {
+            push_part(&mut all, " ", line.trim())?;
         }
     }
-    Ok(Misuse { word, usage })
+    Ok(all)
 }
 
 /// What is wrong with words that clap took.
