@@ -2,7 +2,7 @@
 use Rattle.std.proofs.Common.{◌≡◌, ℕ, zero, suc, ◌+◌, ◌-◌, ◌*◌, ◌/◌, ◌<◌, ◌≤◌, Bool, true, false, List, [], ◌++◌, length, min, take, drop, refl, sym, ap, ◌∙◌, arith, add-zero, append-nil, length-append, cond, ◌⊎◌, ⊎_elim, inl, inr}
 use Rattle.std.specs.Prelude.{bytes_eq}
 use Rattle.std.specs.List.{flat_map, range_with_len}
-use Rattle.std.proofs.lemmas.List.{drop-append-le, take-append-le, length-drop, length-take-le, take_all}
+use Rattle.std.proofs.lemmas.List.{drop-append-le, take-append-le, length-drop, length-take, length-take-le, take_all}
 use Rattle.std.proofs.lemmas.Bool.{cases_order}
 use Rattle.std.proofs.lemmas.Slice.Eq.{bytes_eq-Decides}
 use Rattle.std.proofs.Math.Nat.{mul-add-div}
@@ -38,6 +38,10 @@ short_shown whole zero front short = refl
 short_shown whole (suc k) front short =
     let full : length (line_bytes whole k) ≡ 16 = length-take-le 16 (drop (16 * k) whole) (omega (arith, length-drop (16 * k) whole)) in
     ap (λ b. cond b (cond (is_hidden whole k) Nothing Star) Line) (uneven (line_bytes whole (suc k)) (line_bytes whole k) (omega arith))
+
+-- the first 16 bytes of a line are the line
+pub first_whole : (bytes line whole : List ℕ) (k : ℕ) → line ≡ take 16 bytes → bytes ≡ line_bytes whole k → line ≡ line_bytes whole k
+first_whole bytes line whole k first is = first ∙ ap (take 16) is ∙ take_all 16 (line_bytes whole k) (omega (arith, length-take 16 (drop (16 * k) whole)))
 
 -- what stands in front stays the same
 module _ (xs ys : List ℕ) (n : ℕ) (whole : length xs ≡ 16 * n) where

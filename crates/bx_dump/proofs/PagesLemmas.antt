@@ -3,6 +3,7 @@ use Rattle.std.proofs.Common.{◌≡◌, ℕ, ◌+◌, ◌-◌, ◌^◌, ◌<◌
 use Rattle.std.specs.Io.KnownBytes.{Appends, Consumes, IsAtEnd}
 use Rattle.std.proofs.lemmas.List.{take-append-le, take_all, take_at, drop_all}
 use Rattle.std.proofs.Math.Seq.{take-append-add, drop-append-add}
+use Rattle.std.proofs.lemmas.Bool.{cases_order}
 use Rattle.bx_text.specs.declared.fault.IoFault.{IoFault}
 use Rattle.bx_text.specs.declared.fault.IoFault.TheVariants.{NoMemory, ReadFailed, WriteFailed, InputTooLong, SkipPastEnd}
 use Rattle.bx_text.specs.Stream.{IsReadCause}
@@ -138,6 +139,13 @@ last_at_end (Some most) n r within p = (within, inl p)
 pub last_at_limit : (limit : Option ℕ) (n : ℕ) (r : Option (List ℕ)) → limit ≡ Some n → IsLast limit n r
 last_at_limit None n r e = absurd cc
 last_at_limit (Some most) n r e = let same : most ≡ n = cc in (omega arith, inr (sym same))
+
+-- fewer bytes than a block were read
+pub last_read : (limit : Option ℕ) (done n want size : ℕ) (r : Option (List ℕ)) → n ≤ want → n < size → IfSome limit (λ most. done + want ≤ most) → (want < size → limit ≡ Some (done + want)) → (n < want → IsAtEnd r) →
+    IsLast limit (done + n) r
+last_read limit done n want size r le less within last end =
+    ⊎_elim (λ all. last_at_limit limit (done + n) r (last (omega arith) ∙ ap (λ m. Some (done + m)) (sym all)))
+    (λ other. last_at_end limit (done + n) r (within_along limit (done + want) (done + n) (omega arith) within) (end (omega arith))) (cases_order n want)
 
 -- behind the bytes that were skipped
 part_behind : (skip : ℕ) (limit : Option ℕ) (front xs : List ℕ) → length front ≡ skip → part_of skip limit (front ++ xs) ≡ capped limit xs

@@ -16,6 +16,9 @@ long_end least run long = let e : nat_le least (length run) ≡ true = grind (ar
 short_end : (least : ℕ) (run : List ℕ) → length run < least → end_text least run ≡ []
 short_end least run short = let e : nat_le least (length run) ≡ false = grind (arith, nat_tests) in rw e refl
 
+pub scan_pages-requires-clause-page : goal.scan_pages-requires-clause-page
+scan_pages-requires-clause-page g c = refl
+
 pub returns-in-Err-clause-err : goal.returns-in-Err-clause-err
 returns-in-Err-clause-err g c =
     let o = c.args.o.now in

@@ -1,10 +1,31 @@
-use Rattle.std.proofs.Common.{◌≡◌, ◌+◌, ◌-◌, ◌*◌, ◌≤◌, ◌++◌, ◌∷◌, [], length, take, drop, arith, sym, ap, ◌∙◌}
+use Rattle.std.proofs.Common.{◌≡◌, ℕ, ◌+◌, ◌-◌, ◌*◌, ◌<◌, ◌≤◌, ◌++◌, ◌∷◌, [], length, take, drop, arith, sym, ap, ◌∙◌}
 use Rattle.std.specs.List.{flat_map, range_with_len}
 use Rattle.std.proofs.lemmas.List.{length-take-le, length-drop}
 use Rattle.std.proofs.Math.Nat.{mul-le-mul_left}
 use Rattle.bx_dump.specs.inner.Cells.{piece_at}
 use Rattle.bx_dump.proofs.CellsLemmas.{piece_more, range_more}
 use Rattle.bx_dump.proofs.xxd.cells.put_fixed_pieces.Goals as goal
+
+-- piece k is among all
+piece_fits : (n k count : ℕ) → k < count → n * k + n ≤ n * count
+piece_fits n k count below = let next : n * (k + 1) ≤ n * count = mul-le-mul_left n (omega arith) in omega arith
+
+pub overflow_mul-at : goal.overflow_mul-at
+overflow_mul-at g c = omega (arith, piece_fits (g.row.N + 1) c.loop-k.k c.args.count c.loop-k-test.true, c.requires.room)
+
+pub overflow_mul-k : goal.overflow_mul-k
+overflow_mul-k g c = omega (arith, piece_fits g.row.N c.loop-k.k c.args.count c.loop-k-test.true, c.requires.enough)
+
+pub overflow_mul-k-in-loop-k : goal.overflow_mul-k-in-loop-k
+overflow_mul-k-in-loop-k g c = omega (arith, piece_fits g.row.N c.loop-k.k c.args.count c.loop-k-test.true, c.requires.enough)
+
+pub overflow_add-k : goal.overflow_add-k
+overflow_add-k g c = omega (arith, piece_fits g.row.N c.loop-k.k c.args.count c.loop-k-test.true, c.requires.enough)
+
+pub slice_bounds-copy_from_slice-end-in-loop-k : goal.slice_bounds-copy_from_slice-end-in-loop-k
+slice_bounds-copy_from_slice-end-in-loop-k g c =
+    let inside : g.row.N * c.loop-k.k + g.row.N ≤ length c.args.cells.now = omega (arith, piece_fits g.row.N c.loop-k.k c.args.count c.loop-k-test.true, c.requires.enough) in
+    inside
 
 pub loop-k-preserved : goal.loop-k-preserved
 loop-k-preserved g c =

@@ -13,34 +13,80 @@ use Rattle.bx_dump.proofs.xxd.columns.put_full.Goals as goal
 within_bytes : (n cols k : ℕ) → k < n / cols → cols * k + cols ≤ n
 within_bytes n cols k below = omega (arith, mul-div-le n cols, mul-le-mul_left {m = k + 1} {n = n / cols} cols (omega arith))
 
-within_text : (n cols size more k room : ℕ) → 0 < cols → k < n / cols → size ≤ more → more * ((n + cols - 1) / cols) ≤ room → size * k + size ≤ room
-within_text n cols size more k room pos below le fits =
+text_fits : (n cols size more room : ℕ) → 0 < cols → size ≤ more → more * ((n + cols - 1) / cols) ≤ room → size * (n / cols) ≤ room
+text_fits n cols size more room pos le fits =
     let count : n / cols ≤ (n + cols - 1) / cols = div_mono n (n + cols - 1) cols pos (omega arith) in
-    let a : size * (k + 1) ≤ size * ((n + cols - 1) / cols) = mul-le-mul_left {m = k + 1} {n = (n + cols - 1) / cols} size (omega arith) in
+    let a : size * (n / cols) ≤ size * ((n + cols - 1) / cols) = mul-le-mul_left {m = n / cols} {n = (n + cols - 1) / cols} size count in
     let b : (n + cols - 1) / cols * size ≤ (n + cols - 1) / cols * more = mul-le-mul_left {m = size} {n = more} ((n + cols - 1) / cols) le in
     omega arith
 
+line_fits : (n cols field k room : ℕ) → 0 < cols → k < n / cols → (field + cols + 26) * ((n + cols - 1) / cols) ≤ room → (field + cols + 12) * k + (field + cols + 12) ≤ room
+line_fits n cols field k room pos below fits =
+    let all : (field + cols + 12) * (n / cols) ≤ room = text_fits n cols (field + cols + 12) (field + cols + 26) room pos (omega arith) fits in
+    let a : (field + cols + 12) * (k + 1) ≤ (field + cols + 12) * (n / cols) = mul-le-mul_left {m = k + 1} {n = n / cols} (field + cols + 12) (omega arith) in
+    omega arith
+
+pub overflow_mul-size : goal.overflow_mul-size
+overflow_mul-size c =
+    omega (arith, line_fits (length c.args.bytes.now) c.args.cols c.args.field c.loop-k.k (length c.args.text.now) (omega (arith, c.args.form.now.some, c.requires.cols)) c.loop-k-test.true c.requires.room)
+
+pub overflow_mul-size-in-loop-k : goal.overflow_mul-size-in-loop-k
+overflow_mul-size-in-loop-k c = overflow_mul-size c
+
+pub overflow_add-size-in-loop-k : goal.overflow_add-size-in-loop-k
+overflow_add-size-in-loop-k c =
+    omega (arith, line_fits (length c.args.bytes.now) c.args.cols c.args.field c.loop-k.k (length c.args.text.now) (omega (arith, c.args.form.now.some, c.requires.cols)) c.loop-k-test.true c.requires.room)
+
 pub slice_bounds-put_fixed-end : goal.slice_bounds-put_fixed-end
 slice_bounds-put_fixed-end c =
-    let cols = c.args.cols in
-    let size = c.args.field + cols + 12 in
-    let pos : 0 < cols = omega (arith, c.args.form.now.some, c.requires.cols) in
-    let less : size ≤ c.args.field + cols + 26 = omega arith in
-    let fits : size * c.loop-k.k + size ≤ length c.args.text.now = within_text (length c.args.bytes.now) cols size (c.args.field + cols + 26) c.loop-k.k (length c.args.text.now) pos c.loop-k-test.true less c.requires.room in
-    let here : size * c.loop-k.k + size ≤ length c.loop-k.text = omega (arith, c.loop-k.auto.text) in
+    let fits = line_fits (length c.args.bytes.now) c.args.cols c.args.field c.loop-k.k (length c.args.text.now) (omega (arith, c.args.form.now.some, c.requires.cols)) c.loop-k-test.true c.requires.room in
+    let here : (c.args.field + c.args.cols + 12) * c.loop-k.k + (c.args.field + c.args.cols + 12) ≤ length c.loop-k.text = omega (arith, c.loop-k.auto.text) in
     here
+
+pub overflow_mul-cols : goal.overflow_mul-cols
+overflow_mul-cols c = omega (arith, within_bytes (length c.args.bytes.now) c.args.cols c.loop-k.k c.loop-k-test.true)
+
+pub overflow_cast-cols : goal.overflow_cast-cols
+overflow_cast-cols c = omega (arith, within_bytes (length c.args.bytes.now) c.args.cols c.loop-k.k c.loop-k-test.true, c.requires.address)
+
+pub overflow_add-at : goal.overflow_add-at
+overflow_add-at c = omega (arith, within_bytes (length c.args.bytes.now) c.args.cols c.loop-k.k c.loop-k-test.true, c.requires.address)
+
+pub overflow_mul-cols-in-loop-k : goal.overflow_mul-cols-in-loop-k
+overflow_mul-cols-in-loop-k c = overflow_mul-cols c
+
+pub overflow_mul-cols-in-loop-k-2 : goal.overflow_mul-cols-in-loop-k-2
+overflow_mul-cols-in-loop-k-2 c = overflow_mul-cols c
+
+pub overflow_add-cols : goal.overflow_add-cols
+overflow_add-cols c = omega (arith, within_bytes (length c.args.bytes.now) c.args.cols c.loop-k.k c.loop-k-test.true)
+
+-- where its digits stand
+digits_fit : (n cols k w wide room : ℕ) → wide ≡ w * cols → k < n / cols → room ≡ w * n → wide * k + wide ≤ room
+digits_fit n cols k w wide room is below all =
+    let inside : w * (cols * k + cols) ≤ w * n = mul-le-mul_left {m = cols * k + cols} {n = n} w (within_bytes n cols k below) in
+    let place : wide * k ≡ w * cols * k = ap (λ m. m * k) is in
+    omega arith
+
+pub overflow_mul-wide : goal.overflow_mul-wide
+overflow_mul-wide c =
+    let w = cell_width c.args.form.now.digits in
+    let fits = digits_fit (length c.args.bytes.now) c.args.cols c.loop-k.k w c.args.wide (length c.args.cells.now) (c.requires.wide ∙ ap (λ m. w * m) (sym c.requires.cols)) c.loop-k-test.true c.requires.long in
+    omega (arith, fits)
+
+pub overflow_mul-wide-in-loop-k : goal.overflow_mul-wide-in-loop-k
+overflow_mul-wide-in-loop-k c = overflow_mul-wide c
+
+pub overflow_add-wide : goal.overflow_add-wide
+overflow_add-wide c =
+    let w = cell_width c.args.form.now.digits in
+    let fits = digits_fit (length c.args.bytes.now) c.args.cols c.loop-k.k w c.args.wide (length c.args.cells.now) (c.requires.wide ∙ ap (λ m. w * m) (sym c.requires.cols)) c.loop-k-test.true c.requires.long in
+    omega (arith, fits)
 
 pub slice_bounds-put_fixed-end-in-loop-k-2 : goal.slice_bounds-put_fixed-end-in-loop-k-2
 slice_bounds-put_fixed-end-in-loop-k-2 c =
     let w = cell_width c.args.form.now.digits in
-    let cols = c.args.cols in
-    let n = length c.args.bytes.now in
-    let k = c.loop-k.k in
-    let inside : w * (cols * k + cols) ≤ w * n = mul-le-mul_left {m = cols * k + cols} {n = n} w (within_bytes n cols k c.loop-k-test.true) in
-    let wide : c.args.wide ≡ w * cols = c.requires.wide ∙ ap (λ m. w * m) (sym c.requires.cols) in
-    let place : c.args.wide * k ≡ w * cols * k = ap (λ m. m * k) wide in
-    let fits : c.args.wide * k + c.args.wide ≤ length c.args.cells.now = omega (arith, c.requires.long) in
-    fits
+    digits_fit (length c.args.bytes.now) c.args.cols c.loop-k.k w c.args.wide (length c.args.cells.now) (c.requires.wide ∙ ap (λ m. w * m) (sym c.requires.cols)) c.loop-k-test.true c.requires.long
 
 pub put_fixed-requires-clause-cells : goal.put_fixed-requires-clause-cells
 put_fixed-requires-clause-cells c =
@@ -67,8 +113,7 @@ loop-k-preserved c =
     let size = c.args.field + cols + 12 in
     let a = size * k in
     let above : 0 < cols = omega (arith, p.some, c.requires.cols) in
-    let less : size ≤ c.args.field + cols + 26 = omega arith in
-    let fits : a + size ≤ length c.args.text.now = within_text n cols size (c.args.field + cols + 26) k (length c.args.text.now) above c.loop-k-test.true less c.requires.room in
+    let fits = line_fits n cols c.args.field k (length c.args.text.now) above c.loop-k-test.true c.requires.room in
     let room : a + size ≤ length c.loop-k.text = omega (arith, c.loop-k.auto.text) in
     let same : a + size - a ≡ size = omega arith in
     let len : length c.put_fixed.new.line ≡ size =
@@ -86,3 +131,9 @@ returns-clause-most c =
     let lines = length c.args.bytes.now / c.args.cols in
     let less : c.args.field + c.args.cols + 12 ≤ c.args.form.now.field + c.args.form.now.cols + 26 = omega (arith, c.requires.field, c.requires.cols) in
     omega (arith, mul-le-mul_left {m = c.args.field + c.args.cols + 12} {n = c.args.form.now.field + c.args.form.now.cols + 26} lines less)
+
+pub overflow_mul-result : goal.overflow_mul-result
+overflow_mul-result c =
+    let size = c.args.field + c.args.cols + 12 in
+    let fits = text_fits (length c.args.bytes.now) c.args.cols size (c.args.field + c.args.cols + 26) (length c.args.text.now) (omega (arith, c.args.form.now.some, c.requires.cols)) (omega arith) c.requires.room in
+    omega (arith, fits)
