@@ -1,6 +1,15 @@
-use Rattle.bx_dump.proofs.PagesLemmas.{part_whole, front_behind}
+use Rattle.bx_dump.specs.Pages.{part_of}
+use Rattle.bx_dump.proofs.PagesLemmas.{part_short, part_whole, front_skip, front_behind}
 use Rattle.bx_dump.proofs.DumpLemmas.{ok_along, err_along}
 use Rattle.bx_dump.proofs.driver.pages.dump_part.Goals as goal
+
+pub returns-in-Ok-false-clause-ok : goal.returns-in-Ok-false-clause-ok
+returns-in-Ok-false-clause-ok g c =
+    part_short (g.P.Pages.written c.args.pages.now) c.args.from c.args.limit _ _ _ c.requires.empty (rw c.in-Ok-false.field-0-test at c.in-Ok-false.ensures.ok)
+
+pub returns-in-Err-clause-err : goal.returns-in-Err-clause-err
+returns-in-Err-clause-err g c =
+    front_skip 0 (λ xs. g.P.Pages.written c.args.pages.now (part_of c.args.from c.args.limit xs)) c.args.from c.args.limit c.args.before _ _ _ c.in-Err.fault c.in-Err.ensures.err
 
 pub returns-clause-ok : goal.returns-clause-ok
 returns-clause-ok g c =

@@ -5,7 +5,7 @@ use Rattle.std.proofs.lemmas.List.{length-take-le, length-drop}
 use Rattle.std.proofs.Math.Nat.{mul-div-le, mul-le-mul_left}
 use Rattle.bx_text.proofs.FieldLemmas.{div_mono}
 use Rattle.bx_dump.specs.inner.Xxd.{cell_of, cell_width, columns_line}
-use Rattle.bx_dump.proofs.LinesLemmas.{cells_part, lines_next_at}
+use Rattle.bx_dump.proofs.LinesLemmas.{cells_part, lines_next_at, lines_zero}
 use Rattle.bx_dump.proofs.ColumnsLemmas.{digits_even}
 use Rattle.bx_dump.proofs.xxd.columns.put_full.Goals as goal
 
@@ -25,6 +25,12 @@ line_fits n cols field k room pos below fits =
     let all : (field + cols + 12) * (n / cols) ≤ room = text_fits n cols (field + cols + 12) (field + cols + 26) room pos (omega arith) fits in
     let a : (field + cols + 12) * (k + 1) ≤ (field + cols + 12) * (n / cols) = mul-le-mul_left {m = k + 1} {n = n / cols} (field + cols + 12) (omega arith) in
     omega arith
+
+pub loop-k-init : goal.loop-k-init
+loop-k-init c =
+    let p = c.args.form.now in
+    let none : (c.args.field + c.args.cols + 12) * 0 ≡ 0 = omega arith in
+    ap (λ n. take n c.args.text.now) none ∙ lines_zero (columns_line p.digits p.cols p.group) p.cols c.args.at c.args.bytes.now p.some
 
 pub overflow_mul-size : goal.overflow_mul-size
 overflow_mul-size c =
@@ -57,6 +63,11 @@ overflow_mul-cols-in-loop-k c = overflow_mul-cols c
 
 pub overflow_mul-cols-in-loop-k-2 : goal.overflow_mul-cols-in-loop-k-2
 overflow_mul-cols-in-loop-k-2 c = overflow_mul-cols c
+
+pub slice_bounds-put_fixed-end-in-loop-k : goal.slice_bounds-put_fixed-end-in-loop-k
+slice_bounds-put_fixed-end-in-loop-k c =
+    let inside : c.args.cols * c.loop-k.k + c.args.cols ≤ length c.args.bytes.now = within_bytes (length c.args.bytes.now) c.args.cols c.loop-k.k c.loop-k-test.true in
+    inside
 
 pub overflow_add-cols : goal.overflow_add-cols
 overflow_add-cols c = omega (arith, within_bytes (length c.args.bytes.now) c.args.cols c.loop-k.k c.loop-k-test.true)

@@ -1,4 +1,4 @@
-use Rattle.std.proofs.Common.{◌≡◌, ℕ, ◌+◌, ◌*◌, ◌-◌, ◌++◌, List, take, drop, Some, ap, sym, ◌∙◌, subst, arith, length-append, length-take}
+use Rattle.std.proofs.Common.{◌≡◌, ℕ, ◌+◌, ◌*◌, ◌-◌, ◌<◌, ◌≤◌, ◌++◌, List, length, take, drop, Some, ap, sym, ◌∙◌, subst, arith, length-append, length-drop, length-take}
 use Rattle.bx_entries.specs.Text.{Entry}
 use Rattle.bx_entries.specs.inner.Lines.{IsReadAt, IsReadUpTo}
 use Rattle.bx_entries.specs.inner.Parsed.{entries_onto, reading_onto, Leads, KeepsMarks}
@@ -23,6 +23,21 @@ loop-i-init g c =
       within = omega (arith, now.within);
       same = now.same_length;
     }
+
+-- a line ends within the window
+line_within : (from i : ℕ) (window rest : List ℕ) → rest ≡ drop from window → i < length rest → from + i + 1 ≤ length window
+line_within from i window rest is below = omega (arith, ap length is, length-drop from window)
+
+pub overflow_add-after : goal.overflow_add-after
+overflow_add-after g c =
+    omega (arith, line_within c.loop-i.from c.in-Some.i c.loop-i.window _ c.rest_at.ensures c.in-Some.ensures.found.0, c.loop-i.invariant.same, c.requires)
+
+pub overflow_add-after-in-Some : goal.overflow_add-after-in-Some
+overflow_add-after-in-Some g c =
+    omega (arith, line_within c.loop-i.from c.in-Some.i c.loop-i.window _ c.rest_at.ensures c.in-Some.ensures.found.0, c.loop-i.invariant.same, c.requires)
+
+pub go_on_in-requires-in-Some : goal.go_on_in-requires-in-Some
+go_on_in-requires-in-Some g c = record { within = line_within c.loop-i.from c.in-Some.i c.loop-i.window _ c.rest_at.ensures c.in-Some.ensures.found.0 }
 
 pub loop-i-preserved : goal.loop-i-preserved
 loop-i-preserved g c =

@@ -1,4 +1,4 @@
-use Rattle.std.proofs.Common.{◌≡◌, ℕ, suc, ◌+◌, ◌*◌, ◌≤◌, List, length, take, drop, Some, refl, ap, sym, ◌∙◌, subst, arith, true, false, length-drop}
+use Rattle.std.proofs.Common.{◌≡◌, ℕ, suc, ◌+◌, ◌*◌, ◌<◌, ◌≤◌, List, length, take, drop, Some, refl, ap, sym, ◌∙◌, subst, arith, true, false, length-drop}
 use Rattle.bx_entries.specs.Text.{Entry}
 use Rattle.bx_entries.specs.inner.Journal.{IsBehind}
 use Rattle.bx_entries.specs.inner.Plain.{HasNoNewline}
@@ -22,6 +22,34 @@ loop-i-init g c =
       many = omega (arith, b.few, none);
     }
 
+-- a line, and the full lines behind it, are within what is left of the text
+lines_within : (at size i count : ℕ) (rest left behind : List ℕ) → rest ≡ left → i < length rest → at + length left ≡ size → behind ≡ drop (i + 1) left → 68 * count ≤ length behind → at + i + 1 + 68 * count ≤ size
+lines_within at size i count rest left behind same below all is within = omega (arith, ap length same, ap length is, length-drop (i + 1) left)
+
+pub overflow_add-after : goal.overflow_add-after
+overflow_add-after g c = omega (arith, ap length c.rest_of.ensures, c.in-Some.ensures.found.0, c.loop-i.invariant.size, c.loop-i.invariant.countable)
+
+pub overflow_add-after-in-Some : goal.overflow_add-after-in-Some
+overflow_add-after-in-Some g c = omega (arith, ap length c.rest_of.ensures, c.in-Some.ensures.found.0, c.loop-i.invariant.size, c.loop-i.invariant.countable)
+
+pub behind-requires : goal.behind-requires
+behind-requires g c = omega (arith, ap length c.rest_of.ensures, c.in-Some.ensures.found.0)
+
+pub overflow_mul-at : goal.overflow_mul-at
+overflow_mul-at g c =
+    let inv = c.loop-i.invariant in
+    omega (arith, lines_within c.loop-i.at _ c.in-Some.i c.in-Ok-go_on.gone.count _ _ _ c.rest_of.ensures c.in-Some.ensures.found.0 inv.size c.behind.ensures c.in-Ok-go_on.ensures.within, inv.countable)
+
+pub overflow_add-at : goal.overflow_add-at
+overflow_add-at g c =
+    let inv = c.loop-i.invariant in
+    omega (arith, lines_within c.loop-i.at _ c.in-Some.i c.in-Ok-go_on.gone.count _ _ _ c.rest_of.ensures c.in-Some.ensures.found.0 inv.size c.behind.ensures c.in-Ok-go_on.ensures.within, inv.countable)
+
+pub overflow_add-line-in-Some-2 : goal.overflow_add-line-in-Some-2
+overflow_add-line-in-Some-2 g c =
+    let inv = c.loop-i.invariant in
+    omega (arith, lines_within c.loop-i.at _ c.in-Some.i c.in-Ok-go_on.gone.count _ _ _ c.rest_of.ensures c.in-Some.ensures.found.0 inv.size c.behind.ensures c.in-Ok-go_on.ensures.within, inv.countable, inv.few)
+
 pub returns-in_default-taken-clause-fault : goal.returns-in_default-taken-clause-fault
 returns-in_default-taken-clause-fault g c text older b =
     let rest = c.rest_of.result.now in
@@ -32,6 +60,17 @@ returns-in_default-taken-clause-fault g c text older b =
     read_stops text rest older es c.take_line.new.entries.items c.loop-i.stage c.loop-i.at c.loop-i.line c.in-Some.i (c.loop-i.invariant.read text older b) (c.rest_of.ensures ∙ c.loop-i.invariant.left text b.rest) found
     (subst (Leads (reading_onto older es c.loop-i.stage) (take c.in-Some.i rest) (entries_onto older c.take_line.new.entries.items)) c.in_default-taken.is
     (subst (λ l. Leads (reading_onto older es c.loop-i.stage) l (entries_onto older c.take_line.new.entries.items) c.in-Ok.taken) line (c.in-Ok.ensures.leads older b.count b.told)))
+
+pub loop-i-smaller : goal.loop-i-smaller
+loop-i-smaller g c = omega (
+  arith,
+  ap length c.in-Ok-go_on.ensures.left,
+  length-drop (68 * c.in-Ok-go_on.gone.count) (drop c.behind.result.from c.behind.result.bytes.items),
+  ap length c.behind.ensures,
+  length-drop (c.in-Some.i + 1) (drop c.loop-i.text.1.0 c.loop-i.text.0.items),
+  ap length c.rest_of.ensures,
+  c.in-Some.ensures.found.0,
+)
 
 pub loop-i-preserved : goal.loop-i-preserved
 loop-i-preserved g c =
