@@ -6,8 +6,7 @@ use Rattle.bx_journal.specs.Session.{FailsSafely, IsUnfailed}
 use Rattle.bx_journal.specs.SessionView.{SessionView}
 use Rattle.bx_journal.specs.declared.session.fault.SessionFault.{SessionFault}
 use Rattle.bx_journal.specs.declared.session.fault.SessionFault.TheVariants.{NoMemory, TooLarge, DeviceFailed, Damaged, TooFew, JournalFull, Interrupted, Broken, LengthDiffers, NothingToRedo, RedoDamaged}
-use Rattle.bx_journal.specs.inner.Devices.{StepsOn}
-use Rattle.bx_journal.proofs.Stayed.{HaveStayed}
+use Rattle.bx_journal.specs.inner.Devices.{HaveStayed, StepsOn}
 
 -- a session that is whole isn't broken
 not_both : {A : Type 0} (b : Bool) → b ≡ false → b ≡ true → A
@@ -55,18 +54,18 @@ module _ {D T : Type 0} {honest : D → Type 0} {text_honest : T → Type 0} {im
         broken = (not_both old.is_broken whole, λ e. absurd (cc));
         same = λ e. absurd (cc);
         refused = λ dh th. record { image_same = stayed.image_same dh; text_same = stayed.text_same th; count = count; broken = broken };
-        redo_same = λ rh. record { text_same = stayed.redo_same rh; undone = undone };
+        redo_same = λ rh. record { text_same = stayed.other_same rh; undone = undone };
         unmoved = (count, undone, broken);
-        honesty = (stayed.device_honesty, stayed.store_honesty, stayed.redo_honesty);
+        honesty = (stayed.device_honesty, stayed.text_honesty, stayed.other_honesty);
         counts = none h;
       }
       by_fault DeviceFailed f h = record {
         broken = (not_both old.is_broken whole, λ e. absurd (cc));
         same = λ e. absurd (cc);
         refused = λ dh th. record { image_same = stayed.image_same dh; text_same = stayed.text_same th; count = count; broken = broken };
-        redo_same = λ rh. record { text_same = stayed.redo_same rh; undone = undone };
+        redo_same = λ rh. record { text_same = stayed.other_same rh; undone = undone };
         unmoved = (count, undone, broken);
-        honesty = (stayed.device_honesty, stayed.store_honesty, stayed.redo_honesty);
+        honesty = (stayed.device_honesty, stayed.text_honesty, stayed.other_honesty);
         counts = one h;
       }
       by_fault TooLarge f h = absurd f

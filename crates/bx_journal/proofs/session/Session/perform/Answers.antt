@@ -10,7 +10,8 @@ use Rattle.bx_journal.specs.Stack.{StandsFor}
 use Rattle.bx_journal.proofs.RedoText.{empty_is_redo}
 use Rattle.bx_journal.proofs.TurnLemmas.{change_stops}
 use Rattle.bx_journal.proofs.Performed.{appended, performs, top_of_stands}
-use Rattle.bx_journal.proofs.Stayed.{HaveStayed, pair_stays, rest_step}
+use Rattle.bx_journal.specs.inner.Devices.{HaveStayed}
+use Rattle.bx_journal.proofs.Stayed.{pair_stays, rest_step}
 use Rattle.bx_journal.specs.inner.Step.{WritesEntry}
 use Rattle.bx_journal.proofs.Ready.{IsPrepared, writes_entry, top_of_rest}
 use Rattle.bx_journal.proofs.session.Session.perform.Goals as goal
@@ -32,11 +33,11 @@ module _ (g : _) (c : After-write_entry g) where
       let taken = c.prepare_change.ensures in
       record {
         device_honesty = taken.device_honesty;
-        store_honesty = taken.store_honesty;
-        redo_honesty = ((λ h. h), λ h. h);
+        text_honesty = taken.store_honesty;
+        other_honesty = ((λ h. h), λ h. h);
         image_same = taken.image;
         text_same = taken.text;
-        redo_same = λ h. refl;
+        other_same = λ h. refl;
       }
 
   prepared : g.D.Device.honest c.self.inside.device → IsPrepared c.args.change.now x c.self.inside.count (kept_of c.in_ok-ready.ready.kept) (length (effect c.args.change.now x)) head c.as_bytes-line.result.now
@@ -69,7 +70,7 @@ returns-in-Ok-clause-accepted g c =
     let same : top stack ≡ g.D.Device.image c.self.inside.device = top_of_stands _ _ stack standing.stands in (
       (omega arith, subst (λ y. Fits c.args.change.now (length y) MAX_LEN) (sym same) (c.in_ok-ready.ensures.fits dh), omega arith, refl),
       record {
-        stands = performs (prepared g b dh) stands standing.count (c.in-Ok.ensures.image d) (c.in-Ok.ensures.back d) (c.in-Ok.ensures.text (before.store_honesty.1 th));
+        stands = performs (prepared g b dh) stands standing.count (c.in-Ok.ensures.image d) (c.in-Ok.ensures.back d) (c.in-Ok.ensures.text (before.text_honesty.1 th));
         count = omega arith;
         whole = standing.whole;
       },
@@ -82,7 +83,7 @@ returns-in-Ok-clause-sound g c =
     let before = stayed g b in
     let w = writes g b dh th stack ready.rest ready.count in
     record {
-      rest = rw w.1 at (c.in-Ok.ensures.ok (before.device_honesty.1 dh) (before.store_honesty.1 th) stack w.0);
+      rest = rw w.1 at (c.in-Ok.ensures.ok (before.device_honesty.1 dh) (before.text_honesty.1 th) stack w.0);
       count = omega arith;
       whole = ready.whole;
     })
@@ -92,7 +93,7 @@ returns-in-Ok-clause-entry g c =
     rw (← c.self.view_is) (λ dh th.
     let b = (goal.at.returns-in-Ok-clause-entry g c).After-write_entry in
     let before = stayed g b in
-    rw (← (before.text_same th), ← (before.image_same dh)) (appended (text g b) (prepared g b dh) (c.in-Ok.ensures.text (before.store_honesty.1 th))))
+    rw (← (before.text_same th), ← (before.image_same dh)) (appended (text g b) (prepared g b dh) (c.in-Ok.ensures.text (before.text_honesty.1 th))))
 
 pub returns-clause-fault : goal.returns-clause-fault
 returns-clause-fault g c =
@@ -100,7 +101,7 @@ returns-clause-fault g c =
     let b = (goal.at.returns-clause-fault g c).After-write_entry in
     let before = stayed g b in
     let w = writes g b dh th stack ready.rest ready.count in
-    rw w.1 at (c.in-Err.ensures.fault (before.device_honesty.1 dh) (before.store_honesty.1 th) stack w.0))
+    rw w.1 at (c.in-Err.ensures.fault (before.device_honesty.1 dh) (before.text_honesty.1 th) stack w.0))
 
 pub returns-in-Ok-clause-undone : goal.returns-in-Ok-clause-undone
 returns-in-Ok-clause-undone g c =
@@ -118,4 +119,4 @@ returns-clause-finds g c =
     let before = stayed g b in
     let w = writes g b dh th s.stack ready.rest ready.count in
     let rest = rest_step before (λ d t u i rest. rest) dh th rh s ready undone in
-    rw w.1 at (change_stops _ _ _ _ _ _ _ s rest (omega (arith, ready.count)) (c.in-Err.ensures.left (before.device_honesty.1 dh) (before.store_honesty.1 th) rh s.stack w.0)))
+    rw w.1 at (change_stops _ _ _ _ _ _ _ s rest (omega (arith, ready.count)) (c.in-Err.ensures.left (before.device_honesty.1 dh) (before.text_honesty.1 th) rh s.stack w.0)))

@@ -7,26 +7,17 @@ use Rattle.bx_journal.specs.inner.Undoing.{RedoAgainFault}
 use Rattle.bx_journal.proofs.AgainLemmas.{has_count}
 use Rattle.bx_journal.proofs.RedoingLemmas.{redo_in_step, redone}
 use Rattle.std.proofs.lemmas.Result.{err_from_is_err_and}
-use Rattle.bx_journal.proofs.DeviceLemmas.{both_ways, one_more}
+use Rattle.bx_journal.specs.inner.Devices.{HaveStayed}
+use Rattle.bx_journal.proofs.DeviceLemmas.{one_more}
 use Rattle.bx_journal.proofs.SafeLemmas.{accepts, interrupts, refuses}
-use Rattle.bx_journal.proofs.Stayed.{HaveStayed, left_since, none_failed, read_since, rest_step, standing_step}
+use Rattle.bx_journal.proofs.Stayed.{left_since, looked_at, none_failed, other_order, read_since, rest_step, standing_step}
 use Rattle.bx_journal.proofs.session.Session.redo.Goals as goal
 use Rattle.bx_journal.proofs.session.Session.redo.Goals.{After-prepare_takens}
 
 -- what was read and taken before the first write
 stayed : (g : _) (c : After-prepare_takens g)
     → HaveStayed g.D.Device.honest g.T.TextStore.honest g.D.Device.image g.T.TextStore.text c.self.inside.device c.self.inside.store c.self.inside.redo_text c.prepare_takens.new.device c.prepare_takens.new.to c.prepare_takens.new.from
-stayed g c =
-    let read = c.read_undone.ensures.looks in
-    let taken = c.prepare_takens.ensures in
-    record {
-      device_honesty = taken.device_honesty;
-      store_honesty = taken.to_honesty;
-      redo_honesty = both_ways taken.from_honesty read.honesty;
-      image_same = taken.image;
-      text_same = taken.to_text;
-      redo_same = λ h. taken.from_text (read.honesty.1 h) ∙ read.same h;
-    }
+stayed g c = other_order (looked_at c.read_undone.ensures.looks c.prepare_takens.ensures.stayed)
 
 pub returns-in_err-read-clause-undamaged : goal.returns-in_err-read-clause-undamaged
 returns-in_err-read-clause-undamaged g c =
@@ -49,14 +40,15 @@ redo_entries-requires-clause-kept g c =
 pub redo_entries-requires-clause-read : goal.redo_entries-requires-clause-read
 redo_entries-requires-clause-read g c =
     let before = stayed g (goal.at.redo_entries-requires-clause-read g c).After-prepare_takens in
-    read_since before.redo_honesty.0 before.redo_same c.in_ok-read.ensures.read
+    read_since before.other_honesty.0 before.other_same c.in_ok-read.ensures.read
 
 pub redo_entries-requires-clause-ready : goal.redo_entries-requires-clause-ready
 redo_entries-requires-clause-ready g c dh =
-    let before = c.prepare_takens.ensures.device_honesty.0 dh in rw (c.prepare_takens.ensures.image before) (c.in_ok-taking.ensures.filled before)
+    let taken = c.prepare_takens.ensures.stayed in
+    let before = taken.device_honesty.0 dh in rw (taken.image_same before) (c.in_ok-taking.ensures.filled before)
 
 pub redo_entries-requires-clause-fits : goal.redo_entries-requires-clause-fits
-redo_entries-requires-clause-fits g c th = c.in_ok-taking.ensures.roomed (c.prepare_takens.ensures.to_honesty.0 th)
+redo_entries-requires-clause-fits g c th = c.in_ok-taking.ensures.roomed (c.prepare_takens.ensures.stayed.other_honesty.0 th)
 
 pub returns-in-Ok-clause-accepted : goal.returns-in-Ok-clause-accepted
 returns-in-Ok-clause-accepted g c =
@@ -88,12 +80,12 @@ pub returns-in-Ok-clause-text : goal.returns-in-Ok-clause-text
 returns-in-Ok-clause-text g c =
     rw (← c.self.view_is) (λ rh.
     let before = stayed g (goal.at.returns-in-Ok-clause-text g c).After-prepare_takens in
-    left_since (before.redo_same rh) c.in_ok-taking.ensures.count (c.in-Ok.ensures.left (before.redo_honesty.1 rh)))
+    left_since (before.other_same rh) c.in_ok-taking.ensures.count (c.in-Ok.ensures.left (before.other_honesty.1 rh)))
 
 pub returns-in-Ok-clause-front : goal.returns-in-Ok-clause-front
 returns-in-Ok-clause-front g c =
     rw (← c.self.view_is) (λ th.
-    subst (λ t. IsPrefix t (g.T.TextStore.text c.redo_entries.new.store)) (c.prepare_takens.ensures.to_text th) (c.in-Ok.ensures.front (c.prepare_takens.ensures.to_honesty.1 th)))
+    subst (λ t. IsPrefix t (g.T.TextStore.text c.redo_entries.new.store)) (c.prepare_takens.ensures.stayed.other_same th) (c.in-Ok.ensures.front (c.prepare_takens.ensures.stayed.other_honesty.1 th)))
 
 pub returns-clause-finds : goal.returns-clause-finds
 returns-clause-finds g c =

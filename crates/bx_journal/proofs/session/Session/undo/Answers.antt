@@ -7,26 +7,17 @@ use Rattle.bx_journal.specs.Undoing.{AgainFault, IsOutOfStep}
 use Rattle.bx_journal.proofs.AgainLemmas.{has_count, in_step}
 use Rattle.bx_journal.proofs.TakingLemmas.{changes_left}
 use Rattle.std.proofs.lemmas.Result.{err_from_is_err_and}
-use Rattle.bx_journal.proofs.DeviceLemmas.{both_ways, one_more}
+use Rattle.bx_journal.specs.inner.Devices.{HaveStayed}
+use Rattle.bx_journal.proofs.DeviceLemmas.{one_more}
 use Rattle.bx_journal.proofs.SafeLemmas.{accepts, interrupts, refuses}
-use Rattle.bx_journal.proofs.Stayed.{HaveStayed, left_since, none_failed, pair_step, read_since, rest_step, standing_step}
+use Rattle.bx_journal.proofs.Stayed.{left_since, looked_at, none_failed, pair_step, read_since, rest_step, standing_step}
 use Rattle.bx_journal.proofs.session.Session.undo.Goals as goal
 use Rattle.bx_journal.proofs.session.Session.undo.Goals.{After-prepare_takens}
 
 -- what was read and taken before the first write
 stayed : (g : _) (c : After-prepare_takens g)
     → HaveStayed g.D.Device.honest g.T.TextStore.honest g.D.Device.image g.T.TextStore.text c.self.inside.device c.self.inside.store c.self.inside.redo_text c.prepare_takens.new.device c.prepare_takens.new.from c.prepare_takens.new.to
-stayed g c =
-    let read = c.read_last_of.ensures.looks in
-    let taken = c.prepare_takens.ensures in
-    record {
-      device_honesty = taken.device_honesty;
-      store_honesty = both_ways taken.from_honesty read.honesty;
-      redo_honesty = taken.to_honesty;
-      image_same = taken.image;
-      text_same = λ h. taken.from_text (read.honesty.1 h) ∙ read.same h;
-      redo_same = taken.to_text;
-    }
+stayed g c = looked_at c.read_last_of.ensures.looks c.prepare_takens.ensures.stayed
 
 pub returns-in_err-read-clause-undamaged : goal.returns-in_err-read-clause-undamaged
 returns-in_err-read-clause-undamaged g c =
@@ -49,11 +40,12 @@ undo_entries-requires-clause-kept g c =
 pub undo_entries-requires-clause-read : goal.undo_entries-requires-clause-read
 undo_entries-requires-clause-read g c =
     let before = stayed g (goal.at.undo_entries-requires-clause-read g c).After-prepare_takens in
-    read_since before.store_honesty.0 before.text_same c.in_ok-read.ensures.read
+    read_since before.text_honesty.0 before.text_same c.in_ok-read.ensures.read
 
 pub undo_entries-requires-clause-ready : goal.undo_entries-requires-clause-ready
 undo_entries-requires-clause-ready g c dh =
-    let before = c.prepare_takens.ensures.device_honesty.0 dh in rw (c.prepare_takens.ensures.image before) (c.in_ok-taking.ensures.filled before)
+    let taken = c.prepare_takens.ensures.stayed in
+    let before = taken.device_honesty.0 dh in rw (taken.image_same before) (c.in_ok-taking.ensures.filled before)
 
 pub returns-in-Ok-clause-accepted : goal.returns-in-Ok-clause-accepted
 returns-in-Ok-clause-accepted g c =
@@ -86,7 +78,7 @@ pub returns-in-Ok-clause-text : goal.returns-in-Ok-clause-text
 returns-in-Ok-clause-text g c =
     rw (← c.self.view_is) (λ th.
     let before = stayed g (goal.at.returns-in-Ok-clause-text g c).After-prepare_takens in
-    left_since (before.text_same th) c.in_ok-taking.ensures.count (c.in-Ok.ensures.left (before.store_honesty.1 th)))
+    left_since (before.text_same th) c.in_ok-taking.ensures.count (c.in-Ok.ensures.left (before.text_honesty.1 th)))
 
 pub returns-clause-fault : goal.returns-clause-fault
 returns-clause-fault g c =
