@@ -1,5 +1,5 @@
 -- What dd makes of an input, from what its parts answer.
-use Rattle.std.proofs.Common.{◌≡◌, ◌+◌, ◌*◌, ◌^◌, ◌≤◌, length, inl, inr, ℕ, Option, None, Some, Result, Ok, Err, IfOk, IfErr, List, [], refl, sym, subst, arith}
+use Rattle.std.proofs.Common.{◌≡◌, ◌+◌, ◌*◌, ◌^◌, ◌≤◌, inl, inr, ℕ, Option, None, Some, Result, Ok, Err, IfOk, IfErr, List, [], refl, sym, subst, arith}
 use Rattle.std.specs.Prelude.{IfSome, IsOkUnless, OnErr, codes}
 use Rattle.bx_text.proofs.KnownLemmas.{Consumes-nil}
 use Rattle.bx_dd.specs.declared.fault.DdFault.{DdFault}

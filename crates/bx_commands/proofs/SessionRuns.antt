@@ -4,7 +4,6 @@ use Rattle.std.specs.Prelude.{count_by}
 use Rattle.std.proofs.lemmas.List.{append_assoc, append-nil, drop_more, drop-set-lt, take_all, drop_all, take_more_set}
 use Rattle.std.proofs.lemmas.List.Elements.{All-cons, All-nil}
 use Rattle.std.proofs.lemmas.List.Sums.{sum_by-cons}
-use Rattle.bx_journal.specs.Images.{Images}
 use Rattle.bx_journal.specs.Session.{IsRedoSame, IsUnfailed}
 use Rattle.bx_journal.specs.SessionView.{SessionView}
 use Rattle.bx_commands.specs.declared.command.Command.{Command}
@@ -15,7 +14,7 @@ use Rattle.bx_commands.specs.Refusal.{IsOwnRefusal, IsWholeRefusal, KeepsPair}
 use Rattle.bx_commands.specs.Run.{is_failure, CommandRun, CommandStep, StackRun, Unfailed}
 use Rattle.bx_commands.specs.inner.Run.{CountsOn}
 use Rattle.bx_commands.specs.SessionRun.{SessionRun, SessionStep}
-use Rattle.bx_commands.specs.Standing.{CountsBy, HoldsAt, Leads, Shows, Standing}
+use Rattle.bx_commands.specs.Standing.{CountsBy, HoldsAt, Leads, Shows}
 use Rattle.bx_commands.proofs.Obeys.{obeys_next}
 use Rattle.bx_commands.proofs.Refusals.{redo_same_here, redo_same_on, same_here, same_on}
 use Rattle.bx_commands.proofs.Unfailed.{all_tail}

@@ -1,6 +1,6 @@
 -- The last entries of a text, read behind those that were counted.
 use Rattle.std.proofs.Common.{◌≡◌, ◌⊎◌, ℕ, ◌+◌, ◌-◌, ◌≤◌, false, List, [], ◌++◌, length, take, drop, ap, sym, ◌∙◌, subst, inl, inr, arith, Option, Some, None, Result, Ok, Err}
-use Rattle.std.specs.Prelude.{IfOk, IfErr, IfSome}
+use Rattle.std.specs.Prelude.{IfOk, IfSome}
 use Rattle.std.proofs.lemmas.List.{take_all}
 use Rattle.bx_entries.specs.declared.read.types.EntryRead.{EntryRead}
 use Rattle.bx_entries.specs.declared.read.types.Front.{Front}
@@ -13,8 +13,8 @@ use Rattle.bx_entries.specs.inner.Mark.{IsMark}
 use Rattle.bx_entries.specs.inner.Tally.{IsCounted}
 use Rattle.bx_journal.specs.declared.session.read.entries.FinishedRead.{FinishedRead}
 use Rattle.bx_journal.specs.declared.session.fault.SessionFault.{SessionFault}
-use Rattle.bx_journal.specs.declared.session.fault.SessionFault.TheVariants.{NoMemory, TooLarge, DeviceFailed, Damaged, TooFew, JournalFull, Interrupted, Broken, LengthDiffers, NothingToRedo, RedoDamaged}
-use Rattle.bx_journal.specs.Undoing.{AgainFault, IsOutOfStep}
+use Rattle.bx_journal.specs.declared.session.fault.SessionFault.TheVariants.{NoMemory, DeviceFailed}
+use Rattle.bx_journal.specs.Undoing.{AgainFault}
 use Rattle.bx_journal.specs.inner.Undoing.{IsReadFrom, IsReadLast, IsReadOn, IsReadBehind, IsLastFrom}
 use Rattle.bx_journal.specs.inner.Windows.{IsFrontCounted}
 use Rattle.bx_entries.proofs.TallyLemmas.{take_sum}
@@ -118,23 +118,6 @@ module _ (H now : Type 0) (stored text : List ℕ) (still : H → now) (same : H
   pub again_last : {A E : Type 0} → (count : ℕ) (r : Result (FinishedRead A) E) → IfOk r (λ o. IsReadFrom now text o.len o.entries.items count) → IfOk r (λ o. IsLastFrom H stored o.len o.entries.items count)
   again_last count (Ok r) f = last_is r.len count r.entries.items (last_of_all now text r.len count r.entries.items f)
   again_last count (Err e) f = tt
-
-  again_is : (count : ℕ) (e : SessionFault) → AgainFault now text count e → AgainFault H stored count e
-  again_is count NoMemory f = tt
-  again_is count DeviceFailed f = tt
-  again_is count (Damaged line) f = λ h. subst (λ t. IsOutOfStep t count line) (same h) (f (still h))
-  again_is count TooLarge f = f
-  again_is count (TooFew have) f = f
-  again_is count JournalFull f = f
-  again_is count Interrupted f = f
-  again_is count Broken f = f
-  again_is count (LengthDiffers n) f = f
-  again_is count (NothingToRedo have) f = f
-  again_is count (RedoDamaged line) f = f
-
-  pub again_before : {T : Type 0} → (count : ℕ) (r : Result T SessionFault) → IfErr r (AgainFault now text count) → IfErr r (AgainFault H stored count)
-  again_before count (Ok v) f = tt
-  again_before count (Err e) f = again_is count e f
 
 -- at least so many entries were read where all were
 pub few_of_all : {A E : Type 0} → (honest : Type 0) (stored : List ℕ) (count k : ℕ) (r : Result (FinishedRead A) E) → k ≤ count → IfOk r (λ o. IsReadFrom honest stored o.len o.entries.items count) → IfOk r (λ o. k ≤ length o.entries.items)

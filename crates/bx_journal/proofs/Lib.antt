@@ -28,6 +28,7 @@ pub mod Shapes
 pub mod TakenLemmas
 pub mod TakingLemmas
 pub mod DeviceLemmas
+pub mod Stayed
 pub mod SafeLemmas
 pub mod LoopLemmas
 pub mod RedoLoop

@@ -1,6 +1,7 @@
 -- The rows of a text that is read in windows: a line more, and a window more.
-use Rattle.std.proofs.Common.{◌≡◌, ℕ, ◌+◌, List, [], ◌∷◌, ◌++◌, take, drop, refl, ap, sym, ◌∙◌, subst, inl, inr, append_assoc, append-nil, Result, Ok, Err, Some}
-use Rattle.std.specs.Prelude.{IfOk, IfErr}
+use Rattle.std.proofs.Common.{◌≡◌, ℕ, ◌+◌, List, [], ◌∷◌, ◌++◌, take, drop, refl, ap, sym, ◌∙◌, subst, inl, inr, append_assoc, append-nil, Result, Ok, Some}
+use Rattle.std.specs.Prelude.{Vec}
+use Rattle.std.proofs.lemmas.Result.{IfOk-weaker}
 use Rattle.bx_entries.specs.declared.read.count.Place.TheVariants.{Between as BetweenPlace}
 use Rattle.bx_entries.specs.declared.read.rows.Summed.{Summed}
 use Rattle.bx_entries.specs.Text.{Entry, Stage, Between, Saving, Ending, Reading, Split, ended, split, start, next_at, after_lines}
@@ -12,12 +13,12 @@ use Rattle.bx_entries.proofs.Runs.{after_lines-append}
 use Rattle.bx_entries.proofs.Splits.{split-append, split-ended}
 use Rattle.bx_entries.proofs.TallyLemmas.{HasForm, has_form, IsFirstLine, last, line_taken, take_sum}
 use Rattle.bx_journal.specs.Calls.{rows_of}
-use Rattle.bx_journal.specs.Undoing.{AgainFault, IsOutOfStep}
 use Rattle.bx_journal.specs.declared.session.answers.LogRow.{LogRow}
 use Rattle.bx_journal.specs.declared.session.fault.SessionFault.{SessionFault}
-use Rattle.bx_journal.specs.declared.session.fault.SessionFault.TheVariants.{NoMemory, TooLarge, DeviceFailed, Damaged, TooFew, JournalFull, Interrupted, Broken, LengthDiffers, NothingToRedo, RedoDamaged}
 use Rattle.bx_journal.specs.declared.session.log.windows.Listed.{Listed}
-use Rattle.bx_journal.specs.inner.Rows.{AreListed, AreListedTo, AreRowsOf, IsListed, IsListedAt, ended_row}
+use Rattle.bx_journal.specs.inner.Devices.{LooksAt}
+use Rattle.bx_journal.specs.inner.Rows.{AreListed, AreListedTo, AreRowsOf, FindsRows, IsListed, IsListedAt, ended_row}
+use Rattle.bx_journal.proofs.WindowLemmas.{again_behind, looks_before}
 
 -- a line adds a row where it ends an entry
 abbrev RowsNext : List Entry → Reading → Type 0
@@ -109,25 +110,12 @@ all_listed honest now stored text s rows count still same h place many =
       rows_are = listed.rows_are;
     }
 
--- what is said of a store that is the same as before
-module _ (H now : Type 0) (stored text : List ℕ) (count : ℕ) (still : H → now) (same : H → text ≡ stored) where
-  pub rows_before : {V E : Type 0} → (items : V → List LogRow) (r : Result V E) → IfOk r (λ v. AreRowsOf now text (items v) count) → IfOk r (λ v. AreRowsOf H stored (items v) count)
-  rows_before items (Ok v) f = record { text = f.text; is = λ h. sym (same h) ∙ f.is (still h); entries = f.entries; finished = f.finished; counted = f.counted; rows_are = f.rows_are }
-  rows_before items (Err e) f = tt
-
-  again_is : (e : SessionFault) → AgainFault now text count e → AgainFault H stored count e
-  again_is NoMemory f = tt
-  again_is DeviceFailed f = tt
-  again_is (Damaged line) f = λ h. subst (λ t. IsOutOfStep t count line) (same h) (f (still h))
-  again_is TooLarge f = f
-  again_is (TooFew have) f = f
-  again_is JournalFull f = f
-  again_is Interrupted f = f
-  again_is Broken f = f
-  again_is (LengthDiffers n) f = f
-  again_is (NothingToRedo have) f = f
-  again_is (RedoDamaged line) f = f
-
-  pub again_before : {T : Type 0} → (r : Result T SessionFault) → IfErr r (AgainFault now text count) → IfErr r (AgainFault H stored count)
-  again_before (Ok v) f = tt
-  again_before (Err e) f = again_is e f
+-- the rows of a text behind a call that only looked at it
+pub rows_behind : {T A V : Type 0} {honest : T → Type 0} {text : T → List ℕ} {failures : T → ℕ} {count : ℕ} {v : V} {old now new : T} → LooksAt honest text failures (Ok v) old now → (r : Result (Vec LogRow A) SessionFault)
+    → FindsRows honest text failures count r now new → FindsRows honest text failures count r old new
+rows_behind {honest = honest} {text = text} {count = count} {old = old} {now = now} first r next = record {
+  rows = IfOk-weaker r (λ v. AreRowsOf (honest now) (text now) v.items count) (λ v. AreRowsOf (honest old) (text old) v.items count)
+      (λ v f. record { text = f.text; is = λ h. sym (first.same h) ∙ f.is (first.honesty.1 h); entries = f.entries; finished = f.finished; counted = f.counted; rows_are = f.rows_are }) next.rows;
+  fault = again_behind first count r next.fault;
+  looks = looks_before first next.looks;
+}

@@ -73,17 +73,27 @@ performed c text new x y stack s after st few is fits most long back written =
 pub top_of_stands : (text x : List ℕ) (stack : List (List ℕ)) → StandsFor text x stack → top stack ≡ x
 top_of_stands text x stack st = ap top st.stack_is ∙ top_of st.entries x
 
+-- the entry that was prepared, behind a text
+written_entry : {A : Type 0} → {c : Change A} (text : List ℕ) {new x : List ℕ} {count : ℕ} {s : Kept} {after : ℕ} {head line : List ℕ} → IsPrepared c x count s after head line → new ≡ text ++ head ++ line
+    → new ≡ text ++ entry_text (count + 1) s after
+written_entry text {count = count} {s = s} {head = head} {line = line} p written =
+    written ∙ append_assoc text head line ∙ ap (λ h. text ++ (h ++ line)) p.head_is ∙ ap (λ l. text ++ (head_text (count + 1) s ++ l)) p.line_is
+
+pub appended : {A : Type 0} → {c : Change A} (text : List ℕ) {new x : List ℕ} {count : ℕ} {s : Kept} {after : ℕ} {head line : List ℕ} → IsPrepared c x count s after head line → new ≡ text ++ head ++ line
+    → new ≡ text ++ entry_text (count + 1) (kept_of (saved c x)) (length (effect c x))
+appended {c = c} text {x = x} {count = count} {after = after} p written =
+    written_entry text p written ∙ ap (λ r. text ++ entry_text (count + 1) r after) p.saved_is ∙ ap (λ n. text ++ entry_text (count + 1) (kept_of (saved c x)) n) p.after_is
+
 -- from what was prepared
-pub performs : {A : Type 0} → (c : Change A) (text new x y : List ℕ) (stack : List (List ℕ)) (count : ℕ) (s : Kept) (after : ℕ) (head line : List ℕ) → IsPrepared c x count s after head line → StandsFor text x stack → length stack ≡ suc count
-    → y ≡ effect c x → IsAsGood (kept_of (saved c x)) x y → new ≡ text ++ head ++ line → StandsFor new (effect c x) (effect c x ∷ stack)
-performs c text new x y stack count s after head line p st counted image good written =
+pub performs : {A : Type 0} → {c : Change A} {text new x y : List ℕ} {stack : List (List ℕ)} {count : ℕ} {s : Kept} {after : ℕ} {head line : List ℕ} → IsPrepared c x count s after head line → StandsFor text x stack → length stack ≡ suc count
+    → y ≡ effect c x → IsAsGood (kept_of (saved c x)) x y → new ≡ text ++ head ++ line → StandsFor new y (effect c (top stack) ∷ stack)
+performs {c = c} {text = text} {new = new} {x = x} {y = y} {stack = stack} {count = count} {s = s} {after = after} p st counted image good written =
     let number : count + 1 ≡ length stack = omega arith in
     let few : length stack ≤ 65535 = omega (arith, p.few) in
     let is : IsOf s x = p.kept in
     let fits : s.len ≤ MAX_LEN = omega (arith, is.len, p.long) in
     let back : restore s y ≡ x = subst (λ r. restore r y ≡ x) (sym p.saved_is) (good.same ∙ subst (λ r. restore r x ≡ x) p.saved_is is.back) in
-    let text_is : new ≡ text ++ entry_text (length stack) s after =
-    written ∙ append_assoc text head line ∙ ap (λ h. text ++ (h ++ line)) p.head_is ∙ ap (λ l. text ++ (head_text (count + 1) s ++ l)) p.line_is ∙ ap (λ n. text ++ entry_text n s after) number in
+    let text_is : new ≡ text ++ entry_text (length stack) s after = written_entry text p written ∙ ap (λ n. text ++ entry_text n s after) number in
     let long : length y ≡ after = ap length image ∙ sym p.after_is in
-    let done : StandsFor new y (y ∷ stack) = performed c text new x y stack s after st few is fits p.fits long back text_is in
-    subst (λ z. StandsFor new z (z ∷ stack)) image done
+    let top_is : y ≡ effect c (top stack) = image ∙ ap (effect c) (sym (top_of_stands text x stack st)) in
+    subst (λ z. StandsFor new y (z ∷ stack)) top_is (performed c text new x y stack s after st few is fits p.fits long back text_is)

@@ -30,9 +30,9 @@ pub record IsPrepared {A : Type 0} (c : Change A) (x : List ℕ) (count : ℕ) (
   pub head_is : head ≡ head_text (count + 1) s
   pub line_is : line ≡ end_text (count + 1) after
 
-pub writes_entry : {A : Type 0} → (c : Change A) (text x : List ℕ) (stack : List (List ℕ)) (count : ℕ) (s : Kept) (after : ℕ) (head line : List ℕ)
+pub writes_entry : {A : Type 0} → {c : Change A} {text x : List ℕ} {stack : List (List ℕ)} {count : ℕ} {s : Kept} {after : ℕ} {head line : List ℕ}
     → IsPrepared c x count s after head line → IsAtRest text x stack → length stack ≡ suc count → WritesEntry c text x stack head line
-writes_entry c text x stack count s after head line p rest counted =
+writes_entry {x = x} {stack = stack} {count = count} {s = s} {after = after} p rest counted =
     let number : count + 1 ≡ length stack = omega arith in
     record {
       starts = record {

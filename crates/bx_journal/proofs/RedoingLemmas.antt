@@ -1,8 +1,10 @@
 -- A redo text that is read again, and what redoing leaves.
-use Rattle.std.proofs.Common.{◌≡◌, ℕ, zero, suc, ◌+◌, ◌≤◌, List, [], ◌∷◌, length, ◌∙◌, subst, inl, inr, arith}
+use Rattle.std.proofs.Common.{◌≡◌, ℕ, zero, suc, ◌+◌, ◌≤◌, List, [], ◌∷◌, length, ◌∙◌, subst, inl, inr, arith, length-drop}
 use Rattle.bx_journal.specs.declared.session.fault.SessionFault.{SessionFault}
 use Rattle.bx_journal.specs.declared.session.fault.SessionFault.TheVariants.{NoMemory, TooLarge, DeviceFailed, Damaged, TooFew, JournalFull, Interrupted, Broken, LengthDiffers, NothingToRedo, RedoDamaged}
 use Rattle.bx_journal.specs.Images.{Images, redo_of, redone_by}
+use Rattle.bx_journal.specs.Machine.{changes_of}
+use Rattle.bx_journal.specs.Redo.{IsRedoOf}
 use Rattle.bx_journal.specs.inner.Devices.{FaultCounts}
 use Rattle.bx_entries.specs.Text.{Between}
 use Rattle.bx_journal.specs.Undoing.{AgainFault, HasCount}
@@ -52,3 +54,13 @@ length_redone j s few = by_list j s.undone s.stack few
     by_list zero u stack few = omega arith
     by_list (suc k) [] stack few = absurd (omega (arith, few))
     by_list (suc k) (x ∷ u) stack few = by_list k u (x ∷ stack) (omega (arith, few)) ∙ omega arith
+
+-- how many changes then stand, and which images are still undone
+pub redone : {redo y : List ℕ} {count have n left : ℕ} (j : ℕ) (s : Images) → length s.stack ≡ suc count → have ≡ length s.undone → n ≡ count + j → left + j ≡ have
+    → IsRedoOf redo y (changes_of (redo_of j s).stack) (redo_of j s).undone
+    → (j ≤ length s.undone) × (length (redo_of j s).stack ≡ suc n) × (n ≡ changes_of s.stack + j) × IsRedoOf redo y n (redo_of j s).undone × (left ≡ length (redo_of j s).undone)
+redone {redo = redo} {y = y} {n = n} j s stood had number rest is =
+    let few : j ≤ length s.undone = omega (arith, had, rest) in
+    let long : length (redo_of j s).stack ≡ suc n = omega (arith, length_redone j s few, stood, number) in
+    let many : changes_of (redo_of j s).stack ≡ n = omega (arith, long) in
+    (few, long, omega (arith, stood, number), subst (λ m. IsRedoOf redo y m (redo_of j s).undone) many is, omega (arith, length-drop j s.undone, had, rest))

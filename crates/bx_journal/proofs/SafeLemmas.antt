@@ -1,12 +1,12 @@
 -- How a call of a session ends: it is accepted, refused before its first write, or interrupted.
-use Rattle.std.proofs.Common.{◌≡◌, ◌∙◌, ◌↔◌, ℕ, Bool, true, false, List, sym, subst, Result, Ok, Err}
+use Rattle.std.proofs.Common.{◌≡◌, ◌∙◌, ℕ, Bool, true, false, List, sym, subst, Result, Ok, Err}
 use Rattle.bx_journal.specs.Fault.{DeviceFault}
 use Rattle.bx_journal.specs.Opening.{OneMoreOfThree, ThreeCounts}
 use Rattle.bx_journal.specs.Session.{FailsSafely, IsUnfailed}
 use Rattle.bx_journal.specs.SessionView.{SessionView}
 use Rattle.bx_journal.specs.declared.session.fault.SessionFault.{SessionFault}
 use Rattle.bx_journal.specs.declared.session.fault.SessionFault.TheVariants.{NoMemory, TooLarge, DeviceFailed, Damaged, TooFew, JournalFull, Interrupted, Broken, LengthDiffers, NothingToRedo, RedoDamaged}
-use Rattle.bx_journal.specs.inner.Devices.{StepsOn}
+use Rattle.bx_journal.specs.inner.Devices.{HaveStayed, StepsOn}
 
 -- a session that is whole isn't broken
 not_both : {A : Type 0} (b : Bool) → b ≡ false → b ≡ true → A
@@ -41,32 +41,31 @@ module _ {D T : Type 0} {honest : D → Type 0} {text_honest : T → Type 0} {im
   -- a fault before the first write, where the counts of failed calls are told of the devices in any order
   pub refuses : {V : Type 0} {old new : SessionView D T} {a b c a_new b_new c_new : ℕ} (r : Result V SessionFault) (e : SessionFault) → r ≡ Err e → DeviceFault e → old.is_broken ≡ false
       → new.count ≡ old.count → new.undone ≡ old.undone → new.is_broken ≡ old.is_broken
-      → (honest new.device ↔ honest old.device) × (text_honest new.store ↔ text_honest old.store) × (text_honest new.redo_text ↔ text_honest old.redo_text)
-      → (honest old.device → image new.device ≡ image old.device) → (text_honest old.store → text new.store ≡ text old.store) → (text_honest old.redo_text → text new.redo_text ≡ text old.redo_text)
+      → HaveStayed honest text_honest image text old.device old.store old.redo_text new.device new.store new.redo_text
       → ThreeCounts e a b c a_new b_new c_new
       → (OneMoreOfThree a b c a_new b_new c_new → OneMoreOfThree (failures old.device) (text_failures old.store) (text_failures old.redo_text) (failures new.device) (text_failures new.store) (text_failures new.redo_text))
       → ((a_new ≡ a) × (b_new ≡ b) × (c_new ≡ c) → IsUnfailed failures text_failures old new)
       → FailsSafely honest text_honest image text failures text_failures old new r
-  refuses {V = V} {old = old} {new = new} {a = a} {b = b} {c = c} {a_new = a_new} {b_new = b_new} {c_new = c_new} r e is fault whole count undone broken honesty image_same text_same redo_same counts one none =
+  refuses {V = V} {old = old} {new = new} {a = a} {b = b} {c = c} {a_new = a_new} {b_new = b_new} {c_new = c_new} r e is fault whole count undone broken stayed counts one none =
       subst (FailsSafely honest text_honest image text failures text_failures old new) (sym is) (by_fault e fault counts)
     where
       by_fault : (e : SessionFault) → DeviceFault e → ThreeCounts e a b c a_new b_new c_new → FailsSafely {V = V} honest text_honest image text failures text_failures old new (Err e)
       by_fault NoMemory f h = record {
         broken = (not_both old.is_broken whole, λ e. absurd (cc));
         same = λ e. absurd (cc);
-        refused = λ dh th. record { image_same = image_same dh; text_same = text_same th; count = count; broken = broken };
-        redo_same = λ rh. record { text_same = redo_same rh; undone = undone };
+        refused = λ dh th. record { image_same = stayed.image_same dh; text_same = stayed.text_same th; count = count; broken = broken };
+        redo_same = λ rh. record { text_same = stayed.other_same rh; undone = undone };
         unmoved = (count, undone, broken);
-        honesty = honesty;
+        honesty = (stayed.device_honesty, stayed.text_honesty, stayed.other_honesty);
         counts = none h;
       }
       by_fault DeviceFailed f h = record {
         broken = (not_both old.is_broken whole, λ e. absurd (cc));
         same = λ e. absurd (cc);
-        refused = λ dh th. record { image_same = image_same dh; text_same = text_same th; count = count; broken = broken };
-        redo_same = λ rh. record { text_same = redo_same rh; undone = undone };
+        refused = λ dh th. record { image_same = stayed.image_same dh; text_same = stayed.text_same th; count = count; broken = broken };
+        redo_same = λ rh. record { text_same = stayed.other_same rh; undone = undone };
         unmoved = (count, undone, broken);
-        honesty = honesty;
+        honesty = (stayed.device_honesty, stayed.text_honesty, stayed.other_honesty);
         counts = one h;
       }
       by_fault TooLarge f h = absurd f

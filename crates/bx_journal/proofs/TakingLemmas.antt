@@ -6,19 +6,11 @@ use Rattle.bx_image.specs.declared.record.Saved.{Saved}
 use Rattle.bx_image.specs.Change.{AllWithin}
 use Rattle.bx_entries.specs.Kept.{kept_of}
 use Rattle.bx_entries.specs.Entry.{head_text, end_text}
-use Rattle.bx_journal.specs.Images.{Images}
 use Rattle.bx_journal.specs.Machine.{changes_of}
-use Rattle.bx_journal.specs.Redo.{IsRedoOf}
 use Rattle.bx_entries.specs.declared.read.types.EntryRead.{EntryRead}
 use Rattle.bx_journal.specs.inner.Takens.{IsZeros, AreZeros, AllShaped, entries_len, length_at}
 use Rattle.bx_journal.proofs.Shapes.{end_long}
 use Rattle.bx_journal.proofs.TakenLemmas.{reverse_last, len_pop}
-
--- a redo text and an image that are as they were
-pub redo_moved : (redo x redo_now x_now : List ℕ) (count : ℕ) (s : Images) → length s.stack ≡ suc count → redo_now ≡ redo → x_now ≡ x → IsRedoOf redo x count s.undone → IsRedoOf redo_now x_now (changes_of s.stack) s.undone
-redo_moved redo x redo_now x_now count s counted redo_same x_same is =
-    let many : count ≡ changes_of s.stack = omega (arith, counted) in
-    subst (λ n. IsRedoOf redo_now x_now n s.undone) many (subst (λ r. IsRedoOf r x_now count s.undone) (sym redo_same) (subst (λ z. IsRedoOf redo z count s.undone) (sym x_same) is))
 
 pub changes_left : (stack : List (List ℕ)) (count k left : ℕ) → length stack ≡ suc count → left + k ≡ count → changes_of (drop k stack) ≡ left
 changes_left stack count k left counted is = omega (arith, counted, is, length-drop k stack)

@@ -1,8 +1,9 @@
 -- Counting in windows: a window more.
-use Rattle.std.proofs.Common.{◌≡◌, ℕ, ◌+◌, ◌-◌, ◌≤◌, Bool, List, ◌++◌, length, take, drop, ap, sym, ◌∙◌, subst, arith, length-append, length-take, Result, Ok, Err}
+use Rattle.std.proofs.Common.{◌≡◌, ℕ, ◌+◌, ◌-◌, ◌≤◌, Bool, List, ◌++◌, length, take, drop, ap, sym, ◌∙◌, subst, arith, length-append, length-take, Result, Ok}
 use Rattle.bx_entries.proofs.TallyLemmas.{take_less, take_sum}
-use Rattle.std.specs.Prelude.{IfOk, IfErr, OnOk}
+use Rattle.std.specs.Prelude.{IfErr, OnOk}
 use Rattle.std.proofs.lemmas.List.{take_all}
+use Rattle.std.proofs.lemmas.Result.{IfErr-weaker, IfOk-weaker}
 use Rattle.bx_entries.specs.Text.{IsDamagedAt}
 use Rattle.bx_entries.specs.declared.read.count.Tally.{Tally}
 use Rattle.bx_entries.specs.declared.read.types.Front.{Front}
@@ -11,8 +12,9 @@ use Rattle.bx_journal.specs.declared.recovery.journal.Found.{Found}
 use Rattle.bx_journal.specs.declared.recovery.journal.Found.TheVariants.{Finished, Unfinished}
 use Rattle.bx_journal.specs.declared.session.fault.SessionFault.{SessionFault}
 use Rattle.bx_journal.specs.declared.session.fault.SessionFault.TheVariants.{NoMemory, TooLarge, DeviceFailed, Damaged, TooFew, JournalFull, Interrupted, Broken, LengthDiffers, NothingToRedo, RedoDamaged}
+use Rattle.bx_journal.specs.Undoing.{AgainFault, IsOutOfStep}
 use Rattle.bx_journal.specs.inner.Devices.{FaultCounts, LooksAt}
-use Rattle.bx_journal.specs.inner.Recovery.{FindFault, IsFoundIn}
+use Rattle.bx_journal.specs.inner.Recovery.{FindFault, FindsText, IsFoundIn}
 use Rattle.bx_journal.specs.inner.Windows.{IsPassed, IsCountedTo, IsFrontCounted, IsAllCounted}
 
 -- a front of a window that was filled
@@ -66,30 +68,6 @@ all_of honest stored only f len c long all = record {
   few = c.few;
 }
 
--- what is said of a store that is the same as before
-module _ (H now : Type 0) (stored text : List ℕ) (still : H → now) (same : H → text ≡ stored) where
-  pub found_before : {A E : Type 0} → (r : Result (Found A) E) → IfOk r (IsFoundIn now text) → IfOk r (IsFoundIn H stored)
-  found_before (Ok (Finished counted)) f = record { text = f.text; is = λ h. sym (same h) ∙ f.is (still h); counted = f.counted; few = f.few }
-  found_before (Ok (Unfinished journal)) f = record { text = f.text; is = λ h. sym (same h) ∙ f.is (still h); read = f.read; unfinished = f.unfinished }
-  found_before (Err e) f = tt
-
-  fault_is : (e : SessionFault) → FindFault now text e → FindFault H stored e
-  fault_is NoMemory f = tt
-  fault_is DeviceFailed f = tt
-  fault_is (Damaged line) f = λ h. subst (λ t. IsDamagedAt t line) (same h) (f (still h))
-  fault_is TooLarge f = f
-  fault_is (TooFew have) f = f
-  fault_is JournalFull f = f
-  fault_is Interrupted f = f
-  fault_is Broken f = f
-  fault_is (LengthDiffers n) f = f
-  fault_is (NothingToRedo have) f = f
-  fault_is (RedoDamaged line) f = f
-
-  pub fault_before : {T : Type 0} → (r : Result T SessionFault) → IfErr r (FindFault now text) → IfErr r (FindFault H stored)
-  fault_before (Ok v) f = tt
-  fault_before (Err e) f = fault_is e f
-
 -- a call that only looks, behind another that did
 pub looks_before : {D V W : Type 0} {honest : D → Type 0} {view : D → List ℕ} {failures : D → ℕ} {v : V} {r : Result W SessionFault} {old now new : D} → LooksAt honest view failures (Ok v) old now
     → LooksAt honest view failures r now new → LooksAt honest view failures r old new
@@ -99,3 +77,45 @@ looks_before {failures = failures} {r = r} {new = new} first next = record {
   no_failure = subst (λ n. OnOk r (failures new ≡ n)) first.no_failure next.no_failure;
   counts = subst (λ n. IfErr r (λ e. FaultCounts e n 0 (failures new) 0)) first.no_failure next.counts;
 }
+
+-- what is said of a text behind a call that only looked at it
+module _ {T V : Type 0} {honest : T → Type 0} {text : T → List ℕ} {failures : T → ℕ} {v : V} {old now : T} (first : LooksAt honest text failures (Ok v) old now) where
+  found_is : {A : Type 0} → (f : Found A) → IsFoundIn (honest now) (text now) f → IsFoundIn (honest old) (text old) f
+  found_is (Finished counted) f = record { text = f.text; is = λ h. sym (first.same h) ∙ f.is (first.honesty.1 h); counted = f.counted; few = f.few }
+  found_is (Unfinished journal) f = record { text = f.text; is = λ h. sym (first.same h) ∙ f.is (first.honesty.1 h); read = f.read; unfinished = f.unfinished }
+
+  fault_is : (e : SessionFault) → FindFault (honest now) (text now) e → FindFault (honest old) (text old) e
+  fault_is NoMemory f = tt
+  fault_is DeviceFailed f = tt
+  fault_is (Damaged line) f = λ h. subst (λ t. IsDamagedAt t line) (first.same h) (f (first.honesty.1 h))
+  fault_is TooLarge f = f
+  fault_is (TooFew have) f = f
+  fault_is JournalFull f = f
+  fault_is Interrupted f = f
+  fault_is Broken f = f
+  fault_is (LengthDiffers n) f = f
+  fault_is (NothingToRedo have) f = f
+  fault_is (RedoDamaged line) f = f
+
+  again_is : (count : ℕ) (e : SessionFault) → AgainFault (honest now) (text now) count e → AgainFault (honest old) (text old) count e
+  again_is count NoMemory f = tt
+  again_is count DeviceFailed f = tt
+  again_is count (Damaged line) f = λ h. subst (λ t. IsOutOfStep t count line) (first.same h) (f (first.honesty.1 h))
+  again_is count TooLarge f = f
+  again_is count (TooFew have) f = f
+  again_is count JournalFull f = f
+  again_is count Interrupted f = f
+  again_is count Broken f = f
+  again_is count (LengthDiffers n) f = f
+  again_is count (NothingToRedo have) f = f
+  again_is count (RedoDamaged line) f = f
+
+  pub again_behind : {W : Type 0} → (count : ℕ) (r : Result W SessionFault) → IfErr r (AgainFault (honest now) (text now) count) → IfErr r (AgainFault (honest old) (text old) count)
+  again_behind count r fault = IfErr-weaker r (AgainFault (honest now) (text now) count) (AgainFault (honest old) (text old) count) (again_is count) fault
+
+  pub text_behind : {A : Type 0} {new : T} → (r : Result (Found A) SessionFault) → FindsText honest text failures r now new → FindsText honest text failures r old new
+  text_behind r next = record {
+    found = IfOk-weaker r (IsFoundIn (honest now) (text now)) (IsFoundIn (honest old) (text old)) found_is next.found;
+    fault = IfErr-weaker r (FindFault (honest now) (text now)) (FindFault (honest old) (text old)) fault_is next.fault;
+    looks = looks_before first next.looks;
+  }

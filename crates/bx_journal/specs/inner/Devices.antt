@@ -38,6 +38,16 @@ pub record LooksAt {D R : Type 0} (honest : D → Type 0) (view : D → List ℕ
   pub no_failure : OnOk result (failures new ≡ failures old)
   pub counts : IfErr result (λ e. FaultCounts e (failures old) 0 (failures new) 0)
 
+-- A device and two texts behind calls that only looked at them: each is honest if it was, and has what it had
+pub record HaveStayed {D T : Type 0} (honest : D → Type 0) (text_honest : T → Type 0) (image : D → List ℕ) (text : T → List ℕ)
+    (d : D) (t u : T) (d_new : D) (t_new u_new : T) : Type 0 where
+  pub device_honesty : honest d_new ↔ honest d
+  pub text_honesty : text_honest t_new ↔ text_honest t
+  pub other_honesty : text_honest u_new ↔ text_honest u
+  pub image_same : honest d → image d_new ≡ image d
+  pub text_same : text_honest t → text t_new ≡ text t
+  pub other_same : text_honest u → text u_new ≡ text u
+
 -- no call of the three failed
 abbrev pub AreUnfailed : {D T V E : Type 0} → (D → ℕ) → (T → ℕ) → D → T → T → D → T → T → Result V E → Type 0
 AreUnfailed failures text_failures d t u d_new t_new u_new result =

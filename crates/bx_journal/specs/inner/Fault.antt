@@ -1,8 +1,13 @@
 -- What proofs alone need: what faults of the devices are in a session.
+use Rattle.std.specs.Prelude.{◌≡◌, ◌⊎◌}
 use Rattle.bx_store.specs.declared.fault.TextFault.{TextFault}
 use Rattle.bx_store.specs.declared.fault.TextFault.TheVariants.{NoMemory as TextMemory, DeviceFailed as TextFailed}
 use Rattle.bx_journal.specs.declared.session.fault.SessionFault.{SessionFault}
 use Rattle.bx_journal.specs.declared.session.fault.SessionFault.TheVariants.{NoMemory, DeviceFailed, Damaged, RedoDamaged}
+
+-- a call that only looks at a device wants memory, or the device failed
+abbrev pub IsDeviceFault : SessionFault → Type 0
+IsDeviceFault e = (e ≡ NoMemory) ⊎ (e ≡ DeviceFailed)
 
 -- what a fault of reading the text is
 abbrev pub reading_fault : TextFault → SessionFault

@@ -1,5 +1,5 @@
 -- What proofs alone need: what opening finds in a journal's text, and what it leaves of the redo text.
-use Rattle.std.specs.Prelude.{◌≡◌, ◌⊎◌, ◌≤◌, ℕ, Option, Some, List, length, IfSome, Result, IfOk, MatchResult, OnOk, OnErr}
+use Rattle.std.specs.Prelude.{◌≡◌, ◌⊎◌, ◌≤◌, ℕ, Option, Some, List, length, IfSome, Result, IfOk, IfErr, MatchResult, OnOk, OnErr}
 use Rattle.bx_journal.specs.declared.session.answers.Recovered.{Recovered}
 use Rattle.bx_journal.specs.declared.session.fault.SessionFault.{SessionFault}
 use Rattle.bx_journal.specs.declared.session.fault.SessionFault.TheVariants.{DeviceFailed, Damaged, Interrupted, LengthDiffers, RedoDamaged}
@@ -11,6 +11,7 @@ use Rattle.bx_entries.specs.declared.read.types.StageRead.TheVariants.{Between a
 use Rattle.bx_entries.specs.inner.Journal.{HasRead}
 use Rattle.bx_journal.specs.Judging.{RefusesRedo}
 use Rattle.bx_journal.specs.Opening.{IsOpened}
+use Rattle.bx_journal.specs.inner.Devices.{LooksAt}
 use Rattle.bx_journal.specs.inner.Opening.{LookFault}
 use Rattle.bx_journal.specs.Phase.{IsAtRest}
 use Rattle.bx_journal.specs.Stack.{HaveLengths, Recovers, image_at}
@@ -55,6 +56,13 @@ KeepsStack result text x new y =
 abbrev pub FindFault : Type 0 → List ℕ → SessionFault → Type 0
 FindFault honest text (Damaged line) = honest → IsDamagedAt text line
 FindFault honest text e = DeviceFault e
+
+-- A call that looks at what a journal's text is: it answers that, or why the text can't be read
+pub record FindsText {T A : Type 0} (honest : T → Type 0) (text : T → List ℕ) (failures : T → ℕ) (result : Result (Found A) SessionFault) (old new : T)
+    : Type 0 where
+  pub found : IfOk result (IsFoundIn (honest old) (text old))
+  pub fault : IfErr result (FindFault (honest old) (text old))
+  pub looks : LooksAt honest text failures result old new
 
 -- which fault taking back what is unfinished may answer
 abbrev pub RecoverFault : SessionFault → Type 0

@@ -1,5 +1,5 @@
 -- What proofs alone need: the rows of a log, from a text that is read in windows.
-use Rattle.std.specs.Prelude.{◌≡◌, ◌<◌, ◌≤◌, ◌+◌, ℕ, Some, List, [], ◌∷◌, ◌++◌, length, take, drop}
+use Rattle.std.specs.Prelude.{◌≡◌, ◌<◌, ◌≤◌, ◌+◌, ℕ, Some, List, [], ◌∷◌, ◌++◌, length, take, drop, Vec, Result, IfOk, IfErr}
 use Rattle.bx_entries.specs.declared.read.count.Place.{Place}
 use Rattle.bx_entries.specs.declared.read.count.Place.TheVariants.{Between as BetweenPlace, Saving as SavingPlace, Ending as EndingPlace}
 use Rattle.bx_entries.specs.declared.read.rows.Summed.{Summed}
@@ -8,7 +8,10 @@ use Rattle.bx_entries.specs.Finished.{IsFinished}
 use Rattle.bx_entries.specs.Text.{Entry, Reading, split, start, after_lines}
 use Rattle.bx_journal.specs.declared.session.answers.LogRow.{LogRow}
 use Rattle.bx_journal.specs.declared.session.log.windows.Listed.{Listed}
+use Rattle.bx_journal.specs.declared.session.fault.SessionFault.{SessionFault}
 use Rattle.bx_journal.specs.Calls.{rows_of}
+use Rattle.bx_journal.specs.Undoing.{AgainFault}
+use Rattle.bx_journal.specs.inner.Devices.{LooksAt}
 
 -- the row of the entry that the last line ended, where the text stands at such a place
 abbrev pub ended_row : Place → Summed → List LogRow
@@ -57,3 +60,10 @@ pub record AreRowsOf (honest : Type 0) (stored : List ℕ) (rows : List LogRow) 
   pub finished : IsFinished text entries
   pub counted : length entries ≡ count
   pub rows_are : rows ≡ rows_of entries
+
+-- A call that looks for the rows of so many finished entries alone: it answers them, or why the text isn't that
+pub record FindsRows {T A : Type 0} (honest : T → Type 0) (text : T → List ℕ) (failures : T → ℕ) (count : ℕ) (result : Result (Vec LogRow A) SessionFault)
+    (old new : T) : Type 0 where
+  pub rows : IfOk result (λ rows. AreRowsOf (honest old) (text old) rows.items count)
+  pub fault : IfErr result (AgainFault (honest old) (text old) count)
+  pub looks : LooksAt honest text failures result old new

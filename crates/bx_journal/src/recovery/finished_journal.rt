@@ -1,7 +1,8 @@
 //! Opening beside a journal of finished entries alone: the redo text is read and judged.
-ghost use Rattle.std.specs.Prelude.{◌≡◌, ◌↔◌, ◌⊎◌, ◌+◌, ◌<◌, ◌≤◌, ℕ, OnOk, IfOk, IfErr, IfSome, MatchResult};
+ghost use Rattle.std.specs.Prelude.{◌≡◌, ◌↔◌, ◌+◌, ◌<◌, ◌≤◌, ℕ, OnOk, IfOk, IfErr, IfSome, MatchResult};
 ghost use Rattle.bx_journal.specs.Opening.{RefusesLength};
 ghost use Rattle.bx_journal.specs.inner.Devices.{FaultCounts, LooksAt};
+ghost use Rattle.bx_journal.specs.inner.Fault.{IsDeviceFault};
 ghost use Rattle.bx_journal.specs.inner.Recovery.{FaultBeside, HasOtherLength, HasToldLength, RefusesBeside, TellsCount};
 ghost use Rattle.bx_journal.specs.inner.RedoFound.{IsRedoCountedIn, IsRedoIn};
 
@@ -24,7 +25,7 @@ fn count_redo<T: TextStore, A: Allocator + Clone>(
     requires countable { T.failures redo_text.old < u64.MAX }
     requires few { changes ≤ 65535 }
     ensures counted { IfOk result (λ found. IfSome found (IsRedoCountedIn (T.honest redo_text.old) (T.text redo_text.old) changes)) }
-    ensures fault { IfErr result (λ e. (e ≡ SessionFault.NoMemory) ⊎ (e ≡ SessionFault.DeviceFailed)) }
+    ensures fault { IfErr result IsDeviceFault }
     ensures looks { LooksAt T.honest T.text T.failures result redo_text.old redo_text.new }
 {
     let found = match count_text(alloc, redo_text, true) {
@@ -50,7 +51,7 @@ fn find_redo<T: TextStore, A: Allocator + Clone>(
     requires countable { T.failures redo_text.old < u64.MAX }
     requires few { changes ≤ 65535 }
     ensures found { IfOk result (IsRedoIn (T.honest redo_text.old) (T.text redo_text.old) changes) }
-    ensures fault { IfErr result (λ e. (e ≡ SessionFault.NoMemory) ⊎ (e ≡ SessionFault.DeviceFailed)) }
+    ensures fault { IfErr result IsDeviceFault }
     ensures looks { LooksAt T.honest T.text T.failures result redo_text.old redo_text.new }
 {
     let counted = match count_redo(alloc, redo_text, changes) {

@@ -1,7 +1,6 @@
 //! What reading a journal finds when a pair is opened.
-ghost use Rattle.std.specs.Prelude.{◌≡◌, ◌↔◌, ◌<◌, ◌≤◌, List, ℕ, length, OnOk, IfOk, IfErr, IfSome, IfNone};
+ghost use Rattle.std.specs.Prelude.{◌≡◌, ◌<◌, ◌≤◌, List, ℕ, length, IfSome, IfNone};
 ghost use Rattle.bx_entries.specs.inner.Journal.{HasRead};
-ghost use Rattle.bx_journal.specs.inner.Devices.{LooksAt};
 ghost use Rattle.bx_entries.specs.inner.Tally.{IsCounted};
 
 use crate::SessionFault;
@@ -43,7 +42,7 @@ fn as_counted<A: Allocator>(journal: &JournalRead<A>, len: u64) -> Option<Counte
     }
 }
 
-ghost use Rattle.bx_journal.specs.inner.Recovery.{FindFault, IsFoundIn};
+ghost use Rattle.bx_journal.specs.inner.Recovery.{FindsText};
 
 /// Reads all of a journal's text. It changes nothing.
 fn read_whole<T: TextStore, A: Allocator + Clone>(
@@ -51,9 +50,7 @@ fn read_whole<T: TextStore, A: Allocator + Clone>(
     store: &mut T,
 ) -> Result<Found<A>, SessionFault>
     requires { T.failures store.old < u64.MAX }
-    ensures found { IfOk result (IsFoundIn (T.honest store.old) (T.text store.old)) }
-    ensures fault { IfErr result (FindFault (T.honest store.old) (T.text store.old)) }
-    ensures looks { LooksAt T.honest T.text T.failures result store.old store.new }
+    ensures { FindsText T.honest T.text T.failures result store.old store.new }
 {
     let bytes = match store.read_all(alloc.clone()?) {
         Ok(bytes) => bytes,
@@ -77,9 +74,7 @@ pub fn read_text<T: TextStore, A: Allocator + Clone>(
     store: &mut T,
 ) -> Result<Found<A>, SessionFault>
     requires { T.failures store.old < u64.MAX }
-    ensures found { IfOk result (IsFoundIn (T.honest store.old) (T.text store.old)) }
-    ensures fault { IfErr result (FindFault (T.honest store.old) (T.text store.old)) }
-    ensures looks { LooksAt T.honest T.text T.failures result store.old store.new }
+    ensures { FindsText T.honest T.text T.failures result store.old store.new }
 {
     let counted = match count_text(alloc, store, false) {
         Ok(counted) => counted,

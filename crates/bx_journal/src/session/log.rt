@@ -1,5 +1,5 @@
 //! The rows of a log.
-ghost use Rattle.std.specs.Prelude.{◌≡◌, ◌↔◌, ◌+◌, ◌<◌, ◌≤◌, ◌^◌, List, ℕ, length, All, true, IfOk, IfErr, OnOk, IsErrOf};
+ghost use Rattle.std.specs.Prelude.{◌≡◌, ◌+◌, ◌<◌, ◌≤◌, ◌^◌, List, ℕ, length, All, IfOk, IfErr, OnOk};
 ghost use Rattle.bx_journal.specs.Calls.{rows_of};
 ghost use Rattle.bx_entries.specs.inner.Parsed.{entries_of};
 ghost use Rattle.bx_entries.specs.Kept.{kept_of};
@@ -55,8 +55,7 @@ fn rows<A: Allocator + Clone>(
     Ok(rows)
 }
 
-ghost use Rattle.bx_journal.specs.inner.Devices.{LooksAt};
-ghost use Rattle.bx_journal.specs.inner.Rows.{AreRowsOf};
+ghost use Rattle.bx_journal.specs.inner.Rows.{FindsRows};
 
 /// The rows of a text that is to be so many finished entries alone, and is read whole.
 fn rows_of_whole<T: TextStore, A: Allocator + Clone>(
@@ -65,9 +64,7 @@ fn rows_of_whole<T: TextStore, A: Allocator + Clone>(
     count: u32,
 ) -> Result<Vec<LogRow, A>, SessionFault>
     requires { T.failures store.old < u64.MAX }
-    ensures rows { IfOk result (λ rows. AreRowsOf (T.honest store.old) (T.text store.old) rows.items count) }
-    ensures fault { IfErr result (AgainFault (T.honest store.old) (T.text store.old) count) }
-    ensures looks { LooksAt T.honest T.text T.failures result store.old store.new }
+    ensures { FindsRows T.honest T.text T.failures count result store.old store.new }
 {
     let read = match read_again(alloc, store, count) {
         Ok(read) => read,
@@ -84,9 +81,7 @@ fn rows_of_text<T: TextStore, A: Allocator + Clone>(
     count: u32,
 ) -> Result<Vec<LogRow, A>, SessionFault>
     requires { T.failures store.old < u64.MAX }
-    ensures rows { IfOk result (λ rows. AreRowsOf (T.honest store.old) (T.text store.old) rows.items count) }
-    ensures fault { IfErr result (AgainFault (T.honest store.old) (T.text store.old) count) }
-    ensures looks { LooksAt T.honest T.text T.failures result store.old store.new }
+    ensures { FindsRows T.honest T.text T.failures count result store.old store.new }
 {
     let found = match rows_in_windows(alloc, store, count) {
         Ok(found) => found,

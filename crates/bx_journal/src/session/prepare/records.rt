@@ -1,8 +1,8 @@
 //! What some undos, or some redos, take before their first write: records of what they will overwrite, a page and room.
-ghost use Rattle.std.specs.Prelude.{◌≡◌, ◌↔◌, ◌+◌, ◌-◌, ◌^◌, ◌<◌, ◌≤◌, [], length, drop, min, reverse, vec_capacity, All, IfOk, IfErr, OnOk};
+ghost use Rattle.std.specs.Prelude.{◌≡◌, ◌+◌, ◌-◌, ◌^◌, ◌<◌, ◌≤◌, [], length, drop, min, reverse, vec_capacity, All, IfOk, IfErr, OnOk};
 ghost use Rattle.bx_image.specs.Change.{AllWithin};
 ghost use Rattle.bx_journal.specs.Fault.{DeviceFault};
-ghost use Rattle.bx_journal.specs.inner.Devices.{AreCounted, AreUnfailed};
+ghost use Rattle.bx_journal.specs.inner.Devices.{AreCounted, AreUnfailed, HaveStayed};
 ghost use Rattle.bx_journal.specs.inner.Takens.{AreZeros, AreReady, AllShaped, IsZeros, length_at, entries_len as entries_long};
 ghost use Rattle.bx_journal.specs.inner.Undoing.{HasRoomFor};
 
@@ -121,12 +121,7 @@ fn make_room<D: Device, T: TextStore, A: Allocator>(
     ensures kept { HasRoomFor (D.room device.new) read.now.entries.items k result }
     ensures roomed { OnOk result (min (to_len + more) (2 ^ 64 - 1) ≤ T.room to.new) }
     ensures limit { OnOk result (min (to_len + more) (2 ^ 64 - 1) ≤ 2 ^ 62) }
-    ensures image { D.honest device.old → D.image device.new ≡ D.image device.old }
-    ensures from_text { T.honest from.old → T.text from.new ≡ T.text from.old }
-    ensures to_text { T.honest to.old → T.text to.new ≡ T.text to.old }
-    ensures device_honesty { D.honest device.new ↔ D.honest device.old }
-    ensures from_honesty { T.honest from.new ↔ T.honest from.old }
-    ensures to_honesty { T.honest to.new ↔ T.honest to.old }
+    ensures stayed { HaveStayed D.honest T.honest D.image T.text device.old from.old to.old device.new from.new to.new }
     ensures failures { (D.failures device.new ≡ D.failures device.old) × (T.failures from.new ≡ T.failures from.old) × (T.failures to.new ≡ T.failures to.old) }
 {
     let first = read.entries.len() - k as usize;
@@ -160,12 +155,7 @@ pub fn prepare_takens<D: Device, T: TextStore, A: Allocator + Clone>(
     ensures empty { IfOk result (λ o. o.page.items ≡ []) }
     ensures page_room { IfOk result (λ o. 82 ≤ vec_capacity o.page) }
     ensures kind { IfErr result DeviceFault }
-    ensures image { D.honest device.old → D.image device.new ≡ D.image device.old }
-    ensures from_text { T.honest from.old → T.text from.new ≡ T.text from.old }
-    ensures to_text { T.honest to.old → T.text to.new ≡ T.text to.old }
-    ensures device_honesty { D.honest device.new ↔ D.honest device.old }
-    ensures from_honesty { T.honest from.new ↔ T.honest from.old }
-    ensures to_honesty { T.honest to.new ↔ T.honest to.old }
+    ensures stayed { HaveStayed D.honest T.honest D.image T.text device.old from.old to.old device.new from.new to.new }
     ensures no_failure { AreUnfailed D.failures T.failures device.old from.old to.old device.new from.new to.new result }
     ensures counts { AreCounted D.failures T.failures device.old from.old to.old device.new from.new to.new result }
 {

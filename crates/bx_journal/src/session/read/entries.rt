@@ -1,9 +1,10 @@
 //! The journal of an open session, read once more: all of it, or its last entries alone.
-ghost use Rattle.std.specs.Prelude.{◌≡◌, ◌↔◌, ◌⊎◌, ◌<◌, ◌≤◌, List, ℕ, false, length, IfOk, IfErr, IfSome, IfNone, OnOk};
+ghost use Rattle.std.specs.Prelude.{◌≡◌, ◌<◌, ◌≤◌, List, ℕ, false, length, IfOk, IfErr, IfSome, IfNone};
 ghost use Rattle.bx_entries.specs.inner.Journal.{HasRead};
 ghost use Rattle.bx_journal.specs.inner.Devices.{LooksAt};
 ghost use Rattle.bx_journal.specs.Undoing.{AgainFault, HasCount};
-ghost use Rattle.bx_journal.specs.inner.Undoing.{FindsLast, IsLastFrom, IsReadAgain, IsReadBehind, IsReadFrom, IsReadOn};
+ghost use Rattle.bx_journal.specs.inner.Fault.{IsDeviceFault};
+ghost use Rattle.bx_journal.specs.inner.Undoing.{FindsLast, IsLastFrom, IsReadAgain, IsReadBehind, IsReadFrom, IsReadOn, LooksForLast};
 ghost use Rattle.bx_journal.specs.inner.Windows.{IsFrontCounted};
 
 use crate::SessionFault;
@@ -90,7 +91,7 @@ fn read_window<T: TextStore, A: Allocator + Clone>(
     requires within { T.honest store.old → len ≤ length (T.text store.old) }
     requires below { read.at ≤ len }
     ensures read { IfOk result (λ found. IfSome found (IsReadOn (T.honest store.old) (T.text store.old) front len read)) }
-    ensures fault { IfErr result (λ e. (e ≡ SessionFault.NoMemory) ⊎ (e ≡ SessionFault.DeviceFailed)) }
+    ensures fault { IfErr result IsDeviceFault }
     ensures looks { LooksAt T.honest T.text T.failures result store.old store.new }
 {
     let at = read.at;
@@ -123,7 +124,7 @@ fn read_windows<T: TextStore, A: Allocator + Clone>(
     requires front { IsFrontCounted (T.honest store.old) (T.text store.old) false front }
     ensures read { IfOk result (λ found. IfSome found (IsReadBehind (T.honest store.old) (T.text store.old) front)) }
     ensures all { IfOk result (λ found. IfSome found (λ r. r.at ≡ len)) }
-    ensures fault { IfErr result (λ e. (e ≡ SessionFault.NoMemory) ⊎ (e ≡ SessionFault.DeviceFailed)) }
+    ensures fault { IfErr result IsDeviceFault }
     ensures looks { LooksAt T.honest T.text T.failures result store.old store.new }
 {
     let mut read = nothing_read(alloc, front)?;
@@ -181,10 +182,7 @@ fn read_from<T: TextStore, A: Allocator + Clone>(
     requires within { front.at ≤ len }
     requires long { T.honest store.old → len ≡ length (T.text store.old) }
     requires front { IsFrontCounted (T.honest store.old) (T.text store.old) false front }
-    ensures read { IfOk result (λ found. IfSome found (λ o. IsLastFrom (T.honest store.old) (T.text store.old) o.len o.entries.items count)) }
-    ensures few { IfOk result (λ found. IfSome found (λ o. k ≤ length o.entries.items)) }
-    ensures fault { IfErr result (λ e. (e ≡ SessionFault.NoMemory) ⊎ (e ≡ SessionFault.DeviceFailed)) }
-    ensures looks { LooksAt T.honest T.text T.failures result store.old store.new }
+    ensures { LooksForLast T.honest T.text T.failures count k result store.old store.new }
 {
     let size = WINDOW.min(len - front.at) as usize;
     let mut window = vec![in alloc.clone()?; 0u8; size]?;
@@ -205,10 +203,7 @@ fn find_last<T: TextStore, A: Allocator + Clone>(
 ) -> Result<Option<FinishedRead<A>>, SessionFault>
     requires countable { T.failures store.old < u64.MAX }
     requires few { k ≤ count }
-    ensures read { IfOk result (λ found. IfSome found (λ o. IsLastFrom (T.honest store.old) (T.text store.old) o.len o.entries.items count)) }
-    ensures few { IfOk result (λ found. IfSome found (λ o. k ≤ length o.entries.items)) }
-    ensures fault { IfErr result (λ e. (e ≡ SessionFault.NoMemory) ⊎ (e ≡ SessionFault.DeviceFailed)) }
-    ensures looks { LooksAt T.honest T.text T.failures result store.old store.new }
+    ensures { LooksForLast T.honest T.text T.failures count k result store.old store.new }
 {
     let len = store.len()?;
     let found = count_front(alloc, store, len, false, count - k)?;

@@ -1,4 +1,4 @@
-use Rattle.std.proofs.Common.{◌≤◌, length, ap, ◌∙◌, arith}
+use Rattle.std.proofs.Common.{◌≤◌, length, ap, ◌∙◌, arith, rules}
 use Rattle.bx_journal.specs.Calls.{rows_of}
 use Rattle.bx_entries.specs.inner.Parsed.{entries_of}
 use Rattle.bx_entries.proofs.ReadLemmas.{length-entries_of}
@@ -14,14 +14,18 @@ pub rows-requires-clause-countable : goal.rows-requires-clause-countable
 rows-requires-clause-countable g c =
     saved_countable c.in-Ok.ensures.read.text c.in-Ok.read.entries.items c.deref.result.now c.in-Ok.ensures.read.read.finished.reads (omega (arith, c.in-Ok.ensures.read.countable)) c.deref.ensures.value
 
-pub returns-clause-rows : goal.returns-clause-rows
-returns-clause-rows g c =
+pub returns : goal.returns
+returns g c =
     let read = c.in-Ok.ensures.read in
     record {
-      text = read.text;
-      is = read.is;
-      entries = entries_of c.in-Ok.read.entries.items;
-      finished = read.read.finished;
-      counted = length-entries_of c.in-Ok.read.entries.items ∙ read.read.counted;
-      rows_are = c.in_ok-rows.ensures ∙ ap (λ es. rows_of (entries_of es)) c.deref.ensures.value;
+      rows = record {
+        text = read.text;
+        is = read.is;
+        entries = entries_of c.in-Ok.read.entries.items;
+        finished = read.read.finished;
+        counted = length-entries_of c.in-Ok.read.entries.items ∙ read.read.counted;
+        rows_are = c.in_ok-rows.ensures ∙ ap (λ es. rows_of (entries_of es)) c.deref.ensures.value;
+      };
+      fault = tt;
+      looks = search rules;
     }

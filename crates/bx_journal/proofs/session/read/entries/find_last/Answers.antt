@@ -1,4 +1,4 @@
-use Rattle.std.proofs.Common.{false, ◌≤◌, length, ap, sym, ◌∙◌, subst}
+use Rattle.std.proofs.Common.{false, ◌≤◌, length, ap, sym, ◌∙◌, subst, rules}
 use Rattle.std.specs.Prelude.{IfSome}
 use Rattle.bx_entries.specs.declared.read.types.Front.{Front}
 use Rattle.bx_journal.specs.inner.Windows.{IsFrontCounted}
@@ -21,7 +21,11 @@ read_from-requires-clause-front g c =
     c.count_front.ensures.looks.honesty.0 c.count_front.ensures.looks.same
     (subst (λ o. IfSome o (IsFrontCounted (g.T.TextStore.honest c.len.new.self) (g.T.TextStore.text c.len.new.self) false)) c.in-Some.is c.in_ok-found.ensures.counted)
 
-pub returns-clause-read : goal.returns-clause-read
-returns-clause-read g c =
-    found_last_before (g.T.TextStore.honest c.args.store.now) (g.T.TextStore.honest c.count_front.new.store) (g.T.TextStore.text c.args.store.now) (g.T.TextStore.text c.count_front.new.store)
-    (λ h. c.count_front.ensures.looks.honesty.1 (c.len.ensures.goes_on.honesty.1 h)) (λ h. c.count_front.ensures.looks.same (c.len.ensures.goes_on.honesty.1 h) ∙ c.len.ensures.text h) c.args.count c.read_from.result c.read_from.ensures.read
+pub returns : goal.returns
+returns g c = record {
+  read = found_last_before (g.T.TextStore.honest c.args.store.now) (g.T.TextStore.honest c.count_front.new.store) (g.T.TextStore.text c.args.store.now) (g.T.TextStore.text c.count_front.new.store)
+      (λ h. c.count_front.ensures.looks.honesty.1 (c.len.ensures.goes_on.honesty.1 h)) (λ h. c.count_front.ensures.looks.same (c.len.ensures.goes_on.honesty.1 h) ∙ c.len.ensures.text h) c.args.count c.read_from.result c.read_from.ensures.read;
+  few = c.read_from.ensures.few;
+  fault = c.read_from.ensures.fault;
+  looks = search rules;
+}

@@ -1,16 +1,21 @@
-use Rattle.std.proofs.Common.{◌≡◌, ◌∙◌, List, ℕ, sym, refl, subst}
+use Rattle.std.proofs.Common.{◌≡◌, ◌∙◌, List, ℕ, sym, refl, subst, rules}
 use Rattle.std.specs.Prelude.{IfSome}
 use Rattle.bx_entries.specs.declared.read.lines.LinesRead.{LinesRead}
 use Rattle.bx_journal.specs.inner.Undoing.{IsReadBehind}
 use Rattle.bx_journal.proofs.LastLemmas.{behind_all, last_from}
 use Rattle.bx_journal.proofs.session.read.entries.read_from.Goals as goal
 
-pub returns-clause-read : goal.returns-clause-read
-returns-clause-read g c =
+pub returns : goal.returns
+returns g c =
     let honest = g.T.TextStore.honest c.args.store.now in
     let stored : List ℕ = g.T.TextStore.text c.args.store.now in
     let found = c.in_ok-found.ensures in
     let b = subst (λ o. IfSome o (IsReadBehind honest stored c.args.front)) c.in-Some.is found.read in
     let all = subst (λ o. IfSome o (λ (r : LinesRead g.row.A.Denot). r.at ≡ c.args.len)) c.in-Some.is found.all in
-    last_from honest stored b.text c.args.len c.args.count c.last_of.result (behind_all honest stored c.args.front c.args.len c.in-Some.read b all c.requires.long) (sym (b.read.long ∙ all))
-    (c.last_of.ensures.some b.text b.older c.args.front b.read refl all) c.last_of.ensures.len
+    record {
+      read = last_from honest stored b.text c.args.len c.args.count c.last_of.result (behind_all honest stored c.args.front c.args.len c.in-Some.read b all c.requires.long) (sym (b.read.long ∙ all))
+          (c.last_of.ensures.some b.text b.older c.args.front b.read refl all) c.last_of.ensures.len;
+      few = c.last_of.ensures.few;
+      fault = tt;
+      looks = search rules;
+    }

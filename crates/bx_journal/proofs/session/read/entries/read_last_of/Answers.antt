@@ -2,8 +2,8 @@ use Rattle.std.proofs.Common.{◌≤◌, length, subst}
 use Rattle.std.specs.Prelude.{IfSome}
 use Rattle.bx_journal.specs.declared.session.read.entries.FinishedRead.{FinishedRead}
 use Rattle.bx_journal.specs.inner.Undoing.{IsLastFrom}
-use Rattle.bx_journal.proofs.LastLemmas.{again_last, again_before, again_fault, few_of_all}
-use Rattle.bx_journal.proofs.WindowLemmas.{looks_before}
+use Rattle.bx_journal.proofs.LastLemmas.{again_last, again_fault, few_of_all}
+use Rattle.bx_journal.proofs.WindowLemmas.{again_behind, looks_before}
 use Rattle.bx_journal.proofs.session.read.entries.read_last_of.Goals as goal
 
 pub returns-in-Err-clause-fault : goal.returns-in-Err-clause-fault
@@ -26,9 +26,7 @@ returns-in-None-clause-few g c =
     few_of_all (g.T.TextStore.honest c.find_last.new.store) (g.T.TextStore.text c.find_last.new.store) c.args.count c.args.k c.read_again.result c.requires.few c.read_again.ensures.read
 
 pub returns-in-None-clause-fault : goal.returns-in-None-clause-fault
-returns-in-None-clause-fault g c =
-    again_before (g.T.TextStore.honest c.args.store.now) (g.T.TextStore.honest c.find_last.new.store) (g.T.TextStore.text c.args.store.now) (g.T.TextStore.text c.find_last.new.store)
-    c.find_last.ensures.looks.honesty.1 c.find_last.ensures.looks.same c.args.count c.read_again.result c.read_again.ensures.fault
+returns-in-None-clause-fault g c = again_behind c.in-Ok.ensures.looks c.args.count c.read_again.result c.read_again.ensures.fault
 
 pub returns-in-None-clause-looks : goal.returns-in-None-clause-looks
 returns-in-None-clause-looks g c = looks_before c.in-Ok.ensures.looks c.read_again.ensures.looks
