@@ -5,9 +5,9 @@ use Rattle.bx_store.specs.declared.fault.TextFault.TheVariants.{NoMemory as Text
 use Rattle.bx_journal.specs.declared.session.fault.SessionFault.{SessionFault}
 use Rattle.bx_journal.specs.declared.session.fault.SessionFault.TheVariants.{NoMemory, DeviceFailed, Damaged, RedoDamaged}
 
--- a call that only looks at a device wants memory, or the device failed
-abbrev pub IsDeviceFault : SessionFault → Type 0
-IsDeviceFault e = (e ≡ NoMemory) ⊎ (e ≡ DeviceFailed)
+-- a call that only looks at a device lacks memory, or the device failed
+abbrev pub LacksOrFails : SessionFault → Type 0
+LacksOrFails e = (e ≡ NoMemory) ⊎ (e ≡ DeviceFailed)
 
 -- what a fault of reading the text is
 abbrev pub reading_fault : TextFault → SessionFault

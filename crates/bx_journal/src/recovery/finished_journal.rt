@@ -2,7 +2,7 @@
 ghost use Rattle.std.specs.Prelude.{◌≡◌, ◌↔◌, ◌+◌, ◌<◌, ◌≤◌, ℕ, OnOk, IfOk, IfErr, IfSome, MatchResult};
 ghost use Rattle.bx_journal.specs.Opening.{RefusesLength};
 ghost use Rattle.bx_journal.specs.inner.Devices.{FaultCounts, LooksAt};
-ghost use Rattle.bx_journal.specs.inner.Fault.{IsDeviceFault};
+ghost use Rattle.bx_journal.specs.inner.Fault.{LacksOrFails};
 ghost use Rattle.bx_journal.specs.inner.Recovery.{FaultBeside, HasOtherLength, HasToldLength, RefusesBeside, TellsCount};
 ghost use Rattle.bx_journal.specs.inner.RedoFound.{IsRedoCountedIn, IsRedoIn};
 
@@ -25,7 +25,7 @@ fn count_redo<T: TextStore, A: Allocator + Clone>(
     requires countable { T.failures redo_text.old < u64.MAX }
     requires few { changes ≤ 65535 }
     ensures counted { IfOk result (λ found. IfSome found (IsRedoCountedIn (T.honest redo_text.old) (T.text redo_text.old) changes)) }
-    ensures fault { IfErr result IsDeviceFault }
+    ensures fault { IfErr result LacksOrFails }
     ensures looks { LooksAt T.honest T.text T.failures result redo_text.old redo_text.new }
 {
     let found = match count_text(alloc, redo_text, true) {
@@ -51,7 +51,7 @@ fn find_redo<T: TextStore, A: Allocator + Clone>(
     requires countable { T.failures redo_text.old < u64.MAX }
     requires few { changes ≤ 65535 }
     ensures found { IfOk result (IsRedoIn (T.honest redo_text.old) (T.text redo_text.old) changes) }
-    ensures fault { IfErr result IsDeviceFault }
+    ensures fault { IfErr result LacksOrFails }
     ensures looks { LooksAt T.honest T.text T.failures result redo_text.old redo_text.new }
 {
     let counted = match count_redo(alloc, redo_text, changes) {

@@ -2,7 +2,7 @@
 ghost use Rattle.std.specs.Prelude.{◌≡◌, ◌<◌, ◌≤◌, length, is_err, IfOk, IfErr, IfSome};
 ghost use Rattle.bx_image.specs.Device.{GoesOn};
 ghost use Rattle.bx_journal.specs.inner.Devices.{LooksAt};
-ghost use Rattle.bx_journal.specs.inner.Fault.{IsDeviceFault};
+ghost use Rattle.bx_journal.specs.inner.Fault.{LacksOrFails};
 ghost use Rattle.bx_journal.specs.inner.Windows.{IsAllCounted, IsFrontCounted, IsPassed};
 
 use crate::SessionFault;
@@ -110,7 +110,7 @@ pub fn count_front<T: TextStore, A: Allocator + Clone>(
     requires long { T.honest store.old → len ≡ length (T.text store.old) }
     ensures counted { IfOk result (λ found. IfSome found (IsFrontCounted (T.honest store.old) (T.text store.old) only_second)) }
     ensures within { IfOk result (λ found. IfSome found (λ f. f.at ≤ len)) }
-    ensures fault { IfErr result IsDeviceFault }
+    ensures fault { IfErr result LacksOrFails }
     ensures looks { LooksAt T.honest T.text T.failures result store.old store.new }
 {
     let size = WINDOW.min(len) as usize;
@@ -128,7 +128,7 @@ pub fn count_text<T: TextStore, A: Allocator + Clone>(
 ) -> Result<Option<CountedText>, SessionFault>
     requires { T.failures store.old < u64.MAX }
     ensures counted { IfOk result (λ found. IfSome found (IsAllCounted (T.honest store.old) (T.text store.old) only_second)) }
-    ensures fault { IfErr result IsDeviceFault }
+    ensures fault { IfErr result LacksOrFails }
     ensures looks { LooksAt T.honest T.text T.failures result store.old store.new }
 {
     let len = store.len()?;

@@ -1,7 +1,7 @@
 //! The rows of a log, from a text that is read in windows: so much of it is in memory at a time, however long it is.
 ghost use Rattle.std.specs.Prelude.{◌≡◌, ◌<◌, ◌≤◌, ◌++◌, [], length, true, OnOk, IfOk, IfErr, IfSome};
 ghost use Rattle.bx_journal.specs.inner.Devices.{LooksAt};
-ghost use Rattle.bx_journal.specs.inner.Fault.{IsDeviceFault};
+ghost use Rattle.bx_journal.specs.inner.Fault.{LacksOrFails};
 ghost use Rattle.bx_journal.specs.inner.Rows.{AreListed, AreRowsOf, IsListedAt, IsListedIn, ended_row};
 
 use crate::{LogRow, SessionFault};
@@ -80,7 +80,7 @@ fn list_window<T: TextStore, A: Allocator>(
     requires below { at ≤ len }
     ensures listed { IfOk result (λ found. IfSome found
         (IsListedAt (T.honest store.old) (T.text store.old) at len sums rows.old.items rows.new.items)) }
-    ensures fault { IfErr result IsDeviceFault }
+    ensures fault { IfErr result LacksOrFails }
     ensures looks { LooksAt T.honest T.text T.failures result store.old store.new }
 {
     let more = (window.len() as u64).min(len - at) as usize;
@@ -108,7 +108,7 @@ fn list_windows<T: TextStore, A: Allocator>(
     requires long { T.honest store.old → len ≡ length (T.text store.old) }
     requires empty { rows.old.items ≡ [] }
     ensures listed { IfOk result (λ found. IfSome found (λ sums. AreListed (T.honest store.old) (T.text store.old) sums rows.new.items)) }
-    ensures fault { IfErr result IsDeviceFault }
+    ensures fault { IfErr result LacksOrFails }
     ensures looks { LooksAt T.honest T.text T.failures result store.old store.new }
 {
     let mut at: u64 = 0;
@@ -144,7 +144,7 @@ pub fn rows_in_windows<T: TextStore, A: Allocator + Clone>(
 ) -> Result<Option<Vec<LogRow, A>>, SessionFault>
     requires { T.failures store.old < u64.MAX }
     ensures rows { IfOk result (λ found. IfSome found (λ rows. AreRowsOf (T.honest store.old) (T.text store.old) rows.items count)) }
-    ensures fault { IfErr result IsDeviceFault }
+    ensures fault { IfErr result LacksOrFails }
     ensures looks { LooksAt T.honest T.text T.failures result store.old store.new }
 {
     let len = store.len()?;

@@ -3,7 +3,7 @@ ghost use Rattle.std.specs.Prelude.{◌≡◌, ◌<◌, ◌≤◌, List, ℕ, fa
 ghost use Rattle.bx_entries.specs.inner.Journal.{HasRead};
 ghost use Rattle.bx_journal.specs.inner.Devices.{LooksAt};
 ghost use Rattle.bx_journal.specs.Undoing.{AgainFault, HasCount};
-ghost use Rattle.bx_journal.specs.inner.Fault.{IsDeviceFault};
+ghost use Rattle.bx_journal.specs.inner.Fault.{LacksOrFails};
 ghost use Rattle.bx_journal.specs.inner.Undoing.{FindsLast, IsLastFrom, IsReadAgain, IsReadBehind, IsReadFrom, IsReadOn, LooksForLast};
 ghost use Rattle.bx_journal.specs.inner.Windows.{IsFrontCounted};
 
@@ -91,7 +91,7 @@ fn read_window<T: TextStore, A: Allocator + Clone>(
     requires within { T.honest store.old → len ≤ length (T.text store.old) }
     requires below { read.at ≤ len }
     ensures read { IfOk result (λ found. IfSome found (IsReadOn (T.honest store.old) (T.text store.old) front len read)) }
-    ensures fault { IfErr result IsDeviceFault }
+    ensures fault { IfErr result LacksOrFails }
     ensures looks { LooksAt T.honest T.text T.failures result store.old store.new }
 {
     let at = read.at;
@@ -124,7 +124,7 @@ fn read_windows<T: TextStore, A: Allocator + Clone>(
     requires front { IsFrontCounted (T.honest store.old) (T.text store.old) false front }
     ensures read { IfOk result (λ found. IfSome found (IsReadBehind (T.honest store.old) (T.text store.old) front)) }
     ensures all { IfOk result (λ found. IfSome found (λ r. r.at ≡ len)) }
-    ensures fault { IfErr result IsDeviceFault }
+    ensures fault { IfErr result LacksOrFails }
     ensures looks { LooksAt T.honest T.text T.failures result store.old store.new }
 {
     let mut read = nothing_read(alloc, front)?;
