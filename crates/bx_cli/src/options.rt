@@ -420,20 +420,28 @@ fn log<'a>(alloc: Global) -> Result<Command<'a>, AllocError> {
 
 /// All that the program takes.
 pub fn program<'a>(alloc: Global) -> Result<Command<'a>, AllocError> {
-    Command::new(alloc, "bx")
+    let program = Command::new(alloc, "bx")
         .version("1.1.0")
         .about("A byte toolkit with undo: dumps files, patches them, and takes changes back")
         .after_help(
             "EXAMPLES:\n  bx xxd -l 64 disk.img\n  echo '00000002: 7879' | bx revert disk.img\n  bx undo disk.img\n  bx redo disk.img\n\nThe exit status is 0, 1 for a fault, and 2 for wrong words.\nSee 'bx COMMAND --help' for a command's options, and 'man bx' for formats and faults.",
         )
-        .subcommand_required(true)
-        .subcommand(od(alloc)?)?
-        .subcommand(xxd(alloc)?)?
-        .subcommand(hexdump(alloc)?)?
-        .subcommand(strings(alloc)?)?
-        .subcommand(dd(alloc)?)?
-        .subcommand(revert(alloc)?)?
-        .subcommand(undo(alloc)?)?
-        .subcommand(redo(alloc)?)?
-        .subcommand(log(alloc)?)
+        .subcommand_required(true);
+    let program = taking(program, od(alloc))?;
+    let program = taking(program, xxd(alloc))?;
+    let program = taking(program, hexdump(alloc))?;
+    let program = taking(program, strings(alloc))?;
+    let program = taking(program, dd(alloc))?;
+    let program = taking(program, revert(alloc))?;
+    let program = taking(program, undo(alloc))?;
+    let program = taking(program, redo(alloc))?;
+    taking(program, log(alloc))
+}
+
+/// The program with one command more.
+fn taking<'a>(
+    program: Command<'a>,
+    command: Result<Command<'a>, AllocError>,
+) -> Result<Command<'a>, AllocError> {
+    program.subcommand(command?)
 }
