@@ -11,7 +11,6 @@ pub mod UndoLoop
 pub mod OpenLemmas
 pub mod CountedLemmas
 pub mod Judged
-pub mod UndoStands
 pub mod AgainLemmas
 pub mod LogLemmas
 pub mod Performed
@@ -32,7 +31,6 @@ pub mod Stayed
 pub mod SafeLemmas
 pub mod LoopLemmas
 pub mod RedoLoop
-pub mod RedoStanding
 pub mod RedoingLemmas
 pub mod StandingLoop
 pub mod RecoverLemmas

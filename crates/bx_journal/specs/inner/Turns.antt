@@ -54,23 +54,12 @@ pub record RedoesOne {A : Type 0} (c : Change A) (entry : Saved A) (redo : List 
   pub finished : IsFinished redo (e ∷ entries)
   pub marks : HasMarks redo entries version e begins saved_at
 
-abbrev pub UndoTurns : Type 0 → Type 0
-UndoTurns A = (c : Change A) (entry : Saved A) (text x redo new y redo_new : List ℕ) (s : Images) (e : Entry) (taken : Kept) (below : List (List ℕ))
-    → AreAtRest text x redo s → UndoesOne c entry x s e taken below → y ≡ restore e.saved x
-    → redo_new ≡ kept_text redo taken (suc (length s.undone)) e.saved.len → IsAtRest new y below
-    → AreAtRest new y redo_new (undo_of 1 s)
-
 abbrev pub UndoStops : Type 0 → Type 0
 UndoStops A = (c : Change A) (entry : Saved A) (text x redo new x_new redo_new : List ℕ) (s : Images) (e : Entry) (taken : Kept) (below : List (List ℕ))
     → AreAtRest text x redo s → UndoesOne c entry x s e taken below
     → LeavesEither new x_new redo_new (record { stack = x ∷ below; image = x; redo = redo })
     (record { stack = below; image = restore e.saved x; redo = kept_text redo taken (suc (length s.undone)) e.saved.len })
     → Finds new x_new redo_new s ⊎ Finds new x_new redo_new (undo_of 1 s)
-
-abbrev pub RedoTurns : Type 0 → Type 0
-RedoTurns A = (c : Change A) (entry : Saved A) (text x redo new y redo_new : List ℕ) (s : Images) (e : Entry) (begins : ℕ) (z : List ℕ) (u : List (List ℕ))
-    → AreAtRest text x redo s → RedoesOne c entry redo s e begins z u → y ≡ effect c x → redo_new ≡ take begins redo → IsAtRest new y (effect c x ∷ s.stack)
-    → AreAtRest new y redo_new (redo_of 1 s)
 
 abbrev pub RedoStops : Type 0 → Type 0
 RedoStops A = (c : Change A) (entry : Saved A) (text x redo new x_new redo_new : List ℕ) (s : Images) (e : Entry) (begins : ℕ) (z : List ℕ) (u : List (List ℕ))

@@ -1,10 +1,24 @@
 //! Records of what undos will take, filled one by one.
-ghost use Rattle.std.specs.Prelude.{◌≡◌, ◌<◌, length, reverse, OnOk, is_err};
+ghost use Rattle.std.specs.Prelude.{◌≡◌, ◌<◌, ◌≤◌, ◌++◌, ◌∷◌, [], length, reverse, OnOk, is_err};
 ghost use Rattle.bx_image.specs.Device.{GoesOn};
 ghost use Rattle.bx_journal.specs.inner.Takens.{IsFirstBelow, AreFilled, AllShaped, entries_len};
 
+use bx_entries::EntryRead;
 use bx_image::{Device, DeviceFailed, Saved};
 use std::alloc::Allocator;
+
+/// Takes the last entry off, and the last record.
+pub fn take_last<A: Allocator>(
+    entries: &mut Vec<EntryRead<A>, A>,
+    takens: &mut Vec<Saved<A>, A>,
+) -> (EntryRead<A>, Saved<A>)
+    requires some { 0 < length takens.old.items }
+    requires few { length takens.old.items ≤ length entries.old.items }
+    ensures entry { entries.old.items ≡ entries.new.items ++ result.0 ∷ [] }
+    ensures taken { takens.old.items ≡ takens.new.items ++ result.1 ∷ [] }
+{
+    (entries.pop().unwrap(), takens.pop().unwrap())
+}
 
 /// Reads the bytes of the last record, if there is one, from the image.
 pub fn fill_last<D: Device, A: Allocator>(

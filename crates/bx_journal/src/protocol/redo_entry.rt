@@ -9,7 +9,7 @@ ghost use Rattle.bx_entries.specs.Text.{IsPrefix};
 ghost use Rattle.bx_journal.specs.inner.Undoing.{AreReadFrom};
 
 use crate::protocol::entry::write_entry;
-use crate::protocol::fill::fill_last;
+use crate::protocol::fill::{fill_last, take_last};
 use crate::protocol::redo_text::RedoCut;
 use bx_entries::{EntryRead, entry_end};
 use bx_image::{Device, DeviceFailed, Saved};
@@ -51,12 +51,7 @@ pub fn redo_entries<D: Device, T: TextStore, A: Allocator>(
     let k = takens.len();
     let mut count = count;
     for i in 0..k {
-        let Some(taken) = takens.pop() else {
-            return Ok(count)
-        };
-        let Some(entry) = entries.pop() else {
-            return Ok(count)
-        };
+        let (entry, taken) = take_last(entries, takens);
         let number = count + 1;
         let begins = entry.begins;
         let end = entry_end(number, entry.kept.len);

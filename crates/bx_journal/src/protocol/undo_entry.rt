@@ -11,7 +11,7 @@ ghost use Rattle.bx_journal.specs.inner.Takens.{AreReady, AllShaped, entries_len
 ghost use Rattle.bx_journal.specs.inner.Undone.{CanUndo, CutsFirst, LeftUndo, UndoRests, UndoStops, Undoes};
 ghost use Rattle.bx_journal.specs.inner.Undoing.{AreReadFrom};
 
-use crate::protocol::fill::fill_last;
+use crate::protocol::fill::{fill_last, take_last};
 use crate::protocol::image::restore_image;
 use crate::protocol::redo_text::keep_undone;
 use crate::recovery::take_back::drop_tail;
@@ -157,12 +157,7 @@ pub fn undo_entries<D: Device, T: TextStore, A: Allocator>(
     let k = takens.len();
     let mut undone = undone;
     for i in 0..k {
-        let Some(taken) = takens.pop() else {
-            return Ok(undone)
-        };
-        let Some(entry) = entries.pop() else {
-            return Ok(undone)
-        };
+        let (entry, taken) = take_last(entries, takens);
         undo_entry(
             device,
             store,

@@ -1,29 +1,20 @@
-use Rattle.std.proofs.Common.{◌≡◌, ◌+◌, ◌≤◌, ◌-◌, ℕ, [], List, length, drop}
-use Rattle.std.specs.Prelude.{reverse, vec_capacity}
+use Rattle.std.proofs.Common.{◌≡◌, ◌+◌, ◌≤◌, ℕ, [], List, length, drop}
+use Rattle.std.specs.Prelude.{vec_capacity}
 use Rattle.bx_journal.specs.Images.{Images, undo_of}
-use Rattle.bx_entries.specs.Finished.{IsFinished}
-use Rattle.bx_entries.specs.Text.{Entry}
-use Rattle.bx_entries.specs.inner.Parsed.{AllKept}
 use Rattle.bx_journal.specs.Phase.{IsAtRest}
 use Rattle.bx_journal.specs.Stack.{StandsFor}
-use Rattle.bx_journal.specs.inner.Takens.{AreReady, AllShaped, entries_len}
-use Rattle.bx_journal.specs.inner.Turns.{AreAtRest, AreStanding}
+use Rattle.bx_journal.specs.inner.Takens.{entries_len}
+use Rattle.bx_journal.specs.inner.Turns.{AreStanding}
 use Rattle.bx_journal.proofs.DeviceLemmas.{HaveGoneOn}
-use Rattle.bx_journal.proofs.UndoLoop.{IsUndoing}
+use Rattle.bx_journal.proofs.LoopLemmas.{AreLeft}
 use Rattle.bx_journal.proofs.protocol.undo_entry.undo_entries.Given as goal
 
 abbrev pub invariant-loop-i : goal.invariant-loop-i
 invariant-loop-i g l = record {
-  left : length l.entries.items + l.i ≡ length l.fn.entries.items;
-  more : length l.takens.items + l.i ≡ length l.fn.takens.items;
-  few : length l.fn.takens.items ≤ length l.fn.entries.items;
+  left : AreLeft (g.T.TextStore.honest l.fn.store) (g.D.Device.honest l.fn.device) (g.T.TextStore.text l.fn.store) (g.T.TextStore.text l.store) (g.D.Device.image l.device) (g.D.Device.room l.device) l.i
+      l.fn.entries.items l.entries.items l.fn.takens.items l.takens.items;
   bound : l.undone + length l.takens.items ≤ l.fn.undone + length l.fn.takens.items;
-  kept : AllKept (g.D.Device.room l.device) (drop (length l.fn.entries.items - length l.fn.takens.items) l.entries.items);
-  dropped : g.T.TextStore.honest l.fn.store → (all : List Entry) → IsFinished (g.T.TextStore.text l.fn.store) all → IsFinished (g.T.TextStore.text l.store) (drop l.i all);
   steps_on : HaveGoneOn g.D.Device.honest g.T.TextStore.honest g.D.Device.failures g.T.TextStore.failures l.fn.device l.fn.store l.fn.redo_text l.device l.store l.redo_text;
-  place : IsUndoing (g.T.TextStore.honest l.fn.store) (g.T.TextStore.text l.fn.store) (g.T.TextStore.text l.store) l.entries.items;
-  shaped : AllShaped l.takens.items;
-  ready : g.D.Device.honest l.fn.device → AreReady (g.D.Device.image l.device) (reverse l.entries.items) (reverse l.takens.items);
   fits : g.T.TextStore.honest l.fn.redo_text → length (g.T.TextStore.text l.redo_text) + entries_len l.takens.items ≤ g.T.TextStore.room l.redo_text;
   empty : l.page.items ≡ [];
   page_room : 82 ≤ vec_capacity l.page;
@@ -31,9 +22,6 @@ invariant-loop-i g l = record {
       → IsAtRest (g.T.TextStore.text l.store) (g.D.Device.image l.device) (drop l.i stack);
   stood : g.D.Device.honest l.fn.device → g.T.TextStore.honest l.fn.store → (stack : List (List ℕ)) → StandsFor (g.T.TextStore.text l.fn.store) (g.D.Device.image l.fn.device) stack
       → StandsFor (g.T.TextStore.text l.store) (g.D.Device.image l.device) (drop l.i stack);
-  found : g.D.Device.honest l.fn.device → g.T.TextStore.honest l.fn.store → g.T.TextStore.honest l.fn.redo_text → (s : Images)
-      → AreAtRest (g.T.TextStore.text l.fn.store) (g.D.Device.image l.fn.device) (g.T.TextStore.text l.fn.redo_text) s → l.fn.undone ≡ length s.undone
-      → AreAtRest (g.T.TextStore.text l.store) (g.D.Device.image l.device) (g.T.TextStore.text l.redo_text) (undo_of l.i s) × (l.undone ≡ length (undo_of l.i s).undone);
   images : g.D.Device.honest l.fn.device → g.T.TextStore.honest l.fn.store → g.T.TextStore.honest l.fn.redo_text → (s : Images)
       → AreStanding (g.T.TextStore.text l.fn.store) (g.D.Device.image l.fn.device) (g.T.TextStore.text l.fn.redo_text) s → l.fn.undone ≡ length s.undone
       → AreStanding (g.T.TextStore.text l.store) (g.D.Device.image l.device) (g.T.TextStore.text l.redo_text) (undo_of l.i s) × (l.undone ≡ length (undo_of l.i s).undone);
