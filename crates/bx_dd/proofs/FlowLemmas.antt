@@ -1,5 +1,5 @@
 -- Records that go out as they are finished.
-use Rattle.std.proofs.Common.{◌≡◌, ◌≢◌, ℕ, ◌+◌, ◌-◌, ◌*◌, ◌/◌, ◌%◌, ◌<◌, ◌≤◌, Bool, true, false, cond, List, [], ◌∷◌, ◌++◌, length, take, drop, replicate, Option, refl, sym, ap, ◌∙◌, arith, append_assoc, subst}
+use Rattle.std.proofs.Common.{◌≡◌, ◌≢◌, ℕ, ◌+◌, ◌-◌, ◌*◌, ◌/◌, ◌<◌, ◌≤◌, Bool, true, false, cond, List, [], ◌∷◌, ◌++◌, length, take, drop, replicate, Option, refl, sym, ap, ◌∙◌, arith, append_assoc, subst}
 use Rattle.std.specs.List.{flat_map}
 use Rattle.std.specs.Prelude.{◌==◌}
 use Rattle.std.proofs.Math.Nat.{div-add-mod}
@@ -15,7 +15,7 @@ use Rattle.bx_dd.specs.Output.{records, shaped, unfinished}
 use Rattle.bx_dd.specs.inner.Output.{fitted, line_of}
 use Rattle.bx_dd.specs.Standing.{Stands}
 use Rattle.bx_dd.specs.inner.Standing.{finished, rest_of, last_of}
-use Rattle.bx_dd.specs.inner.Streaming.{Flows, Goes, StopsFlow}
+use Rattle.bx_dd.specs.inner.Streaming.{Flows, StopsFlow}
 use Rattle.bx_dd.proofs.RecordsLemmas.{Stands_flat, finished-all, finished-ended, fitted_short, held_piece, parts, piece_taken, records-after}
 use Rattle.bx_dd.proofs.StreamLemmas.{front_more}
 

@@ -1,13 +1,13 @@
 -- The definitions in other words.
-use Rattle.std.proofs.Common.{◌≡◌, ℕ, zero, suc, ◌+◌, ◌-◌, ◌%◌, ◌<◌, true, false, List, [], ◌∷◌, ◌++◌, length, Option, None, Some, refl, sym, ap, ◌∙◌, arith, append_assoc, append-nil, inl, inr}
+use Rattle.std.proofs.Common.{◌≡◌, ℕ, zero, suc, ◌%◌, ◌<◌, true, false, List, [], ◌∷◌, ◌++◌, length, Option, None, Some, refl, sym, ap, arith, append_assoc, append-nil, inl, inr}
 use Rattle.std.specs.Option.{option_or}
-use Rattle.std.specs.Prelude.{nat_lt, ◌==◌, if◌then◌else◌, slice_index}
+use Rattle.std.specs.Prelude.{nat_lt, ◌==◌, slice_index}
 use Rattle.std.proofs.lemmas.Bool.{cases_lt, cases_eq, eq-eqb, ne_eqb}
 use Rattle.std.proofs.lemmas.Bool.Decides.{nat_tests}
 use Rattle.bx_dd.specs.Output.{swapped}
 use Rattle.bx_dd.specs.declared.fault.DdFault.{DdFault}
 use Rattle.bx_dd.specs.Operands.{first_fault, operand_fault}
-use Rattle.bx_dd.specs.Laws.{other_place, swap_place, SwapTurnsLowestBit, AreSound, IsFirstFault, IsFirstOf, FirstFaultIsFirst}
+use Rattle.bx_dd.specs.Laws.{other_place, swap_place, SwapTurnsLowestBit, IsFirstFault, IsFirstOf, FirstFaultIsFirst}
 use Rattle.bx_dd.proofs.BlockLemmas.{length-swapped}
 
 -- two places further

@@ -1,19 +1,18 @@
 -- od's hexadecimal values, by the digits of their bytes.
-use Rattle.std.proofs.Common.{◌≡◌, ℕ, zero, suc, ◌+◌, ◌-◌, ◌*◌, ◌/◌, ◌%◌, ◌^◌, ◌<◌, ◌≤◌, List, [], ◌∷◌, ◌++◌, map, length, take, drop, reverse, replicate, get_or, Fits, w8, false, true, refl, sym, ap, ◌∙◌, subst, arith}
+use Rattle.std.proofs.Common.{◌≡◌, ℕ, zero, suc, ◌+◌, ◌-◌, ◌*◌, ◌/◌, ◌^◌, ◌<◌, ◌≤◌, List, [], ◌∷◌, ◌++◌, length, take, drop, reverse, replicate, get_or, Fits, w8, false, true, refl, sym, ap, ◌∙◌, subst, arith}
 use Rattle.std.specs.Prelude.{bytes_eq}
 use Rattle.std.specs.Fmt.{digits}
 use Rattle.std.specs.List.{flat_map, range_with_len}
 use Rattle.std.proofs.lemmas.Bool.{agree_below_at}
 use Rattle.std.proofs.lemmas.Slice.Eq.{bytes_eq-Decides}
-use Rattle.std.proofs.lemmas.Simd.{Each1-get_or, pick_l_whole}
-use lib.Lanes.{Each1, pick_l}
+use Rattle.std.proofs.lemmas.Simd.{pick_l_whole}
+use lib.Lanes.{pick_l}
 use Rattle.bx_text.specs.Dump.{pair_of}
 use Rattle.bx_text.specs.Field.{left_filled}
 use Rattle.bx_dump.specs.inner.Cells.{hex_value}
 use Rattle.bx_dump.specs.Lines.{in_lines}
 use Rattle.bx_dump.specs.Od.{value_of}
 use Rattle.bx_dump.specs.inner.Od.{value_text}
-use Rattle.bx_dump.specs.declared.od.options.Size.{Size}
 use Rattle.bx_dump.specs.declared.od.options.Size.TheVariants.{One, Two, Four, Eight}
 use Rattle.bx_dump.specs.declared.od.options.NumForm.TheVariants as form
 use Rattle.bx_dump.specs.declared.od.options.Kind.TheVariants.{Number}

@@ -1,4 +1,4 @@
-use Rattle.std.proofs.Common.{◌≡◌, ◌++◌, [], List, ℕ, Some, arith, subst}
+use Rattle.std.proofs.Common.{◌++◌, [], List, ℕ, Some, arith, subst}
 use Rattle.bx_dd.specs.Standing.{Stands}
 use Rattle.bx_dd.proofs.StreamLemmas.{Goes-direct, Goes-landed}
 use Rattle.bx_dd.proofs.convert.put_ready.Goals as goal

@@ -1,4 +1,4 @@
-use Rattle.std.proofs.Common.{◌≡◌, ◌++◌, length, replicate, arith, ap, sym, ◌∙◌}
+use Rattle.std.proofs.Common.{◌≡◌, ◌++◌, length, replicate, ap, sym, ◌∙◌}
 use Rattle.std.proofs.lemmas.Simd.{put_chunk_whole}
 use lib.Lanes.{pick_l}
 use Rattle.bx_dump.specs.inner.Hexdump.{canon_columns}

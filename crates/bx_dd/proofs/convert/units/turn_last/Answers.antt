@@ -1,5 +1,4 @@
 use Rattle.std.proofs.Common.{◌≡◌, ◌-◌, ◌<◌, ◌≤◌, ◌++◌, cond, length, take, drop, map, replicate, sym, ap, ◌∙◌, arith}
-use Rattle.std.specs.Prelude.{◌||◌}
 use Rattle.std.proofs.lemmas.List.{length-take-le}
 use Rattle.bx_dd.specs.Output.{cased, filler, joined, swapped}
 use Rattle.bx_dd.specs.inner.Output.{block_of}

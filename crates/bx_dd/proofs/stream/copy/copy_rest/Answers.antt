@@ -1,4 +1,4 @@
-use Rattle.std.proofs.Common.{◌≡◌, ◌+◌, ◌≤◌, ◌^◌, length, arith}
+use Rattle.std.proofs.Common.{◌+◌, ◌≤◌, ◌^◌, length, arith}
 use Rattle.bx_dd.proofs.CopyLemmas.{write_stops}
 use Rattle.bx_dd.proofs.stream.copy.copy_rest.Goals as goal
 

@@ -1,7 +1,6 @@
-use Rattle.std.proofs.Common.{◌≡◌, ◌++◌, length, take, replicate, arith, ap, ◌∙◌}
+use Rattle.std.proofs.Common.{◌++◌, take, replicate, arith, ap, ◌∙◌}
 use Rattle.std.proofs.lemmas.Simd.{put_chunk_whole}
 use Rattle.std.proofs.lemmas.List.{take-append-le}
-use Rattle.std.specs.List.{flat_map, range_with_len}
 use lib.Lanes.{pick_l}
 use Rattle.bx_dump.proofs.OdHex.{places_of_two, values_of_two}
 use Rattle.bx_dump.proofs.od.hexadecimal.put_values_of_two.Goals as goal

@@ -1,4 +1,4 @@
-use Rattle.std.proofs.Common.{◌≡◌, ◌+◌, ◌*◌, ◌≤◌, arith, ap}
+use Rattle.std.proofs.Common.{◌≡◌, ◌*◌, arith, ap}
 use Rattle.bx_dump.specs.Od.{width_of}
 use Rattle.bx_dump.proofs.OdLemmas.{value_next, whole_value}
 use Rattle.bx_dump.proofs.od.values.put_whole.Goals as goal

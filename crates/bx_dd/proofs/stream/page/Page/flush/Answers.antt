@@ -1,6 +1,4 @@
-use Rattle.std.proofs.Common.{◌≡◌, ◌+◌, length, ap, ◌∙◌, sym, arith, subst}
-use Rattle.std.specs.Io.KnownBytes.{Appends}
-use Rattle.bx_text.specs.Writing.{WritesFront}
+use Rattle.std.proofs.Common.{◌≡◌, ◌+◌, length, ap, ◌∙◌}
 use Rattle.bx_dd.proofs.StreamLemmas.{Goes-sent, front_goes}
 use Rattle.bx_dd.proofs.stream.page.Page.flush.Goals as goal
 

@@ -1,6 +1,5 @@
-use Rattle.std.proofs.Common.{◌≡◌, ℕ, ◌+◌, ◌-◌, ◌≤◌, ◌++◌, replicate, ap, ◌∙◌, sym, arith, append_assoc}
+use Rattle.std.proofs.Common.{◌≡◌, ℕ, ◌+◌, ◌-◌, ◌++◌, replicate, ap, ◌∙◌, sym, arith, append_assoc}
 use Rattle.std.proofs.lemmas.List.{take-replicate, replicate-append-replicate}
-use Rattle.bx_text.specs.Writing.{WritesFront}
 use Rattle.bx_dd.proofs.StreamLemmas.{front_more}
 use Rattle.bx_dd.proofs.stream.page.Page.put_spaces.Goals as goal
 

@@ -1,4 +1,4 @@
-use Rattle.std.proofs.Common.{◌≡◌, ◌++◌, ◌-◌, ◌≤◌, List, ℕ, Option, replicate}
+use Rattle.std.proofs.Common.{◌++◌, ◌-◌, ◌≤◌, List, ℕ, Option, replicate}
 use Rattle.bx_dd.specs.inner.Streaming.{Goes}
 use Rattle.bx_dd.proofs.stream.page.Page.put_spaces.Given as goal
 
