@@ -1,4 +1,6 @@
 //! The jobs, and one run of the program.
+ghost use Rattle.bx_commands.specs.Command.{IsNear};
+
 use crate::copies::{copy_onto, tell};
 use crate::files::input;
 use crate::hints::show_fault;
@@ -198,6 +200,7 @@ fn step<'a, R, W: Write>(
 ) -> Result<(), Stopped<'a>>
 where
     R: Files<File = File> + Eprint + AllocGlobal,
+    requires { IsNear asked }
 {
     let session = open_session(rt, image, texts, false)?;
     match finish(rt, session, asked, image, texts)? {
