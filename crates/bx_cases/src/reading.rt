@@ -1,10 +1,11 @@
 //! Cases of reading.
 use crate::report::compare::{Wrong, differs, no_fault, same_bytes, same_fault, same_number};
 use crate::report::tally::{Failure, at};
-use crate::sweep::hunt::{Call, each_growth, in_ration};
+use crate::sweep::hunt::{Call, each_growth};
 use bumpalo::Bump;
 use bx_case_files::{ReadingCase, Reads};
 use bx_cli::Fault;
+use bx_ration::{squeeze, used};
 use bx_read::{ReadFault, read_dump, read_plain};
 use bx_text::Piece;
 use std::alloc::{Allocator, Global};
@@ -40,7 +41,17 @@ impl Call for ReadingCase {
         bump: &'a Bump,
         bytes: usize,
     ) -> Result<Option<usize>, Wrong> {
-        in_ration(bump, bytes, || reads(alloc, bump, self))
+        squeeze(bump, bytes)?;
+        let has_room = reads(alloc, bump, self)?;
+        let taken = used(bump, bytes);
+        bump.set_allocation_limit(None);
+        if has_room {
+            return Ok(None);
+        }
+        if reads(alloc, bump, self)? {
+            return Ok(Some(taken));
+        }
+        Err(Wrong::NoMemory)
     }
 }
 

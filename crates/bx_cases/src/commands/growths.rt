@@ -8,13 +8,13 @@ use crate::session::devices::{MemDevices, Texts, in_memory, unchanged};
 use crate::session::open::{MemSession, close, open};
 use crate::session::places::Memory;
 use crate::session::standing::Standing;
-use crate::sweep::hunt::{Call, each_growth, in_ration};
+use crate::sweep::hunt::{Call, each_growth};
 use crate::sweep::weight::is_swept;
 use bumpalo::Bump;
 use bx_case_files::{Ask, CommandsCase, Row};
 use bx_cli::Reply;
 use bx_image::MemImage;
-use bx_ration::used;
+use bx_ration::{squeeze, used};
 use bx_store::MemText;
 use std::alloc::{Allocator, Global};
 
@@ -101,13 +101,32 @@ impl Call for Listing<'_> {
         bump: &'a Bump,
         bytes: usize,
     ) -> Result<Option<usize>, Wrong> {
-        let mut session = opened_in(alloc, bump, self.texts)?;
-        let found = in_ration(bump, bytes, || {
-            lists(alloc, bump, &mut session, self.log)
-        })?;
-        unchanged(alloc, self.texts, &close(session))?;
-        Ok(found)
+        let session = opened_in(alloc, bump, self.texts)?;
+        listed(alloc, bump, session, self, bytes)
     }
+}
+
+/// Lists the changes of a session with so many bytes, and where that is too little again with enough.
+fn listed<'a>(
+    alloc: Global,
+    bump: &'a Bump,
+    session: MemSession<&'a Bump>,
+    listing: &Listing<'_>,
+    bytes: usize,
+) -> Result<Option<usize>, Wrong> {
+    let mut session = session;
+    squeeze(bump, bytes)?;
+    let has_room = lists(alloc, bump, &mut session, listing.log)?;
+    let taken = used(bump, bytes);
+    bump.set_allocation_limit(None);
+    if has_room {
+        return Ok(None);
+    }
+    if !lists(alloc, bump, &mut session, listing.log)? {
+        return Err(Wrong::NoMemory);
+    }
+    unchanged(alloc, listing.texts, &close(session))?;
+    Ok(Some(taken))
 }
 
 /// Whether there was memory for the log, which is this one.

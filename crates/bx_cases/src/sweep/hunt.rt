@@ -1,7 +1,7 @@
 //! The number of bytes at which each growth is the first to be refused.
 use crate::report::compare::Wrong;
 use bumpalo::Bump;
-use bx_ration::{arena, squeeze, used};
+use bx_ration::arena;
 use std::alloc::Global;
 
 /// A call that takes memory.
@@ -14,26 +14,6 @@ pub trait Call {
         bump: &'a Bump,
         bytes: usize,
     ) -> Result<Option<usize>, Wrong>;
-}
-
-/// Makes a call with so many bytes, and where that is too little again with enough; the call tells whether it had room. Tells
-/// how many it had taken when it was refused, if it was.
-pub fn in_ration<F: FnMut() -> Result<bool, Wrong>>(
-    bump: &Bump,
-    bytes: usize,
-    mut call: F,
-) -> Result<Option<usize>, Wrong> {
-    squeeze(bump, bytes)?;
-    let has_room = call()?;
-    let taken = used(bump, bytes);
-    bump.set_allocation_limit(None);
-    if has_room {
-        return Ok(None);
-    }
-    if call()? {
-        return Ok(Some(taken));
-    }
-    Err(Wrong::NoMemory)
 }
 
 /// No growth is smaller.

@@ -1,11 +1,12 @@
 //! Runs of a job with each growth refused in turn.
 use crate::report::compare::{Wrong, same_bytes};
-use crate::sweep::hunt::{Call, in_ration};
+use crate::sweep::hunt::Call;
 use crate::words::outcome::right;
 use bumpalo::Bump;
 use bx_case_files::WordsCase;
 use bx_cli::{Done, Fault, Job, run_dump};
 use bx_dd::report;
+use bx_ration::{squeeze, used};
 use bx_text::IoFault;
 use std::alloc::Global;
 
@@ -24,7 +25,17 @@ impl Call for RunOf<'_> {
         bump: &'a Bump,
         bytes: usize,
     ) -> Result<Option<usize>, Wrong> {
-        in_ration(bump, bytes, || ran(alloc, bump, self))
+        squeeze(bump, bytes)?;
+        let has_room = ran(alloc, bump, self)?;
+        let taken = used(bump, bytes);
+        bump.set_allocation_limit(None);
+        if has_room {
+            return Ok(None);
+        }
+        if ran(alloc, bump, self)? {
+            return Ok(Some(taken));
+        }
+        Err(Wrong::NoMemory)
     }
 }
 
