@@ -1,5 +1,5 @@
 //! Dumps and copies to a writer, as jobs ask for them.
-ghost use Rattle.std.specs.Prelude.{◌≡◌, ◌≤◌, ◌^◌, ℕ, IfOk, IfErr, length};
+ghost use Rattle.std.specs.Prelude.{ℕ, IfOk, IfErr};
 ghost use Rattle.bx_cli.specs.JobDump.{DumpsJob, StopsJob};
 ghost use Rattle.bx_cli.specs.inner.CopyOut.{CopiesOut, StopsOut};
 ghost use Rattle.bx_cli.specs.inner.JobDump.{DumpsLook, StopsLook};

@@ -1,5 +1,5 @@
 //! From the texts of commands to changes.
-ghost use Rattle.std.specs.Prelude.{◌≡◌, ◌⊎◌, ◌+◌, ◌^◌, ◌<◌, ◌≤◌, ℕ, List, [], ◌∷◌, map, None, Ok, Err, IfOk, IfErr, OnErr, All};
+ghost use Rattle.std.specs.Prelude.{◌≡◌, ◌⊎◌, ◌+◌, ◌^◌, ◌<◌, ◌≤◌, ℕ, List, map, None, Ok, Err, IfOk, IfErr, OnErr, All};
 ghost use Rattle.bx_commands.specs.Command.{dump_change, plain_change};
 ghost use Rattle.bx_commands.specs.inner.Command.{moved};
 ghost use Rattle.bx_commands.specs.Copy.{Makes};

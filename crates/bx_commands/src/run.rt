@@ -1,5 +1,5 @@
 //! Lists of commands, run in order on a session.
-ghost use Rattle.std.specs.Prelude.{◌≡◌, ◌+◌, ◌^◌, ◌≤◌, List, ℕ, [], length, IfOk, OnErr, All, count_by};
+ghost use Rattle.std.specs.Prelude.{◌≡◌, ◌+◌, ◌^◌, ◌≤◌, ℕ, [], length, IfOk, OnErr, All, count_by};
 ghost use Rattle.bx_journal.specs.Session.{IsRedoSame, IsUnfailed};
 ghost use Rattle.bx_commands.specs.Obeys.{Obeys};
 ghost use Rattle.bx_commands.specs.Standing.{CountsBy, HoldsAt, Leads, RestsAt, Shows};

@@ -441,9 +441,6 @@ says_or words name =
     ⊎_elim (λ f. inl (value_of f.word, (f.front, f.rest, f.word, f.stands, named_of name f.word f.passes, not_among name f.front f.none))) (λ none. inr (not_among name words none))
     (find (is_named name) words)
 
-says_among : (words : List (List ℕ)) (name value : List ℕ) → Says words name value → IsAmong name words
-says_among words name value is = (is.0, is.1, is.2, value, is.3, is.4)
-
 text_same : (x y : List ℕ) → ◌≡◌ {A = Option (List ℕ)} (Some x) (Some y) → x ≡ y
 text_same x y e = cc
 

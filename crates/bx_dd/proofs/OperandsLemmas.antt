@@ -4,7 +4,7 @@ use Rattle.std.specs.List.{position_or_len}
 use Rattle.std.specs.Option.{option_or}
 use Rattle.std.proofs.Math.Seq.{drop-cons}
 use Rattle.std.proofs.lemmas.List.{take_more, get_or-take, length-take-le}
-use Rattle.std.proofs.lemmas.List.Sums.{prefix_len-drop_all, prefix_len-drop_no, prefix_len-drop_yes}
+use Rattle.std.proofs.lemmas.List.Sums.{prefix_len-drop_no, prefix_len-drop_yes}
 use Rattle.std.proofs.lemmas.Option.{get_or_from_slice_get}
 use Rattle.bx_dd.specs.declared.fault.DdFault.{DdFault}
 use Rattle.bx_dd.specs.Operands.{first_fault, operand_fault}
@@ -24,12 +24,6 @@ module _ (p : List ℕ → Bool) (words : List (List ℕ)) (count i : ℕ) (few 
   pub position_later : p word ≡ false → position_or_len p (take count words) ≡ i + position_or_len p (drop i (take count words)) →
       position_or_len p (take count words) ≡ i + 1 + position_or_len p (drop (i + 1) (take count words))
   position_later fails so_far = omega (arith, so_far, prefix_len-drop_yes (λ w. not (p w)) (take count words) i [] within (ap (λ w. not (p w)) at ∙ ap not fails))
-
--- none of them passes
-pub position_none : (p : List ℕ → Bool) (words : List (List ℕ)) (count i : ℕ) → count ≤ length words → count ≤ i →
-    position_or_len p (take count words) ≡ i + position_or_len p (drop i (take count words)) → i ≡ count → position_or_len p (take count words) ≡ count
-position_none p words count i few end so_far is =
-    omega (arith, so_far, is, prefix_len-drop_all (λ w. not (p w)) (take count words) i (omega (arith, length-take-le count words few)))
 
 module _ (words : List (List ℕ)) (i : ℕ) (inside : i < length words) (word : List ℕ) (is : slice_get words i ≡ Some word) (so_far : first_fault [] words ≡ first_fault (take i words) (drop i words)) where
   step : first_fault [] words ≡ option_or (operand_fault (take i words) word) (first_fault (take i words ++ word ∷ []) (drop (i + 1) words))

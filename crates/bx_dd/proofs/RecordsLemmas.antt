@@ -427,9 +427,6 @@ Stands_last Unblock size z written kept was_cut count some stands =
           )
     ]
 
-pub fitted_put : (old held mid new : List ℕ) (n : ℕ) → length held ≤ n → mid ≡ old ++ held → new ≡ mid ++ replicate (n - length held) 32 → new ≡ old ++ fitted n held
-fitted_put old held mid new n fits m e = e ∙ ap (λ l. l ++ replicate (n - length held) 32) m ∙ append_assoc old held (replicate (n - length held) 32) ∙ ap (λ l. old ++ l) (sym (fitted_short n held fits))
-
 -- a line and its newline, taken from the bytes
 pub line_taken : (z bytes rest : List ℕ) (d n : ℕ) → rest ≡ drop d bytes → n < length rest → eqb (get_or rest n 0) 10 ≡ true →
     ((z ++ take d bytes) ++ take n rest) ++ 10 ∷ [] ≡ z ++ take (d + (n + 1)) bytes

@@ -130,8 +130,5 @@ or_true false b e = e
 pub unit_sync : (form : Form) → form.sync ≡ true → unit_of form ≡ form.ibs
 unit_sync form e = ap (λ w. cond w form.ibs 1) (or_true form.swab form.sync e)
 
-pub unit_blocks : (form : Form) → (form.swab || form.sync) ≡ true → unit_of form ≡ form.ibs
-unit_blocks form e = ap (λ w. cond w form.ibs 1) e
-
 pub take_front : (n : ℕ) (xs ys : List ℕ) → length xs ≡ n → take n (xs ++ ys) ≡ xs
 take_front n xs ys e = take-append-le n xs ys (omega arith) ∙ take_all n xs (omega arith)

@@ -1,5 +1,5 @@
 //! The operands of dd.
-ghost use Rattle.std.specs.Prelude.{◌≡◌, ℕ, ◌+◌, ◌-◌, ◌*◌, ◌^◌, ◌<◌, ◌≤◌, List, [], ◌∷◌, ◌++◌, length, take, slice_get, true, false, None, Some, MatchOption, codes, nat_lt};
+ghost use Rattle.std.specs.Prelude.{◌≡◌, ℕ, ◌+◌, ◌-◌, ◌*◌, ◌^◌, ◌<◌, ◌≤◌, List, [], length, take, slice_get, true, false, None, Some, MatchOption, nat_lt};
 ghost use Rattle.std.specs.Option.{option_copied};
 ghost use Rattle.std.specs.List.{list_all, list_any, position_or_len};
 ghost use Rattle.std.specs.Str.{bytes_eq};

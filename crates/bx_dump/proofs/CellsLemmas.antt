@@ -4,20 +4,10 @@ use Rattle.std.proofs.Math.ListN.{set}
 use borrow.Rule.Slice.PartMut.{put_mid, post_of}
 use Rattle.std.specs.List.{flat_map, range_with_len}
 use Rattle.std.proofs.lemmas.Slice.{take-put_mid}
-use Rattle.std.proofs.lemmas.List.{take_more, take_more_set, length-set, length-take-le, length-drop, length-replicate, get_or-replicate, ext_get_or}
+use Rattle.std.proofs.lemmas.List.{take_more, take_more_set, length-take-le, length-drop, length-replicate, get_or-replicate, ext_get_or}
 use Rattle.std.proofs.lemmas.Grind.{flat_map-append}
 use Rattle.bx_text.proofs.RangeLemmas.{flat_map_split}
 use Rattle.bx_dump.specs.inner.Cells.{piece_at, grouped}
-
--- two characters more
-pub two_more : (cells : List ℕ) (i x y : ℕ) → 2 * i + 1 < length cells → take (2 * (i + 1)) (set (set cells (2 * i) x) (2 * i + 1) y) ≡ take (2 * i) cells ++ x ∷ y ∷ []
-two_more cells i x y fits =
-    let a = 2 * i in
-    let place : 2 * (i + 1) ≡ 2 * i + 1 + 1 = omega arith in
-    let inner : take (2 * i + 1) (set cells (2 * i) x) ≡ take (2 * i) cells ++ x ∷ [] = take_more_set cells (2 * i) x (omega arith) in
-    ap (λ n. take n (set (set cells (2 * i) x) (2 * i + 1) y)) place
-    ∙ take_more_set (set cells (2 * i) x) (2 * i + 1) y (omega (arith, length-set cells (2 * i) x))
-    ∙ ap (λ t. t ++ y ∷ []) inner ∙ append_assoc (take (2 * i) cells) (x ∷ []) (y ∷ [])
 
 -- the text of one element more
 pub flat_more : (f : ℕ → List ℕ) (xs : List ℕ) (i : ℕ) → i < length xs → flat_map f (take (i + 1) xs) ≡ flat_map f (take i xs) ++ f (get_or xs i 0)

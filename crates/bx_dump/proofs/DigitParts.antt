@@ -214,16 +214,6 @@ negative_digit negative sign d e is below = rw (e, is) (minus_digit d below)
 pub positive_digit : (negative : Bool) (sign d : ℕ) → negative ≡ false → sign ≡ 32 → d < 10 → sign ∷ (48 + d) ∷ [] ≡ left_filled 32 2 ((if negative then 45 ∷ [] else []) ++ digits 10 false d)
 positive_digit negative sign d e is below = rw (e, is) (plus_digit d below)
 
--- more spaces in front
-pub spaces_more : (n w : ℕ) (text : List ℕ) → length text ≤ w → replicate n 32 ++ left_filled 32 w text ≡ left_filled 32 (n + w) text
-spaces_more n w text fits =
-    let many : n + w - length text ≡ n + (w - length text) = omega arith in
-    rw many (sym (append_assoc (replicate n 32) (replicate (w - length text) 32) text) ∙ ap (λ t. t ++ text) (both n (w - length text)))
-  where
-    both : (a b : ℕ) → replicate {A = ℕ} a 32 ++ replicate {A = ℕ} b 32 ≡ replicate {A = ℕ} (a + b) 32
-    both zero b = let none : b ≡ 0 + b = omega arith in ap (λ m. replicate m 32) none
-    both (suc a) b = let e : suc (a + b) ≡ suc a + b = omega arith in ap (λ t. 32 ∷ t) (both a b) ∙ ap (λ m. replicate m 32) e
-
 -- The forms in which the parts are put: the front is a quotient.
 quotient : (n p : ℕ) → n / p * p + n % p ≡ n
 quotient n p = omega (arith, div-add-mod n p)

@@ -26,9 +26,6 @@ is_other x = ltb 94 (less x 32)
 abbrev pub is_inside : ℕ → Bool
 is_inside x = leb (less x 32) 94
 
-pub other_is : (x : ℕ) → x < 256 → is_other x ≡ not (is_printable x)
-other_is x small = agree_below_at is_other (λ b. not (is_printable b)) 256 x refl small
-
 pub inside_is : (x : ℕ) → x < 256 → is_inside x ≡ is_printable x
 inside_is x small = agree_below_at is_inside is_printable 256 x refl small
 
@@ -38,10 +35,6 @@ set_is p v n long few =
       | inl none ↦ cond-true _ _ _ (eq-eqb _ _ none) ∙ sym (leading_from_mask_l p v none ∙ long)
       | inr some ↦ cond-false _ _ _ (ne_eqb _ _ some) ∙ trailing_mask_l p 64 v (omega arith) (omega arith)
     ]
-
-not-not : (b : Bool) → not (not b) ≡ b
-not-not true = refl
-not-not false = refl
 
 -- the same count by two tests that agree on bytes
 same_count : (p q : ℕ → Bool) → ((x : ℕ) → x < 256 → p x ≡ q x) → (v : List ℕ) → Each1 (Fits w8) v → prefix_len p v ≡ prefix_len q v

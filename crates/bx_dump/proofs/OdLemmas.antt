@@ -4,7 +4,7 @@ use Rattle.std.proofs.Math.ListN.{set}
 use Rattle.std.specs.Int.{from_le_bytes}
 use Rattle.std.proofs.Math.Nat.{mul-le-mul_left, pow-suc, pow-zero, pow-le-pow_right}
 use Rattle.std.proofs.lemmas.Nat.{div_below}
-use Rattle.std.proofs.lemmas.List.{take-replicate, get_or-drop, length-drop, length-append, length-take-le, take_more_set}
+use Rattle.std.proofs.lemmas.List.{get_or-drop, length-drop, length-append, length-take-le, take_more_set}
 use borrow.Rule.Slice.PartMut.{put_mid, post_of}
 use Rattle.bx_text.specs.Field.{left_filled}
 use Rattle.bx_text.proofs.KnownLemmas.{take-put_mid_more}
@@ -28,13 +28,6 @@ digits_below n base k big small =
 pub digit_more : (base k n : ℕ) → n < base ^ k → (n ≡ 0 → ⊥) → 0 < k
 digit_more base zero n small some = absurd (some (omega (arith, pow-zero base)))
 digit_more base (suc k) n small some = omega arith
-
--- digits at the end of a field that was filled
-pub filled_front : (n fill first : ℕ) (field text : List ℕ) → field ≡ replicate n fill → first + length text ≡ n → take first field ++ text ≡ left_filled fill n text
-filled_front n fill first field text is all =
-    let front : take first field ≡ replicate first fill = ap (take first) is ∙ take-replicate first n fill (omega arith) in
-    let many : n - length text ≡ first = omega arith in
-    rw (front, many) refl
 
 -- a minus right in front of the digits
 pub minus_front : (n first : ℕ) (space field text : List ℕ) → space ≡ 32 ∷ [] → field ≡ left_filled 32 n text → first + length text ≡ n →

@@ -1,5 +1,5 @@
 //! hexdump -C.
-ghost use Rattle.std.specs.Prelude.{◌≡◌, ℕ, ◌+◌, ◌-◌, ◌*◌, ◌/◌, ◌<◌, ◌≤◌, ◌^◌, length, IfOk, IfErr};
+ghost use Rattle.std.specs.Prelude.{◌≡◌, ℕ, ◌+◌, ◌-◌, ◌*◌, ◌/◌, ◌<◌, ◌≤◌, length, IfOk, IfErr};
 ghost use Rattle.bx_dump.specs.Hexdump.{canon_line, hexdump_of};
 ghost use Rattle.bx_dump.specs.Pages.{WritesAll, WritesFrontOf};
 ghost use Rattle.bx_dump.specs.inner.Hexdump.{canon_columns, canon_end};

@@ -1,33 +1,19 @@
 -- Sixteen digits, lane by lane.
-use Rattle.std.proofs.Common.{◌≡◌, ℕ, zero, suc, ◌+◌, ◌-◌, ◌*◌, ◌%◌, ◌^◌, ◌<◌, ◌≤◌, Bool, true, false, cond, leb, ltb, eqb, Option, None, Some, List, [], ◌∷◌, ◌++◌, length, get_or, take, map, replicate, Fits, w8, refl, arith, sym, ap, ◌∙◌, subst}
+use Rattle.std.proofs.Common.{◌≡◌, ℕ, zero, suc, ◌+◌, ◌-◌, ◌*◌, ◌%◌, ◌<◌, ◌≤◌, true, eqb, Option, None, Some, List, [], ◌∷◌, ◌++◌, length, get_or, map, replicate, Fits, w8, refl, arith, sym, ap, ◌∙◌, subst}
 use Rattle.std.specs.Prelude.{unwrap_or, option_and_then}
 use Rattle.std.specs.Int.{w64, from_be_bytes}
 use Rattle.std.specs.List.{range_with_len}
-use Rattle.std.proofs.lemmas.Bool.{agree_below_at, eqb-true, ltb-false}
-use Rattle.std.proofs.lemmas.List.{length-map, get_or-map, take_all}
-use Rattle.std.proofs.lemmas.Simd.{zip2_splat_left, map-map, mask_l-mod, none_from_empty_mask, pick_l_whole}
-use lib.Lanes.{zip2, Each1, sel_l, top, mask_l}
+use Rattle.std.proofs.lemmas.Bool.{agree_below_at, eqb-true}
+use Rattle.std.proofs.lemmas.List.{length-map, get_or-map}
+use Rattle.std.proofs.lemmas.Simd.{pick_l_whole}
+use lib.Lanes.{zip2, Each1, sel_l, top}
 use Rattle.bx_entries.specs.Hex.{hex_value, number_after}
+use Rattle.bx_read.proofs.LaneLemmas.{digit_lanes, joined, joined_all, less, plus, under}
 
 abbrev pub value : ℕ → ℕ
 value c = unwrap_or (hex_value c) 255
 
-abbrev less : ℕ → ℕ → ℕ
-less a b = (a + (2 ^ 8 - b)) % 2 ^ 8
-
-abbrev plus : ℕ → ℕ → ℕ
-plus a b = (a + b) % 2 ^ 8
-
-abbrev under : ℕ → ℕ → ℕ
-under a b = cond (leb a b) 255 0
-
-abbrev over : ℕ → ℕ → ℕ
-over a b = cond (ltb a b) 255 0
-
 -- what the operations on lanes make of n bytes
-abbrev digit_lanes : List ℕ → ℕ → List ℕ
-digit_lanes v n = zip2 less v (replicate n 48)
-
 abbrev letter_lanes : List ℕ → ℕ → List ℕ
 letter_lanes v n = zip2 less v (replicate n 97)
 
@@ -45,29 +31,6 @@ all_values (c ∷ v) fits = λ i. one_value c fits.0.fits i ∷ all_values v fit
 
 pub values_are : (v : List ℕ) → length v ≡ 16 → Each1 (Fits w8) v → value_lanes v 16 ≡ map value v
 values_are v long fits = (λ i. value_lanes v (sym long i)) ∙ all_values v fits
-
--- no lane is above 15
-top_is : (b : Bool) → top 7 (cond b 255 0) ≡ b
-top_is true = refl
-top_is false = refl
-
-pub are_small : (v : List ℕ) → length v ≡ 16 → mask_l (map (top 7) (zip2 over (replicate 16 15) v)) % 2 ^ 64 ≡ 0 → (k : ℕ) → k < 16 → get_or v k 0 ≤ 15
-are_small v long none k inside =
-    let p : ℕ → Bool = λ x. top 7 (over 15 x) in
-    let lanes : map (top 7) (zip2 over (replicate 16 15) v) ≡ map p v = ap (map (top 7)) (zip2_splat_left over 15 16 v long) ∙ map-map (top 7) (over 15) v in
-    let mask : mask_l (map p v) ≡ 0 = sym (ap (λ l. mask_l l % 2 ^ 64) lanes ∙ mask_l-mod (map p v) 64 (omega (arith, length-map v p, long))) ∙ none in
-    let whole : mask_l (map p (take 16 v)) ≡ 0 = ap (λ l. mask_l (map p l)) (take_all 16 v (omega (arith, long))) ∙ mask in
-    let not_over : ltb 15 (get_or v k 0) ≡ false = sym (top_is (ltb 15 (get_or v k 0))) ∙ none_from_empty_mask p v 0 16 0 (omega (arith, long)) whole k (omega arith) inside in
-    ltb-false 15 (get_or v k 0) not_over
-
--- two digits as one byte
-abbrev joined : ℕ → ℕ → ℕ
-joined high low = (high * 16 % 256 + low) % 256
-
-abbrev joined_all : List ℕ → List ℕ
-joined_all [] = []
-joined_all (high ∷ []) = []
-joined_all (high ∷ low ∷ rest) = joined high low ∷ joined_all rest
 
 -- the number that bytes give after a number
 abbrev bytes_after : ℕ → List ℕ → ℕ

@@ -15,7 +15,7 @@ use Rattle.bx_entries.specs.DumpLine.{dump_line}
 use Rattle.bx_entries.specs.Line.{start_line, save_line, end_line, saved_in}
 use Rattle.bx_entries.specs.Entry.{rows, head_lines}
 use Rattle.bx_text.specs.Ascii.{is_printable}
-use Rattle.bx_entries.specs.Text.{IsPrefix, Reading, Entry, Between, Saving, Ending, IsRest, next_at, begins, may_begin, is_short, begins_with_s}
+use Rattle.bx_entries.specs.Text.{IsPrefix, Reading, Entry, Between, Saving, Ending, IsRest, next_at, may_begin, is_short, begins_with_s}
 use Rattle.bx_entries.specs.inner.Text.{next}
 use Rattle.bx_entries.proofs.Written.{IsSavedLine, saved_line}
 use Rattle.bx_entries.proofs.Runs.{SafeRun}
@@ -89,9 +89,6 @@ saving_run Q E es v len most q more (p ∷ ps) done are run =
         saving_run Q E es v len most q more ps (with_run done p) are.4 run,
       ),
     )
-
-begins_second : (es : List Entry) (len : ℕ) → len ≤ MAX_LEN → may_begin es len ≡ true → begins es Second (start_line Second (suc (length es)) len) ≡ Some (Saving Second (record { len = len; runs = [] }))
-begins_second es len most may = rw (start_reads Second (suc (length es)) len most (omega arith), may) refl
 
 next_start : (es : List Entry) (len : ℕ) → length es < 65535 → len ≤ MAX_LEN → may_begin es len ≡ true → next (between es) (start_line Second (suc (length es)) len) ≡ Some (saving es Second len [])
 unfolding next_at

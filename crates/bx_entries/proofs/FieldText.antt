@@ -1,5 +1,5 @@
 -- Numbers that were written in a field of their width.
-use Rattle.std.proofs.Common.{◌≡◌, ℕ, zero, suc, ◌/◌, ◌%◌, ◌^◌, ◌<◌, ◌≤◌, false, List, [], ◌∷◌, ◌++◌, refl, ap, sym, ◌∙◌, arith, append_assoc, append-nil}
+use Rattle.std.proofs.Common.{◌≡◌, ℕ, zero, suc, ◌/◌, ◌%◌, ◌^◌, ◌<◌, ◌≤◌, false, List, [], ◌∷◌, ◌++◌, refl, sym, ◌∙◌, arith, append_assoc, append-nil}
 use Rattle.std.specs.Fmt.{digit_glyph}
 use Rattle.bx_text.specs.Field.{hex_text}
 use Rattle.bx_text.proofs.FixedLemmas.{fixed_onto, fixed_text}

@@ -159,24 +159,6 @@ IsEarly Between = Unit {0}
 IsEarly (Saving v s) = Unit {0}
 IsEarly (Ending v s) = ⊥
 
--- from the start of an entry to its save line
-pub way_in_head : (Q : Reading → Type 0) (es : List Entry) (v : Version) (s : Kept) → ((stage : Stage) → IsEarly stage → Q (record { entries = es; stage = stage })) → Q (record { entries = es; stage = Ending v s })
-    → OnTheWay Q (record { entries = es; stage = Between }) (record { entries = es; stage = Ending v s })
-unfolding weight weight_of
-way_in_head Q es v s early last p a b first rest =
-    let up = lines_grow a (record { entries = es; stage = Between }) p first in
-    let down = lines_grow b p (record { entries = es; stage = Ending v s }) rest in
-    let long : length p.entries ≡ length es = omega (arith, up, down, stage_weight p.stage) in
-    let same : p.entries ≡ es = same_entries b p (record { entries = es; stage = Ending v s }) rest long in
-    by_stage p.stage p.entries same rest
-  where
-    by_stage : (stage : Stage) (entries : List Entry) → entries ≡ es → after_lines (record { entries = entries; stage = stage }) b ≡ Some (record { entries = es; stage = Ending v s }) → Q (record { entries = entries; stage = stage })
-    by_stage Between entries same rest = subst (λ f. Q (record { entries = f; stage = Between })) (sym same) (early Between tt)
-    by_stage (Saving w t) entries same rest = subst (λ f. Q (record { entries = f; stage = Saving w t })) (sym same) (early (Saving w t) tt)
-    by_stage (Ending w t) entries same rest =
-        let is = ending_last b entries w t (record { entries = es; stage = Ending v s }) rest (omega (arith, ap length same)) in
-        subst Q (sym is) last
-
 between_of : (p : Reading) → weight_of p.stage ≡ 0 → p ≡ record { entries = p.entries; stage = Between }
 unfolding weight_of
 between_of p e = by_stage p.stage e

@@ -63,10 +63,6 @@ entry_marked text older es e at after m le = (
   omega (arith, m.5, length-append es (e ∷ [])),
 )
 
--- the last of them tells the length
-pub told-push : {A : Type 0} → (done : List Entry) (es : List (EntryRead A)) (e : EntryRead A) → told_by (entries_onto done (es ++ e ∷ [])) ≡ e.after
-told-push done es e = ap told_by (onto-push done es e)
-
 told-onto : {A : Type 0} → (done : List Entry) (f : EntryRead A) (es : List (EntryRead A)) → told_by (entries_onto (entry_of f ∷ done) es) ≡ option_and_then (λ (e : EntryRead A). e.after) (slice_get (f ∷ es) (length es))
 told-onto done f [] = refl
 told-onto done f (h ∷ es) = told-onto (entry_of f ∷ done) h es

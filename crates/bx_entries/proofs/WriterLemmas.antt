@@ -1,5 +1,5 @@
 -- Texts of entries, line by line.
-use Rattle.std.proofs.Common.{◌≡◌, ℕ, zero, suc, ◌+◌, ◌-◌, ◌*◌, ◌/◌, ◌<◌, ◌≤◌, ◌^◌, min, List, [], ◌∷◌, ◌++◌, length, map, take, drop, refl, ap, sym, ◌∙◌, subst, arith, append_assoc, append-nil, length-drop, length-append, inl, inr, get_or, false}
+use Rattle.std.proofs.Common.{◌≡◌, ℕ, zero, suc, ◌+◌, ◌-◌, ◌*◌, ◌/◌, ◌<◌, ◌≤◌, min, List, [], ◌∷◌, ◌++◌, length, map, take, drop, refl, ap, sym, ◌∙◌, subst, arith, append_assoc, append-nil, length-drop, length-append, inl, inr, get_or, false}
 use Rattle.std.specs.Prelude.{flat_map, codes}
 use Rattle.std.specs.List.{range_with_len}
 use Rattle.std.proofs.lemmas.List.{map-append, take_all, take-append-drop, length-map}
@@ -85,15 +85,6 @@ row_written text old new bytes run k to same is added before =
     added ∙ ap (λ b. old ++ ended (dump_line (run.at + 16 * k) b)) slice ∙ ap (λ t. t ++ ended (dump_line (run.at + 16 * k) (row run k).bytes)) before
     ∙ append_assoc text (joined (lines_of (map (row run) (range_with_len 0 k)))) (ended (dump_line (row run k).at (row run k).bytes))
     ∙ ap (λ t. text ++ t) (sym (row_more run k))
-
-pub rows_written : (text new bytes : List ℕ) (run : Run) (k : ℕ) → bytes ≡ run.bytes → k ≡ (length bytes + 15) / 16 → new ≡ text ++ joined (lines_of (map (row run) (range_with_len 0 k))) → new ≡ text ++ joined (lines_of (rows run))
-unfolding rows
-rows_written text new bytes run k same last is =
-    is ∙ ap (λ n. text ++ joined (lines_of (map (row run) (range_with_len 0 n)))) (last ∙ ap (λ b. (length b + 15) / 16) same)
-
-pub row_fits : (at : ℕ) (bytes : List ℕ) (k : ℕ) → end_of at bytes < 2 ^ 64 → k < length bytes → at + k < 2 ^ 64
-row_fits at [] k most inside = absurd (omega arith)
-row_fits at (b ∷ bytes) k most inside = omega (arith, most, inside)
 
 pub within_at : {A : Type 0} → (len : ℕ) (runs : List (Piece A)) (run : Piece A) (k : ℕ) → AllWithin len runs → k < length runs → run ≡ get_or runs k run → end_of run.at run.bytes ≤ len
 within_at len [] run k all inside is = absurd (omega arith)

@@ -63,10 +63,6 @@ placed_on x bytes at d k y z fits first next =
 pub IsFrontPlaced_on : (x bytes : List ℕ) (at d : ℕ) (y z : List ℕ) → d ≤ length bytes → y ≡ place x at (take d bytes) → IsFrontPlaced (at + d) (take (length bytes - d) (drop d bytes)) y z → IsFrontPlaced at bytes x z
 IsFrontPlaced_on x bytes at d y z fits first (k, is) = (d + k, placed_on x bytes at d k y z fits first is)
 
-pub OnErr_always : {T E : Type 0} (r : Result T E) (P : Type 0) → P → OnErr r P
-OnErr_always (Ok v) P p = tt
-OnErr_always (Err e) P p = p
-
 pub OnErr_map : {T E : Type 0} (r : Result T E) (P Q : Type 0) → (P → Q) → OnErr r P → OnErr r Q
 OnErr_map (Ok v) P Q f p = tt
 OnErr_map (Err e) P Q f p = f p

@@ -44,10 +44,6 @@ covered_joined {A = A} runs (piece ∷ pieces) i (later, are, inr (bytes, rest, 
     rw whole (ap (λ b. b || is_covered rest i) (within_both piece.at piece.bytes bytes i) ∙ or_or here next (is_covered rest i)
     ∙ ap (λ b. here || b) (sym behind ∙ covered_joined later pieces i are))
 
--- the ends
-abbrev EndWithin : {A : Type 0} → ℕ → List (Piece A) → Type 0
-EndWithin limit writes = All (λ w. end_of w.at w.bytes ≤ limit) writes
-
 ends_both : (at : ℕ) (front back : List ℕ) (limit : ℕ) → (end_of at (front ++ back) ≤ limit) ↔ ((end_of at front ≤ limit) × (end_of (at + length front) back ≤ limit))
 ends_both at [] [] limit = (λ h. (h, h), λ h. h.0)
 ends_both at [] (b ∷ back) limit = (λ h. (omega arith, omega (arith, h)), λ h. omega (arith, h.1))

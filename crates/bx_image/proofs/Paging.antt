@@ -1,7 +1,7 @@
 -- Bytes that stand in pages.
-use Rattle.std.proofs.Common.{◌≡◌, ◌≢◌, ℕ, zero, suc, ◌+◌, ◌-◌, ◌*◌, ◌/◌, ◌%◌, ◌<◌, ◌≤◌, inl, inr, max, List, [], ◌∷◌, ◌++◌, length, take, drop, replicate, get_or, slice_index, subst, refl, ap, sym, ◌∙◌, arith}
+use Rattle.std.proofs.Common.{◌≡◌, ◌≢◌, ℕ, zero, suc, ◌+◌, ◌-◌, ◌*◌, ◌/◌, ◌%◌, ◌<◌, ◌≤◌, inl, inr, max, List, [], ◌∷◌, ◌++◌, length, take, drop, replicate, get_or, slice_index, refl, ap, sym, ◌∙◌, arith}
 use Rattle.std.proofs.lemmas.Bool.{cases_lt}
-use Rattle.std.proofs.lemmas.List.{places, take_all, take-append-le, length-take}
+use Rattle.std.proofs.lemmas.List.{places, take-append-le, length-take}
 use Rattle.bx_image.specs.Image.{image_of, place, cut}
 use Rattle.bx_image.specs.Pages.{byte_at}
 use Rattle.bx_image.specs.inner.Pages.{page_at, IsWrittenOver, IsCleared}
@@ -79,10 +79,6 @@ written_at old new f at bytes len some fits size others page =
     let d = some_item old (at / 4096) some in
     written_part old new f (at / 4096) (at % 4096) at bytes d len some fits (size d) (λ k ne. others k d ne) (page d) (omega arith)
 
--- a write of no bytes
-pub IsWrittenOver_none : (at : ℕ) (old : ℕ → ℕ) → IsWrittenOver at [] old old
-IsWrittenOver_none at old = record { below = λ i h. refl; within = λ j h. absurd (omega arith); above = λ i h. refl }
-
 -- a write that goes on where another ended
 pub IsWrittenOver_next : (at end next : ℕ) (bytes : List ℕ) (old mid new : ℕ → ℕ) → end ≤ next → next ≤ length bytes → IsWrittenOver at (take end bytes) old mid
     → IsWrittenOver (at + end) (take (next - end) (drop end bytes)) mid new → IsWrittenOver at (take next bytes) old new
@@ -99,13 +95,6 @@ IsWrittenOver_next at end next bytes old mid new le fits first second = record {
     within_second j hi lt =
         let there : at + end + (j - end) ≡ at + j = omega arith in
         ap new (sym there) ∙ second.within (j - end) (grind (arith, places)) ∙ grind (arith, places)
-
--- all of it
-pub IsWrittenOver_all : (at end : ℕ) (bytes : List ℕ) (old new : ℕ → ℕ) → length bytes ≤ end → IsWrittenOver at (take end bytes) old new → IsWrittenOver at bytes old new
-IsWrittenOver_all at end bytes old new past whole =
-    let all : take end bytes ≡ bytes = take_all end bytes past in
-    let P : List ℕ → Type 0 = λ bs. IsWrittenOver at bs old new in
-    subst P all whole
 
 -- what is read from one page
 pub read_in_page : {P : Type 0} (pages : List P) (f : P → List ℕ) (at n : ℕ) (d : P) → at / 4096 < length pages → at % 4096 + n ≤ 4096
@@ -135,9 +124,6 @@ IsCleared_next from mid next zeros old m new least most long empty first second 
   ];
   above = λ i h. second.above i (omega (arith, long)) ∙ first.above i (omega arith);
 }
-
-pub IsCleared_none : (from : ℕ) (old : ℕ → ℕ) → IsCleared from from old old
-IsCleared_none from old = record { below = λ i h. refl; within = λ i lo hi. absurd (omega arith); above = λ i h. refl }
 
 -- a page of zeros more
 pub byte_at-more : {P : Type 0} (pages : List P) (f : P → List ℕ) (p : P) (n : ℕ) → f p ≡ replicate n 0 → (i : ℕ) → byte_at (pages ++ p ∷ []) f i ≡ byte_at pages f i
@@ -218,19 +204,10 @@ image_written len at bytes old new some zeros over =
       ]
     ]
 
-pub zeros_written : (len at : ℕ) (bytes : List ℕ) (old new : ℕ → ℕ) → ((i : ℕ) → len ≤ i → old i ≡ 0) → IsWrittenOver at bytes old new → (i : ℕ) → max len (at + length bytes) ≤ i → new i ≡ 0
-zeros_written len at bytes old new zeros over i past = over.above i (omega arith) ∙ zeros i (omega arith)
-
 pub image_resized : (len n top : ℕ) (old new : ℕ → ℕ) → top ≡ max len n → ((i : ℕ) → len ≤ i → old i ≡ 0) → IsCleared n top old new → image_of n new ≡ cut (image_of len old) n
 image_resized len n top old new is zeros cleared =
     let long : length (image_of n new) ≡ n = length-image_of n new in
     same_image _ _ (omega (arith, length-cut (image_of len old) n)) (λ i h. slice_index-image_of n new i (omega arith) ∙ cleared.below i (omega arith) ∙ sym (image_byte len old zeros i) ∙ sym (slice_index-cut (image_of len old) n i (omega arith)))
-
-pub zeros_resized : (len n top : ℕ) (old new : ℕ → ℕ) → top ≡ max len n → ((i : ℕ) → len ≤ i → old i ≡ 0) → IsCleared n top old new → (i : ℕ) → n ≤ i → new i ≡ 0
-zeros_resized len n top old new is zeros cleared i past = elim (cases_lt i top) [
-  | inl within ↦ cleared.within i past within
-  | inr above ↦ cleared.above i above ∙ zeros i (omega arith)
-]
 
 pub image_same : (len : ℕ) (old new : ℕ → ℕ) → ((i : ℕ) → new i ≡ old i) → image_of len new ≡ image_of len old
 image_same len old new same =

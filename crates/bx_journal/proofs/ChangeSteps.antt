@@ -11,13 +11,13 @@ use Rattle.bx_entries.specs.declared.format.version.Version.TheVariants.{Second}
 use Rattle.bx_entries.specs.Entry.{head_text, end_text, rows}
 use Rattle.bx_entries.specs.Text.{IsPrefix}
 use Rattle.bx_journal.specs.Stack.{Recovers}
-use Rattle.bx_journal.specs.Phase.{IsAtRest, RecoversEither}
+use Rattle.bx_journal.specs.Phase.{IsAtRest}
 use Rattle.bx_journal.specs.inner.Phase.{IsOpen, as_read}
 use Rattle.bx_journal.specs.inner.Step.{StartsEntry, EndsEntry, WritesEntry}
 use Rattle.bx_store.specs.Store.{IsPartlyAppended}
 use Rattle.bx_entries.proofs.Gathered.{as_read_byte}
 use Rattle.bx_entries.proofs.RowLemmas.{restore_same, covers_same}
-use Rattle.bx_journal.proofs.Phases.{head_recovers, head_opens, end_recovers, end_rests, open_moves}
+use Rattle.bx_journal.proofs.Phases.{head_recovers, head_opens, end_rests, open_moves}
 
 front_of : (k : ℕ) (bytes text : List ℕ) → bytes ≡ text → IsPrefix (take k bytes) text
 front_of k bytes text is = (drop k bytes, sym is ∙ sym (take-append-drop k bytes))
@@ -33,10 +33,6 @@ head_fault text new x stack s head starts part =
 pub end_ok : (text new x : List ℕ) (stack : List (List ℕ)) (s : Kept) (line : List ℕ) → EndsEntry text x stack s line → new ≡ text ++ line → IsAtRest new x (x ∷ stack)
 end_ok text new x stack s line ends is =
     subst (λ t. IsAtRest t x (x ∷ stack)) (ap (λ h. text ++ h) (sym ends.end_is) ∙ sym is) (end_rests text x stack s (length x) ends.unfinished refl ends.fits)
-
-pub end_fault : (text new x : List ℕ) (stack : List (List ℕ)) (s : Kept) (line : List ℕ) → EndsEntry text x stack s line → IsPartlyAppended line text new → RecoversEither new x stack (x ∷ stack)
-end_fault text new x stack s line ends part =
-    subst (λ t. RecoversEither t x stack (x ∷ stack)) (sym part.1) (end_recovers text x stack s (length x) (take part.0 line) ends.unfinished refl ends.fits (front_of part.0 line (end_text (length stack) (length x)) ends.end_is))
 
 good_as_read : (s : Kept) (x y : List ℕ) → IsAsGood s x y → IsAsGood (as_read s) x y
 good_as_read s x y good = record {

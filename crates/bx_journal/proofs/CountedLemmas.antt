@@ -1,17 +1,16 @@
 -- What opening finds in a text whose entries were counted.
 use Rattle.std.proofs.Common.{◌≡◌, ℕ, suc, List, length, ap, sym, ◌∙◌, subst, inl, inr, ◌⊎◌, Option, Some, Result, Ok, Err}
-use Rattle.std.specs.Prelude.{IfSome, IfOk, IfErr, OnOk, OnErr}
+use Rattle.std.specs.Prelude.{IfSome, OnOk}
 use Rattle.bx_journal.specs.declared.session.answers.How.TheVariants.{Clean}
 use Rattle.bx_journal.specs.declared.session.fault.SessionFault.{SessionFault}
 use Rattle.bx_entries.specs.Text.{Between, Reading, Reads, split}
 use Rattle.bx_journal.specs.Stack.{HaveLengths, IsSound, Recovers, image_at, recovered, stack_of}
 use Rattle.bx_journal.specs.Phase.{IsAtRest}
-use Rattle.bx_journal.specs.declared.session.fault.SessionFault.TheVariants.{DeviceFailed, Damaged, LengthDiffers}
-use Rattle.bx_journal.specs.Calls.{how_of, Differs, OpenFault, AfterFault}
+use Rattle.bx_journal.specs.declared.session.fault.SessionFault.TheVariants.{DeviceFailed, LengthDiffers}
+use Rattle.bx_journal.specs.Calls.{how_of, Differs, OpenFault}
 use Rattle.bx_journal.specs.Opening.{IsOpened, RefusesLength}
-use Rattle.bx_journal.specs.inner.Devices.{FaultCounts}
 use Rattle.bx_entries.specs.inner.Tally.{IsCounted}
-use Rattle.bx_journal.proofs.OpenLemmas.{after_same, begins_told, counts_beside, differs_of, one_told, same_lengths, some_same}
+use Rattle.bx_journal.proofs.OpenLemmas.{begins_told, differs_of, one_told, same_lengths, some_same}
 use Rattle.bx_journal.proofs.Phases.{length-stack_of}
 use Rattle.bx_journal.proofs.Sane.{read_sane, have_lengths}
 
@@ -88,23 +87,3 @@ module _ (text x : List ℕ) (count : ℕ) (told : Option ℕ) (c : IsCounted te
 pub ok_always : {T E P : Type 0} (r : Result T E) → P → OnOk r P
 ok_always (Ok v) p = p
 ok_always (Err e) p = tt
-
-pub err_always : {T E P : Type 0} (r : Result T E) → P → OnErr r P
-err_always (Ok v) p = tt
-err_always (Err e) p = p
-
-pub ok_then : {T E P : Type 0} (Q : T → Type 0) (r : Result T E) → P → IfOk r (λ o. Q o → P)
-ok_then Q (Ok v) p = λ q. p
-ok_then Q (Err e) p = tt
-
-pub err_same : {T P : Type 0} (r : Result T SessionFault) → P → IfErr r (λ e. AfterFault e (Unit {0}) P)
-err_same (Ok v) p = tt
-err_same (Err e) p = after_same e _ p
-
-pub err_apart : {T : Type 0} (P : ℕ → Type 0) (r : Result T SessionFault) → IfErr r (λ e. (line : ℕ) → e ≡ Damaged line → ⊥) → IfErr r (λ e. (line : ℕ) → e ≡ Damaged line → P line)
-err_apart P (Ok v) h = tt
-err_apart P (Err e) h = λ line is. absurd (h line is)
-
-pub err_counts : {T : Type 0} (r : Result T SessionFault) (d new t t_new : ℕ) → t_new ≡ t → IfErr r (λ e. FaultCounts e d 0 new 0) → IfErr r (λ e. FaultCounts e d t new t_new)
-err_counts (Ok v) d new t t_new same h = tt
-err_counts (Err e) d new t t_new same h = subst (FaultCounts e d t new) (sym same) (counts_beside e d t new h)

@@ -2,7 +2,6 @@
 use Rattle.std.proofs.Common.{◌≡◌, ℕ, ◌+◌, List, [], ◌∷◌, ◌++◌, take, drop, refl, ap, sym, ◌∙◌, subst, inl, inr, append_assoc, append-nil, Result, Ok, Some}
 use Rattle.std.specs.Prelude.{Vec}
 use Rattle.std.proofs.lemmas.Result.{IfOk-weaker}
-use Rattle.bx_entries.specs.declared.read.count.Place.TheVariants.{Between as BetweenPlace}
 use Rattle.bx_entries.specs.declared.read.rows.Summed.{Summed}
 use Rattle.bx_entries.specs.Text.{Entry, Stage, Between, Saving, Ending, Reading, Split, ended, split, start, next_at, after_lines}
 use Rattle.bx_entries.specs.inner.Plain.{HasNoNewline}
@@ -11,13 +10,13 @@ use Rattle.bx_entries.specs.inner.Tally.{place_of}
 use Rattle.bx_entries.proofs.Inverse.{next_between, next_saving, next_ending}
 use Rattle.bx_entries.proofs.Runs.{after_lines-append}
 use Rattle.bx_entries.proofs.Splits.{split-append, split-ended}
-use Rattle.bx_entries.proofs.TallyLemmas.{HasForm, has_form, IsFirstLine, last, line_taken, take_sum}
+use Rattle.bx_entries.proofs.TallyLemmas.{IsFirstLine, last, line_taken, take_sum}
 use Rattle.bx_journal.specs.Calls.{rows_of}
 use Rattle.bx_journal.specs.declared.session.answers.LogRow.{LogRow}
 use Rattle.bx_journal.specs.declared.session.fault.SessionFault.{SessionFault}
 use Rattle.bx_journal.specs.declared.session.log.windows.Listed.{Listed}
 use Rattle.bx_journal.specs.inner.Devices.{LooksAt}
-use Rattle.bx_journal.specs.inner.Rows.{AreListed, AreListedTo, AreRowsOf, FindsRows, IsListed, IsListedAt, ended_row}
+use Rattle.bx_journal.specs.inner.Rows.{AreListedTo, AreRowsOf, FindsRows, IsListed, IsListedAt, ended_row}
 use Rattle.bx_journal.proofs.WindowLemmas.{again_behind, looks_before}
 
 -- a line adds a row where it ends an entry
@@ -92,23 +91,6 @@ listed_to honest stored at len from old new l to listed = record {
   is = λ h. ap (λ t. t ++ listed.bytes) (to.is h) ∙ ap (λ t. take at stored ++ t) (listed.is h) ∙ sym (take_sum at l.taken stored);
   listed = listed.leads to.front to.listed;
 }
-
--- all of a text, between two entries, in a store that is the same as before
-pub all_listed : (honest now : Type 0) (stored text : List ℕ) (s : Summed) (rows : List LogRow) (count : ℕ) → (honest → now) → (honest → text ≡ stored) → AreListed now text s rows
-    → s.tally.place ≡ BetweenPlace → s.tally.count ≡ count → AreRowsOf honest stored rows count
-all_listed honest now stored text s rows count still same h place many =
-    let listed = h.listed in
-    let reading : Reading = listed.reading in
-    let at : HasForm reading.stage BetweenPlace = has_form reading.stage BetweenPlace (ap (λ (u : Summed). u.tally.place) listed.is ∙ place) in
-    let lines : after_lines start (split h.text).lines ≡ Some (record { entries = reading.entries; stage = Between }) = listed.reads ∙ ap (λ z. Some (record { entries = reading.entries; stage = z })) at in
-    record {
-      text = h.text;
-      is = λ th. sym (same th) ∙ h.is (still th);
-      entries = reading.entries;
-      finished = record { reads = record { lines = lines; rest = inl listed.whole }; whole = listed.whole };
-      counted = ap (λ (u : Summed). u.tally.count) listed.is ∙ many;
-      rows_are = listed.rows_are;
-    }
 
 -- the rows of a text behind a call that only looked at it
 pub rows_behind : {T A V : Type 0} {honest : T → Type 0} {text : T → List ℕ} {failures : T → ℕ} {count : ℕ} {v : V} {old now new : T} → LooksAt honest text failures (Ok v) old now → (r : Result (Vec LogRow A) SessionFault)

@@ -7,7 +7,7 @@ use Rattle.bx_entries.specs.Kept.{kept_of}
 use Rattle.bx_image.specs.Change.{restore}
 use Rattle.bx_entries.specs.declared.format.version.Version.{Version}
 use Rattle.bx_journal.specs.declared.session.answers.How.{How}
-use Rattle.bx_journal.specs.declared.session.answers.How.TheVariants.{Clean, Dropped, Restored}
+use Rattle.bx_journal.specs.declared.session.answers.How.TheVariants.{Dropped, Restored}
 use Rattle.bx_journal.specs.declared.session.fault.SessionFault.{SessionFault}
 use Rattle.bx_journal.specs.declared.session.fault.SessionFault.TheVariants.{NoMemory, TooLarge, DeviceFailed, Damaged, TooFew, JournalFull, Interrupted, Broken, LengthDiffers, NothingToRedo, RedoDamaged}
 use Rattle.bx_entries.specs.declared.read.whole.JournalRead.{JournalRead}
@@ -20,12 +20,10 @@ use Rattle.bx_entries.specs.Parsed.{told_by}
 use Rattle.bx_entries.specs.inner.Parsed.{entries_of, stage_of, reading_of}
 use Rattle.bx_journal.specs.Calls.{how_of, Differs, OpenFault, AfterFault}
 use Rattle.bx_journal.specs.Opening.{IsOpened, RefusesLength}
-use Rattle.bx_journal.specs.inner.Devices.{FaultCounts}
 use Rattle.bx_journal.specs.inner.Opening.{LookFault}
 use Rattle.bx_entries.proofs.ReadLemmas.{length-entries_of}
 use Rattle.bx_journal.proofs.Sane.{IsSane, read_sane, have_lengths, length-restore}
 use Rattle.bx_journal.proofs.TailLemmas.{begins_at, begin_mark, tail_at, counted_at}
-use Rattle.bx_journal.proofs.Tails.{rest_none}
 
 pub some_same : {A : Type 0} (x y : A) → Some x ≡ Some y → x ≡ y
 some_same x y e = cc
@@ -74,9 +72,6 @@ same_lengths (e ∷ es) x n lengths differs = differs.1 (by_after e.after length
     by_after None h is = absurd (cc)
     by_after (Some told) h is = let same : told ≡ n = cc in h ∙ same
 
-how_clean : (es : List Entry) (text : List ℕ) (n : ℕ) → drop n text ≡ (split text).rest → n ≡ length text → Clean ≡ how_of (record { entries = es; stage = Between }) (split text).rest
-how_clean es text n rest all = ap (how_of (record { entries = es; stage = Between })) (sym (rest_none text n rest all))
-
 how_dropped : (es : List Entry) (text : List ℕ) (n : ℕ) → drop n text ≡ (split text).rest → n ≤ length text → (n ≡ length text → ⊥) → Dropped ≡ how_of (record { entries = es; stage = Between }) (split text).rest
 how_dropped es text n rest within short = by_rest (split text).rest rest
   where
@@ -104,21 +99,6 @@ opened_at text bytes x new y j how changes read same lengths image cut counted i
       changes_are = counted ∙ sym (length-entries_of j.entries.items);
       how_is = is ∙ ap (λ t. how_of (reading_of j.entries.items j.stage) (split t).rest) (sym same);
     }
-
-pub opened_clean : {A : Type 0} → (text bytes x : List ℕ) (j : JournalRead A) (changes : ℕ) → HasRead bytes j → j.stage ≡ BetweenRead → text ≡ bytes → j.whole ≡ length bytes
-    → HaveLengths (entries_of j.entries.items) (image_at (stage_of j.stage) x) → changes ≡ length j.entries.items
-    → IsOpened text x (reading_of j.entries.items j.stage) text x Clean changes
-opened_clean text bytes x j changes read is same all lengths counted =
-    let image : x ≡ image_at (stage_of j.stage) x = sym (ap (λ s. image_at (stage_of s) x) is) in
-    let place : begins_at j.stage j.whole ≡ length text = ap (λ s. begins_at s j.whole) is ∙ all ∙ sym (ap length same) in
-    let cut : text ≡ take (begins_at j.stage j.whole) text = sym (ap (λ k. take k text) place ∙ take_all text) in
-    let how : Clean ≡ how_of (reading_of j.entries.items j.stage) (split bytes).rest =
-    how_clean (entries_of j.entries.items) bytes j.whole read.places.rest all ∙ ap (λ s. how_of (reading_of j.entries.items s) (split bytes).rest) (sym is) in
-    opened_at text bytes x text x j Clean changes read same lengths image cut counted how
-  where
-    take_all : (t : List ℕ) → take (length t) t ≡ t
-    take_all [] = refl
-    take_all (b ∷ t) = ap (λ s. b ∷ s) (take_all t)
 
 pub opened_dropped : {A : Type 0} → (text bytes x new : List ℕ) (j : JournalRead A) (changes : ℕ) → HasRead bytes j → j.stage ≡ BetweenRead → text ≡ bytes → (j.whole ≡ length bytes → ⊥)
     → HaveLengths (entries_of j.entries.items) (image_at (stage_of j.stage) x) → new ≡ take j.whole text → changes ≡ length j.entries.items
@@ -185,20 +165,6 @@ look_refuses H es x n Interrupted h differs look = look
 look_refuses H es x n Broken h differs look = look
 look_refuses H es x n (NothingToRedo have) h differs look = look
 look_refuses H es x n (RedoDamaged line) h differs look = look
-
--- a device's fault counted beside another device's count
-pub counts_beside : (e : SessionFault) (d t new : ℕ) → FaultCounts e d 0 new 0 → FaultCounts e d t new t
-counts_beside DeviceFailed d t new h = omega (arith, h)
-counts_beside Interrupted d t new h = omega (arith, h)
-counts_beside NoMemory d t new h = (h.0, refl)
-counts_beside TooLarge d t new h = (h.0, refl)
-counts_beside (Damaged line) d t new h = (h.0, refl)
-counts_beside (TooFew have) d t new h = (h.0, refl)
-counts_beside JournalFull d t new h = (h.0, refl)
-counts_beside Broken d t new h = (h.0, refl)
-counts_beside (LengthDiffers n) d t new h = (h.0, refl)
-counts_beside (NothingToRedo have) d t new h = (h.0, refl)
-counts_beside (RedoDamaged line) d t new h = (h.0, refl)
 
 pub after_same : (e : SessionFault) (P : Type 0) → P → AfterFault e (Unit {0}) P
 after_same Interrupted P p = tt

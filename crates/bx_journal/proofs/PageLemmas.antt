@@ -13,10 +13,6 @@ use Rattle.bx_journal.specs.inner.Page.{IsPaged}
 pub paged_here : (bytes text page : List ℕ) → page ≡ bytes → IsPaged bytes text text page
 paged_here bytes text page is = record { added = []; text_is = sym (append-nil text); bytes_are = is }
 
--- where the page before was appended
-pub paged_turned : (before bytes old new page : List ℕ) → new ≡ old ++ before → page ≡ bytes → IsPaged (before ++ bytes) old new page
-paged_turned before bytes old new page added is = record { added = before; text_is = added; bytes_are = ap (λ p. before ++ p) is }
-
 -- and then more
 pub paged_more : (b c old mid new p q : List ℕ) → IsPaged b old mid p → IsPaged (p ++ c) mid new q → IsPaged (b ++ c) old new q
 paged_more b c old mid new p q first next = record {

@@ -14,7 +14,7 @@ use Rattle.bx_entries.specs.Line.{end_line}
 use Rattle.bx_entries.specs.Entry.{rows, head_lines, head_text, end_text}
 use Rattle.bx_entries.specs.Text.{IsPrefix, Reading, Entry, Ending, IsRest, split, start, may_begin, after_lines, is_short}
 use Rattle.bx_journal.specs.Stack.{stack_of, HaveLengths, AllCover, image_at, recovered, CoversAt, Recovers}
-use Rattle.bx_journal.specs.Phase.{IsAtRest, RecoversEither}
+use Rattle.bx_journal.specs.Phase.{IsAtRest}
 use Rattle.bx_journal.specs.inner.Phase.{IsOpen, as_read}
 use Rattle.bx_entries.proofs.Splits.{split-append}
 use Rattle.bx_entries.proofs.Runs.{SafeRun, Goes, GoesAllBy, safe_prefix, safe_all, after_lines-append, empty_rest}
@@ -176,37 +176,33 @@ IsEnd es s after r = r ≡ between (record { saved = s; after = Some after } ∷
 abbrev FineEither : List ℕ → List (List ℕ) → Reading → Type 0
 FineEither x stack r = Fine x stack r ⊎ Fine x (x ∷ stack) r
 
+-- what stands, where the entry is open, and where it has ended
+pub open_fine : (text x : List ℕ) (stack : List (List ℕ)) (s : Kept) (o : IsOpen Second s text x stack) → Fine x stack (record { entries = o.entries; stage = Ending Second s })
+open_fine text x stack s o = record { covers = o.sound.unfinished; finished = o.sound.finished; lengths = o.lengths; stack_is = sym o.stack_is }
+
+pub ended_fine : (text x : List ℕ) (stack : List (List ℕ)) (s : Kept) (o : IsOpen Second s text x stack) (after : ℕ) → length x ≡ after
+    → Fine x (x ∷ stack) (between (record { saved = s; after = Some after } ∷ o.entries))
+unfolding stack_of
+ended_fine text x stack s o after told = record {
+  covers = tt;
+  finished = (o.sound.unfinished, o.sound.finished);
+  lengths = (told, o.lengths);
+  stack_is = ap (λ t. x ∷ t) (sym o.stack_is);
+}
+
 end_fine : (text x : List ℕ) (stack : List (List ℕ)) (s : Kept) (open_ : IsOpen Second s text x stack) (after : ℕ) → length x ≡ after → after ≤ MAX_LEN
     → SafeRun (FineEither x stack) (λ r. IsEnd open_.entries s after r × Fine x (x ∷ stack) r) (record { entries = open_.entries; stage = Ending Second s }) (end_line Second (length stack) after ∷ [])
 unfolding stack_of
 end_fine text x stack s o after told most =
     let es : List Entry = o.entries in
     let count : length stack ≡ suc (length es) = ap length o.stack_is ∙ length-stack_of es (restore s x) in
-    let new : Fine x (x ∷ stack) (between (record { saved = s; after = Some after } ∷ es)) = record {
-      covers = tt;
-      finished = (o.sound.unfinished, o.sound.finished);
-      lengths = (told, o.lengths);
-      stack_is = ap (λ t. x ∷ t) (sym o.stack_is);
-    } in
+    let new = ended_fine text x stack s o after told in
     let E : Reading → Type 0 = λ r. IsEnd es s after r × Fine x (x ∷ stack) r in
     let run : SafeRun (FineEither x stack) E (ending es Second s.len s.runs) (end_line Second (suc (length es)) after ∷ []) =
     end_run (FineEither x stack) E es s after most
-    (inl (record { covers = o.sound.unfinished; finished = o.sound.finished; lengths = o.lengths; stack_is = sym o.stack_is }))
+    (inl (open_fine text x stack s o))
     (inr new) (refl, new) in
     subst (λ n. SafeRun (FineEither x stack) E (ending es Second s.len s.runs) (end_line Second n after ∷ [])) (sym count) run
-
--- any front of the line that ends the entry leaves the old stack or the new one
-pub end_recovers : (text x : List ℕ) (stack : List (List ℕ)) (s : Kept) (after : ℕ) (p : List ℕ) → IsOpen Second s text x stack → length x ≡ after → after ≤ MAX_LEN
-    → IsPrefix p (end_text (length stack) after) → RecoversEither (text ++ p) x stack (x ∷ stack)
-end_recovers text x stack s after p o told most front =
-    let r : Reading = record { entries = o.entries; stage = Ending Second s } in
-    let E : Reading → Type 0 = λ q. IsEnd o.entries s after q × Fine x (x ∷ stack) q in
-    let g : Goes (FineEither x stack) r p = safe_prefix (FineEither x stack) E r (end_line Second (length stack) after ∷ []) (end_fine text x stack s o after told most) p front in
-    let e : ReadsShort (text ++ p) g.reading = extends (FineEither x stack) text p r (open_is_whole Second s text x stack o) g in
-    elim (g.has) [
-      | inl f ↦ inl (recovers_by text p x stack g.reading e f)
-      | inr f ↦ inr (recovers_by text p x (x ∷ stack) g.reading e f)
-    ]
 
 pub rest_by : (es : List Entry) (text x : List ℕ) (stack : List (List ℕ)) (q : Reading) → q ≡ between es → ReadsShort text q → (split text).rest ≡ [] → Fine x stack q → IsAtRest text x stack
 rest_by es text x stack q is e w f =

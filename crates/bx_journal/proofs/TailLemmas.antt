@@ -10,14 +10,13 @@ use Rattle.bx_entries.specs.declared.read.types.StageRead.{StageRead}
 use Rattle.bx_entries.specs.declared.read.types.StageRead.TheVariants.{Between as BetweenRead, Saving as SavingRead, Ending as EndingRead}
 use Rattle.bx_entries.specs.Text.{Entry, Stage, Between, Reads, split}
 use Rattle.bx_journal.specs.Stack.{Recovers}
-use Rattle.bx_journal.specs.Phase.{IsAtRest}
 use Rattle.bx_journal.specs.inner.Step.{HasTail}
 use Rattle.bx_entries.specs.inner.Mark.{IsMark}
 use Rattle.bx_entries.specs.inner.Journal.{HasRead}
 use Rattle.bx_entries.specs.inner.Parsed.{entries_of, stage_of, reading_of, IsMarked}
 use Rattle.bx_entries.proofs.ReadLemmas.{length-entries_of}
 use Rattle.bx_journal.proofs.Sane.{read_sane}
-use Rattle.bx_journal.proofs.Tails.{tail_of, counted_stack, clean_rest, rest_none}
+use Rattle.bx_journal.proofs.Tails.{tail_of, counted_stack}
 
 -- where what is unfinished begins
 abbrev pub begins_at : {A : Type 0} → (StageRead A) → ℕ → ℕ
@@ -43,11 +42,6 @@ tail_at text bytes x stack j stage read is same rec =
 
 pub counted_at : {A : Type 0} → (text x : List ℕ) (stack : List (List ℕ)) (j : JournalRead A) (stage : Stage) (n : ℕ) → HasTail text x stack (entries_of j.entries.items) stage n → length stack ≡ suc (length j.entries.items)
 counted_at text x stack j stage n t = counted_stack text x stack (entries_of j.entries.items) stage n t ∙ ap suc (length-entries_of j.entries.items)
-
-pub clean_at : {A : Type 0} → (text bytes x : List ℕ) (stack : List (List ℕ)) (j : JournalRead A) → HasRead bytes j → j.stage ≡ BetweenRead → text ≡ bytes → Recovers text x stack → j.whole ≡ length bytes → IsAtRest text x stack
-clean_at text bytes x stack j read is same rec all =
-    let t = tail_at text bytes x stack j BetweenRead read is same rec in
-    clean_rest text x stack (entries_of j.entries.items) j.whole t (subst (λ t. (split t).rest ≡ []) (sym same) (rest_none bytes j.whole read.places.rest all))
 
 pub ending_within : {A : Type 0} → (bytes : List ℕ) (j : JournalRead A) (v : Version) (kept : Saved A) (begins saved : ℕ) → HasRead bytes j → j.stage ≡ EndingRead v kept begins saved → AllWithin kept.len (map run_of kept.runs)
 ending_within bytes j v kept begins saved read is =

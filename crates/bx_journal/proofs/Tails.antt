@@ -184,13 +184,6 @@ tail_of text x stack es stage n r reads mark =
     let all : P (record { entries = es; stage = stage }) = subst P same (r.sound, r.lengths, r.stack_is) in
     record { reads = reads; sound = all.0; lengths = all.1; stack_is = all.2; mark = mark }
 
--- nothing is unfinished
-pub clean_rest : (text x : List ℕ) (stack : List (List ℕ)) (es : List Entry) (n : ℕ) → HasTail text x stack es Between n → (split text).rest ≡ [] → IsAtRest text x stack
-clean_rest text x stack es n t whole = record {
-  stands = record { entries = es; reads = t.reads; whole = whole; lengths = t.lengths; stack_is = sym t.stack_is };
-  sound = record { short = t.sound.short; unfinished = tt; finished = t.sound.finished };
-}
-
 pub rest_none : (text : List ℕ) (n : ℕ) → drop n text ≡ (split text).rest → n ≡ length text → (split text).rest ≡ []
 rest_none text n is all = sym is ∙ ap (λ k. drop k text) all ∙ drop_of_length-le text (omega arith)
 

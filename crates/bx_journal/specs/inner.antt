@@ -3,7 +3,6 @@ pub mod Calls
 pub mod Devices
 pub mod Entries
 pub mod Fault
-pub mod Images
 pub mod Judging
 pub mod Opening
 pub mod Page

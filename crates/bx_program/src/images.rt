@@ -1,5 +1,5 @@
 //! The jobs that change an image or show its changes.
-ghost use Rattle.std.specs.Prelude.{◌≡◌, ◌≤◌, ◌^◌, IfOk};
+ghost use Rattle.std.specs.Prelude.{◌≡◌, IfOk};
 ghost use Rattle.bx_commands.specs.Command.{IsNear};
 
 use crate::files::trio;

@@ -10,6 +10,7 @@ use Rattle.std.proofs.lemmas.Bool.{eqb-true}
 use Rattle.bx_read.specs.Digits.{is_hex, pairs_of, pair_value}
 use Rattle.bx_read.proofs.GrammarLemmas.{and_true, guard_some, unmap}
 use Rattle.bx_read.specs.Line.{line_piece}
+use Rattle.bx_read.specs.Grammar.{IsLine}
 use Rattle.bx_read.proofs.PieceLemmas.{piece_of as line_gives}
 
 pub joined : (n : ℕ) (xs a b : List ℕ) → a ≡ take n xs → b ≡ drop n xs → xs ≡ a ++ b
@@ -54,7 +55,27 @@ pairs_other (c ∷ d ∷ n ∷ rest) bytes h =
     either true is e spaced whole = All-cons Other n rest (λ k. space_other (sym (eqb-true n 32 is) ∙ k)) (spaced e)
     either false is e spaced whole = whole e
 
--- a line by its parts
+-- a line by its parts, and what it gives
+abbrev pub HasParts : List ℕ → List ℕ → List ℕ → List ℕ → Type 0
+HasParts line address columns shown = line ≡ address ++ 58 ∷ 32 ∷ (columns ++ 32 ∷ 32 ∷ shown)
+
+by_parts : (line address columns shown bytes : List ℕ) (at : ℕ) → All (λ c. is_hex c ≡ true) address → length address ≡ 8 → at ≡ digits_value 16 address → at < 2 ^ 32
+    → pairs_of columns ≡ Some bytes → length bytes ≡ 16 → HasParts line address columns shown → IsLine line at columns bytes
+by_parts line address columns shown bytes at digits eight value small pairs sixteen spelled = record {
+  digits = address;
+  tail = 32 ∷ 32 ∷ shown;
+  spelled = spelled;
+  address = digits;
+  some_digits = omega arith;
+  few_digits = omega arith;
+  value = value;
+  small = omega arith;
+  pairs = pairs;
+  few_pairs = omega arith;
+  ends = inr (inr (shown, refl));
+}
+
+-- a whole line in a text
 module _ (address columns shown rest bytes : List ℕ) (at : ℕ) (digits : All (λ c. is_hex c ≡ true) address) (eight : length address ≡ 8) (value : at ≡ digits_value 16 address) (small : at < 2 ^ 32)
     (wide : length columns ≡ 39) (pairs : pairs_of columns ≡ Some bytes) (sixteen : length bytes ≡ 16) (last : length shown ≡ 16) (other : All Other shown) where
   line : List ℕ
@@ -81,37 +102,13 @@ module _ (address columns shown rest bytes : List ℕ) (at : ℕ) (digits : All 
     spelled = spelled ∙ simp append_assoc;
     long = line_long;
     whole = line_other;
-    is = record {
-      digits = address;
-      tail = 32 ∷ 32 ∷ shown;
-      spelled = refl;
-      address = digits;
-      some_digits = omega arith;
-      few_digits = omega arith;
-      value = value;
-      small = omega arith;
-      pairs = pairs;
-      few_pairs = omega arith;
-      ends = inr (inr (shown, refl));
-    };
+    is = by_parts line address columns shown bytes at digits eight value small pairs sixteen refl;
   }
 
--- what a line gives, by its parts
 pub full_gives : (line address columns shown bytes : List ℕ) (at : ℕ) → All (λ c. is_hex c ≡ true) address → length address ≡ 8 → at ≡ digits_value 16 address → at < 2 ^ 32
-    → pairs_of columns ≡ Some bytes → length bytes ≡ 16 → line ≡ address ++ 58 ∷ 32 ∷ (columns ++ 32 ∷ 32 ∷ shown) → line_piece line ≡ Some (at, bytes)
-full_gives line address columns shown bytes at digits eight value small pairs sixteen spelled = line_gives line at columns bytes (record {
-  digits = address;
-  tail = 32 ∷ 32 ∷ shown;
-  spelled = spelled;
-  address = digits;
-  some_digits = omega arith;
-  few_digits = omega arith;
-  value = value;
-  small = omega arith;
-  pairs = pairs;
-  few_pairs = omega arith;
-  ends = inr (inr (shown, refl));
-})
+    → pairs_of columns ≡ Some bytes → length bytes ≡ 16 → HasParts line address columns shown → line_piece line ≡ Some (at, bytes)
+full_gives line address columns shown bytes at digits eight value small pairs sixteen spelled =
+    line_gives line at columns bytes (by_parts line address columns shown bytes at digits eight value small pairs sixteen spelled)
 
 pub in_parts : (text address colon columns gap shown r1 r2 r3 : List ℕ) → text ≡ address ++ r1 → r1 ≡ colon ++ r2 → r2 ≡ columns ++ r3 → r3 ≡ gap ++ shown →
     colon ≡ 58 ∷ 32 ∷ [] → gap ≡ 32 ∷ 32 ∷ [] → text ≡ address ++ 58 ∷ 32 ∷ (columns ++ 32 ∷ 32 ∷ shown)

@@ -1,7 +1,6 @@
 -- What is read of a line is what the grammar gives.
 use Rattle.std.proofs.Common.{◌≡◌, ℕ, suc, ◌+◌, ◌^◌, ◌<◌, ◌≤◌, Bool, true, false, ◌&&◌, ◌||◌, not, cond, eqb, ltb, leb, Option, None, Some, Result, Ok, Err, List, [], ◌∷◌, ◌++◌, length, get_or, take, drop, refl, arith, sym, ap, subst, ◌∙◌, inl, inr, ⊎_elim}
 use Rattle.std.specs.Option.{option_map}
-use Rattle.std.specs.Result.{MatchResult, IsOkAnd}
 use Rattle.std.specs.Str.Parse.{digits_value}
 use Rattle.std.specs.List.{prefix_len}
 use Rattle.std.proofs.lemmas.List.{get_or_past, take-append-drop, drop_more, get_or-take, length-take-le, get_or_at, take_at, length-append, get_or_append_left}
@@ -234,11 +233,3 @@ read_line-only line text at hex bytes is =
     let some : eqb n 0 ≡ false = ne_eqb n 0 (λ h. absurd (omega (arith, is.some_digits))) in
     let few : ltb 16 n ≡ false = le-ltb 16 n is.few_digits in
     rw (is.spelled, count, some, few, colon, front, after, ← is.value) (data_read-only line at hex is.tail bytes is.pairs is.ends is.few_pairs is.small)
-
--- what reads as a value is that value
-pub only_value : {X : Type 0} (f : X → ℕ) (g : X → List ℕ) (read : Result (ℕ × List ℕ) ReadFault) (r : Result X ReadFault) (a : ℕ) (h : List ℕ) →
-    MatchResult r (λ l. read ≡ Ok (f l, g l)) (λ e. read ≡ Err e) → read ≡ Ok (a, h) → IsOkAnd r (λ l. (f l ≡ a) × (g l ≡ h))
-only_value f g read (Ok l) a h is e =
-    let same = ok_same (f l, g l) (a, h) (sym is ∙ e) in
-    (ap (λ p. p.0) same, ap (λ p. p.1) same)
-only_value f g read (Err d) a h is e = cc

@@ -20,20 +20,20 @@ use Rattle.bx_read.specs.inner.Lanes.{group_places}
 abbrev pub value : ℕ → ℕ
 value c = cond (is_hex c) (digit_value c) 255
 
-abbrev less : ℕ → ℕ → ℕ
+abbrev pub less : ℕ → ℕ → ℕ
 less a b = (a + (2 ^ 8 - b)) % 2 ^ 8
 
-abbrev plus : ℕ → ℕ → ℕ
+abbrev pub plus : ℕ → ℕ → ℕ
 plus a b = (a + b) % 2 ^ 8
 
-abbrev under : ℕ → ℕ → ℕ
+abbrev pub under : ℕ → ℕ → ℕ
 under a b = cond (leb a b) 255 0
 
-abbrev over : ℕ → ℕ → ℕ
+abbrev pub over : ℕ → ℕ → ℕ
 over a b = cond (ltb a b) 255 0
 
 -- what the operations on lanes make of n bytes
-abbrev digit_lanes : List ℕ → ℕ → List ℕ
+abbrev pub digit_lanes : List ℕ → ℕ → List ℕ
 digit_lanes v n = zip2 less v (replicate n 48)
 
 abbrev letter_lanes : List ℕ → ℕ → List ℕ
@@ -69,10 +69,10 @@ are_small v long none k inside =
     ltb-false 15 (get_or v k 0) not_over
 
 -- two digits as one byte
-abbrev joined : ℕ → ℕ → ℕ
+abbrev pub joined : ℕ → ℕ → ℕ
 joined high low = (high * 16 % 256 + low) % 256
 
-abbrev joined_all : List ℕ → List ℕ
+abbrev pub joined_all : List ℕ → List ℕ
 joined_all [] = []
 joined_all (high ∷ []) = []
 joined_all (high ∷ low ∷ rest) = joined high low ∷ joined_all rest

@@ -1,5 +1,5 @@
 -- The runs of a dump.
-use Rattle.std.proofs.Common.{◌≡◌, ℕ, suc, ◌+◌, ◌<◌, ◌≤◌, Bool, true, false, cond, eqb, Some, None, Option, Result, Ok, Err, List, [], ◌∷◌, ◌++◌, length, refl, arith, sym, ap, subst, ◌∙◌, append_assoc, append-nil}
+use Rattle.std.proofs.Common.{◌≡◌, ℕ, suc, ◌+◌, ◌<◌, ◌≤◌, Bool, true, false, cond, eqb, Some, None, Option, Result, Ok, Err, List, [], ◌∷◌, ◌++◌, length, refl, arith, sym, ap, subst, ◌∙◌, append_assoc}
 use Rattle.std.specs.Prelude.{◌^◌}
 use Rattle.std.specs.List.{All}
 use Rattle.std.proofs.lemmas.Bool.{eqb-true, eq-eqb}
@@ -43,15 +43,6 @@ pub parts : (at next : ℕ) (x y : List ℕ) (r : Result Pieces ReadFault) → e
     joined_of (piece_then (at, x) (piece_then (next, y) r)) ≡ piece_then (at, x) (joined_of (piece_then (next, y) r))
 parts at next x y (Ok pieces) e = ap Ok (apart at next x y (joined pieces) e)
 parts at next x y (Err fault) e = refl
-
--- A fault behind a piece is the fault of the whole.
-pub fault_back : (p q : ℕ × List ℕ) (r : Result Pieces ReadFault) (e : ReadFault) → joined_of (piece_then p r) ≡ joined_of (piece_then q (Err e)) → r ≡ Err e
-fault_back p q (Ok pieces) e h = cc
-fault_back p q (Err f) e h = cc
-
-pub fault_of_whole : (whole : Result Pieces ReadFault) (front : Pieces) (e : ReadFault) → joined_of whole ≡ after front (Err e) → whole ≡ Err e
-fault_of_whole (Ok pieces) front e h = cc
-fault_of_whole (Err f) front e h = cc
 
 pub next_gives : (old new : List (Result ReadLine ReadFault)) (o : Option DumpLine) → IsNextLine old new o → gathered old ≡ taken_then o new
 next_gives old new None is = ap gathered is
@@ -122,14 +113,6 @@ grow_stops at x old new line is goes =
     ap (λ r. joined_of (piece_then (at, x) r)) (next_gives old new (Some line) is)
     ∙ parts at (piece_of line).0 x (piece_of line).1 (gathered new) goes
 
--- so does the text's end
-pub grow_ends : (at : ℕ) (x : List ℕ) (old new : List (Result ReadLine ReadFault)) → IsNextLine old new None →
-    joined_of (piece_then (at, x) (gathered old)) ≡ piece_then (at, x) (joined_of (taken_then None new))
-grow_ends at x old new is = ap (λ r. joined_of (piece_then (at, x) r)) (next_gives old new None is)
-
-pub grow_fault : (p q : ℕ × List ℕ) (first r : Result Pieces ReadFault) (e : ReadFault) → joined_of (piece_then p first) ≡ joined_of (piece_then q r) → r ≡ Err e → first ≡ Err e
-grow_fault p q first r e inv is = fault_back p q first e (inv ∙ ap (λ r. joined_of (piece_then q r)) is)
-
 after_none : (r : Result Pieces ReadFault) → r ≡ after [] r
 after_none (Ok pieces) = refl
 after_none (Err e) = refl
@@ -148,15 +131,6 @@ pub one_run : {A : Type 0} (whole : Result Pieces ReadFault) (olds news : List (
     whole ≡ after (contents news) (joined_of (taken_then o new))
 one_run whole olds news run old new first o inv step pushed =
     inv ∙ ap (after (contents olds)) step ∙ run_more olds news run (joined_of (taken_then o new)) pushed
-
-pub run_fault : (whole : Result Pieces ReadFault) (front : Pieces) (old : List (Result ReadLine ReadFault)) (first : DumpLine) (e : ReadFault) →
-    joined_of whole ≡ after front (joined_of (taken_then (Some first) old)) → gathered old ≡ Err e → whole ≡ Err e
-run_fault whole front old first e inv is =
-    fault_of_whole whole front e (inv ∙ ap (λ r. after front (joined_of (piece_then (piece_of first) r))) is)
-
-pub runs_end : (whole : Result Pieces ReadFault) (front : Pieces) (o : Option DumpLine) (later : List (Result ReadLine ReadFault)) → o ≡ None →
-    whole ≡ after front (joined_of (taken_then o later)) → whole ≡ Ok front
-runs_end whole front o later none inv = inv ∙ rw none (ap Ok (append-nil front))
 
 -- what a test said of places that are known
 pub test_is : (told answer : Bool) (next at count place len : ℕ) → told ≡ eqb next (at + count) → told ≡ answer → next ≡ place → count ≡ len → eqb place (at + len) ≡ answer

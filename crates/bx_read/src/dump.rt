@@ -1,6 +1,6 @@
 //! Whole dumps.
-ghost use Rattle.std.specs.Prelude.{◌≡◌, ◌⊎◌, ◌*◌, ◌^◌, ◌<◌, ◌≤◌, ◌∷◌, ℕ, List, Result, length, Some, Ok, Err, MatchResult, IfOk, All, sum_by};
-ghost use Rattle.bx_read.specs.Text.{ReadLine, lines_of, dump_pieces, contents};
+ghost use Rattle.std.specs.Prelude.{◌≡◌, ◌⊎◌, ◌*◌, ◌^◌, ◌<◌, ◌≤◌, ℕ, Result, length, Some, Ok, Err, MatchResult, IfOk, All, sum_by};
+ghost use Rattle.bx_read.specs.Text.{lines_of, dump_pieces, contents};
 ghost use Rattle.bx_read.specs.Lines.{coming};
 ghost use Rattle.bx_read.specs.inner.Next.{IsNextPiece, IsNextFault};
 ghost use Rattle.bx_read.specs.declared.fault.ReadFault.{ReadFault};

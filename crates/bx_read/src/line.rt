@@ -1,5 +1,5 @@
 //! One line of a dump.
-ghost use Rattle.std.specs.Prelude.{◌≡◌, ◌+◌, ◌^◌, ◌<◌, ◌≤◌, ◌&&◌, if◌then◌else◌, length, take, drop, slice_index, Some, None, Ok, Err, IsTrue, IfOk, IfErr, IfSome, IfNone, MatchResult, List, ℕ, nat_le, false};
+ghost use Rattle.std.specs.Prelude.{◌≡◌, ◌+◌, ◌<◌, ◌≤◌, ◌&&◌, length, take, drop, slice_index, Some, None, Ok, Err, IsTrue, IfOk, MatchResult, ℕ, nat_le, false};
 ghost use Rattle.std.specs.Option.{option_map, option_map_or};
 ghost use Rattle.bx_read.specs.Digits.{is_hex, pair_value, pairs_of, data_of};
 ghost use Rattle.bx_read.specs.inner.Digits.{pair_count, few_pairs};

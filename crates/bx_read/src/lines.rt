@@ -1,5 +1,5 @@
 //! The lines of a dump, one after another.
-ghost use Rattle.std.specs.Prelude.{◌≡◌, ◌+◌, ◌^◌, ◌<◌, ◌≤◌, ◌∷◌, [], ℕ, List, length, MatchOption, MatchResult, IfErr, IfOk, IfSome, IfNone, Some, None, Ok, Err};
+ghost use Rattle.std.specs.Prelude.{◌≡◌, ◌+◌, ◌^◌, ◌<◌, ◌≤◌, ◌∷◌, [], ℕ, List, length, MatchResult, IfErr, IfOk, IfSome, IfNone, Some, None, Ok, Err};
 ghost use Rattle.bx_read.specs.Text.{lines_of, is_skipped, answers};
 
 use crate::fault::ReadFault;

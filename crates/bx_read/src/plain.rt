@@ -1,5 +1,5 @@
 //! Plain hexadecimal.
-ghost use Rattle.std.specs.Prelude.{◌≡◌, ◌⊎◌, ℕ, ◌+◌, ◌*◌, ◌/◌, ◌<◌, ◌≤◌, List, length, take, Some, None, Ok, Err, MatchResult, MatchOption, IfOk, IfSome};
+ghost use Rattle.std.specs.Prelude.{◌≡◌, ◌⊎◌, ℕ, ◌+◌, ◌*◌, ◌/◌, ◌<◌, ◌≤◌, length, take, Some, None, Ok, Err, MatchResult, MatchOption, IfOk, IfSome};
 ghost use Rattle.std.specs.List.{prefix_len};
 ghost use Rattle.bx_read.specs.Plain.{is_space, bad_line, digit_line, plain_answer};
 ghost use Rattle.bx_read.specs.inner.Plain.{plain_bytes, plain_fault};

@@ -1,8 +1,7 @@
 //! A text in a file.
-ghost use Rattle.std.specs.Prelude.{◌≡◌, ◌↔◌, ◌+◌, ◌^◌, ◌-◌, ◌<◌, ◌≤◌, ◌++◌, length, take, drop, vec_len, IfOk, OnOk, OnErr, IsOk, false, if◌then◌else◌};
-ghost use Rattle.bx_image.specs.File.{IsCutOnTheWay};
+ghost use Rattle.std.specs.Prelude.{◌≡◌, ◌↔◌, ◌+◌, ◌^◌, ◌-◌, ◌<◌, ◌≤◌, ◌++◌, length, take, drop, vec_len, IfOk, OnOk, OnErr, IsOk, false};
 ghost use Rattle.bx_image.specs.Device.{GoesOn};
-ghost use Rattle.bx_store.specs.Store.{IsPartlyAppended, has_failed};
+ghost use Rattle.bx_store.specs.Store.{IsPartlyAppended};
 
 use crate::{DeviceFailed, MOST, NoMemory, TextFault, TextStore};
 use bx_image::{RandomAccess, SystemFile, counted, read_full, resize_to, size_of, write_full};

@@ -15,12 +15,6 @@ use Rattle.bx_text.specs.inner.Number.{factors_of}
 use Rattle.bx_text.specs.inner.Capped.{capped, capped_value}
 use Rattle.bx_text.specs.declared.number.size.SizeStyle.TheVariants.{Product}
 
-min_low : (a m : ℕ) → a ≤ m → min a m ≡ a
-min_low a m le = omega arith
-
-min_high : (a m : ℕ) → m ≤ a → min a m ≡ m
-min_high a m le = omega arith
-
 -- one digit more
 pub cap_digit : (v b d m : ℕ) → 1 ≤ b → min (min (min v m * b) m + d) m ≡ min (v * b + d) m
 cap_digit v b d m pos = ⊎_elim small large (cases_lt m v)

@@ -1,5 +1,5 @@
 //! One block of the input.
-ghost use Rattle.std.specs.Prelude.{◌≡◌, ℕ, ◌+◌, ◌-◌, ◌<◌, ◌≤◌, List, ◌++◌, length, map, replicate, OnOk, IfOk, OnErr, if◌then◌else◌};
+ghost use Rattle.std.specs.Prelude.{◌≡◌, ℕ, ◌+◌, ◌-◌, ◌<◌, ◌≤◌, List, ◌++◌, map, replicate, OnOk, IfOk, if◌then◌else◌};
 ghost use Rattle.bx_dd.specs.Output.{cased, filler, swapped};
 ghost use Rattle.bx_dd.specs.inner.Output.{block_of};
 

@@ -1,5 +1,5 @@
 //! Records of a stream.
-ghost use Rattle.std.specs.Prelude.{◌≡◌, ◌≢◌, ℕ, ◌+◌, ◌-◌, ◌*◌, ◌^◌, ◌<◌, ◌≤◌, List, [], ◌∷◌, ◌++◌, length, take, vec_capacity, Option, IfOk, IfErr, OnOk, Bool, false, slice_index};
+ghost use Rattle.std.specs.Prelude.{◌≡◌, ◌≢◌, ℕ, ◌+◌, ◌-◌, ◌^◌, ◌<◌, ◌≤◌, [], ◌∷◌, ◌++◌, length, take, vec_capacity, IfOk, OnOk, false};
 ghost use Rattle.bx_dd.specs.inner.Output.{fitted, line_of};
 ghost use Rattle.bx_dd.specs.inner.Standing.{HoldsText, last_of};
 ghost use Rattle.bx_dd.specs.inner.Paged.{EndsRecord, Pushes, PushesPieces, Puts, StopsPieces, StopsPush, StopsPut};

@@ -1,5 +1,5 @@
 //! Blocks converted where they were read.
-ghost use Rattle.std.specs.Prelude.{◌≡◌, ◌≢◌, ℕ, ◌+◌, ◌-◌, ◌%◌, ◌<◌, ◌≤◌, List, [], ◌++◌, length, take, drop, replicate, ◌||◌};
+ghost use Rattle.std.specs.Prelude.{◌≡◌, ◌≢◌, ℕ, ◌+◌, ◌-◌, ◌%◌, ◌<◌, ◌≤◌, ◌++◌, length, take, drop, replicate, ◌||◌};
 ghost use Rattle.bx_dd.specs.Output.{joined};
 ghost use Rattle.bx_dd.specs.inner.Standing.{HasSizes};
 ghost use Rattle.bx_dd.specs.inner.Streaming.{unit_of};

@@ -1,5 +1,5 @@
 //! Dumps of whole inputs, a page at a time.
-ghost use Rattle.std.specs.Prelude.{◌≡◌, ℕ, zero, suc, ◌+◌, ◌*◌, ◌/◌, ◌^◌, ◌<◌, ◌≤◌, Bool, true, false, List, [], ◌++◌, length, take, IsTrue, if◌then◌else◌};
+ghost use Rattle.std.specs.Prelude.{◌≡◌, ℕ, ◌+◌, ◌*◌, ◌/◌, ◌^◌, ◌<◌, ◌≤◌, List, [], length, take};
 ghost use Rattle.bx_text.specs.Fold.{folded};
 ghost use Rattle.bx_text.specs.inner.Fold.{line_count, IsTaken};
 ghost use Rattle.bx_dump.specs.inner.Folded.{PutsLines, PutsNext, ShowsNext, TakesLines, TakesNext};

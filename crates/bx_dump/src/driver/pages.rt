@@ -1,5 +1,5 @@
 //! Dumps of inputs, a page of text at a time.
-ghost use Rattle.std.specs.Prelude.{◌≡◌, ℕ, ◌+◌, ◌-◌, ◌*◌, ◌^◌, ◌<◌, ◌≤◌, true, List, [], ◌++◌, length, take, Option, IfOk, IfErr, IfSome, Some};
+ghost use Rattle.std.specs.Prelude.{◌≡◌, ℕ, ◌+◌, ◌-◌, ◌^◌, ◌<◌, ◌≤◌, true, List, [], ◌++◌, length, take, Option, IfOk, IfErr, IfSome, Some};
 ghost use Rattle.bx_dump.specs.inner.Pages.{Skips, StopsAt, StopsOn, StopsPart, WritesOn, WritesTextOf};
 
 use bx_text::{IoFault, Meter, State, emit_after};

@@ -1,5 +1,5 @@
 //! What stands for each byte.
-ghost use Rattle.std.specs.Prelude.{◌≡◌, false, ◌∷◌, [], length};
+ghost use Rattle.std.specs.Prelude.{◌≡◌, false, ◌∷◌};
 ghost use Rattle.std.specs.Fmt.{digits};
 ghost use Rattle.bx_text.specs.Field.{left_filled};
 ghost use Rattle.bx_dump.specs.Od.{char_text};

@@ -1,5 +1,5 @@
 //! Numbers in fields of a fixed width.
-ghost use Rattle.std.specs.Prelude.{◌≡◌, false, ◌&&◌, nat_le, if◌then◌else◌, ℕ, ◌+◌, ◌-◌, ◌*◌, ◌^◌, ◌<◌, ◌≤◌, List, [], ◌∷◌, ◌++◌, length, take, IfSome, None};
+ghost use Rattle.std.specs.Prelude.{◌≡◌, false, if◌then◌else◌, ℕ, ◌+◌, ◌-◌, ◌*◌, ◌^◌, ◌<◌, ◌≤◌, [], ◌∷◌, ◌++◌, length, take};
 ghost use Rattle.std.specs.Fmt.{digits};
 ghost use Rattle.bx_text.specs.Field.{left_filled};
 ghost use Rattle.bx_dump.specs.inner.Od.{size_of, number_text, number_width};

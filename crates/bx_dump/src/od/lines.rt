@@ -1,8 +1,6 @@
 //! od's lines.
-ghost use Rattle.std.specs.Prelude.{◌≡◌, ℕ, ◌+◌, ◌-◌, ◌*◌, ◌^◌, ◌<◌, ◌≤◌, ◌++◌, List, length, take, codes};
-ghost use Rattle.bx_dump.specs.Lines.{in_lines};
-ghost use Rattle.bx_dump.specs.Od.{address_text, od_line, od_end, width_of};
-ghost use Rattle.bx_dump.specs.inner.Od.{value_text};
+ghost use Rattle.std.specs.Prelude.{◌≡◌, ℕ, ◌+◌, ◌-◌, ◌^◌, ◌<◌, ◌≤◌, length, take};
+ghost use Rattle.bx_dump.specs.Od.{address_text, od_line, od_end};
 
 use crate::driver::folded::Form;
 use crate::od::octal::{put_eight, put_nine, put_seven};

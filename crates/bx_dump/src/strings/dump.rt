@@ -1,5 +1,5 @@
 //! The printable runs of an input.
-ghost use Rattle.std.specs.Prelude.{◌≡◌, ℕ, ◌+◌, ◌-◌, ◌*◌, ◌^◌, ◌<◌, ◌≤◌, [], List, ◌++◌, length, take, drop, not, IfOk, IfErr};
+ghost use Rattle.std.specs.Prelude.{◌≡◌, ℕ, ◌+◌, ◌-◌, ◌*◌, ◌^◌, ◌<◌, ◌≤◌, [], List, ◌++◌, length, take, not, IfOk, IfErr};
 ghost use Rattle.std.specs.List.{prefix_len};
 ghost use Rattle.bx_dump.specs.inner.Runs.{Keeps, Scans, StopsScan, known_text, waiting};
 ghost use Rattle.bx_dump.specs.inner.Scan.{scan_run, cost_of, end_text, AllPrint, EndsQuiet, IsQuiet};

@@ -1,7 +1,6 @@
 //! Lines of xxd with columns.
-ghost use Rattle.std.specs.Prelude.{◌≡◌, ℕ, ◌+◌, ◌-◌, ◌*◌, ◌/◌, ◌^◌, ◌<◌, ◌≤◌, List, length, take};
+ghost use Rattle.std.specs.Prelude.{◌≡◌, ℕ, ◌+◌, ◌-◌, ◌*◌, ◌/◌, ◌^◌, ◌<◌, ◌≤◌, length, take};
 ghost use Rattle.std.specs.List.{flat_map};
-ghost use Rattle.bx_dump.specs.Lines.{in_lines};
 ghost use Rattle.bx_dump.specs.inner.Xxd.{cell_of, cell_width, columns_line, columns_width, lines_of};
 
 use crate::xxd::cells::{put_at, put_bits, put_body, put_pairs};

@@ -1,5 +1,5 @@
 //! xxd's dump.
-ghost use Rattle.std.specs.Prelude.{◌≡◌, ◌+◌, ◌*◌, ◌^◌, ◌<◌, ◌≤◌, length, IfOk, IfErr};
+ghost use Rattle.std.specs.Prelude.{◌≡◌, ◌+◌, ◌^◌, ◌<◌, ◌≤◌, length, IfOk, IfErr};
 ghost use Rattle.bx_dump.specs.Pages.{WritesAll, WritesFrontOf};
 ghost use Rattle.bx_dump.specs.Styles.{group_of, include_items, xxd_of, IsCountable};
 ghost use Rattle.bx_dump.specs.inner.Styles.{columns_text, named_text, plain_text};

@@ -32,10 +32,3 @@ pub record IsBehind (text : List ℕ) (older : List Entry) (front : Front) (byte
 pub record HasRead {A : Type 0} (text : List ℕ) (j : JournalRead A) : Type 0 where
   pub reads : Reads text (reading_of j.entries.items j.stage)
   pub places : HasPlaces text [] j
-
--- the journal of a text of this length was read: the store's, where that is honest
-pub record IsReadIn {A : Type 0} (honest : Type 0) (stored : List ℕ) (len : ℕ) (j : JournalRead A) : Type 0 where
-  pub text : List ℕ
-  pub is : honest → stored ≡ text
-  pub long : len ≡ length text
-  pub read : HasRead text j

@@ -1,9 +1,8 @@
 //! What may stand behind the last newline.
-ghost use Rattle.std.specs.Prelude.{◌≡◌, ◌↔◌, ◌+◌, ◌<◌, ◌≤◌, List, ℕ, suc, length, IsTrue, []};
+ghost use Rattle.std.specs.Prelude.{◌≡◌, ◌↔◌, ◌<◌, ◌≤◌, List, ℕ, suc, length, IsTrue};
 ghost use Rattle.bx_entries.specs.inner.Front.{IsNumberFront, IsStartFront};
 ghost use Rattle.std.specs.Prelude.{◌^◌};
 ghost use Rattle.bx_entries.specs.Line.{digits_of, start_line as start_words};
-ghost use Rattle.bx_text.specs.Ascii.{is_printable};
 ghost use Rattle.bx_entries.specs.Text.{Between as Resting, Saving as Keeping, Ending as Closing, Entry, IsPrefix, IsRest, is_short as short};
 ghost use Rattle.bx_entries.specs.Parsed.{told_by};
 ghost use Rattle.bx_entries.specs.inner.Parsed.{stage_of};

@@ -1,6 +1,6 @@
 //! All of a journal's text.
 ghost use Rattle.std.specs.Prelude.{List, ℕ, IfOk, IfErr};
-ghost use Rattle.bx_entries.specs.Text.{Entry, Reads, split};
+ghost use Rattle.bx_entries.specs.Text.{Entry, Reads};
 ghost use Rattle.bx_entries.specs.inner.Parsed.{reading_of};
 
 use crate::format::newline::line_end;

@@ -1,5 +1,5 @@
 //! A device that fails on purpose, for tests.
-ghost use Rattle.std.specs.Prelude.{◌≡◌, ◌↔◌, ◌+◌, ◌-◌, ◌/◌, ◌<◌, ◌≤◌, List, ℕ, length, min, max, is_err, if◌then◌else◌, nat_lt, OnOk, take};
+ghost use Rattle.std.specs.Prelude.{◌≡◌, ◌↔◌, ◌+◌, ◌-◌, ◌/◌, ◌<◌, ◌≤◌, ℕ, length, min, max, is_err, if◌then◌else◌, OnOk, take};
 ghost use Rattle.bx_image.specs.Device.{GoesOn, IsPartlyWritten, IsPartlyCut};
 ghost use Rattle.bx_image.specs.Fuse.{is_blown, after_call};
 ghost use Rattle.bx_image.specs.inner.Fuse.{part_of, reached};

@@ -1,6 +1,6 @@
 //! An image in pages of 4,096 bytes.
-ghost use Rattle.std.specs.Prelude.{◌≡◌, ◌≢◌, ◌+◌, ◌*◌, ◌-◌, ◌<◌, ◌≤◌, ℕ, [], ◌^◌, ◌++◌, length, take, drop, replicate, slice_index, slice_index_or, vec_len, max, ◌%◌, OnOk, OnErr, IfOk, IsOk};
-ghost use Rattle.bx_image.specs.Image.{image_of, place, cut};
+ghost use Rattle.std.specs.Prelude.{◌≡◌, ◌≢◌, ◌+◌, ◌*◌, ◌-◌, ◌<◌, ◌≤◌, ℕ, [], ◌^◌, length, take, drop, replicate, slice_index, slice_index_or, vec_len, max, ◌%◌, OnOk, IfOk, IsOk};
+ghost use Rattle.bx_image.specs.Image.{image_of};
 ghost use Rattle.bx_image.specs.Pages.{byte_at, image_within};
 ghost use Rattle.bx_image.specs.inner.Pages.{IsWrittenOver, IsCleared, written_over};
 

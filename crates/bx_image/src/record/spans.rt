@@ -1,5 +1,5 @@
 //! The addresses that a change touches, as ranges by rising address.
-ghost use Rattle.std.specs.Prelude.{◌≡◌, ◌<◌, ◌≤◌, ◌+◌, ◌&&◌, ◌||◌, ℕ, List, min, nat_le, nat_lt, length, unwrap_or, IfOk, OnOk};
+ghost use Rattle.std.specs.Prelude.{◌≡◌, ◌<◌, ◌+◌, ◌&&◌, ◌||◌, ℕ, min, nat_lt, length, unwrap_or, IfOk, OnOk};
 ghost use Rattle.std.specs.List.Sorted.{IsPermutation, IsNonDecreasingBy};
 ghost use Rattle.bx_image.specs.inner.Change.{is_cut_off, is_covered};
 ghost use Rattle.bx_image.specs.inner.Spans.{are_over, with_span, LieWithin, AreApart};

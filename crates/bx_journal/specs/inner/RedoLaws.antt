@@ -15,7 +15,6 @@ use Rattle.bx_entries.specs.Text.{Entry}
 use Rattle.bx_entries.specs.Finished.{IsFinished}
 use Rattle.bx_entries.specs.declared.format.version.Version.{Version}
 use Rattle.bx_store.specs.Store.{IsPartlyCut, IsPartlyAppended}
-use Rattle.bx_journal.specs.Images.{Images, undone_by, redone_by, undo_of, redo_of}
 use Rattle.bx_journal.specs.Redo.{IsRedoOf, Finds}
 use Rattle.bx_journal.specs.inner.Redo.{RecoversOpen, Side, LeavesEither}
 
@@ -66,12 +65,3 @@ PushedByUndo A = (c : Change A) (text new x y : List ℕ) (changes : ℕ) (undon
     → RestoresKept c entry e.saved → IsOf (saved c x) x → length x ≤ MAX_LEN → e.saved.len ≤ MAX_LEN → y ≡ restore e.saved x
     → new ≡ text ++ entry_text (suc (length undone)) (kept_of (saved c x)) e.saved.len
     → IsRedoOf new y changes (x ∷ undone)
-
--- so many and one more
-pub record OneMoreImage : Type 0 where
-  pub undo : (k : ℕ) (s : Images) → undo_of (suc k) s ≡ undo_of 1 (undo_of k s)
-  pub redo : (j : ℕ) (s : Images) → redo_of (suc j) s ≡ redo_of 1 (redo_of j s)
-  pub undone : (k : ℕ) (stack u : List (List ℕ)) → length (undone_by k stack u) ≤ k + length u
-  pub redone : (j : ℕ) (u stack : List (List ℕ)) → j ≤ length u → length (redone_by j u stack) ≡ j + length stack
-  pub back : (x : List ℕ) (stack u : List (List ℕ)) → length x ≤ MAX_LEN
-      → redo_of 1 (undo_of 1 (record { stack = x ∷ stack; undone = u })) ≡ record { stack = x ∷ stack; undone = u }

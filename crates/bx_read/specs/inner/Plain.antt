@@ -1,5 +1,5 @@
 -- What proofs alone need: the parts of reading plain hexadecimal.
-use Rattle.std.specs.Prelude.{ℕ, ◌+◌, ◌==◌, not, if◌then◌else◌, List, filter, Option, Result, ok_or}
+use Rattle.std.specs.Prelude.{ℕ, not, List, filter, Option, Result, ok_or}
 use Rattle.std.specs.Option.{option_map_or}
 use Rattle.bx_read.specs.declared.fault.ReadFault.{ReadFault}
 use Rattle.bx_read.specs.declared.fault.ReadFault.TheVariants.{BadPair, OddDigits}
@@ -12,10 +12,6 @@ without_space text = filter (λ c. not (is_space c)) text
 -- The bytes of a plain text.
 abbrev pub plain_bytes : List ℕ → Option (List ℕ)
 plain_bytes text = hex_bytes (without_space text)
-
--- the line after this byte on line n
-abbrev pub line_after : ℕ → ℕ → ℕ
-line_after n c = if c == 10 then n + 1 else n
 
 -- what is at fault in a text that isn't plain hexadecimal
 abbrev pub plain_fault : List ℕ → Option ℕ → ReadFault

@@ -1,9 +1,8 @@
 //! How numbers are read.
-ghost use Rattle.std.specs.Prelude.{◌≡◌, ℕ, ◌+◌, ◌-◌, ◌*◌, ◌^◌, ◌<◌, ◌≤◌, ◌∷◌, List, length, take, drop, min, Some, None, All, IsTrue};
-ghost use Rattle.std.specs.Char.{digit_value, is_digit};
-ghost use Rattle.std.specs.Option.{option_map};
+ghost use Rattle.std.specs.Prelude.{◌≡◌, ℕ, ◌+◌, ◌-◌, ◌*◌, ◌^◌, ◌<◌, ◌≤◌, length, Some, None};
+ghost use Rattle.std.specs.Char.{digit_value};
 ghost use Rattle.std.specs.Str.Parse.{digits_value};
-ghost use Rattle.bx_text.specs.Number.{digit_count, hex_number, units_of, with_suffix, some_digits, prefixed, size_value, product_of, greatest, read_size};
+ghost use Rattle.bx_text.specs.Number.{digit_count, hex_number, units_of, with_suffix, some_digits, prefixed, product_of, greatest, read_size};
 ghost use Rattle.bx_text.specs.inner.Number.{factors_of};
 ghost use Rattle.bx_text.specs.inner.Capped.{capped, capped_value};
 

@@ -1,5 +1,5 @@
 //! Bytes that are owned.
-ghost use Rattle.std.specs.Prelude.{◌≡◌, ◌<◌, List, ℕ, length, slice_set};
+ghost use Rattle.std.specs.Prelude.{◌≡◌, ◌<◌, List, ℕ};
 ghost use Rattle.std.specs.Borrow.{sem, Lends, Array, u8 as byte};
 ghost use Rattle.bx_text.specs.Lending.{overwritten};
 ghost use Rattle.bx_text.specs.contracts.owned.bytes.Bytes.{the_row};

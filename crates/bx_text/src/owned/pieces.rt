@@ -1,5 +1,5 @@
 //! Bytes with places.
-ghost use Rattle.std.specs.Prelude.{◌≡◌, ◌<◌, List, ℕ, length};
+ghost use Rattle.std.specs.Prelude.{◌≡◌, ◌<◌, List, ℕ};
 ghost use Rattle.std.specs.Borrow.{sem, Lends, Array};
 ghost use Rattle.bx_text.specs.Lending.{overwritten};
 ghost use Rattle.bx_text.specs.contracts.owned.pieces.Pieces.{the_row};

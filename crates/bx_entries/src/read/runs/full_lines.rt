@@ -1,5 +1,5 @@
 //! Full saved lines that go on with a run, as most lines of most entries do.
-ghost use Rattle.std.specs.Prelude.{◌≡◌, ◌+◌, List, IfOk, IfSome};
+ghost use Rattle.std.specs.Prelude.{◌+◌, List, IfOk, IfSome};
 ghost use Rattle.bx_entries.specs.Kept.{Run};
 ghost use Rattle.bx_entries.specs.inner.Followed.{IsFullSaved, GoesOnBy, with_last};
 

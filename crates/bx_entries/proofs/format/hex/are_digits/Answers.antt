@@ -1,5 +1,5 @@
 use Rattle.std.proofs.lemmas.Bool.{eqb-true}
-use Rattle.bx_entries.proofs.DigitLanes.{are_small}
+use Rattle.bx_read.proofs.LaneLemmas.{are_small}
 use Rattle.bx_entries.proofs.format.hex.are_digits.Goals as goal
 
 pub returns : goal.returns

@@ -1,4 +1,4 @@
-use Rattle.std.proofs.Common.{◌≡◌, ℕ, suc, ◌+◌, ◌*◌, ◌<◌, ◌≤◌, List, length, take, drop, Some, refl, ap, sym, ◌∙◌, subst, arith, true, false, length-drop}
+use Rattle.std.proofs.Common.{◌≡◌, ℕ, suc, ◌+◌, ◌*◌, ◌<◌, ◌≤◌, List, length, take, drop, Some, ap, sym, ◌∙◌, subst, arith, true, false, length-drop}
 use Rattle.bx_entries.specs.Text.{Entry}
 use Rattle.bx_entries.specs.inner.Journal.{IsBehind}
 use Rattle.bx_entries.specs.inner.Plain.{HasNoNewline}

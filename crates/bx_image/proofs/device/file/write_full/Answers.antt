@@ -1,6 +1,7 @@
 use Rattle.std.proofs.Common.{arith, sym}
 use Rattle.std.proofs.lemmas.Grind.{common_steps}
-use Rattle.bx_image.proofs.Files.{placed_on, IsFrontPlaced_on, OnErr_always}
+use Rattle.bx_image.proofs.Files.{placed_on, IsFrontPlaced_on}
+use Rattle.bx_image.proofs.Changes.{OnErr-known}
 use Rattle.bx_image.proofs.Edits.{place_none}
 use Rattle.bx_image.proofs.device.file.write_full.Goals as goal
 
@@ -10,7 +11,7 @@ loop-done-init g c = record { within = omega arith; content = λ honest. sym (pl
 pub returns-in_err-done-clause-failed : goal.returns-in_err-done-clause-failed
 returns-in_err-done-clause-failed g c honest =
     let before = c.loop-done.invariant in
-    OnErr_always c.from_residual.result _
+    OnErr-known c.from_residual.result
     (IsFrontPlaced_on (g.F.RandomAccess.content c.args.file.now) c.args.bytes.now c.args.at c.loop-done.done _ _ before.within (before.content honest) (c.in_err-done.ensures.failed (before.honesty.1 honest)))
 
 pub loop-done-preserved : goal.loop-done-preserved

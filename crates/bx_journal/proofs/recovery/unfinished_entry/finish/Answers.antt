@@ -2,8 +2,9 @@ use Rattle.std.proofs.Common.{◌≡◌, ◌+◌, ◌≤◌, ℕ, rules, arith, 
 use Rattle.std.specs.Prelude.{OnOk}
 use Rattle.std.proofs.lemmas.Grind.{common_steps}
 use Rattle.std.proofs.lemmas.Result.{err_from_is_err_and, on_err_weaker, on_ok_weaker}
+use Rattle.bx_image.proofs.Changes.{OnErr-known}
 use Rattle.bx_journal.proofs.RecoverLemmas.{one_more_beside}
-use Rattle.bx_journal.proofs.CountedLemmas.{err_always, ok_always}
+use Rattle.bx_journal.proofs.CountedLemmas.{ok_always}
 use Rattle.bx_journal.proofs.recovery.unfinished_entry.finish.Goals as goal
 
 none_ok : {T E : Type 0} (P : Type 0) (r : Result T E) (e : E) → r ≡ Err e → OnOk r P
@@ -16,7 +17,7 @@ pub returns-clause-emptied : goal.returns-clause-emptied
 returns-clause-emptied g c rh = ok_always c.cut_unfinished.result (grind (arith, common_steps))
 
 pub returns-clause-emptied_first : goal.returns-clause-emptied_first
-returns-clause-emptied_first g c rh = err_always c.cut_unfinished.result (inr (grind (arith, common_steps)))
+returns-clause-emptied_first g c rh = OnErr-known c.cut_unfinished.result (inr (grind (arith, common_steps)))
 
 pub returns-clause-steps_on : goal.returns-clause-steps_on
 returns-clause-steps_on g c = record {
@@ -33,5 +34,5 @@ returns-in_err-cut_redo-clause-steps_on g c = record {
   store_honesty = search rules;
   redo_honesty = search rules;
   no_failure = none_ok _ c.from_residual.result _ (err_from_is_err_and c.from_residual.result c.from_residual.ensures.1).1;
-  failure = err_always c.from_residual.result (one_more c.in_err-cut_redo.ensures.goes_on.counted);
+  failure = OnErr-known c.from_residual.result (one_more c.in_err-cut_redo.ensures.goes_on.counted);
 }

@@ -1,12 +1,13 @@
 use Rattle.std.proofs.Common.{◌≡◌, List, ℕ, ap, sym, ◌∙◌, subst, inl, inr, ◌⊎◌, Result, Ok, Err}
 use Rattle.std.specs.Prelude.{IfErr, OnErr}
+use Rattle.bx_image.proofs.Changes.{OnErr-known}
 use Rattle.bx_journal.specs.Calls.{AfterFault}
 use Rattle.bx_journal.specs.Phase.{IsAtRest}
 use Rattle.bx_journal.specs.Stack.{Recovers}
 use Rattle.bx_entries.specs.Text.{Between}
 use Rattle.bx_journal.proofs.OpenedLemmas.{emptied_keeps, emptied_undone, err_then, find_opens, find_redo, find_refuses, finished_kept, finished_opened, finished_stack, finished_unfit, found_counted, found_few, found_read, found_unclean, recover_kind, unfinished_finds}
 use Rattle.bx_journal.proofs.LeftLemmas.{left_whole}
-use Rattle.bx_journal.proofs.CountedLemmas.{counted_rest, err_always, ok_always}
+use Rattle.bx_journal.proofs.CountedLemmas.{counted_rest, ok_always}
 use Rattle.bx_journal.proofs.recovery.unfinished_entry.recover.Goals as goal
 
 pub returns-in-Err-clause-faults : goal.returns-in-Err-clause-faults
@@ -43,7 +44,7 @@ returns-in-Finished-clause-keeps g c dh th stack rec =
       ok_always c.open_finished.result
           (subst (λ t. IsAtRest t y stack) same
           (counted_rest text (g.D.Device.image c.args.device.now) c.in-Finished.counted.count c.in-Finished.counted.told is y stack rec (c.open_finished.ensures.image dh))),
-      err_always c.open_finished.result (subst (λ t. Recovers t y stack) same (subst (λ z. Recovers text z stack) (sym (c.open_finished.ensures.image dh)) rec)),
+      OnErr-known c.open_finished.result (subst (λ t. Recovers t y stack) same (subst (λ z. Recovers text z stack) (sym (c.open_finished.ensures.image dh)) rec)),
     )
 
 pub returns-in-Err-clause-keeps : goal.returns-in-Err-clause-keeps
