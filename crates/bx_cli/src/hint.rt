@@ -54,8 +54,9 @@ fn read_advice(fault: ReadFault) -> &'static str
         ReadFault::BadAddress { .. } | ReadFault::MissingColon { .. } => {
             "a line is like '00000002: 7879'; for digits alone give -p"
         }
-        ReadFault::BadPair { .. } =>
-            "bytes are pairs of digits, with at most one space between two",
+        ReadFault::BadPair { .. } => {
+            "bytes are pairs of digits, with at most one space between two; under -p there are digits and white space alone"
+        }
         ReadFault::NoData { .. } => "digits follow the colon, behind at most one space",
         ReadFault::AddressTooLarge { .. } => "addresses are below 4611686018427387904",
         ReadFault::OddDigits { .. } => "each byte is two digits",
@@ -68,6 +69,8 @@ fn dd_advice(fault: DdFault) -> &'static str
 {
     match fault {
         DdFault::InputTooLong => "at most 1099511627776 bytes are read",
+        DdFault::UnknownOperand(_) => "bx dd --help lists the operands and the conversions",
+        DdFault::BadNumber(_) => "a number is decimal, with b, k, M or G behind it where wanted",
         DdFault::ZeroSize(_) =>
             "a size is at least 1, and a product such as 0x4 is 0: give numbers in decimal",
         DdFault::Conflict => "give one of block and unblock, and one of lcase and ucase",
@@ -81,6 +84,9 @@ fn session_advice(fault: SessionFault) -> &'static str
     ensures { result.now ≡ advice_of (Fault.Session fault) }
 {
     match fault {
+        SessionFault::NoMemory => {
+            "a change, and what an undo or a redo takes back, are held in memory: CAVEATS in man bx has a way without"
+        }
         SessionFault::TooLarge => "an image has at most 281474976710655 bytes",
         SessionFault::DeviceFailed => "nothing was changed",
         SessionFault::Damaged { .. } => {
@@ -92,9 +98,11 @@ fn session_advice(fault: SessionFault) -> &'static str
         SessionFault::Interrupted =>
             "the next command on the image finishes or drops what was begun",
         SessionFault::LengthDiffers { .. } => {
-            "give its length back by truncate -s; or move journal and redo file away, and with them the older images"
+            "it may have another journal; where its length alone was changed, truncate -s gives that back; or move journal and redo file away, and with them the older images"
         }
-        SessionFault::NothingToRedo { .. } => "a change that is no redo gives up what was undone",
+        SessionFault::NothingToRedo { .. } => {
+            "a change that is no redo gives up what was undone, and a journal that is moved takes its redo file along"
+        }
         SessionFault::RedoDamaged { .. } =>
             "move the redo file away to go on, and with it what was undone",
         _ => "",
@@ -146,11 +154,14 @@ pub fn hint_text<A: Allocator>(alloc: A, fault: Fault, known: &Known<'_>) -> Opt
     }
 }
 
-/// The word at fault among those of a command line, and how the command is called. Each is empty where none is known.
+/// The word at fault among those of a command line, why it is, and how the command is called. Each is empty where none is
+/// known.
 #[derive(Drop)]
 pub struct Misuse {
     /// The word, or what is said of it.
     pub word: String,
+    /// What is to stand there.
+    pub reason: &'static str,
     /// How the command is called.
     pub usage: String,
 }
@@ -173,6 +184,7 @@ fn told(alloc: Global, text: &str) -> Result<Misuse, AllocError> {
     let (word, rest) = text.split_once("\n\n").unwrap_or((text, ""));
     Ok(Misuse {
         word: lines_with(alloc, word, "")?,
+        reason: "",
         usage: lines_with(alloc, rest, "Usage: ")?,
     })
 }
@@ -194,7 +206,9 @@ fn refused_later(alloc: Global, fault: Fault, matches: &ArgMatches<'_>) -> Resul
         return Err(Fault::Usage);
     };
     let mut found = usage_of(alloc, name)?;
-    found.word = String::from_str(alloc, wrong_word(fault, name, inner).unwrap_or(""))?;
+    let (word, reason) = wrong_word(fault, name, inner);
+    found.word = String::from_str(alloc, word)?;
+    found.reason = reason;
     Ok(found)
 }
 
@@ -209,8 +223,9 @@ fn usage_of(alloc: Global, name: &str) -> Result<Misuse, Fault> {
     }
 }
 
-/// The operand that a fault counts, or the first value that isn't one of its option.
-fn wrong_word<'a>(fault: Fault, name: &str, m: &ArgMatches<'a>) -> Option<&'a str> {
+/// The operand that a fault counts, or the first value that isn't one of its option, or what is missing; and what is to
+/// stand there.
+fn wrong_word<'a>(fault: Fault, name: &str, m: &ArgMatches<'a>) -> (&'a str, &'static str) {
     match fault {
         Fault::Dd(
             DdFault::UnknownOperand(place)
@@ -218,12 +233,27 @@ fn wrong_word<'a>(fault: Fault, name: &str, m: &ArgMatches<'a>) -> Option<&'a st
             | DdFault::NumberTooLarge(place)
             | DdFault::ZeroSize(place)
             | DdFault::Repeated(place),
-        ) => {
-            m.get_strs("operand")?
-                .get(place.checked_sub(1)? as usize)
-                .copied()
-        }
-        _ => wrong_value(name, m),
+        ) => (operand(m, place).unwrap_or(""), ""),
+        Fault::Usage => match wrong_value(name, m) {
+            Some(found) => found,
+            None => missing(name),
+        },
+        _ => ("", ""),
+    }
+}
+
+/// The operand at a place, from 1 on.
+fn operand<'a>(m: &ArgMatches<'a>, place: u64) -> Option<&'a str> {
+    m.get_strs("operand")?
+        .get(place.checked_sub(1)? as usize)
+        .copied()
+}
+
+/// What is wrong where each value is one of its option.
+fn missing(name: &str) -> (&'static str, &'static str) {
+    match name {
+        "hexdump" => ("-C", "it has to be given, since there is no other form"),
+        _ => ("-J", "image, journal and redo file are three files"),
     }
 }
 
@@ -232,17 +262,34 @@ static VALUES: [&str; 12] = [
     "skip", "limit",
 ];
 
-fn wrong_value<'a>(name: &str, m: &ArgMatches<'a>) -> Option<&'a str> {
+/// The first value that isn't one of its option, and what those are.
+fn wrong_value<'a>(name: &str, m: &ArgMatches<'a>) -> Option<(&'a str, &'static str)> {
     let style = match name {
         "od" | "hexdump" => SizeStyle::Count,
         _ => SizeStyle::Bare,
     };
     for id in &VALUES {
         if !is_value(m, id, style) {
-            return m.get_str(id);
+            return Some((m.get_str(id)?, form_of(id, style)));
         }
     }
     None
+}
+
+/// What the values of an option are.
+fn form_of(id: &str, style: SizeStyle) -> &'static str {
+    match id {
+        "radix" => "one of d, o, x and n",
+        "offsets" => "one of d, o and x",
+        "kind" => "c, or one of d, o, u and x with one of 1, 2, 4 and 8",
+        "least" => "a decimal number from 1 to 4096",
+        "count" => "a decimal number from 0 to 65535",
+        "cols" => "a number from 1 to 256",
+        _ => match style {
+            SizeStyle::Count => "a number as 512, 0x200 or 01000, with b, k or m behind it",
+            _ => "a number as 512, 0x200 or 01000, with nothing behind it",
+        },
+    }
 }
 
 /// Whether an option has a value of its own, or none was given.

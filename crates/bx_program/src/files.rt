@@ -70,7 +70,8 @@ where
 }
 
 /// What is said of a journal that is missing and isn't to be made.
-const NO_JOURNAL: &str = "there is no journal yet, so no change; bx revert and bx dd make one";
+const NO_JOURNAL: &str =
+    "no journal is here, so no change is known; -J names one that is elsewhere, and bx revert and bx dd make one";
 
 /// Opens a file to be read and written, and says whether it was made.
 fn open_or_make<R>(rt: &R, name: &str, make: bool) -> io::Result<(File, bool)>

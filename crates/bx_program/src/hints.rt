@@ -23,11 +23,11 @@ fn show_hint<R>(rt: &R, words: &Words, stopped: Stopped<'_>) -> Result<(), Fault
 where
     R: Eprint + AllocGlobal,
 {
-    if is_of_words(stopped.fault) {
+    if is_of_words(stopped) {
         let misuse = misuse_of(rt.alloc(), words, stopped.fault)?;
         let known = Known {
             subject: misuse.word.as_str(),
-            reason: "",
+            reason: misuse.reason,
             usage: misuse.usage.as_str(),
         };
         show_known(rt, stopped.fault, &known);
@@ -52,10 +52,11 @@ where
     }
 }
 
-/// Whether the words of the command line are at fault.
-fn is_of_words(fault: Fault) -> bool {
-    let number = fault.number();
-    (20..30).contains(&number) || fault == Fault::Usage
+/// Whether the words of the command line are at fault, which were read.
+fn is_of_words(stopped: Stopped<'_>) -> bool {
+    let number = stopped.fault.number();
+    let of_words = (20..30).contains(&number) || stopped.fault == Fault::Usage;
+    of_words && stopped.reason == Reason::Unknown
 }
 
 /// The reason in words, as the system says it.

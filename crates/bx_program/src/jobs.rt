@@ -23,6 +23,8 @@ use std::rt::{Env, Files};
 /// The most bytes of a dump that is reverted.
 const MOST_INPUT: u64 = 1 << 40;
 
+const NOT_UTF_8: &str = "a word is not UTF-8; a file of such a name can be given by a link to it";
+
 /// Does what the words of the command line ask for, and writes the text of the fault that stopped it, with a hint behind it
 /// where a person looks at standard error. A standard stream that is closed keeps its number to the end, so that no file gets
 /// it.
@@ -47,29 +49,31 @@ where
             Ok(()) => Ok(()),
             Err(stopped) => Err(show_fault(rt, person, words, stopped)),
         },
-        Err(fault) => Err(show_fault(rt, person, words, Stopped::from(fault))),
+        Err(stopped) => Err(show_fault(rt, person, words, stopped)),
     }
 }
 
 /// The job that the words ask for, which are read first.
-fn planned<R: Env + AllocGlobal>(rt: &R, words: &mut Words) -> Result<Job, Fault> {
+fn planned<R: Env + AllocGlobal>(rt: &R, words: &mut Words) -> Result<Job, Stopped<'static>> {
     read_words(rt, words)?;
-    plan_words(rt.alloc(), words)
+    Ok(plan_words(rt.alloc(), words)?)
 }
 
 /// What stopped the reading of the words. One that isn't UTF-8 is a wrong argument.
-fn unread(error: io::Error) -> Fault {
+fn unread(error: io::Error) -> Stopped<'static> {
     match error.kind() {
-        io::ErrorKind::OutOfMemory => Fault::Io(IoFault::NoMemory),
-        _ => Fault::Usage,
+        io::ErrorKind::OutOfMemory => Stopped::from(Fault::Io(IoFault::NoMemory)),
+        _ => Stopped::by_words(NOT_UTF_8),
     }
 }
 
 /// Reads the words behind the program's name.
-fn read_words<R: Env + AllocGlobal>(rt: &R, words: &mut Words) -> Result<(), Fault> {
+fn read_words<R: Env + AllocGlobal>(rt: &R, words: &mut Words) -> Result<(), Stopped<'static>> {
     let args = env::args(rt).map_err(unread)?;
     for arg in args.skip(1) {
-        words.push(arg.as_str())?;
+        if words.push(arg.as_str()).is_err() {
+            return Err(Stopped::from(Fault::Io(IoFault::NoMemory)));
+        }
     }
     Ok(())
 }

@@ -83,6 +83,15 @@ impl<'a> Stopped<'a> {
         }
     }
 
+    /// By words that aren't any.
+    pub fn by_words(why: &'static str) -> Stopped<'a> {
+        Stopped {
+            fault: Fault::Usage,
+            file: None,
+            reason: Reason::Told(why),
+        }
+    }
+
     /// The same, or that the input was not read, where it is that.
     pub fn on_input(self, file: &'a str, error: Option<i32>) -> Stopped<'a> {
         match self.fault {
