@@ -15,6 +15,8 @@ import sys
 import tempfile
 
 DUMP = "; for digits alone give -p"
+PAIRS = "bytes are pairs of digits, with at most one space between two; under -p there are digits and white space alone"
+SIZE = "a number as 512, 0x200 or 01000, with "
 OLDER = "move journal and redo file away, and with them the older images"
 CHANGE = "change2 00000001 0000000000000008\n00000002: 4344" + " " * 37 + "CD\nsave 00000001\ndone2 00000001 0000000000000008\n"
 DD = "Usage: bx dd [OPTIONS] [OPERAND]..."
@@ -48,14 +50,14 @@ CASES = [
     ("od -j 99 img", "", "skip is past the end of the input", "give a smaller -j"),
     ("revert -f address img", "", "line 1: bad address", "a line is like '00000002: 7879'" + DUMP),
     ("revert -f colon img", "", "line 1: missing colon", "a line is like '00000002: 7879'" + DUMP),
-    ("revert -f words img", "", "line 1: bad pair", "bytes are pairs of digits, with at most one space between two"),
+    ("revert -f words img", "", "line 1: bad pair", PAIRS),
     ("revert -f nothing img", "", "line 1: no bytes", "digits follow the colon, behind at most one space"),
     ("revert -f wide img", "", "line 1: more than 256 bytes", None),
     ("revert -f far img", "", "line 1: address too large", "addresses are below 4611686018427387904"),
     ("revert -p -f digits img", "", "line 1: odd number of digits", "each byte is two digits"),
     ("revert -f high img", "", "image too large", "an image has at most 281474976710655 bytes"),
-    ("dd if=img off=4", "", "operand 2: unknown", "off=4; " + DD),
-    ("dd bs=4q", "", "operand 1: bad number", "bs=4q; " + DD),
+    ("dd if=img off=4", "", "operand 2: unknown", "off=4; bx dd --help lists the operands and the conversions; " + DD),
+    ("dd bs=4q", "", "operand 1: bad number", "bs=4q; a number is decimal, with b, k, M or G behind it where wanted; " + DD),
     ("dd bs=9999999999999999999", "", "operand 1: number too large", "bs=9999999999999999999; " + DD),
     ("dd bs=0x4", "", "operand 1: zero size", "bs=0x4; a size is at least 1, and a product such as 0x4 is 0: give numbers in decimal; " + DD),
     ("dd conv=block,unblock cbs=4", "", "conflicting conversions", "give one of block and unblock, and one of lcase and ucase; " + DD),
@@ -64,18 +66,24 @@ CASES = [
     ("dd seek=4", "", "seek needs an output file", "give of=IMAGE too; " + DD),
     ("log -J bad.bxj img", "", "journal line 5 is damaged", "bad.bxj; mend the line; or " + OLDER),
     ("undo -k 2 img", "", "only 1 changes to undo", "bx log lists the changes"),
-    ("redo img", "", "only 0 changes to redo", "a change that is no redo gives up what was undone"),
-    ("log long", "", "image should have 8 bytes", "long: it has 9 bytes and not 8; give its length back by truncate -s; or " + OLDER),
+    ("redo img", "", "only 0 changes to redo", "a change that is no redo gives up what was undone, and a journal that is moved takes its redo file along"),
+    ("log long", "", "image should have 8 bytes", "long: it has 9 bytes and not 8; it may have another journal; where its length alone was changed, truncate -s gives that back; or " + OLDER),
     ("log -J bad.redo.bxj img", "", "redo line 1 is damaged", "bad.redo.bxj.redo; move the redo file away to go on, and with it what was undone"),
     ("xxd -z img", "", "bad arguments", "unexpected argument '-z' found; " + XXD),
-    ("xxd -c 999 img", "", "bad arguments", "999; " + XXD),
-    ("od -N 4q img", "", "bad arguments", "4q; " + OD),
-    ("od -t x3 img", "", "bad arguments", "x3; " + OD),
-    ("strings -n 0 img", "", "bad arguments", "0; Usage: bx strings [OPTIONS] [FILE]"),
-    ("hexdump img", "", "bad arguments", "Usage: bx hexdump [OPTIONS] [FILE]"),
+    ("xxd -c 999 img", "", "bad arguments", "999: a number from 1 to 256; " + XXD),
+    ("xxd -s 1k img", "", "bad arguments", "1k: " + SIZE + "nothing behind it; " + XXD),
+    ("od -N 4q img", "", "bad arguments", "4q: " + SIZE + "b, k or m behind it; " + OD),
+    ("od -A q img", "", "bad arguments", "q: one of d, o, x and n; " + OD),
+    ("od -t x3 img", "", "bad arguments", "x3: c, or one of d, o, u and x with one of 1, 2, 4 and 8; " + OD),
+    ("strings -n 0 img", "", "bad arguments", "0: a decimal number from 1 to 4096; Usage: bx strings [OPTIONS] [FILE]"),
+    ("strings -t n img", "", "bad arguments", "n: one of d, o and x; Usage: bx strings [OPTIONS] [FILE]"),
+    ("hexdump img", "", "bad arguments", "-C: it has to be given, since there is no other form; Usage: bx hexdump [OPTIONS] [FILE]"),
+    ("undo -k 99999 img", "", "bad arguments", "99999: a decimal number from 0 to 65535; Usage: bx undo [OPTIONS] <IMAGE>"),
+    ("undo -J img img", "", "bad arguments", "-J: image, journal and redo file are three files; Usage: bx undo [OPTIONS] <IMAGE>"),
+    ("xxd \udcff", "", "bad arguments", "a word is not UTF-8; a file of such a name can be given by a link to it"),
     ("undo", "", "bad arguments", "the following required arguments were not provided: <IMAGE>; Usage: bx undo <IMAGE>"),
     ("frobnicate", "", "bad arguments", "unrecognized subcommand 'frobnicate'; Usage: bx <COMMAND>"),
-    ("log new", "", "cannot open file", "new.bxj: there is no journal yet, so no change; bx revert and bx dd make one"),
+    ("log new", "", "cannot open file", "new.bxj: no journal is here, so no change is known; -J names one that is elsewhere, and bx revert and bx dd make one"),
     ("log none", "", "cannot open file", "none: No such file or directory"),
     ("revert dir", "0: 41\n", "cannot open file", "dir: it is no regular file and no block device"),
     ("revert -J dir new", "0: 41\n", "cannot open file", "dir: it is no regular file"),
@@ -158,7 +166,7 @@ def main():
         seen = run(bx, words, text, True, most, out)
         well = piped == line and seen == line + more
         failed += not well
-        print("ok   " if well else "WRONG", "bx", words)
+        print("ok   " if well else "WRONG", "bx", ascii(words))
         if asked.show or not well:
             print(f"      {piped!r}\n      {seen!r}")
     print(f"{len(cases) - failed} well, {failed} wrong")
