@@ -1,9 +1,10 @@
 //! Changes to images.
 ghost use Rattle.std.specs.Prelude.{◌≡◌, ◌↔◌, ◌+◌, ◌<◌, ◌≤◌, [], List, ℕ, length, IfOk, IsOk, OnOk, OnErr, is_err, IfSome, true};
 ghost use Rattle.bx_image.specs.Change.{effect, placed, saved, Restores, RestoresBy, Covers, IsAsGood, Fits, KeepsUntouched};
-ghost use Rattle.bx_image.specs.inner.Change.{cut_to, IsPartlyCutTo};
+ghost use Rattle.bx_image.specs.inner.Change.{cut_to, IsPartlyCutTo, KeepsBelowBase};
 ghost use Rattle.bx_image.specs.Device.{GoesOn};
 ghost use Rattle.bx_image.specs.Image.{end_of};
+ghost use Rattle.bx_image.specs.Power.{AllKeepUntouched, Follows, NoMore, Only};
 
 use crate::{Device, DeviceFailed, TooLarge};
 use bx_text::{Piece, Pieces};
@@ -67,6 +68,7 @@ fn set_base<D: Device>(device: &mut D, base: Option<u64>) -> Result<(), DeviceFa
     requires room { IfSome base (λ n. n ≤ D.room device.old) }
     ensures ok { D.honest device.old → OnOk result (D.image device.new ≡ cut_to base (D.image device.old)) }
     ensures failed { D.honest device.old → OnErr result (IsPartlyCutTo base (D.image device.old) (D.image device.new)) }
+    ensures survives { D.honest device.old → Follows (KeepsBelowBase base (length (D.image device.old))) (D.survives device.old) (D.survives device.new) }
     ensures goes_on { GoesOn D.honest D.room D.failures (is_err result) device.old device.new }
 {
     if let Some(n) = base {
@@ -85,6 +87,7 @@ fn replaces_tail<D: Device, A: Allocator>(
     requires countable { D.failures device.old < u64.MAX }
     ensures same { D.honest device.old → IfOk result (λ b. b ≡ true → placed change.now.writes (D.image device.old) ≡ effect change.now (D.image device.old)) }
     ensures image { D.honest device.old → D.image device.new ≡ D.image device.old }
+    ensures survives { D.honest device.old → NoMore (D.survives device.old) (D.survives device.new) }
     ensures goes_on { GoesOn D.honest D.room D.failures (is_err result) device.old device.new }
 {
     let Some(base) = change.base else {
@@ -109,6 +112,7 @@ fn begin<D: Device, A: Allocator>(device: &mut D, change: &Change<A>) -> Result<
     requires room { length (effect change.now []) ≤ D.room device.old }
     ensures leads { D.honest device.old → OnOk result (placed change.now.writes (D.image device.new) ≡ effect change.now (D.image device.old)) }
     ensures kept { D.honest device.old → KeepsUntouched change.now (D.image device.old) (D.image device.new) }
+    ensures survives { D.honest device.old → Only (D.image device.old) (D.survives device.old) → AllKeepUntouched change.now (D.image device.old) (D.survives device.new) }
     ensures goes_on { GoesOn D.honest D.room D.failures (is_err result) device.old device.new }
 {
     if replaces_tail(device, change)? {
@@ -127,7 +131,8 @@ fn begin<D: Device, A: Allocator>(device: &mut D, change: &Change<A>) -> Result<
 ///
 /// # Errors
 /// `DeviceFailed` at the first call that fails. Each address below the old length that the change
-/// doesn't touch is then below the new length and has its old byte.
+/// doesn't touch is then below the new length and has its old byte. So it is, whatever it answers, with what may be found
+/// after a loss of power, where the old image was on the disk.
 #[tactic(auto, using(crate::proofs::Devices::GoesOn_then))]
 pub fn apply<D: Device, A: Allocator>(
     device: &mut D,
@@ -137,6 +142,7 @@ pub fn apply<D: Device, A: Allocator>(
     requires room { length (effect change.now []) ≤ D.room device.old }
     ensures ok { D.honest device.old → OnOk result (D.image device.new ≡ effect change.now (D.image device.old)) }
     ensures failed { D.honest device.old → OnErr result (KeepsUntouched change.now (D.image device.old) (D.image device.new)) }
+    ensures survives { D.honest device.old → Only (D.image device.old) (D.survives device.old) → AllKeepUntouched change.now (D.image device.old) (D.survives device.new) }
     ensures taken_back { D.honest device.old → IsAsGood (saved change.now (D.image device.old)) (D.image device.old) (D.image device.new) }
     ensures restores { D.honest device.old → RestoresBy change.now result (D.image device.old) (D.image device.new) }
     ensures again { D.honest device.old → (s : _) → Restores change.now s → Covers s (D.image device.old) → IsAsGood s (D.image device.old) (D.image device.new) }

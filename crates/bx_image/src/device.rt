@@ -1,6 +1,7 @@
 //! Devices, which hold the bytes of an image, and what stops a call on one.
-ghost use Rattle.std.specs.Prelude.{◌≡◌, ◌+◌, ◌<◌, ◌≤◌, List, ℕ, length, take, drop, IfOk, IsOk, OnOk, OnErr, is_err, false};
+ghost use Rattle.std.specs.Prelude.{◌≡◌, ◌+◌, ◌<◌, ◌≤◌, List, ℕ, length, take, drop, min, IfOk, IsOk, OnOk, OnErr, is_err, false};
 ghost use Rattle.bx_image.specs.Image.{place, cut};
+ghost use Rattle.bx_image.specs.Power.{Only, NoMore, Follows, KeepsOutside, KeepsBelow};
 ghost use Rattle.bx_image.specs.Device.{GoesOn, IsPartlyWritten, IsPartlyCut};
 ghost use Rattle.bx_image.specs.declared.device.ImageFault.TheVariants.{DeviceFailed as Failed, NoMemory as OutOfMemory};
 
@@ -82,11 +83,15 @@ pub trait Device {
     /// How many calls have answered `DeviceFailed`.
     ghost failures: { Self → ℕ };
 
+    /// What may be found of the image after a loss of power.
+    ghost survives: { Self → List ℕ → Type 0 };
+
     /// The length of the image in bytes. The image stays.
     fn len(&mut self) -> Result<u64, DeviceFailed>
         requires { failures self.old < u64.MAX }
         ensures len { honest self.old → IfOk result (λ n. n ≡ length (image self.old)) }
         ensures image { honest self.old → image self.new ≡ image self.old }
+        ensures survives { honest self.old → NoMore (survives self.old) (survives self.new) }
         ensures goes_on { GoesOn honest room failures (is_err result) self.old self.new };
 
     /// Fills `buf` with the bytes from the address `at` on; the range has to lie within the image.
@@ -96,6 +101,7 @@ pub trait Device {
         requires range { honest self.old → at + length buf.old ≤ length (image self.old) }
         ensures bytes { honest self.old → OnOk result (buf.new ≡ take (length buf.old) (drop at (image self.old))) }
         ensures image { honest self.old → image self.new ≡ image self.old }
+        ensures survives { honest self.old → NoMore (survives self.old) (survives self.new) }
         ensures goes_on { GoesOn honest room failures (is_err result) self.old self.new };
 
     /// Places the bytes at the address `at`; their end has to lie within the room. The image grows
@@ -108,6 +114,7 @@ pub trait Device {
         requires range { at + length bytes.now ≤ room self.old }
         ensures ok { honest self.old → OnOk result (image self.new ≡ place (image self.old) at bytes.now) }
         ensures failed { honest self.old → OnErr result (IsPartlyWritten at (length bytes.now) (image self.old) (image self.new)) }
+        ensures survives { honest self.old → Follows (KeepsOutside at (length bytes.now)) (survives self.old) (survives self.new) }
         ensures goes_on { GoesOn honest room failures (is_err result) self.old self.new };
 
     /// Cuts the image to `n` bytes, or fills it up to them with zeros; `n` is at most the room.
@@ -118,6 +125,15 @@ pub trait Device {
         requires range { n ≤ room self.old }
         ensures ok { honest self.old → OnOk result (image self.new ≡ cut (image self.old) n) }
         ensures failed { honest self.old → OnErr result (IsPartlyCut n (image self.old) (image self.new)) }
+        ensures survives { honest self.old → Follows (KeepsBelow (min n (length (image self.old)))) (survives self.old) (survives self.new) }
+        ensures goes_on { GoesOn honest room failures (is_err result) self.old self.new };
+
+    /// Puts all that was written on the disk, so that a loss of power leaves the image as it is. The image stays.
+    fn sync(&mut self) -> Result<(), DeviceFailed>
+        requires { failures self.old < u64.MAX }
+        ensures settled { honest self.old → OnOk result (Only (image self.old) (survives self.new)) }
+        ensures image { honest self.old → image self.new ≡ image self.old }
+        ensures survives { honest self.old → NoMore (survives self.old) (survives self.new) }
         ensures goes_on { GoesOn honest room failures (is_err result) self.old self.new };
 
     /// Makes room for an image of `n` bytes. The image stays.
@@ -130,6 +146,7 @@ pub trait Device {
         ensures ok { OnOk result (n ≤ room self.new) }
         ensures err { OnErr result (room self.new ≡ room self.old) }
         ensures image { honest self.old → image self.new ≡ image self.old }
+        ensures survives { honest self.old → NoMore (survives self.old) (survives self.new) }
         ensures goes_on { GoesOn honest room failures false self.old self.new };
 
     /// The room that there is: up to which length, in bytes, the image can grow without memory.
@@ -142,4 +159,7 @@ pub trait Device {
 
     /// An honest device has room for what it has.
     ghost within_room: { (d : Self) → honest d → length (image d) ≤ room d };
+
+    /// An image that is there may also be found.
+    ghost present: { (d : Self) → honest d → survives d (image d) };
 }

@@ -9,7 +9,8 @@ mod record;
 pub use bx_text::NoMemory;
 pub use change::{Change, MAX_LEN, apply, check};
 pub use device::file::{
-    FileImage, RandomAccess, Stop, SystemFile, counted, read_full, resize_to, size_of, write_full,
+    FileImage, RandomAccess, Stop, SystemFile, counted, read_full, resize_to, size_of, sync_full,
+    write_full,
 };
 pub use device::fuse::{Fuse, FuseImage, Part};
 pub use device::memory::MemImage;

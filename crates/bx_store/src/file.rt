@@ -1,10 +1,13 @@
 //! A text in a file.
 ghost use Rattle.std.specs.Prelude.{◌≡◌, ◌↔◌, ◌+◌, ◌^◌, ◌-◌, ◌<◌, ◌≤◌, ◌++◌, length, take, drop, vec_len, IfOk, OnOk, OnErr, IsOk, false};
 ghost use Rattle.bx_image.specs.Device.{GoesOn};
+ghost use Rattle.bx_image.specs.Power.{FadesBehind, FadesFrom, NoMore};
 ghost use Rattle.bx_store.specs.Store.{IsPartlyAppended};
 
 use crate::{DeviceFailed, MOST, NoMemory, TextFault, TextStore};
-use bx_image::{RandomAccess, SystemFile, counted, read_full, resize_to, size_of, write_full};
+use bx_image::{
+    RandomAccess, SystemFile, counted, read_full, resize_to, size_of, sync_full, write_full,
+};
 use std::alloc::Allocator;
 
 /// A text in a file, appended at the file's end. It is honest where the file is, counts its failures
@@ -48,6 +51,7 @@ fn read_more<F: RandomAccess, A: Allocator>(
     ensures len { OnOk result (vec_len bytes.new ≡ vec_len bytes.old + more) }
     ensures bytes { F.honest file.old → OnOk result (bytes.new.items ≡ bytes.old.items ++ take more (drop (vec_len bytes.old) (F.content file.old))) }
     ensures content { F.honest file.old → F.content file.new ≡ F.content file.old }
+    ensures survives { F.honest file.old → NoMore (F.survives file.old) (F.survives file.new) }
     ensures honesty { F.honest file.new ↔ F.honest file.old }
 {
     let from = bytes.len();
@@ -64,6 +68,7 @@ fn read_whole<F: RandomAccess, A: Allocator>(
 ) -> Result<Vec<u8, A>, TextFault>
     ensures bytes { F.honest file.old → IfOk result (λ bytes. bytes.items ≡ F.content file.old) }
     ensures content { F.honest file.old → F.content file.new ≡ F.content file.old }
+    ensures survives { F.honest file.old → NoMore (F.survives file.old) (F.survives file.new) }
     ensures honesty { F.honest file.new ↔ F.honest file.old }
 {
     let len = size_of(file)? as usize;
@@ -80,6 +85,7 @@ fn append_to<F: RandomAccess>(file: &mut F, bytes: &[u8]) -> Result<(), DeviceFa
     requires { F.honest file.old → length (F.content file.old) + length bytes.now < 2 ^ 64 }
     ensures ok { F.honest file.old → OnOk result (F.content file.new ≡ F.content file.old ++ bytes.now) }
     ensures failed { F.honest file.old → OnErr result (IsPartlyAppended bytes.now (F.content file.old) (F.content file.new)) }
+    ensures fades { F.honest file.old → FadesBehind (F.content file.old) bytes.now (F.survives file.old) (F.survives file.new) }
     ensures honesty { F.honest file.new ↔ F.honest file.old }
 {
     let end = size_of(file)?;
@@ -97,6 +103,10 @@ impl<F: RandomAccess> TextStore for FileText<F> {
     ghost room = { λ _. 2 ^ 64 - 1 };
 
     ghost failures = { λ f. f.failures };
+
+    ghost survives = { λ f. F.survives f.file };
+
+    ghost present = { λ f. F.present f.file };
 
     fn len(&mut self) -> Result<u64, DeviceFailed> {
         let outcome = size_of(&mut self.file);
@@ -126,6 +136,11 @@ impl<F: RandomAccess> TextStore for FileText<F> {
         counted(&mut self.failures, outcome)
     }
 
+    fn sync(&mut self) -> Result<(), DeviceFailed> {
+        let outcome = sync_full(&mut self.file);
+        counted(&mut self.failures, outcome)
+    }
+
     fn reserve(&mut self, n: u64) -> Result<(), NoMemory>
         // It takes no memory, so it is refused only past the limit.
         ensures exact { IsOk result ↔ (n ≤ MOST) }
@@ -134,6 +149,7 @@ impl<F: RandomAccess> TextStore for FileText<F> {
         ensures limit { OnOk result (n ≤ 2 ^ 62) }
         ensures err { OnErr result ((2 ^ 64 - 1) ≡ (2 ^ 64 - 1)) }
         ensures text { F.honest self.old.file → F.content self.new.file ≡ F.content self.old.file }
+        ensures survives { F.honest self.old.file → NoMore (F.survives self.old.file) (F.survives self.new.file) }
         ensures goes_on { GoesOn (λ f. F.honest f.file) (λ _. 2 ^ 64 - 1) (λ f. f.failures) false self.old self.new }
     {
         if n > MOST { Err(NoMemory) } else { Ok(()) }

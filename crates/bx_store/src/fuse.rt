@@ -4,6 +4,7 @@ ghost use Rattle.bx_image.specs.inner.Fuse.{part_of, reached};
 ghost use Rattle.bx_image.specs.declared.device.fuse.Part.TheVariants.{Half};
 ghost use Rattle.bx_image.specs.Device.{GoesOn};
 ghost use Rattle.bx_image.specs.declared.device.fuse.Fuse.TheVariants.{Never, After, Once};
+ghost use Rattle.bx_image.specs.Power.{FadesBehind, FadesFrom};
 ghost use Rattle.bx_store.specs.Store.{IsPartlyAppended, IsPartlyCut};
 
 use crate::{DeviceFailed, NoMemory, TextFault, TextStore};
@@ -24,6 +25,7 @@ fn append_partly<T: TextStore>(store: &mut T, bytes: &[u8], part: Part) -> Resul
     requires countable { T.failures store.old < u64.MAX }
     requires fits { T.honest store.old → length (T.text store.old) + length bytes.now ≤ T.room store.old }
     ensures part { T.honest store.old → OnOk result (T.text store.new ≡ T.text store.old ++ take (part_of part (length bytes.now)) bytes.now) }
+    ensures fades { T.honest store.old → FadesBehind (T.text store.old) bytes.now (T.survives store.old) (T.survives store.new) }
     ensures appended { T.honest store.old → IsPartlyAppended bytes.now (T.text store.old) (T.text store.new) }
     ensures goes_on { GoesOn T.honest T.room T.failures (is_err result) store.old store.new }
 {
@@ -39,6 +41,7 @@ fn cut_half<T: TextStore>(store: &mut T, n: u64) -> Result<(), DeviceFailed>
     requires countable { T.failures store.old < u64.MAX }
     requires within { T.honest store.old → n ≤ length (T.text store.old) }
     ensures part { T.honest store.old → OnOk result (T.text store.new ≡ take (reached Half (length (T.text store.old)) n) (T.text store.old)) }
+    ensures fades { T.honest store.old → FadesFrom n (T.survives store.old) (T.survives store.new) }
     ensures cut { T.honest store.old → IsPartlyCut n (T.text store.old) (T.text store.new) }
     ensures goes_on { GoesOn T.honest T.room T.failures (is_err result) store.old store.new }
 {
@@ -55,6 +58,7 @@ fn cut_partly<T: TextStore>(store: &mut T, n: u64, part: Part) -> Result<(), Dev
     requires countable { T.failures store.old < u64.MAX }
     requires within { T.honest store.old → n ≤ length (T.text store.old) }
     ensures part { T.honest store.old → OnOk result (T.text store.new ≡ take (reached part (length (T.text store.old)) n) (T.text store.old)) }
+    ensures fades { T.honest store.old → FadesFrom n (T.survives store.old) (T.survives store.new) }
     ensures cut { T.honest store.old → IsPartlyCut n (T.text store.old) (T.text store.new) }
     ensures goes_on { GoesOn T.honest T.room T.failures (is_err result) store.old store.new }
 {
@@ -141,6 +145,10 @@ impl<T: TextStore> TextStore for FuseText<T> {
 
     ghost failures = { λ f. f.failures };
 
+    ghost survives = { λ f. T.survives f.store };
+
+    ghost present = { λ f. T.present f.store };
+
     fn len(&mut self) -> Result<u64, DeviceFailed> {
         if !self.reads.blows() {
             if let Ok(n) = self.store.len() {
@@ -185,6 +193,15 @@ impl<T: TextStore> TextStore for FuseText<T> {
             let _ = cut_partly(&mut self.store, n, self.part);
         } else if let Ok(()) = self.store.cut(n) {
             return Ok(());
+        }
+        Err(failed(&mut self.failures))
+    }
+
+    fn sync(&mut self) -> Result<(), DeviceFailed> {
+        if !self.writes.blows() {
+            if let Ok(()) = self.store.sync() {
+                return Ok(());
+            }
         }
         Err(failed(&mut self.failures))
     }

@@ -1,5 +1,5 @@
 //! A text in memory.
-ghost use Rattle.std.specs.Prelude.{◌≡◌, [], vec_capacity};
+ghost use Rattle.std.specs.Prelude.{◌≡◌, [], vec_capacity, refl};
 
 use crate::{DeviceFailed, MOST, NoMemory, TextFault, TextStore};
 use std::alloc::{Allocator, Global};
@@ -46,6 +46,10 @@ impl<A: Allocator> TextStore for MemText<A> {
 
     ghost failures = { λ _. 0 };
 
+    ghost survives = { λ m c. c ≡ m.bytes.items };
+
+    ghost present = { λ m _. refl };
+
     fn len(&mut self) -> Result<u64, DeviceFailed> {
         Ok(self.bytes.len() as u64)
     }
@@ -69,6 +73,10 @@ impl<A: Allocator> TextStore for MemText<A> {
 
     fn cut(&mut self, n: u64) -> Result<(), DeviceFailed> {
         self.bytes.truncate(n as usize);
+        Ok(())
+    }
+
+    fn sync(&mut self) -> Result<(), DeviceFailed> {
         Ok(())
     }
 

@@ -1,11 +1,12 @@
 -- What proofs alone need: what a change makes of an image, what is saved of the image before, and what gives it back.
-use Rattle.std.specs.Prelude.{◌≡◌, ℕ, ◌-◌, Bool, false, nat_le, Option, None, Some, List, slice_index, if◌then◌else◌}
+use Rattle.std.specs.Prelude.{◌≡◌, ℕ, ◌-◌, min, Bool, false, nat_le, Option, None, Some, List, slice_index, if◌then◌else◌}
 use Rattle.std.specs.Option.{option_map_or}
 use Rattle.std.specs.List.{list_any}
 use Rattle.bx_text.specs.declared.owned.pieces.Piece.{Piece}
 use Rattle.bx_image.specs.Image.{cut, is_within}
 use Rattle.bx_image.specs.Change.{with_byte}
 use Rattle.bx_image.specs.Device.{IsPartlyCut}
+use Rattle.bx_image.specs.Power.{KeepsBelow}
 
 -- x cut to the base, where there is one
 abbrev pub cut_to : Option ℕ → List ℕ → List ℕ
@@ -31,3 +32,8 @@ with_byte_if at byte runs = option_map_or (λ b. with_byte at b runs) byte runs
 abbrev pub IsPartlyCutTo : Option ℕ → List ℕ → List ℕ → Type 0
 IsPartlyCutTo None old new = new ≡ old
 IsPartlyCutTo (Some n) old new = IsPartlyCut n old new
+
+-- below the base, where there is one, what is found was there
+abbrev pub KeepsBelowBase : Option ℕ → ℕ → List ℕ → List ℕ → Type 0
+KeepsBelowBase None len old new = new ≡ old
+KeepsBelowBase (Some n) len old new = KeepsBelow (min n len) old new

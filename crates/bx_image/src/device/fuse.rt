@@ -4,6 +4,7 @@ ghost use Rattle.bx_image.specs.Device.{GoesOn, IsPartlyWritten, IsPartlyCut};
 ghost use Rattle.bx_image.specs.Fuse.{is_blown, after_call};
 ghost use Rattle.bx_image.specs.inner.Fuse.{part_of, reached};
 ghost use Rattle.bx_image.specs.Image.{place, cut};
+ghost use Rattle.bx_image.specs.Power.{Follows, KeepsOutside, KeepsBelow};
 
 use crate::{Device, DeviceFailed, NoMemory};
 
@@ -85,6 +86,7 @@ fn write_partly<D: Device>(
     requires room { at + length bytes.now ≤ D.room device.old }
     ensures part { D.honest device.old → OnOk result (D.image device.new ≡ place (D.image device.old) at (take (part_of part (length bytes.now)) bytes.now)) }
     ensures written { D.honest device.old → IsPartlyWritten at (length bytes.now) (D.image device.old) (D.image device.new) }
+    ensures survives { D.honest device.old → Follows (KeepsOutside at (length bytes.now)) (D.survives device.old) (D.survives device.new) }
     ensures goes_on { GoesOn D.honest D.room D.failures (is_err result) device.old device.new }
 {
     match part {
@@ -113,6 +115,7 @@ fn cut_half<D: Device>(device: &mut D, n: u64) -> Result<(), DeviceFailed>
     requires room { n ≤ D.room device.old }
     ensures part { D.honest device.old → OnOk result (D.image device.new ≡ cut (D.image device.old) (reached Part.Half (length (D.image device.old)) n)) }
     ensures cut { D.honest device.old → IsPartlyCut n (D.image device.old) (D.image device.new) }
+    ensures survives { D.honest device.old → Follows (KeepsBelow (min n (length (D.image device.old)))) (D.survives device.old) (D.survives device.new) }
     ensures goes_on { GoesOn D.honest D.room D.failures (is_err result) device.old device.new }
 {
     let len = device.len()?;
@@ -126,6 +129,7 @@ fn cut_partly<D: Device>(device: &mut D, n: u64, part: Part) -> Result<(), Devic
     requires room { n ≤ D.room device.old }
     ensures part { D.honest device.old → OnOk result (D.image device.new ≡ cut (D.image device.old) (reached part (length (D.image device.old)) n)) }
     ensures cut { D.honest device.old → IsPartlyCut n (D.image device.old) (D.image device.new) }
+    ensures survives { D.honest device.old → Follows (KeepsBelow (min n (length (D.image device.old)))) (D.survives device.old) (D.survives device.new) }
     ensures goes_on { GoesOn D.honest D.room D.failures (is_err result) device.old device.new }
 {
     match part {
@@ -211,7 +215,11 @@ impl<D: Device> Device for FuseImage<D> {
 
     ghost failures = { λ f. f.failures };
 
+    ghost survives = { λ f. D.survives f.device };
+
     ghost within_room = { λ f. D.within_room f.device };
+
+    ghost present = { λ f. D.present f.device };
 
     fn len(&mut self) -> Result<u64, DeviceFailed> {
         if !self.reads.blows() {
@@ -245,6 +253,15 @@ impl<D: Device> Device for FuseImage<D> {
             let _ = cut_partly(&mut self.device, n, self.part);
         } else if let Ok(()) = self.device.set_len(n) {
             return Ok(());
+        }
+        Err(failed(&mut self.failures))
+    }
+
+    fn sync(&mut self) -> Result<(), DeviceFailed> {
+        if !self.writes.blows() {
+            if let Ok(()) = self.device.sync() {
+                return Ok(());
+            }
         }
         Err(failed(&mut self.failures))
     }

@@ -1,5 +1,5 @@
 //! An image in pages of 4,096 bytes.
-ghost use Rattle.std.specs.Prelude.{◌≡◌, ◌≢◌, ◌+◌, ◌*◌, ◌-◌, ◌<◌, ◌≤◌, ℕ, [], ◌^◌, length, take, drop, replicate, slice_index, slice_index_or, vec_len, max, ◌%◌, OnOk, IfOk, IsOk};
+ghost use Rattle.std.specs.Prelude.{◌≡◌, ◌≢◌, ◌+◌, ◌*◌, ◌-◌, ◌<◌, ◌≤◌, ℕ, [], ◌^◌, length, take, drop, replicate, slice_index, slice_index_or, vec_len, max, ◌%◌, OnOk, IfOk, IsOk, refl};
 ghost use Rattle.bx_image.specs.Image.{image_of};
 ghost use Rattle.bx_image.specs.Pages.{byte_at, image_within};
 ghost use Rattle.bx_image.specs.inner.Pages.{IsWrittenOver, IsCleared, written_over};
@@ -187,6 +187,10 @@ impl<A: Allocator + Clone> Device for PagedImage<A> {
 
     ghost failures = { λ _. 0 };
 
+    ghost survives = { λ m c. c ≡ image_of m.len (byte_at m.pages.items (λ p. p.value)) };
+
+    ghost present = { λ m _. refl };
+
     ghost within_room = { λ m _. image_within m.len (4096 * vec_len m.pages) (byte_at m.pages.items (λ p. p.value)) m.within };
 
     fn len(&mut self) -> Result<u64, DeviceFailed> {
@@ -212,6 +216,10 @@ impl<A: Allocator + Clone> Device for PagedImage<A> {
         let n = n as usize;
         clear(&mut self.pages, n, self.len.max(n));
         self.len = n;
+        Ok(())
+    }
+
+    fn sync(&mut self) -> Result<(), DeviceFailed> {
         Ok(())
     }
 

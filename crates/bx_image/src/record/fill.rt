@@ -4,6 +4,7 @@ ghost use Rattle.bx_image.specs.declared.change.Change.{Change as ChangeOf};
 ghost use Rattle.bx_image.specs.Change.{saved, AllWithin, AreBytes, HaveBytes, IsOf, Restores};
 ghost use Rattle.bx_image.specs.Device.{GoesOn};
 ghost use Rattle.bx_image.specs.Image.{zeros};
+ghost use Rattle.bx_image.specs.Power.{NoMore};
 ghost use Rattle.bx_image.specs.Runs.{IsRunOf, AreRunsOf, LieBelow, HaveShape, IsSavedAnew};
 ghost use Rattle.bx_image.specs.inner.Spans.{LieWithin, StandOver};
 
@@ -113,6 +114,7 @@ impl<A: Allocator> Saved<A> {
         ensures kept { D.honest device.old → self.old.len ≡ length (D.image device.old) → OnOk result (IsOf self.new (D.image device.old)) }
         ensures saved { D.honest device.old → OnOk result (IsSavedAnew self.old self.new (D.image device.old)) }
         ensures image { D.honest device.old → D.image device.new ≡ D.image device.old }
+        ensures survives { D.honest device.old → NoMore (D.survives device.old) (D.survives device.new) }
         ensures goes_on { GoesOn D.honest D.room D.failures (is_err result) device.old device.new }
     {
         fill_runs(device, self.runs.as_mut_slice())
@@ -131,6 +133,7 @@ fn fill_runs<D: Device, A: Allocator>(
     ensures bytes { OnOk result (HaveBytes runs.new) }
     ensures read { D.honest device.old → OnOk result (AreRunsOf (D.image device.old) runs.new) }
     ensures image { D.honest device.old → D.image device.new ≡ D.image device.old }
+    ensures survives { D.honest device.old → NoMore (D.survives device.old) (D.survives device.new) }
     ensures goes_on { GoesOn D.honest D.room D.failures (is_err result) device.old device.new }
 {
     for run in runs.iter_mut() {
@@ -147,6 +150,7 @@ fn fill_run<D: Device, A: Allocator>(device: &mut D, run: &mut Piece<A>) -> Resu
     ensures bytes { AreBytes run.new.bytes }
     ensures read { D.honest device.old → OnOk result (IsRunOf (D.image device.old) run.new) }
     ensures image { D.honest device.old → D.image device.new ≡ D.image device.old }
+    ensures survives { D.honest device.old → NoMore (D.survives device.old) (D.survives device.new) }
     ensures goes_on { GoesOn D.honest D.room D.failures (is_err result) device.old device.new }
 {
     let result = device.read_at(run.at, run.bytes.as_mut_slice());

@@ -32,7 +32,11 @@ impl RandomAccess for Slow {
 
     ghost honest = { λ _. ⊥ };
 
+    ghost survives = { λ _ _. ⊥ };
+
     ghost within = { λ f honest. absurd honest };
+
+    ghost present = { λ f honest. absurd honest };
 
     fn size(&mut self) -> Result<u64, Stop> {
         self.stop()?;
@@ -64,6 +68,10 @@ impl RandomAccess for Slow {
     fn resize(&mut self, n: u64) -> Result<(), Stop> {
         self.stop()?;
         if n == 16 { Ok(()) } else { Err(Stop::Failed) }
+    }
+
+    fn sync(&mut self) -> Result<(), Stop> {
+        self.stop()
     }
 }
 

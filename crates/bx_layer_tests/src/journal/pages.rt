@@ -11,12 +11,12 @@ use std::test::Fail;
 const BEFORE: &[u8] =
     b"change2 00000001 0000000000010000\nsave 00000001\ndone2 00000001 0000000000010000\n";
 
-/// What the change that writes the whole image leaves where its journal can append one page.
+/// What the change that writes the whole image leaves where its journal can be settled and append one page.
 fn one_page(rt: &impl Abort, alloc: Global, start: Held<'_>) -> Result<MemTrio, AllocError> {
     let (image, journal, redo_text) = held(alloc, start)?;
     let trio = (
         image,
-        FuseText::new(journal, 1, Part::Nothing, false),
+        FuseText::new(journal, 2, Part::Nothing, false),
         FuseText::new(redo_text, u64::MAX, Part::Nothing, false),
     );
     let stopped = (Ask::Whole, Err(SessionFault::Interrupted));

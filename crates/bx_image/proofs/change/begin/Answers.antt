@@ -1,5 +1,6 @@
 use Rattle.std.proofs.Common.{[], arith}
 use Rattle.bx_image.proofs.Changes.{base_le-effect, placed_onto, KeepsUntouched_base}
+use Rattle.bx_image.proofs.Untouched.{AllKeepUntouched_base, AllKeepUntouched_none}
 use Rattle.bx_image.proofs.change.begin.Goals as goal
 
 pub set_base-requires-clause-room : goal.set_base-requires-clause-room
@@ -15,3 +16,8 @@ pub returns-clause-kept : goal.returns-clause-kept
 returns-clause-kept g c honest =
     let still = c.in_ok-replaces_tail.ensures.goes_on.honesty.1 honest in
     KeepsUntouched_base c.set_base.result c.args.change.now _ _ (rw (← c.in_ok-replaces_tail.ensures.image honest) (c.set_base.ensures.ok still)) (rw (← c.in_ok-replaces_tail.ensures.image honest) (c.set_base.ensures.failed still))
+
+pub returns-clause-survives : goal.returns-clause-survives
+returns-clause-survives g c honest only =
+    let looked = c.in_ok-replaces_tail.ensures in
+    AllKeepUntouched_base c.args.change.now _ _ _ (λ y there. only y (looked.survives honest y there)) (rw (← looked.image honest) (c.set_base.ensures.survives (looked.goes_on.honesty.1 honest)))

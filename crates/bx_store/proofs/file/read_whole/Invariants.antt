@@ -1,5 +1,6 @@
 use Rattle.std.proofs.Common.{◌≡◌, ◌↔◌, ◌≤◌, ◌-◌, take}
 use Rattle.std.specs.Prelude.{vec_len}
+use Rattle.bx_image.specs.Power.{NoMore}
 use Rattle.bx_store.proofs.file.read_whole.Given as goal
 
 -- a front was read
@@ -8,6 +9,7 @@ invariant-loop-bytes g l = record {
   within : vec_len l.bytes ≤ l.len;
   bytes : g.F.RandomAccess.honest l.fn.file → l.bytes.items ≡ take (vec_len l.bytes) (g.F.RandomAccess.content l.fn.file);
   content : g.F.RandomAccess.honest l.fn.file → g.F.RandomAccess.content l.file ≡ g.F.RandomAccess.content l.fn.file;
+  survives : g.F.RandomAccess.honest l.fn.file → NoMore (g.F.RandomAccess.survives l.fn.file) (g.F.RandomAccess.survives l.file);
   honesty : g.F.RandomAccess.honest l.file ↔ g.F.RandomAccess.honest l.fn.file;
 }
 

@@ -2,6 +2,7 @@ use Rattle.std.proofs.lemmas.Grind.{common_steps}
 use Rattle.std.proofs.Common.{◌≡◌, ◌+◌, take, drop, arith, ap, ◌∙◌}
 use Rattle.bx_text.proofs.KnownLemmas.{put_mid-room}
 use Rattle.bx_image.proofs.Files.{read_on}
+use Rattle.bx_image.proofs.Survivors.{NoMore_then}
 use Rattle.bx_image.proofs.device.file.read_full.Goals as goal
 
 pub loop-done-preserved : goal.loop-done-preserved
@@ -15,6 +16,7 @@ loop-done-preserved g c =
           read_on (g.F.RandomAccess.content c.args.file.now) c.loop-done.buf c.read_step.new.buf c.args.at c.loop-done.done _ c.in_ok-done.field-0 before.within step.bound.0 (before.bytes honest)
           (step.bytes (before.honesty.1 honest) ∙ ap (λ x. take c.in_ok-done.field-0 (drop c.saturating_add.result x)) (before.content honest) ∙ ap (λ n. take c.in_ok-done.field-0 (drop n (g.F.RandomAccess.content c.args.file.now))) place);
       content = λ honest. step.content (before.honesty.1 honest) ∙ before.content honest;
+      survives = λ honest. NoMore_then _ _ _ (before.survives honest) (step.survives (before.honesty.1 honest));
       honesty = (λ h. before.honesty.0 (step.honesty.0 h), λ h. step.honesty.1 (before.honesty.1 h));
     }
 

@@ -1,5 +1,6 @@
 use Rattle.std.proofs.Common.{◌≡◌, ◌↔◌, ◌≤◌, ◌-◌, length, take, drop}
 use Rattle.bx_image.proofs.device.file.read_full.Given as goal
+use Rattle.bx_image.specs.Power.{NoMore}
 
 -- a front was read
 abbrev pub invariant-loop-done : goal.invariant-loop-done
@@ -7,6 +8,7 @@ invariant-loop-done g l = record {
   within : l.done ≤ length l.buf;
   bytes : g.F.RandomAccess.honest l.initial.file → take l.done l.buf ≡ take l.done (drop l.at (g.F.RandomAccess.content l.initial.file));
   content : g.F.RandomAccess.honest l.initial.file → g.F.RandomAccess.content l.file ≡ g.F.RandomAccess.content l.initial.file;
+  survives : g.F.RandomAccess.honest l.initial.file → NoMore (g.F.RandomAccess.survives l.initial.file) (g.F.RandomAccess.survives l.file);
   honesty : g.F.RandomAccess.honest l.file ↔ g.F.RandomAccess.honest l.initial.file;
 }
 

@@ -1,6 +1,7 @@
 use Rattle.std.proofs.Common.{◌∙◌, ◌<◌, ℕ, length, arith, rules}
 use Rattle.bx_image.proofs.Devices.{GoesOn_refl, GoesOn_then}
 use Rattle.bx_image.proofs.FillLemmas.{HaveShape-refl, LieBelow-shape, below_at, length-shape, shape_set, runs_set, bytes_set}
+use Rattle.bx_image.proofs.Survivors.{NoMore_then}
 use Rattle.bx_image.proofs.record.fill.fill_runs.Goals as goal
 
 pub loop-run-init : goal.loop-run-init
@@ -9,6 +10,7 @@ loop-run-init g c = record {
   bytes = tt;
   read = λ honest. tt;
   image = λ honest. search rules;
+  survives = λ honest y there. there;
   goes_on = GoesOn_refl _ _ _ _;
 }
 
@@ -37,5 +39,6 @@ loop-run-preserved g c =
       bytes = bytes_set c.loop-run.runs k c.fill_run.new.run inside kept.bytes run.bytes;
       read = λ honest. runs_set (g.D.Device.image c.args.device.now) c.loop-run.runs k c.fill_run.new.run inside (kept.read honest) (rw (kept.image honest) at run.read (kept.goes_on.honesty.1 honest));
       image = λ honest. run.image (kept.goes_on.honesty.1 honest) ∙ kept.image honest;
+      survives = λ honest. NoMore_then _ _ _ (kept.survives honest) (run.survives (kept.goes_on.honesty.1 honest));
       goes_on = GoesOn_then _ _ _ _ _ _ _ kept.goes_on run.goes_on;
     }

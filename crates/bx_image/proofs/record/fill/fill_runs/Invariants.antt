@@ -1,6 +1,7 @@
 use Rattle.std.proofs.Common.{◌≡◌, false, take}
 use Rattle.bx_image.specs.Change.{HaveBytes}
 use Rattle.bx_image.specs.Device.{GoesOn}
+use Rattle.bx_image.specs.Power.{NoMore}
 use Rattle.bx_image.specs.Runs.{AreRunsOf, HaveShape}
 use Rattle.bx_image.proofs.record.fill.fill_runs.Given as goal
 
@@ -13,5 +14,6 @@ invariant-loop-run g l =
       bytes : HaveBytes (take l.run-index l.runs);
       read : device.honest l.fn.device → AreRunsOf (device.image l.fn.device) (take l.run-index l.runs);
       image : device.honest l.fn.device → device.image l.device ≡ device.image l.fn.device;
+      survives : device.honest l.fn.device → NoMore (device.survives l.fn.device) (device.survives l.device);
       goes_on : GoesOn device.honest device.room device.failures false l.fn.device l.device;
     }

@@ -10,3 +10,6 @@ returns-clause-ok g c honest =
 pub returns-clause-failed : goal.returns-clause-failed
 returns-clause-failed g c honest =
     rw c.counted.ensures.same (OnErr_map c.resize_to-outcome.result _ _ (IsPartlyCut-on_the_way c.args.n _ _ (c.requires.within honest)) (c.resize_to-outcome.ensures.failed honest))
+
+pub returns-clause-fades : goal.returns-clause-fades
+returns-clause-fades g c honest = c.resize_to-outcome.ensures.fades honest (c.requires.within honest)

@@ -4,6 +4,7 @@ use Rattle.std.proofs.lemmas.Bool.Decides.{nat_tests}
 use Rattle.std.proofs.lemmas.Grind.{common_steps}
 use Rattle.bx_image.specs.Image.{place, cut}
 use Rattle.bx_image.proofs.Edits.{resized_cut, place_none, place-cut}
+use Rattle.bx_image.proofs.Survivors.{Follows_place}
 use Rattle.bx_image.proofs.device.memory.MemImageDevice.write_at.Goals as goal
 use Rattle.bx_image.proofs.device.memory.MemImageDevice.write_at.Goals.{then-len-end, else-len-end}
 
@@ -19,3 +20,6 @@ returns-clause-ok g c _ = elim c.if-len-end.branch [
       grind (arith, common_steps)
   | else-len-end w ↦ grind (arith, common_steps)
 ]
+
+pub returns-clause-survives : goal.returns-clause-survives
+returns-clause-survives g c _ = Follows_place _ _ c.args.at c.args.bytes.now (returns-clause-ok g c tt)
