@@ -1,5 +1,9 @@
 pub mod KeptLemmas
 pub mod Splits
+pub mod ShownLemmas
+pub mod CalmLemmas
+pub mod CleanLemmas
+pub mod RestLemmas
 pub mod Runs
 pub mod Written
 pub mod HexLemmas

@@ -6,4 +6,5 @@ pub mod Line
 pub mod Parsed
 pub mod Text
 pub mod Finished
+pub mod Shown
 pub mod inner

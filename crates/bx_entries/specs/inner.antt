@@ -1,6 +1,7 @@
 -- What no public contract names.
 pub mod Entry
 pub mod Fault
+pub mod Faded
 pub mod Followed
 pub mod Front
 pub mod Journal

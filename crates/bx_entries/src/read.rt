@@ -3,6 +3,7 @@ pub(crate) mod count;
 pub(crate) mod lines;
 pub(crate) mod rows;
 mod runs;
+pub(crate) mod shown;
 mod tail;
 pub(crate) mod take_line;
 pub(crate) mod types;
