@@ -1,5 +1,5 @@
 -- What opening finds in a text whose entries were counted.
-use Rattle.std.proofs.Common.{◌≡◌, ℕ, suc, List, length, ap, sym, ◌∙◌, subst, inl, inr, ◌⊎◌, Option, Some, Result, Ok, Err}
+use Rattle.std.proofs.Common.{◌≡◌, ℕ, suc, List, [], ◌++◌, length, drop, arith, ap, sym, ◌∙◌, subst, inl, inr, ◌⊎◌, Option, Some, Result, Ok, Err}
 use Rattle.std.specs.Prelude.{IfSome, OnOk}
 use Rattle.bx_journal.specs.declared.session.answers.How.TheVariants.{Clean}
 use Rattle.bx_journal.specs.declared.session.fault.SessionFault.{SessionFault}
@@ -8,11 +8,17 @@ use Rattle.bx_journal.specs.Stack.{HaveLengths, IsSound, Recovers, image_at, rec
 use Rattle.bx_journal.specs.Phase.{IsAtRest}
 use Rattle.bx_journal.specs.declared.session.fault.SessionFault.TheVariants.{DeviceFailed, LengthDiffers}
 use Rattle.bx_journal.specs.Calls.{how_of, Differs, OpenFault}
-use Rattle.bx_journal.specs.Opening.{IsOpened, RefusesLength}
+use Rattle.bx_journal.specs.Opening.{IsOpened, RefusesLength, left_over}
+use Rattle.bx_entries.specs.Shown.{shown}
+use Rattle.bx_entries.proofs.CleanLemmas.{clean_shown}
+use Rattle.std.proofs.Math.ListN.{drop_of_length-le}
 use Rattle.bx_entries.specs.inner.Tally.{IsCounted}
 use Rattle.bx_journal.proofs.OpenLemmas.{begins_told, differs_of, one_told, same_lengths, some_same}
 use Rattle.bx_journal.proofs.Phases.{length-stack_of}
 use Rattle.bx_journal.proofs.Sane.{read_sane, have_lengths}
+
+left_none : (text : List ℕ) → shown text ≡ text → (split text).rest ≡ [] → left_over text ≡ []
+left_none text same whole = ap (λ t. (split t).rest ++ drop (length t) text) same ∙ ap (λ r. r ++ drop (length text) text) whole ∙ drop_of_length-le text (omega arith)
 
 -- what opening finds in such a text
 module _ (text x : List ℕ) (count : ℕ) (told : Option ℕ) (c : IsCounted text count told) where
@@ -36,7 +42,7 @@ module _ (text x : List ℕ) (count : ℕ) (told : Option ℕ) (c : IsCounted te
           stack_is = ap (stack_of c.entries) (sym same);
         };
         changes_are = c.counted;
-        how_is = ap (how_of (record { entries = c.entries; stage = Between })) (sym c.finished.whole);
+        how_is = ap (how_of (record { entries = c.entries; stage = Between })) (sym (left_none text (clean_shown text c.entries c.finished) c.finished.whole));
       })
 
   pub counted_differs : (r : Reading) (n : ℕ) → Reads text r → told ≡ Some n → (length x ≡ n → ⊥) → Differs r.entries (image_at r.stage x) n

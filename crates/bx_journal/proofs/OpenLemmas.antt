@@ -1,5 +1,5 @@
 -- What opening finds, from what was read.
-use Rattle.std.proofs.Common.{◌≡◌, ℕ, suc, ◌+◌, ◌≤◌, true, List, [], ◌∷◌, length, take, drop, refl, ap, sym, ◌∙◌, subst, inl, arith, Option, Some, None, length-drop}
+use Rattle.std.proofs.Common.{◌≡◌, ℕ, suc, ◌+◌, ◌-◌, ◌≤◌, true, List, [], ◌∷◌, length, take, drop, refl, ap, sym, ◌∙◌, subst, inl, arith, Option, Some, None, length-append, length-drop}
 use Rattle.std.specs.Prelude.{IfSome}
 use Rattle.std.proofs.lemmas.Grind.{common_steps}
 use Rattle.bx_image.specs.declared.record.Saved.{Saved}
@@ -19,7 +19,9 @@ use Rattle.bx_entries.specs.inner.Journal.{HasRead}
 use Rattle.bx_entries.specs.Parsed.{told_by}
 use Rattle.bx_entries.specs.inner.Parsed.{entries_of, stage_of, reading_of}
 use Rattle.bx_journal.specs.Calls.{how_of, Differs, OpenFault, AfterFault}
-use Rattle.bx_journal.specs.Opening.{IsOpened, RefusesLength}
+use Rattle.bx_journal.specs.Opening.{IsOpened, RefusesLength, left_over}
+use Rattle.bx_entries.specs.Shown.{shown}
+use Rattle.bx_entries.proofs.ShownLemmas.{shown_short, take_shown}
 use Rattle.bx_journal.specs.inner.Opening.{LookFault}
 use Rattle.bx_entries.proofs.ReadLemmas.{length-entries_of}
 use Rattle.bx_journal.proofs.Sane.{IsSane, read_sane, have_lengths, length-restore}
@@ -72,22 +74,25 @@ same_lengths (e ∷ es) x n lengths differs = differs.1 (by_after e.after length
     by_after None h is = absurd (cc)
     by_after (Some told) h is = let same : told ≡ n = cc in h ∙ same
 
-how_dropped : (es : List Entry) (text : List ℕ) (n : ℕ) → drop n text ≡ (split text).rest → n ≤ length text → (n ≡ length text → ⊥) → Dropped ≡ how_of (record { entries = es; stage = Between }) (split text).rest
-how_dropped es text n rest within short = by_rest (split text).rest rest
+how_dropped : (es : List Entry) (text : List ℕ) (n : ℕ) → drop n (shown text) ≡ (split (shown text)).rest → n ≤ length (shown text) → (n ≡ length text → ⊥) → Dropped ≡ how_of (record { entries = es; stage = Between }) (left_over text)
+how_dropped es text n rest within short =
+    let long : length (left_over text) ≡ length (split (shown text)).rest + (length text - length (shown text)) =
+    length-append (split (shown text)).rest (drop (length (shown text)) text) ∙ ap (λ k. length (split (shown text)).rest + k) (length-drop (length (shown text)) text) in
+    by_rest (left_over text) (λ none. short (omega (arith, within, ap length rest, length-drop n (shown text), long, none, shown_short text)))
   where
-    by_rest : (r : List ℕ) → drop n text ≡ r → Dropped ≡ how_of (record { entries = es; stage = Between }) r
-    by_rest [] is = absurd (short (omega (arith, within, ap length is, length-drop n text)))
-    by_rest (b ∷ r) is = refl
+    by_rest : (r : List ℕ) → (length r ≡ 0 → ⊥) → Dropped ≡ how_of (record { entries = es; stage = Between }) r
+    by_rest [] some = absurd (some refl)
+    by_rest (b ∷ r) some = refl
 
 -- what is left where the text is cut at the place at which what is unfinished begins
-pub opened_at : {A : Type 0} → (text bytes x new y : List ℕ) (j : JournalRead A) (how : How) (changes : ℕ) → HasRead bytes j → text ≡ bytes → HaveLengths (entries_of j.entries.items) (image_at (stage_of j.stage) x)
-    → y ≡ image_at (stage_of j.stage) x → new ≡ take (begins_at j.stage j.whole) text → changes ≡ length j.entries.items → how ≡ how_of (reading_of j.entries.items j.stage) (split bytes).rest
+pub opened_at : {A : Type 0} → (text bytes x new y : List ℕ) (j : JournalRead A) (how : How) (changes : ℕ) → HasRead (shown bytes) j → text ≡ bytes → HaveLengths (entries_of j.entries.items) (image_at (stage_of j.stage) x)
+    → y ≡ image_at (stage_of j.stage) x → new ≡ take (begins_at j.stage j.whole) text → changes ≡ length j.entries.items → how ≡ how_of (reading_of j.entries.items j.stage) (left_over bytes)
     → IsOpened text x (reading_of j.entries.items j.stage) new y how changes
 opened_at text bytes x new y j how changes read same lengths image cut counted is =
     let es : List Entry = entries_of j.entries.items in
-    let mark : IsMark bytes (begins_at j.stage j.whole) (record { entries = es; stage = Between }) = begin_mark bytes j.entries.items j.stage j.whole read.places.mark read.places.marked in
-    let kept : new ≡ take (begins_at j.stage j.whole) bytes = cut ∙ ap (take (begins_at j.stage j.whole)) same in
-    let reads : Reads (take (begins_at j.stage j.whole) bytes) (record { entries = es; stage = Between }) = record { lines = mark.lines; rest = subst (IsRest es Between) (sym mark.whole) (inl refl) } in
+    let mark : IsMark (shown bytes) (begins_at j.stage j.whole) (record { entries = es; stage = Between }) = begin_mark (shown bytes) j.entries.items j.stage j.whole read.places.mark read.places.marked in
+    let kept : new ≡ take (begins_at j.stage j.whole) (shown bytes) = cut ∙ ap (take (begins_at j.stage j.whole)) same ∙ take_shown (begins_at j.stage j.whole) bytes mark.within in
+    let reads : Reads (take (begins_at j.stage j.whole) (shown bytes)) (record { entries = es; stage = Between }) = record { lines = mark.lines; rest = subst (IsRest es Between) (sym mark.whole) (inl refl) } in
     record {
       stands = record {
         entries = es;
@@ -97,37 +102,37 @@ opened_at text bytes x new y j how changes read same lengths image cut counted i
         stack_is = ap (stack_of es) (sym image);
       };
       changes_are = counted ∙ sym (length-entries_of j.entries.items);
-      how_is = is ∙ ap (λ t. how_of (reading_of j.entries.items j.stage) (split t).rest) (sym same);
+      how_is = is ∙ ap (λ t. how_of (reading_of j.entries.items j.stage) (left_over t)) (sym same);
     }
 
-pub opened_dropped : {A : Type 0} → (text bytes x new : List ℕ) (j : JournalRead A) (changes : ℕ) → HasRead bytes j → j.stage ≡ BetweenRead → text ≡ bytes → (j.whole ≡ length bytes → ⊥)
+pub opened_dropped : {A : Type 0} → (text bytes x new : List ℕ) (j : JournalRead A) (changes : ℕ) → HasRead (shown bytes) j → j.stage ≡ BetweenRead → text ≡ bytes → (j.whole ≡ length bytes → ⊥)
     → HaveLengths (entries_of j.entries.items) (image_at (stage_of j.stage) x) → new ≡ take j.whole text → changes ≡ length j.entries.items
     → IsOpened text x (reading_of j.entries.items j.stage) new x Dropped changes
 opened_dropped text bytes x new j changes read is same short lengths cut counted =
     let image : x ≡ image_at (stage_of j.stage) x = sym (ap (λ s. image_at (stage_of s) x) is) in
     let place : j.whole ≡ begins_at j.stage j.whole = sym (ap (λ s. begins_at s j.whole) is) in
-    let how : Dropped ≡ how_of (reading_of j.entries.items j.stage) (split bytes).rest =
-    how_dropped (entries_of j.entries.items) bytes j.whole read.places.rest read.places.mark.within short ∙ ap (λ s. how_of (reading_of j.entries.items s) (split bytes).rest) (sym is) in
+    let how : Dropped ≡ how_of (reading_of j.entries.items j.stage) (left_over bytes) =
+    how_dropped (entries_of j.entries.items) bytes j.whole read.places.rest read.places.mark.within short ∙ ap (λ s. how_of (reading_of j.entries.items s) (left_over bytes)) (sym is) in
     opened_at text bytes x new x j Dropped changes read same lengths image (cut ∙ ap (λ k. take k text) place) counted how
 
-pub opened_saving : {A : Type 0} → (text bytes x new : List ℕ) (j : JournalRead A) (changes : ℕ) (v : Version) (len : ℕ) (runs : _) (begins : ℕ) → HasRead bytes j → j.stage ≡ SavingRead v len runs begins → text ≡ bytes
+pub opened_saving : {A : Type 0} → (text bytes x new : List ℕ) (j : JournalRead A) (changes : ℕ) (v : Version) (len : ℕ) (runs : _) (begins : ℕ) → HasRead (shown bytes) j → j.stage ≡ SavingRead v len runs begins → text ≡ bytes
     → HaveLengths (entries_of j.entries.items) (image_at (stage_of j.stage) x) → new ≡ take begins text → changes ≡ length j.entries.items
     → IsOpened text x (reading_of j.entries.items j.stage) new x Dropped changes
 opened_saving text bytes x new j changes v len runs begins read is same lengths cut counted =
     let image : x ≡ image_at (stage_of j.stage) x = sym (ap (λ s. image_at (stage_of s) x) is) in
     let place : begins ≡ begins_at j.stage j.whole = sym (ap (λ s. begins_at s j.whole) is) in
-    let how : Dropped ≡ how_of (reading_of j.entries.items j.stage) (split bytes).rest = ap (λ s. how_of (reading_of j.entries.items s) (split bytes).rest) (sym is) in
+    let how : Dropped ≡ how_of (reading_of j.entries.items j.stage) (left_over bytes) = ap (λ s. how_of (reading_of j.entries.items s) (left_over bytes)) (sym is) in
     opened_at text bytes x new x j Dropped changes read same lengths image (cut ∙ ap (λ k. take k text) place) counted how
 
-pub opened_ending : {A : Type 0} → (text bytes x new y : List ℕ) (j : JournalRead A) (changes : ℕ) (v : Version) (kept : Saved A) (begins saved : ℕ) → HasRead bytes j → j.stage ≡ EndingRead v kept begins saved → text ≡ bytes
+pub opened_ending : {A : Type 0} → (text bytes x new y : List ℕ) (j : JournalRead A) (changes : ℕ) (v : Version) (kept : Saved A) (begins saved : ℕ) → HasRead (shown bytes) j → j.stage ≡ EndingRead v kept begins saved → text ≡ bytes
     → HaveLengths (entries_of j.entries.items) (image_at (stage_of j.stage) x) → y ≡ restore (kept_of kept) x → new ≡ take begins text → changes ≡ length j.entries.items
     → IsOpened text x (reading_of j.entries.items j.stage) new y (Restored (changes + 1)) changes
 opened_ending text bytes x new y j changes v kept begins saved read is same lengths restored cut counted =
     let image : y ≡ image_at (stage_of j.stage) x = restored ∙ sym (ap (λ s. image_at (stage_of s) x) is) in
     let place : begins ≡ begins_at j.stage j.whole = sym (ap (λ s. begins_at s j.whole) is) in
     let number : changes + 1 ≡ suc (length (entries_of j.entries.items)) = omega (arith, counted, length-entries_of j.entries.items) in
-    let how : Restored (changes + 1) ≡ how_of (reading_of j.entries.items j.stage) (split bytes).rest =
-    ap Restored number ∙ ap (λ s. how_of (reading_of j.entries.items s) (split bytes).rest) (sym is) in
+    let how : Restored (changes + 1) ≡ how_of (reading_of j.entries.items j.stage) (left_over bytes) =
+    ap Restored number ∙ ap (λ s. how_of (reading_of j.entries.items s) (left_over bytes)) (sym is) in
     opened_at text bytes x new y j (Restored (changes + 1)) changes read same lengths image (cut ∙ ap (λ k. take k text) place) counted how
 
 pub counted_of : {A : Type 0} → (text bytes x : List ℕ) (stack : List (List ℕ)) (j : JournalRead A) → HasRead bytes j → text ≡ bytes → Recovers text x stack → length stack ≡ suc (length j.entries.items)

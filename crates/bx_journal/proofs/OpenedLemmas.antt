@@ -1,5 +1,5 @@
 -- What opening leaves of the three devices: beside finished entries alone, and beside something unfinished.
-use Rattle.std.proofs.Common.{◌≡◌, ℕ, suc, ◌+◌, ◌≤◌, List, [], length, refl, ap, sym, ◌∙◌, subst, inl, inr, ◌⊎◌, arith, Option, Some, None, Result, Ok, Err}
+use Rattle.std.proofs.Common.{◌≡◌, ℕ, suc, ◌+◌, ◌≤◌, List, [], ◌∷◌, length, refl, ap, sym, ◌∙◌, subst, inl, inr, ◌⊎◌, arith, Option, Some, None, Result, Ok, Err}
 use Rattle.std.specs.Prelude.{IfOk, IfErr, OnOk, OnErr, MatchResult}
 use Rattle.std.proofs.lemmas.Bool.{cases_lt}
 use Rattle.bx_journal.specs.declared.session.answers.How.{How}
@@ -11,24 +11,28 @@ use Rattle.bx_journal.specs.declared.recovery.journal.Found.{Found}
 use Rattle.bx_journal.specs.declared.recovery.journal.Found.TheVariants.{Finished, Unfinished}
 use Rattle.bx_entries.specs.declared.read.whole.JournalRead.{JournalRead}
 use Rattle.bx_entries.specs.declared.read.window.Counted.{Counted}
-use Rattle.bx_journal.specs.Calls.{AfterFault, OpenFault}
+use Rattle.bx_journal.specs.Calls.{AfterFault, Differs, OpenFault}
 use Rattle.bx_journal.specs.Images.{Images}
 use Rattle.bx_journal.specs.Judging.{RefusesRedo}
 use Rattle.bx_journal.specs.Machine.{changes_of}
 use Rattle.bx_journal.specs.Opening.{IsOpened, RefusesLength}
 use Rattle.bx_entries.specs.Parsed.{told_by}
-use Rattle.bx_journal.specs.inner.Recovery.{FindFault, FinishedFault, HasToldLength, HasUndoneCount, IsCountedIn, IsFoundIn, IsUnfinishedIn, KeepsUndone, RecoverFault}
-use Rattle.bx_journal.specs.Redo.{Finds, IsClean, IsRedoOf, IsRefusedAt, RefusesRedoAt, found_undone}
-use Rattle.bx_journal.specs.Stack.{Recovers}
+use Rattle.bx_journal.specs.inner.Recovery.{FindFault, FinishedFault, HasOtherLength, HasToldLength, HasUndoneCount, IsCountedIn, IsFoundIn, IsUnfinishedIn, KeepsUndone, RecoverFault}
+use Rattle.bx_entries.specs.Shown.{shown}
+use Rattle.bx_entries.specs.inner.Journal.{HasRead}
+use Rattle.bx_entries.proofs.CleanLemmas.{clean_shown}
+use Rattle.bx_journal.specs.Power.{Found as FoundOnDisk}
+use Rattle.bx_journal.specs.Redo.{IsClean, IsRedoOf, IsRefusedAt, RefusesRedoAt, found_undone}
+use Rattle.bx_journal.specs.Stack.{Recovers, image_at}
 use Rattle.bx_entries.specs.inner.Tally.{IsCounted}
-use Rattle.bx_entries.specs.Text.{Reading, Reads}
+use Rattle.bx_entries.specs.Text.{Between, Entry, IsAccepted, Reading, Reads}
 use Rattle.bx_journal.proofs.Judged.{undamaged}
 use Rattle.bx_journal.proofs.OpenLemmas.{counted_of, differs_of}
 use Rattle.bx_entries.proofs.ReadLoop.{marked_few}
 use Rattle.bx_journal.proofs.RecoverLemmas.{unfinished_apart}
 use Rattle.bx_journal.proofs.RedoText.{empty_is_redo, one_list}
 use Rattle.bx_journal.proofs.Refused.{none_refused}
-use Rattle.bx_journal.proofs.CountedLemmas.{counted_opened, counted_stack}
+use Rattle.bx_journal.proofs.CountedLemmas.{counted_differs, counted_once, counted_opened, counted_stack}
 
 -- a fault of reading the journal, where the text is accepted
 module _ (H : Type 0) (text : List ℕ) (r : Reading) (h : H) (reads : Reads text r) where
@@ -81,12 +85,14 @@ pub found_read : {A : Type 0} → (H : Type 0) (text : List ℕ) (f : Found A) (
 found_read H text f j found is = subst (IsFoundIn H text) is found
 
 pub found_unclean : {A : Type 0} → (H : Type 0) (text : List ℕ) (j : JournalRead A) → IsUnfinishedIn H text j → H → IsClean text → ⊥
-found_unclean H text j i h clean = unfinished_apart i.text j i.read i.unfinished (subst IsClean (i.is h) clean)
+found_unclean H text j i h clean =
+    let here : IsClean i.text = subst IsClean (i.is h) clean in
+    unfinished_apart i.text j (subst (λ t. HasRead t j) (clean_shown i.text here.0 here.1) i.read) i.unfinished here
 
 -- so many changes fit in a journal
-pub found_few : {A : Type 0} → (H : Type 0) (text x : List ℕ) (stack : List (List ℕ)) (j : JournalRead A) → IsUnfinishedIn H text j → H → Recovers text x stack → changes_of stack ≤ 65535
+pub found_few : {A : Type 0} → (H : Type 0) (text x : List ℕ) (stack : List (List ℕ)) (j : JournalRead A) → IsUnfinishedIn H text j → H → Recovers (shown text) x stack → changes_of stack ≤ 65535
 found_few H text x stack j i h rec =
-    omega (arith, counted_of text i.text x stack j i.read (i.is h) rec, marked_few i.text [] j.entries.items j.stage j.whole i.read.places.marked)
+    omega (arith, counted_of (shown text) (shown i.text) x stack j i.read (ap shown (i.is h)) rec, marked_few (shown i.text) [] j.entries.items j.stage j.whole i.read.places.marked)
 
 told_holds : (told : Option ℕ) (x : List ℕ) → ((n : ℕ) → told ≡ Some n → (length x ≡ n → ⊥) → ⊥) → HasToldLength told x
 told_holds None x apart = tt
@@ -130,14 +136,49 @@ module _ (text x : List ℕ) (count : ℕ) (told : Option ℕ) (c : IsCounted te
       let holds : HasToldLength told x = told_holds told x (λ n is apart. r.same_length n (differs_of r.entries x n (sym (ap told_by same) ∙ sym c.told_is ∙ is) apart)) in
       unfit holds (subst (λ n. IsRefusedAt redo x n line) (sym (c.counted ∙ ap length same)) r.refused)
 
-  pub finished_kept : (I B : Type 0) (redo : List ℕ) (s : Images) → Finds text x redo s → B → IfErr o (FinishedFault I B redo x count told) → IfErr o (λ e. (line : ℕ) → e ≡ RedoDamaged line → ⊥)
+  pub finished_kept : (I B : Type 0) (redo : List ℕ) (s : Images) → FoundOnDisk text x redo s → B → IfErr o (FinishedFault I B redo x count told) → IfErr o (λ e. (line : ℕ) → e ≡ RedoDamaged line → ⊥)
   finished_kept I B redo s finds b = by_answer o
     where
       by_answer : (p : Result Recovered SessionFault) → IfErr p (FinishedFault I B redo x count told) → IfErr p (λ e. (line : ℕ) → e ≡ RedoDamaged line → ⊥)
       by_answer (Ok v) fault = tt
       by_answer (Err e) fault = λ line is.
-          let count_is : changes_of s.stack ≡ count = omega (arith, counted_stack text x count told c s.stack finds.recovers) in
+          let count_is : changes_of s.stack ≡ count = omega (arith, counted_stack text x count told c s.stack (subst (λ t. Recovers t x s.stack) (clean_shown text c.entries c.finished) finds.recovers)) in
           none_refused redo x count line s.undone (subst (λ n. IsRedoOf redo x n s.undone) count_is (finds.undone (c.entries, c.finished))) ((subst (FinishedFault I B redo x count told) is fault).1 b)
+
+  finished_fault : (I B : Type 0) (redo : List ℕ) (r : Reading) → Reads text r → I → (e : SessionFault) → FinishedFault I B redo x count told e → OpenFault r x e
+  finished_fault I B redo r reads i NoMemory f = tt
+  finished_fault I B redo r reads i DeviceFailed f = tt
+  finished_fault I B redo r reads i (Damaged line) f = f
+  finished_fault I B redo r reads i TooLarge f = f
+  finished_fault I B redo r reads i (TooFew have) f = f
+  finished_fault I B redo r reads i JournalFull f = f
+  finished_fault I B redo r reads i Interrupted f = tt
+  finished_fault I B redo r reads i Broken f = f
+  finished_fault I B redo r reads i (LengthDiffers n) f = counted_differs text x count told c r n reads (f i).0 (f i).1
+  finished_fault I B redo r reads i (NothingToRedo have) f = f
+  finished_fault I B redo r reads i (RedoDamaged line) f = sym (ap (λ (q : Reading). q.stage) (counted_once text x count told c r reads))
+
+  pub finished_faults : (I B : Type 0) (redo : List ℕ) (r : Reading) → Reads text r → I → IfErr o (FinishedFault I B redo x count told) → IfErr o (OpenFault r x)
+  finished_faults I B redo r reads i fault = by_answer o fault
+    where
+      by_answer : (p : Result Recovered SessionFault) → IfErr p (FinishedFault I B redo x count told) → IfErr p (OpenFault r x)
+      by_answer (Ok v) f = tt
+      by_answer (Err e) f = finished_fault I B redo r reads i e f
+
+  pub finished_other : (r : Reading) (n : ℕ) → Reads text r → Differs r.entries (image_at r.stage x) n → HasOtherLength told x n
+  finished_other r n reads differs =
+      let here : Differs c.entries x n = subst (λ (q : Reading). Differs q.entries (image_at q.stage x) n) (sym (counted_once text x count told c r reads)) differs in
+      (c.told_is ∙ (told_of c.entries here).0, (told_of c.entries here).1)
+    where
+      told_of : (es : List Entry) → Differs es x n → (told_by es ≡ Some n) × (length x ≡ n → ⊥)
+      told_of [] d = absurd d
+      told_of (e ∷ es) d = d
+
+  pub finished_accepted : IsAccepted text
+  finished_accepted = (record { entries = c.entries; stage = Between }, c.finished.reads)
+
+pub not_at_all : {V E : Type 0} (P : E → Type 0) (o : Result V E) (A : Type 0) → A → (A → ⊥) → MatchResult o (λ _. ⊥) P
+not_at_all P o A a none = absurd (none a)
 
 -- beside something unfinished
 pub err_then : {T E P : Type 0} (Q : E → Type 0) (o : Result T E) → P → IfErr o (λ e. Q e → P)
@@ -187,9 +228,9 @@ after_both (LengthDiffers n) A B P Q a b p f = f a b
 after_both (NothingToRedo have) A B P Q a b p f = f a b
 after_both (RedoDamaged line) A B P Q a b p f = f a b
 
-module _ (text x redo new y redo_new : List ℕ) (s : Images) (finds : Finds text x redo s) (unclean : IsClean text → ⊥) (few : changes_of s.stack ≤ 65535) where
+module _ (text x redo new y redo_new : List ℕ) (s : Images) (finds : FoundOnDisk text x redo s) (unclean : IsClean text → ⊥) (few : changes_of s.stack ≤ 65535) where
   -- the redo text was emptied before the journal was cut
-  stopped_finds : Recovers new y s.stack → ((new ≡ text) ⊎ (redo_new ≡ [])) → Finds new y redo_new (record { stack = s.stack; undone = [] })
+  stopped_finds : Recovers (shown new) y s.stack → ((new ≡ text) ⊎ (redo_new ≡ [])) → FoundOnDisk new y redo_new (record { stack = s.stack; undone = [] })
   stopped_finds rec first = record {
     recovers = rec;
     undone = λ clean. elim first [
@@ -198,12 +239,62 @@ module _ (text x redo new y redo_new : List ℕ) (s : Images) (finds : Finds tex
     ];
   }
 
-  same_finds : (new ≡ text) × (y ≡ x) → redo_new ≡ redo → Finds new y redo_new s
+  same_finds : (new ≡ text) × (y ≡ x) → redo_new ≡ redo → FoundOnDisk new y redo_new s
   same_finds same redo_same =
-      subst (λ t. Finds t y redo_new s) (sym same.0) (subst (λ z. Finds text z redo_new s) (sym same.1) (subst (λ t. Finds text x t s) (sym redo_same) finds))
+      subst (λ t. FoundOnDisk t y redo_new s) (sym same.0) (subst (λ z. FoundOnDisk text z redo_new s) (sym same.1) (subst (λ t. FoundOnDisk text x t s) (sym redo_same) finds))
 
-  pub unfinished_finds : (o : Result Recovered SessionFault) → OnErr o (Recovers new y s.stack) → OnErr o ((new ≡ text) ⊎ (redo_new ≡ []))
+  pub unfinished_finds : (o : Result Recovered SessionFault) → OnErr o (Recovers (shown new) y s.stack) → OnErr o ((new ≡ text) ⊎ (redo_new ≡ []))
       → IfErr o (λ e. AfterFault e (Unit {0}) ((new ≡ text) × (y ≡ x))) → IfErr o (λ e. AfterFault e (Unit {0}) (redo_new ≡ redo))
-      → IfErr o (λ e. AfterFault e (Finds new y redo_new (record { stack = s.stack; undone = [] })) (Finds new y redo_new s))
+      → IfErr o (λ e. AfterFault e (FoundOnDisk new y redo_new (record { stack = s.stack; undone = [] })) (FoundOnDisk new y redo_new s))
   unfinished_finds (Ok v) rec first same redo_same = tt
   unfinished_finds (Err e) rec first same redo_same = after_both e _ _ _ _ same redo_same (stopped_finds rec first) same_finds
+
+-- image and journal are on the disk as they were, and the journal is unfinished
+pub stopped_found : (text x new y r : List ℕ) (stack : List (List ℕ)) → Recovers (shown text) x stack → (IsClean text → ⊥) → new ≡ text → y ≡ x → FoundOnDisk new y r (record { stack = stack; undone = [] })
+stopped_found text x new y r stack rec unclean same image = record {
+  recovers = subst (λ t. Recovers (shown t) y stack) (sym same) (subst (λ z. Recovers (shown text) z stack) (sym image) rec);
+  undone = λ clean. absurd (unclean (subst IsClean same clean));
+}
+
+-- no redo text is on the disk
+pub emptied_found : (new y r : List ℕ) (stack : List (List ℕ)) → Recovers (shown new) y stack → r ≡ [] → changes_of stack ≤ 65535 → FoundOnDisk new y r (record { stack = stack; undone = [] })
+emptied_found new y r stack rec none few = record {
+  recovers = rec;
+  undone = λ clean. subst (λ t. IsRedoOf t y (changes_of stack) []) (sym none) (empty_is_redo y (changes_of stack) few);
+}
+
+-- no interruption comes of reading the journal, nor beside finished entries alone
+pub find_silent : (H : Type 0) (text : List ℕ) (P : Type 0) (e : SessionFault) → FindFault H text e → AfterFault e P (Unit {0})
+find_silent H text P NoMemory f = tt
+find_silent H text P DeviceFailed f = tt
+find_silent H text P (Damaged line) f = tt
+find_silent H text P TooLarge f = tt
+find_silent H text P (TooFew have) f = tt
+find_silent H text P JournalFull f = tt
+find_silent H text P Interrupted f = absurd f
+find_silent H text P Broken f = tt
+find_silent H text P (LengthDiffers n) f = tt
+find_silent H text P (NothingToRedo have) f = tt
+find_silent H text P (RedoDamaged line) f = tt
+
+beside_silent : (I B : Type 0) (redo x : List ℕ) (count : ℕ) (told : Option ℕ) (P : Type 0) (e : SessionFault) → FinishedFault I B redo x count told e → AfterFault e P (Unit {0})
+beside_silent I B redo x count told P NoMemory f = tt
+beside_silent I B redo x count told P DeviceFailed f = tt
+beside_silent I B redo x count told P (Damaged line) f = tt
+beside_silent I B redo x count told P TooLarge f = tt
+beside_silent I B redo x count told P (TooFew have) f = tt
+beside_silent I B redo x count told P JournalFull f = tt
+beside_silent I B redo x count told P Interrupted f = absurd f
+beside_silent I B redo x count told P Broken f = tt
+beside_silent I B redo x count told P (LengthDiffers n) f = tt
+beside_silent I B redo x count told P (NothingToRedo have) f = tt
+beside_silent I B redo x count told P (RedoDamaged line) f = tt
+
+pub finished_silent : (P : Type 0) (o : Result Recovered SessionFault) (I B : Type 0) (redo x : List ℕ) (count : ℕ) (told : Option ℕ) → IfOk o (λ v. (v.how ≡ Clean) × (v.changes ≡ count)) → IfErr o (FinishedFault I B redo x count told)
+    → MatchResult o (λ v. (v.how ≡ Clean → ⊥) → P) (λ e. AfterFault e P (Unit {0}))
+finished_silent P (Ok v) I B redo x count told clean fault = λ unclean. absurd (unclean clean.0)
+finished_silent P (Err e) I B redo x count told clean fault = beside_silent I B redo x count told P e fault
+
+pub unfinished_matches : (o : Result Recovered SessionFault) (P : Type 0) → MatchResult o (λ v. Unit {0} → P) (λ e. AfterFault e P (Unit {0})) → MatchResult o (λ v. (v.how ≡ Clean → ⊥) → P) (λ e. AfterFault e P (Unit {0}))
+unfinished_matches (Ok v) P m = λ unclean. m tt
+unfinished_matches (Err e) P m = m

@@ -1,5 +1,5 @@
 -- What is found in a journal's text: finished entries alone, or something unfinished.
-use Rattle.std.proofs.Common.{◌≡◌, ℕ, ◌≤◌, List, length, refl, ap, sym, ◌∙◌, subst, arith, Option, length-drop}
+use Rattle.std.proofs.Common.{◌≡◌, ◌⊎◌, inl, inr, ℕ, ◌≤◌, List, length, refl, ap, sym, ◌∙◌, subst, arith, Option, length-drop}
 use Rattle.bx_image.specs.declared.record.Saved.{Saved}
 use Rattle.bx_entries.specs.declared.format.version.Version.{Version}
 use Rattle.bx_entries.specs.declared.read.whole.JournalRead.{JournalRead}
@@ -8,6 +8,7 @@ use Rattle.bx_entries.specs.declared.read.types.StageRead.TheVariants.{Between a
 use Rattle.bx_journal.specs.declared.session.fault.SessionFault.{SessionFault}
 use Rattle.bx_journal.specs.declared.session.fault.SessionFault.TheVariants.{NoMemory, TooLarge, DeviceFailed, Damaged, TooFew, JournalFull, Interrupted, Broken, LengthDiffers, NothingToRedo, RedoDamaged}
 use Rattle.bx_entries.specs.inner.Journal.{HasRead}
+use Rattle.bx_journal.specs.Calls.{AfterFault}
 use Rattle.bx_journal.specs.Opening.{OneMoreOfThree, ThreeCounts}
 use Rattle.bx_journal.specs.inner.Devices.{FaultCounts, OneMore}
 use Rattle.bx_journal.specs.inner.Judging.{JudgeFault}
@@ -17,6 +18,8 @@ use Rattle.bx_entries.specs.inner.Parsed.{entries_of, stage_of, reading_of}
 use Rattle.bx_journal.specs.inner.Recovery.{FinishedFault, HasToldLength, RecoverFault}
 use Rattle.bx_journal.specs.Redo.{IsClean, IsRefusedAt}
 use Rattle.bx_entries.specs.inner.Tally.{IsCounted}
+use Rattle.bx_entries.specs.Shown.{shown}
+use Rattle.bx_entries.proofs.ShownLemmas.{shown_short}
 use Rattle.bx_entries.specs.Text.{Entry, Between, Reading, Reads}
 use Rattle.bx_journal.proofs.OpenLemmas.{read_once}
 use Rattle.bx_entries.proofs.ReadLemmas.{length-entries_of}
@@ -48,11 +51,16 @@ unfinished_apart text j read unfinished clean =
     unfinished (between_back j.stage (ap (λ (r : Reading). r.stage) same)) (omega (arith, ap length (read.places.rest ∙ clean.1.whole), length-drop j.whole text, read.places.mark.within))
 
 -- an entry that has its save line begins within the text
-pub ending_begins : {A : Type 0} → (text bytes : List ℕ) (j : JournalRead A) (v : Version) (kept : Saved A) (begins saved : ℕ) → HasRead bytes j → j.stage ≡ EndingRead v kept begins saved → text ≡ bytes
+pub ending_begins : {A : Type 0} → (text bytes : List ℕ) (j : JournalRead A) (v : Version) (kept : Saved A) (begins saved : ℕ) → HasRead (shown bytes) j → j.stage ≡ EndingRead v kept begins saved → text ≡ bytes
     → begins ≤ length text
 ending_begins text bytes j v kept begins saved read is same =
-    let mark = begin_mark bytes j.entries.items j.stage j.whole read.places.mark read.places.marked in
-    omega (arith, mark.within, ap (λ s. begins_at s j.whole) is, ap length same)
+    let mark = begin_mark (shown bytes) j.entries.items j.stage j.whole read.places.mark read.places.marked in
+    omega (arith, mark.within, ap (λ s. begins_at s j.whole) is, ap length same, shown_short bytes)
+
+pub stage_begins : {A : Type 0} → (text bytes : List ℕ) (j : JournalRead A) (stage : StageRead A) → HasRead (shown bytes) j → j.stage ≡ stage → text ≡ bytes → begins_at stage j.whole ≤ length text
+stage_begins text bytes j stage read is same =
+    let mark = begin_mark (shown bytes) j.entries.items j.stage j.whole read.places.mark read.places.marked in
+    omega (arith, mark.within, ap (λ s. begins_at s j.whole) is, ap length same, shown_short bytes)
 
 -- a fault between reading and the first write is one of taking back
 pub look_kind : (H : Type 0) (es : List Entry) (x : List ℕ) (e : SessionFault) → LookFault H es x e → RecoverFault e
@@ -107,3 +115,22 @@ judged_finished H now R redo text x y changes told JournalFull still same image 
 judged_finished H now R redo text x y changes told Interrupted still same image length_is f = f
 judged_finished H now R redo text x y changes told Broken still same image length_is f = f
 judged_finished H now R redo text x y changes told (NothingToRedo have) still same image length_is f = f
+
+-- a fault between reading and the first write is no interruption
+pub look_silent : (H : Type 0) (es : List Entry) (x : List ℕ) (P : Type 0) (e : SessionFault) → LookFault H es x e → AfterFault e P (Unit {0})
+look_silent H es x P NoMemory look = tt
+look_silent H es x P DeviceFailed look = tt
+look_silent H es x P (LengthDiffers n) look = tt
+look_silent H es x P TooLarge look = tt
+look_silent H es x P (Damaged line) look = tt
+look_silent H es x P (TooFew have) look = tt
+look_silent H es x P JournalFull look = tt
+look_silent H es x P Interrupted look = absurd look
+look_silent H es x P Broken look = tt
+look_silent H es x P (NothingToRedo have) look = tt
+look_silent H es x P (RedoDamaged line) look = tt
+
+-- a store that stayed has the text that it had
+pub first_text : {S Q : Type 0} → (text : S → List ℕ) (new mid : S) (old : List ℕ) → text mid ≡ old → (new ≡ mid) ⊎ Q → (text new ≡ old) ⊎ Q
+first_text text new mid old same (inl is) = inl (ap text is ∙ same)
+first_text text new mid old same (inr q) = inr q

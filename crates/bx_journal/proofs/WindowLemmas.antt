@@ -1,5 +1,6 @@
 -- Counting in windows: a window more.
 use Rattle.std.proofs.Common.{◌≡◌, ℕ, ◌+◌, ◌-◌, ◌≤◌, Bool, List, ◌++◌, length, take, drop, ap, sym, ◌∙◌, subst, arith, length-append, length-take, Result, Ok}
+use Rattle.bx_entries.specs.Shown.{shown}
 use Rattle.bx_entries.proofs.TallyLemmas.{take_less, take_sum}
 use Rattle.std.specs.Prelude.{IfErr, OnOk}
 use Rattle.std.proofs.lemmas.List.{take_all}
@@ -84,10 +85,10 @@ module _ {T V : Type 0} {honest : T → Type 0} {text : T → List ℕ} {failure
   found_is (Finished counted) f = record { text = f.text; is = λ h. sym (first.same h) ∙ f.is (first.honesty.1 h); counted = f.counted; few = f.few }
   found_is (Unfinished journal) f = record { text = f.text; is = λ h. sym (first.same h) ∙ f.is (first.honesty.1 h); read = f.read; unfinished = f.unfinished }
 
-  fault_is : (e : SessionFault) → FindFault (honest now) (text now) e → FindFault (honest old) (text old) e
+  fault_is : (e : SessionFault) → FindFault (honest now) (shown (text now)) e → FindFault (honest old) (shown (text old)) e
   fault_is NoMemory f = tt
   fault_is DeviceFailed f = tt
-  fault_is (Damaged line) f = λ h. subst (λ t. IsDamagedAt t line) (first.same h) (f (first.honesty.1 h))
+  fault_is (Damaged line) f = λ h. subst (λ t. IsDamagedAt (shown t) line) (first.same h) (f (first.honesty.1 h))
   fault_is TooLarge f = f
   fault_is (TooFew have) f = f
   fault_is JournalFull f = f
@@ -116,6 +117,6 @@ module _ {T V : Type 0} {honest : T → Type 0} {text : T → List ℕ} {failure
   pub text_behind : {A : Type 0} {new : T} → (r : Result (Found A) SessionFault) → FindsText honest text failures r now new → FindsText honest text failures r old new
   text_behind r next = record {
     found = IfOk-weaker r (IsFoundIn (honest now) (text now)) (IsFoundIn (honest old) (text old)) found_is next.found;
-    fault = IfErr-weaker r (FindFault (honest now) (text now)) (FindFault (honest old) (text old)) fault_is next.fault;
+    fault = IfErr-weaker r (FindFault (honest now) (shown (text now))) (FindFault (honest old) (shown (text old))) fault_is next.fault;
     looks = looks_before first next.looks;
   }

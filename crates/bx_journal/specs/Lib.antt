@@ -3,6 +3,7 @@ pub mod Fault
 pub mod Laws
 pub mod Machine
 pub mod Phase
+pub mod Power
 pub mod SessionView
 pub mod Session
 pub mod Stack

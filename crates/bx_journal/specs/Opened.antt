@@ -3,12 +3,14 @@ use Rattle.std.specs.Prelude.{◌≡◌, ℕ, List, [], Result, MatchResult}
 use Rattle.bx_journal.specs.declared.session.answers.Recovered.{Recovered}
 use Rattle.bx_journal.specs.declared.session.fault.SessionFault.{SessionFault}
 use Rattle.bx_journal.specs.declared.session.fault.SessionFault.TheVariants.{LengthDiffers, RedoDamaged}
+use Rattle.bx_entries.specs.Shown.{shown}
 use Rattle.bx_entries.specs.Text.{Reading, Reads}
 use Rattle.bx_journal.specs.Calls.{AfterFault, Differs}
 use Rattle.bx_journal.specs.Images.{Images}
 use Rattle.bx_journal.specs.Judging.{RefusesRedo}
 use Rattle.bx_journal.specs.Opening.{IsOpened, RefusesLength}
-use Rattle.bx_journal.specs.Redo.{Finds, RefusesRedoAt, found_undone}
+use Rattle.bx_journal.specs.Power.{Found}
+use Rattle.bx_journal.specs.Redo.{RefusesRedoAt, found_undone}
 use Rattle.bx_journal.specs.Session.{HasUndone}
 use Rattle.bx_journal.specs.SessionView.{SessionView}
 use Rattle.bx_journal.specs.Stack.{Recovers, image_at, recovered}
@@ -33,11 +35,11 @@ RefusesDiffering result fault text x = (r : Reading) (n : ℕ) → Reads text r 
 
 -- opening finds the stack that it found before
 abbrev pub KeepsFound : List ℕ → List ℕ → List ℕ → List ℕ → Type 0
-KeepsFound text x new y = (stack : List (List ℕ)) → Recovers text x stack → Recovers new y stack
+KeepsFound text x new y = (stack : List (List ℕ)) → Recovers (shown text) x stack → Recovers (shown new) y stack
 
 -- of a pair of which opening finds a stack no length differs
 abbrev pub KeepsLengths : List ℕ → List ℕ → SessionFault → Type 0
-KeepsLengths text x e = (stack : List (List ℕ)) → Recovers text x stack → (n : ℕ) → e ≡ LengthDiffers n → ⊥
+KeepsLengths text x e = (stack : List (List ℕ)) → Recovers (shown text) x stack → (n : ℕ) → e ≡ LengthDiffers n → ⊥
 
 -- a line that is told of the redo text is one at which it is refused
 abbrev pub RefusesRightly : {D T : Type 0} → (D → List ℕ) → (T → List ℕ) → D → T → T → SessionFault → Type 0
@@ -49,13 +51,13 @@ RefusesUnfit result fault text x redo = (line : ℕ) → RefusesRedoAt text x re
 
 -- the session keeps the undone images that are found, or none where something is unfinished
 abbrev pub KeepsImages : {D T : Type 0} → (D → List ℕ) → (T → List ℕ) → D → T → T → SessionView D T → Recovered → Type 0
-KeepsImages image text d t u s o = (i : Images) → Finds (text t) (image d) (text u) i → HasUndone image text s (found_undone o.how i.undone)
+KeepsImages image text d t u s o = (i : Images) → Found (text t) (image d) (text u) i → HasUndone image text s (found_undone o.how i.undone)
 
 -- opening finds the images that it found before, behind an interruption without those that were undone
 abbrev pub Refinds : {D T : Type 0} → (D → List ℕ) → (T → List ℕ) → D → T → T → D → T → T → SessionFault → Type 0
-Refinds image text d t u d_new t_new u_new e = (s : Images) → Finds (text t) (image d) (text u) s →
-    AfterFault e (Finds (text t_new) (image d_new) (text u_new) (record { stack = s.stack; undone = [] })) (Finds (text t_new) (image d_new) (text u_new) s)
+Refinds image text d t u d_new t_new u_new e = (s : Images) → Found (text t) (image d) (text u) s →
+    AfterFault e (Found (text t_new) (image d_new) (text u_new) (record { stack = s.stack; undone = [] })) (Found (text t_new) (image d_new) (text u_new) s)
 
 -- a redo text of which opening finds images is never refused
 abbrev pub KeepsRedo : {D T : Type 0} → (D → List ℕ) → (T → List ℕ) → D → T → T → SessionFault → Type 0
-KeepsRedo image text d t u e = (s : Images) → Finds (text t) (image d) (text u) s → (line : ℕ) → e ≡ RedoDamaged line → ⊥
+KeepsRedo image text d t u e = (s : Images) → Found (text t) (image d) (text u) s → (line : ℕ) → e ≡ RedoDamaged line → ⊥

@@ -1,18 +1,23 @@
 -- What opening a pair finds and leaves.
-use Rattle.std.specs.Prelude.{◌≡◌, ◌≤◌, ℕ, ◌+◌, List, length}
+use Rattle.std.specs.Prelude.{◌≡◌, ◌≤◌, ℕ, ◌+◌, List, ◌++◌, length, drop}
 use Rattle.bx_journal.specs.declared.session.answers.How.{How}
 use Rattle.bx_journal.specs.declared.session.fault.SessionFault.{SessionFault}
 use Rattle.bx_journal.specs.declared.session.fault.SessionFault.TheVariants.{DeviceFailed, Damaged, Interrupted, LengthDiffers}
+use Rattle.bx_entries.specs.Shown.{shown}
 use Rattle.bx_entries.specs.Text.{Reading, split}
 use Rattle.bx_journal.specs.Stack.{StandsFor, recovered}
 use Rattle.bx_journal.specs.Calls.{how_of}
 use Rattle.bx_journal.specs.Fault.{DeviceFault}
 
+-- what follows the last newline that is read, and what isn't read
+abbrev pub left_over : List ℕ → List ℕ
+left_over text = (split (shown text)).rest ++ drop (length (shown text)) text
+
 -- what opening leaves stands for what was found
 pub record IsOpened (text x : List ℕ) (r : Reading) (new y : List ℕ) (how : How) (changes : ℕ) : Type 0 where
   pub stands : StandsFor new y (recovered r x)
   pub changes_are : changes ≡ length r.entries
-  pub how_is : how ≡ how_of r (split text).rest
+  pub how_is : how ≡ how_of r (left_over text)
 
 -- which fault a text that isn't accepted makes, where reading met no other
 abbrev pub RefusesText : SessionFault → Type 0

@@ -2,6 +2,7 @@
 pub mod Calls
 pub mod Devices
 pub mod Entries
+pub mod Fading
 pub mod Fault
 pub mod Judging
 pub mod Opening

@@ -4,4 +4,5 @@ pub(crate) mod fill;
 pub(crate) mod image;
 pub(crate) mod redo_entry;
 pub(crate) mod redo_text;
+pub(crate) mod settle;
 pub(crate) mod undo_entry;

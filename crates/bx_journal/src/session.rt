@@ -47,6 +47,7 @@ impl<D: Device, T: TextStore, A: Allocator> Model for Session<D, T, A> {
 
 impl<D: Device, T: TextStore, A: Allocator + Clone> Session<D, T, A> {
     ghost use Rattle.bx_journal.specs.Performing.{AppendsEntry, FindsOne, StaysReady, Steps, StopsPerform};
+    ghost use Rattle.bx_journal.specs.Power.{ChangeSurvives};
     ghost use Rattle.bx_journal.specs.Session.{FailsSafely, HasUndone};
     ghost use Rattle.bx_journal.specs.Standing.{PerformFault};
 
@@ -78,6 +79,10 @@ impl<D: Device, T: TextStore, A: Allocator + Clone> Session<D, T, A> {
         ensures finds { D.honest self.old.device → T.honest self.old.store → T.honest self.old.redo_text
             → FindsOne D.image T.text change.now self.old self.new result }
 
+        // So it is behind a loss of power inside the call; where it is accepted, the new images are on the disk.
+        ensures survives { D.honest self.old.device → T.honest self.old.store → T.honest self.old.redo_text
+            → ChangeSurvives D.image D.survives T.text T.survives change.now self.old self.new result }
+
         ensures kind { IfErr result PerformFault }
         ensures full { IsErrOf result SessionFault.JournalFull ↔ ((self.old.is_broken ≡ false) × (65535 ≤ self.old.count)) }
         ensures large { D.honest self.old.device → IsErrOf result SessionFault.TooLarge → Fits change.now (length (D.image self.old.device)) MAX_LEN → ⊥ }
@@ -98,6 +103,7 @@ impl<D: Device, T: TextStore, A: Allocator + Clone> Session<D, T, A> {
             &self.alloc,
             &mut self.device,
             &mut self.store,
+            &mut self.redo_text,
             change,
             number,
         )?;

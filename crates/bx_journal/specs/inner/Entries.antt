@@ -5,6 +5,8 @@ use Rattle.bx_journal.specs.Machine.{changes_of}
 use Rattle.bx_journal.specs.Phase.{IsAtRest}
 use Rattle.bx_journal.specs.Redo.{Finds}
 use Rattle.bx_journal.specs.Stack.{Recovers, StandsFor}
+use Rattle.bx_entries.specs.Shown.{shown}
+use Rattle.bx_journal.specs.inner.Written.{AreSettled}
 use Rattle.bx_journal.specs.inner.Turns.{AreAtRest, AreStanding}
 
 -- a pair at rest for a stack is so without the newest images
@@ -55,3 +57,27 @@ abbrev pub RedoSome : {D T B V E : Type 0} → (D → Type 0) → (D → List �
 RedoSome honest image text_honest text d t u d_new t_new u_new count takens result =
     honest d → text_honest t → text_honest u → (s : Images) → AreAtRest (text t) (image d) (text u) s → count ≡ changes_of s.stack
     → OnErr result ((i : ℕ) × (i ≤ length takens) × Finds (text t_new) (image d_new) (text u_new) (redo_of i s))
+
+-- where image and both texts were on the disk, they are so behind the steps
+abbrev pub StaySettled : {D T V E : Type 0} → (D → Type 0) → (D → List ℕ) → (D → List ℕ → Type 0) → (T → Type 0) → (T → List ℕ) → (T → List ℕ → Type 0)
+    → D → T → T → D → T → T → Result V E → Type 0
+StaySettled honest image survives text_honest text text_survives d t u d_new t_new u_new result =
+    honest d → text_honest t → text_honest u → AreSettled image text survives text_survives d t u → OnOk result (AreSettled image text survives text_survives d_new t_new u_new)
+
+-- and where they are stopped, whatever is found behind a loss of power, opening finds the images behind some of the undos
+abbrev pub UndoSomeSurvives : {D T B V E : Type 0} → (D → Type 0) → (D → List ℕ) → (D → List ℕ → Type 0) → (T → Type 0) → (T → List ℕ) → (T → List ℕ → Type 0)
+    → D → T → T → D → T → T → ℕ → List B → Result V E → Type 0
+UndoSomeSurvives honest image survives text_honest text text_survives d t u d_new t_new u_new undone takens result =
+    honest d → text_honest t → text_honest u → AreSettled image text survives text_survives d t u
+    → (s : Images) → AreAtRest (text t) (image d) (text u) s → undone ≡ length s.undone
+    → OnErr result ((y new redo : List ℕ) → survives d_new y → text_survives t_new new → text_survives u_new redo
+    → (i : ℕ) × (i ≤ length takens) × Finds (shown new) y redo (undo_of i s))
+
+-- of the redos
+abbrev pub RedoSomeSurvives : {D T B V E : Type 0} → (D → Type 0) → (D → List ℕ) → (D → List ℕ → Type 0) → (T → Type 0) → (T → List ℕ) → (T → List ℕ → Type 0)
+    → D → T → T → D → T → T → ℕ → List B → Result V E → Type 0
+RedoSomeSurvives honest image survives text_honest text text_survives d t u d_new t_new u_new count takens result =
+    honest d → text_honest t → text_honest u → AreSettled image text survives text_survives d t u
+    → (s : Images) → AreAtRest (text t) (image d) (text u) s → count ≡ changes_of s.stack
+    → OnErr result ((y new redo : List ℕ) → survives d_new y → text_survives t_new new → text_survives u_new redo
+    → (i : ℕ) × (i ≤ length takens) × Finds (shown new) y redo (redo_of i s))

@@ -5,20 +5,22 @@ use Rattle.bx_journal.specs.declared.session.answers.Recovered.{Recovered}
 use Rattle.bx_journal.specs.declared.session.fault.SessionFault.{SessionFault}
 use Rattle.bx_journal.specs.declared.session.fault.SessionFault.TheVariants.{RedoDamaged}
 use Rattle.bx_entries.specs.declared.read.whole.JournalRead.{JournalRead}
+use Rattle.bx_entries.specs.Shown.{shown}
 use Rattle.bx_entries.specs.Text.{Reading, Reads}
 use Rattle.bx_journal.specs.Calls.{AfterFault}
 use Rattle.bx_journal.specs.Images.{Images}
 use Rattle.bx_journal.specs.Judging.{RefusesRedo}
 use Rattle.bx_journal.specs.Opened.{IsPairSame}
 use Rattle.bx_journal.specs.Opening.{IsOpened}
-use Rattle.bx_journal.specs.Redo.{Finds, RefusesRedoAt}
+use Rattle.bx_journal.specs.Power.{Found}
+use Rattle.bx_journal.specs.Redo.{RefusesRedoAt}
 use Rattle.bx_journal.specs.Stack.{Recovers}
 use Rattle.bx_journal.specs.inner.Recovery.{HasLengths, HasUndoneCount, IsOpenedOf, KeepsUndone}
 
 -- whatever the journal reads as, what is left stands for what that recovers
 abbrev pub Opens : {D T E : Type 0} → (D → List ℕ) → (T → List ℕ) → D → T → D → T → Result Recovered E → Type 0
 Opens image text d t d_new t_new result =
-    (r : Reading) → Reads (text t) r → IfOk result (λ o. IsOpened (text t) (image d) r (text t_new) (image d_new) o.how o.changes)
+    (r : Reading) → Reads (shown (text t)) r → IfOk result (λ o. IsOpened (text t) (image d) r (text t_new) (image d_new) o.how o.changes)
 
 -- the same of a journal that was read, whose lengths are those of the images
 abbrev pub OpensRead : {D T A E : Type 0} → JournalRead A → (D → List ℕ) → (T → List ℕ) → D → T → D → T → Result Recovered E → Type 0
@@ -54,17 +56,17 @@ TellsUnfit honest image text_honest text d t u result =
 -- the undone images that opening finds are kept, or none where something is unfinished
 abbrev pub KeepsFoundUndone : {D T E : Type 0} → (D → Type 0) → (D → List ℕ) → (T → Type 0) → (T → List ℕ) → D → T → T → D → T → Result Recovered E → Type 0
 KeepsFoundUndone honest image text_honest text d t u d_new u_new result =
-    honest d → text_honest t → text_honest u → (s : Images) → Finds (text t) (image d) (text u) s
+    honest d → text_honest t → text_honest u → (s : Images) → Found (text t) (image d) (text u) s
     → IfOk result (λ o. KeepsUndone (text u_new) (image d_new) o s.undone)
 
 -- behind a fault opening finds the images that it found before, behind an interruption without those that were undone
 abbrev pub FindsAgain : {D T V : Type 0} → (D → Type 0) → (D → List ℕ) → (T → Type 0) → (T → List ℕ) → D → T → T → D → T → T → Result V SessionFault → Type 0
 FindsAgain honest image text_honest text d t u d_new t_new u_new result =
-    honest d → text_honest t → text_honest u → (s : Images) → Finds (text t) (image d) (text u) s
-    → IfErr result (λ e. AfterFault e (Finds (text t_new) (image d_new) (text u_new) (record { stack = s.stack; undone = [] }))
-    (Finds (text t_new) (image d_new) (text u_new) s))
+    honest d → text_honest t → text_honest u → (s : Images) → Found (text t) (image d) (text u) s
+    → IfErr result (λ e. AfterFault e (Found (text t_new) (image d_new) (text u_new) (record { stack = s.stack; undone = [] }))
+    (Found (text t_new) (image d_new) (text u_new) s))
 
 -- a redo text of which opening finds images is never refused
 abbrev pub KeepsRedoText : {D T V : Type 0} → (D → Type 0) → (D → List ℕ) → (T → Type 0) → (T → List ℕ) → D → T → T → Result V SessionFault → Type 0
 KeepsRedoText honest image text_honest text d t u result =
-    honest d → text_honest t → text_honest u → (s : Images) → Finds (text t) (image d) (text u) s → IfErr result (λ e. (line : ℕ) → e ≡ RedoDamaged line → ⊥)
+    honest d → text_honest t → text_honest u → (s : Images) → Found (text t) (image d) (text u) s → IfErr result (λ e. (line : ℕ) → e ≡ RedoDamaged line → ⊥)

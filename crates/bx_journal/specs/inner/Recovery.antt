@@ -18,6 +18,7 @@ use Rattle.bx_journal.specs.Stack.{HaveLengths, Recovers, image_at}
 use Rattle.bx_journal.specs.Redo.{IsRedoOf, IsRefusedAt, found_undone}
 use Rattle.bx_entries.specs.inner.Parsed.{entries_of, reading_of, stage_of}
 use Rattle.bx_entries.specs.inner.Tally.{IsCounted}
+use Rattle.bx_entries.specs.Shown.{shown}
 use Rattle.bx_entries.specs.Text.{IsDamagedAt}
 
 -- so many finished entries alone were counted: the store's, where that is honest
@@ -31,7 +32,7 @@ pub record IsCountedIn (honest : Type 0) (stored : List ℕ) (count : ℕ) (told
 pub record IsUnfinishedIn {A : Type 0} (honest : Type 0) (stored : List ℕ) (j : JournalRead A) : Type 0 where
   pub text : List ℕ
   pub is : honest → stored ≡ text
-  pub read : HasRead text j
+  pub read : HasRead (shown text) j
   pub unfinished : j.stage ≡ BetweenRead → j.whole ≡ length text → ⊥
 
 -- what was found is the store's, where that is honest
@@ -50,7 +51,7 @@ IsOpenedOf j text x new y o = IsOpened text x (reading_of j.entries.items j.stag
 -- a sound pair keeps its stack: at rest, or behind a fault so that opening finds it again
 abbrev pub KeepsStack : {T E : Type 0} → Result T E → List ℕ → List ℕ → List ℕ → List ℕ → Type 0
 KeepsStack result text x new y =
-    (stack : List (List ℕ)) → Recovers text x stack → OnOk result (IsAtRest new y stack) × OnErr result (Recovers new y stack)
+    (stack : List (List ℕ)) → Recovers (shown text) x stack → OnOk result (IsAtRest new y stack) × OnErr result (Recovers (shown new) y stack)
 
 -- which fault reading the journal may answer
 abbrev pub FindFault : Type 0 → List ℕ → SessionFault → Type 0
@@ -61,7 +62,7 @@ FindFault honest text e = DeviceFault e
 pub record FindsText {T A : Type 0} (honest : T → Type 0) (text : T → List ℕ) (failures : T → ℕ) (result : Result (Found A) SessionFault) (old new : T)
     : Type 0 where
   pub found : IfOk result (IsFoundIn (honest old) (text old))
-  pub fault : IfErr result (FindFault (honest old) (text old))
+  pub fault : IfErr result (FindFault (honest old) (shown (text old)))
   pub looks : LooksAt honest text failures result old new
 
 -- which fault taking back what is unfinished may answer

@@ -10,6 +10,7 @@ use Rattle.bx_entries.specs.Entry.{head_text, end_text}
 use Rattle.bx_journal.specs.Phase.{IsAtRest}
 use Rattle.bx_journal.specs.inner.Phase.{IsOpen, as_read}
 use Rattle.bx_journal.specs.inner.Redo.{RecoversOpen}
+use Rattle.bx_entries.specs.Shown.{shown}
 use Rattle.bx_entries.specs.Text.{Entry, Stage, Between, Ending, Reads}
 use Rattle.bx_journal.specs.Stack.{IsSound, HaveLengths, Recovers, image_at, stack_of}
 use Rattle.bx_entries.specs.inner.Mark.{IsMark, HasMarks}
@@ -89,11 +90,11 @@ TailStops text begins new result =
 -- where the change of an unfinished entry is taken back, image and journal are at rest
 abbrev pub TakesTail : {D T V E : Type 0} → (D → List ℕ) → (T → List ℕ) → Kept → ℕ → D → T → D → T → Result V E → Type 0
 TakesTail image text s begins d t d_new t_new result =
-    (stack : List (List ℕ)) (es : List Entry) (v : Version) → HasTail (text t) (image d) stack es (Ending v s) begins
+    (stack : List (List ℕ)) (es : List Entry) (v : Version) → HasTail (shown (text t)) (image d) stack es (Ending v s) begins
     → OnOk result (IsAtRest (text t_new) (image d_new) stack)
 
 -- and where that is stopped opening finds the same stack
 abbrev pub StopsTail : {D T V E : Type 0} → (D → List ℕ) → (T → List ℕ) → Kept → ℕ → D → T → D → T → Result V E → Type 0
 StopsTail image text s begins d t d_new t_new result =
-    (stack : List (List ℕ)) (es : List Entry) (v : Version) → HasTail (text t) (image d) stack es (Ending v s) begins
-    → OnErr result (Recovers (text t_new) (image d_new) stack)
+    (stack : List (List ℕ)) (es : List Entry) (v : Version) → HasTail (shown (text t)) (image d) stack es (Ending v s) begins
+    → OnErr result (Recovers (shown (text t_new)) (image d_new) stack)

@@ -7,6 +7,8 @@ use Rattle.bx_entries.specs.Kept.{run_of, kept_of}
 use Rattle.bx_entries.specs.Text.{Entry}
 use Rattle.bx_entries.specs.declared.format.version.Version.{Version}
 use Rattle.bx_journal.specs.Phase.{IsAtRest, RecoversEither}
+use Rattle.bx_entries.specs.Shown.{shown}
+use Rattle.bx_journal.specs.inner.Written.{AreSettled}
 use Rattle.bx_journal.specs.inner.Redo.{LeavesEither}
 use Rattle.bx_journal.specs.inner.Step.{TakesBack}
 use Rattle.bx_journal.specs.inner.Turns.{kept_text, side_of}
@@ -55,3 +57,13 @@ LeftUndo honest image text_honest text number taken kept begins saved d t u d_ne
     → TakesBack (text t) (image d) below v e begins saved → kept_of kept ≡ e.saved
     → OnErr result (LeavesEither (text t_new) (image d_new) (text u_new) (side_of (image d ∷ below) (image d) (text u))
     (side_of below (restore e.saved (image d)) (kept_text (text u) (kept_of taken) number kept.len)))
+
+-- Behind a loss of power, where all three were on the disk before, all is found as before the undo, as behind it, or the journal is unfinished
+abbrev pub UndoSurvives : {D T A : Type 0} → (D → Type 0) → (D → List ℕ) → (D → List ℕ → Type 0) → (T → Type 0) → (T → List ℕ) → (T → List ℕ → Type 0)
+    → ℕ → Saved A → Saved A → ℕ → ℕ → D → T → T → D → T → T → Type 0
+UndoSurvives honest image survives text_honest text text_survives number taken kept begins saved d t u d_new t_new u_new =
+    honest d → text_honest t → text_honest u → AreSettled image text survives text_survives d t u
+    → (below : List (List ℕ)) (v : Version) (e : Entry) → TakesBack (text t) (image d) below v e begins saved → kept_of kept ≡ e.saved
+    → (y new redo : List ℕ) → survives d_new y → text_survives t_new new → text_survives u_new redo
+    → LeavesEither (shown new) y redo (side_of (image d ∷ below) (image d) (text u))
+    (side_of below (restore e.saved (image d)) (kept_text (text u) (kept_of taken) number kept.len))

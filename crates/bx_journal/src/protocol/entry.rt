@@ -3,12 +3,14 @@ ghost use Rattle.std.specs.Prelude.{◌≡◌, ◌↔◌, ◌⊎◌, ◌+◌, �
 ghost use Rattle.bx_entries.specs.Kept.{kept_of};
 ghost use Rattle.bx_image.specs.Change.{effect, saved, AllWithin, IsAsGood};
 ghost use Rattle.bx_image.specs.Device.{GoesOn};
+ghost use Rattle.bx_image.specs.Power.{Only};
 ghost use Rattle.bx_entries.specs.Entry.{head_text};
 ghost use Rattle.bx_journal.specs.inner.Devices.{AreBelow, ImageIsFirst, OneMore, StepsOn};
+ghost use Rattle.bx_journal.specs.inner.Fading.{AllStayOpenFor, EndSurvives, HeadSurvives};
 ghost use Rattle.bx_journal.specs.inner.Phase.{StaysOpenFor};
 ghost use Rattle.bx_journal.specs.inner.Step.{EndRests, EndStops, HeadOpens, HeadStops};
 ghost use Rattle.bx_journal.specs.inner.Turns.{place_of};
-ghost use Rattle.bx_journal.specs.inner.Written.{EntryRests, EntryStops, Left};
+ghost use Rattle.bx_journal.specs.inner.Written.{EntryRests, EntrySettles, EntryStops, EntrySurvives, Left};
 
 use crate::protocol::image::change_image;
 use crate::protocol::redo_text::{RedoCut, cut_redo};
@@ -17,7 +19,7 @@ use bx_image::{Change, Device, DeviceFailed, Saved};
 use bx_store::TextStore;
 use std::alloc::Allocator;
 
-/// Appends an entry up to its save line, page by page. The page is empty before it.
+/// Appends an entry up to its save line, page by page, and puts it on the disk. The page is empty before it.
 pub fn append_head<T: TextStore, A: Allocator>(
     store: &mut T,
     page: &mut Vec<u8, A>,
@@ -32,23 +34,31 @@ pub fn append_head<T: TextStore, A: Allocator>(
     ensures ok { T.honest store.old → HeadOpens (T.text store.old) (head_text number (kept_of kept.now)) (T.text store.new) result }
     ensures fault { T.honest store.old → HeadStops (T.text store.old) (head_text number (kept_of kept.now)) (T.text store.new) result }
     ensures text { T.honest store.old → OnOk result (T.text store.new ≡ T.text store.old ++ head_text number (kept_of kept.now)) }
+    ensures settled { T.honest store.old → OnOk result (Only (T.text store.new) (T.survives store.new)) }
+    ensures survives { T.honest store.old → Only (T.text store.old) (T.survives store.old)
+        → HeadSurvives (T.text store.old) (head_text number (kept_of kept.now)) (T.survives store.new) }
     ensures emptied { OnOk result (page.new.items ≡ []) }
     ensures page_kept { vec_capacity page.old ≤ vec_capacity page.new }
     ensures goes_on { GoesOn T.honest T.room T.failures (is_err result) store.old store.new }
 {
-    put_head(store, page, number, kept)
+    put_head(store, page, number, kept)?;
+    store.sync()
 }
 
-/// Appends the line that ends an entry.
+/// Appends the line that ends an entry, and puts it on the disk.
 pub fn append_end<T: TextStore>(store: &mut T, end: &[u8]) -> Result<(), DeviceFailed>
     requires countable { T.failures store.old < u64.MAX }
     requires fits { T.honest store.old → length (T.text store.old) + length end.now ≤ T.room store.old }
     ensures ok { T.honest store.old → EndRests (T.text store.old) end.now (T.text store.new) result }
     ensures fault { T.honest store.old → EndStops (T.text store.old) end.now (T.text store.new) result }
+    ensures settled { T.honest store.old → OnOk result (Only (T.text store.new) (T.survives store.new)) }
+    ensures survives { T.honest store.old → Only (T.text store.old) (T.survives store.old)
+        → EndSurvives (T.text store.old) end.now (T.survives store.new) }
     ensures text { T.honest store.old → OnOk result (T.text store.new ≡ T.text store.old ++ end.now) }
     ensures goes_on { GoesOn T.honest T.room T.failures (is_err result) store.old store.new }
 {
-    store.append(end)
+    store.append(end)?;
+    store.sync()
 }
 
 /// Changes the image, and cuts the redo text. Whatever it answers, a pair that is open on what the change takes
@@ -64,6 +74,10 @@ pub fn change_with<D: Device, T: TextStore, A: Allocator>(
     requires room { length (effect change.now []) ≤ D.room device.old }
     requires within { T.honest redo_text.old → place_of part ≤ length (T.text redo_text.old) }
     ensures phase { D.honest device.old → StaysOpenFor change.now (D.image device.old) (D.image device.new) }
+    ensures settled { D.honest device.old → OnOk result (Only (D.image device.new) (D.survives device.new)) }
+    ensures redo_settled { T.honest redo_text.old → OnOk result (Only (T.text redo_text.new) (T.survives redo_text.new)) }
+    ensures survives { D.honest device.old → Only (D.image device.old) (D.survives device.old)
+        → AllStayOpenFor change.now (D.image device.old) (D.survives device.new) }
     ensures image { D.honest device.old → OnOk result (D.image device.new ≡ effect change.now (D.image device.old)) }
     ensures back { D.honest device.old → OnOk result (IsAsGood (kept_of (saved change.now (D.image device.old))) (D.image device.old) (D.image device.new)) }
     ensures redo { T.honest redo_text.old → OnOk result (T.text redo_text.new ≡ take (place_of part) (T.text redo_text.old)) }
@@ -110,6 +124,10 @@ pub fn write_entry<D: Device, T: TextStore, A: Allocator>(
     ensures fault { EntryStops D.honest D.image T.honest T.text change.now number kept.now end.now device.old store.old device.new store.new result }
     ensures left { Left D.honest D.image T.honest T.text change.now number kept.now end.now cut
         device.old store.old redo.old device.new store.new redo.new result }
+    ensures settles { EntrySettles D.honest D.image D.survives T.honest T.text T.survives
+        device.old store.old redo.old device.new store.new redo.new result }
+    ensures survives { EntrySurvives D.honest D.image D.survives T.honest T.text T.survives change.now number kept.now end.now cut
+        device.old store.old redo.old device.new store.new redo.new }
     ensures image { D.honest device.old → OnOk result (D.image device.new ≡ effect change.now (D.image device.old)) }
     ensures back { D.honest device.old → OnOk result (IsAsGood (kept_of (saved change.now (D.image device.old))) (D.image device.old) (D.image device.new)) }
     ensures text { T.honest store.old → OnOk result (T.text store.new ≡ T.text store.old ++ head_text number (kept_of kept.now) ++ end.now) }

@@ -1,6 +1,7 @@
 //! Records of what undos will take, filled one by one.
 ghost use Rattle.std.specs.Prelude.{◌≡◌, ◌<◌, ◌≤◌, ◌++◌, ◌∷◌, [], length, reverse, OnOk, is_err};
 ghost use Rattle.bx_image.specs.Device.{GoesOn};
+ghost use Rattle.bx_image.specs.Power.{NoMore};
 ghost use Rattle.bx_journal.specs.inner.Takens.{IsFirstBelow, AreFilled, AllShaped, entries_len};
 
 use bx_entries::EntryRead;
@@ -32,6 +33,7 @@ pub fn fill_last<D: Device, A: Allocator>(
     ensures entries_len { entries_len takens.new.items ≡ entries_len takens.old.items }
     ensures count { length takens.new.items ≡ length takens.old.items }
     ensures image { D.honest device.old → D.image device.new ≡ D.image device.old }
+    ensures survives { D.honest device.old → NoMore (D.survives device.old) (D.survives device.new) }
     ensures goes_on { GoesOn D.honest D.room D.failures (is_err result) device.old device.new }
 {
     fill_end(device, takens.as_mut_slice())
@@ -49,6 +51,7 @@ fn fill_end<D: Device, A: Allocator>(
     ensures entries_len { entries_len takens.new ≡ entries_len takens.old }
     ensures count { length takens.new ≡ length takens.old }
     ensures image { D.honest device.old → D.image device.new ≡ D.image device.old }
+    ensures survives { D.honest device.old → NoMore (D.survives device.old) (D.survives device.new) }
     ensures goes_on { GoesOn D.honest D.room D.failures (is_err result) device.old device.new }
 {
     let count = takens.len();

@@ -2,7 +2,9 @@
 ghost use Rattle.std.specs.Prelude.{◌≡◌, ◌<◌, ◌≤◌, [], map, length, IfOk, OnOk, IsErrOf, is_err};
 ghost use Rattle.bx_image.specs.Change.{effect, saved, restore, AllWithin, Covers, IsOf, IsAsGood};
 ghost use Rattle.bx_image.specs.Device.{GoesOn, has_failed};
+ghost use Rattle.bx_image.specs.Power.{Only};
 ghost use Rattle.bx_entries.specs.Kept.{run_of, kept_of};
+ghost use Rattle.bx_journal.specs.inner.Fading.{AllAsGood, AllStayOpen, AllStayOpenFor};
 ghost use Rattle.bx_journal.specs.inner.Phase.{RecoversOpenFor, RecoversOpenOn, StaysOpen, StaysOpenFor};
 
 use bx_image::{Change, Device, DeviceFailed, ImageFault, Saved, apply, save};
@@ -25,7 +27,7 @@ pub fn save_image<D: Device, A: Allocator + Clone>(
     save(alloc, device, change)
 }
 
-/// Changes the image. Whatever it answers, what was saved gives the old image back, so a pair that is open on it
+/// Changes the image, and puts it on the disk. Whatever it answers, what was saved gives the old image back, so a pair that is open on it
 /// stays open.
 pub fn change_image<D: Device, A: Allocator>(
     device: &mut D,
@@ -36,13 +38,17 @@ pub fn change_image<D: Device, A: Allocator>(
     ensures ok { D.honest device.old → OnOk result (D.image device.new ≡ effect change.now (D.image device.old)) }
     ensures taken_back { D.honest device.old → IsAsGood (kept_of (saved change.now (D.image device.old))) (D.image device.old) (D.image device.new) }
     ensures phase { D.honest device.old → StaysOpenFor change.now (D.image device.old) (D.image device.new) }
+    ensures settled { D.honest device.old → OnOk result (Only (D.image device.new) (D.survives device.new)) }
+    ensures survives { D.honest device.old → Only (D.image device.old) (D.survives device.old)
+        → AllStayOpenFor change.now (D.image device.old) (D.survives device.new) }
     ensures fault { D.honest device.old → RecoversOpenFor change.now (D.image device.old) (D.image device.new) result }
     ensures goes_on { GoesOn D.honest D.room D.failures (is_err result) device.old device.new }
 {
-    apply(device, change)
+    apply(device, change)?;
+    device.sync()
 }
 
-/// Puts back what was saved. Whatever it answers, putting it back again gives the same image, so a pair that is
+/// Puts back what was saved, and puts it on the disk. Whatever it answers, putting it back again gives the same image, so a pair that is
 /// open on it stays open.
 pub fn restore_image<D: Device, A: Allocator>(
     device: &mut D,
@@ -54,9 +60,15 @@ pub fn restore_image<D: Device, A: Allocator>(
     ensures ok { D.honest device.old → OnOk result (D.image device.new ≡ restore (kept_of kept) (D.image device.old)) }
     ensures again { D.honest device.old → Covers (kept_of kept) (D.image device.old) → IsAsGood (kept_of kept) (D.image device.old) (D.image device.new) }
     ensures phase { D.honest device.old → StaysOpen (kept_of kept) (D.image device.old) (D.image device.new) }
+    ensures settled { D.honest device.old → OnOk result (Only (D.image device.new) (D.survives device.new)) }
+    ensures alike { D.honest device.old → Only (D.image device.old) (D.survives device.old)
+        → AllAsGood (kept_of kept) (D.image device.old) (D.survives device.new) }
+    ensures survives { D.honest device.old → Only (D.image device.old) (D.survives device.old)
+        → AllStayOpen (kept_of kept) (D.image device.old) (D.survives device.new) }
     ensures fault { D.honest device.old → RecoversOpenOn (kept_of kept) (D.image device.old) (D.image device.new) result }
     ensures goes_on { GoesOn D.honest D.room D.failures (is_err result) device.old device.new }
 {
     let change = kept.into_change();
-    apply(device, &change)
+    apply(device, &change)?;
+    device.sync()
 }

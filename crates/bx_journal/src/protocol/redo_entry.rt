@@ -3,7 +3,7 @@ ghost use Rattle.std.specs.Prelude.{◌≡◌, ◌+◌, ◌-◌, ◌<◌, ◌≤
 ghost use Rattle.bx_entries.specs.inner.Parsed.{AllKept};
 ghost use Rattle.bx_journal.specs.inner.Devices.{AreBelow, StepsOn};
 ghost use Rattle.bx_journal.specs.Undoing.{LeavesFront};
-ghost use Rattle.bx_journal.specs.inner.Entries.{RedoAll, RedoRests, RedoSome};
+ghost use Rattle.bx_journal.specs.inner.Entries.{RedoAll, RedoRests, RedoSome, RedoSomeSurvives, StaySettled};
 ghost use Rattle.bx_journal.specs.inner.Takens.{AreReady, AllShaped, entries_len};
 ghost use Rattle.bx_entries.specs.Text.{IsPrefix};
 ghost use Rattle.bx_journal.specs.inner.Undoing.{AreReadFrom};
@@ -45,6 +45,10 @@ pub fn redo_entries<D: Device, T: TextStore, A: Allocator>(
     ensures left { T.honest redo_text.old → LeavesFront (T.text redo_text.old) (length takens.old.items) (T.text redo_text.new) result }
     ensures front { T.honest store.old → OnOk result (IsPrefix (T.text store.old) (T.text store.new)) }
     ensures finds { RedoSome D.honest D.image T.honest T.text
+        device.old store.old redo_text.old device.new store.new redo_text.new count takens.old.items result }
+    ensures settles { StaySettled D.honest D.image D.survives T.honest T.text T.survives
+        device.old store.old redo_text.old device.new store.new redo_text.new result }
+    ensures survives { RedoSomeSurvives D.honest D.image D.survives T.honest T.text T.survives
         device.old store.old redo_text.old device.new store.new redo_text.new count takens.old.items result }
     ensures steps_on { StepsOn D.honest T.honest D.failures T.failures result device.old store.old redo_text.old device.new store.new redo_text.new }
 {

@@ -1,14 +1,19 @@
 //! Taking entries back: the newest, or some of them one after another.
-ghost use Rattle.std.specs.Prelude.{◌≡◌, ◌↔◌, ◌+◌, ◌-◌, ◌<◌, ◌≤◌, [], length, take, drop, reverse, nat_le, vec_capacity, if◌then◌else◌, IfOk, OnOk, OnErr};
+ghost use Rattle.std.specs.Prelude.{◌≡◌, ◌↔◌, ◌+◌, ◌-◌, ◌<◌, ◌≤◌, ℕ, is_err, [], length, take, drop, reverse, nat_le, vec_capacity, if◌then◌else◌, IfOk, OnOk, OnErr};
 ghost use Rattle.bx_image.specs.Change.{restore, Covers, IsAsGood};
 ghost use Rattle.bx_entries.specs.Kept.{kept_of};
+ghost use Rattle.bx_image.specs.Device.{GoesOn};
+ghost use Rattle.bx_image.specs.Power.{Only};
 ghost use Rattle.bx_entries.specs.inner.Parsed.{AllKept};
 ghost use Rattle.bx_journal.specs.inner.Devices.{AreBelow, ImageIsFirst, OneMore, StepsOn};
 ghost use Rattle.bx_journal.specs.Undoing.{LeavesFront};
-ghost use Rattle.bx_journal.specs.inner.Entries.{DropsRest, DropsSome, DropsStand, UndoAll, UndoSome};
+ghost use Rattle.bx_journal.specs.inner.Entries.{DropsRest, DropsSome, DropsStand, StaySettled, UndoAll, UndoSome, UndoSomeSurvives};
 ghost use Rattle.bx_journal.specs.inner.Phase.{RestoresAlike, StaysOpen};
 ghost use Rattle.bx_journal.specs.inner.Takens.{AreReady, AllShaped, entries_len};
-ghost use Rattle.bx_journal.specs.inner.Undone.{CanUndo, CutsFirst, LeftUndo, UndoRests, UndoStops, Undoes};
+ghost use Rattle.bx_journal.specs.inner.Undone.{CanUndo, CutsFirst, LeftUndo, UndoRests, UndoStops, UndoSurvives, Undoes};
+ghost use Rattle.bx_journal.specs.inner.Fading.{AllStayOpen, CutSurvives};
+ghost use Rattle.bx_journal.specs.inner.Written.{EntrySettles};
+ghost use Rattle.bx_store.specs.Store.{IsPartlyCut};
 ghost use Rattle.bx_journal.specs.inner.Undoing.{AreReadFrom};
 
 use crate::protocol::fill::{fill_last, take_last};
@@ -35,6 +40,10 @@ fn change_undone<D: Device, T: TextStore, A: Allocator>(
     requires ready { CanUndo T.honest T.text T.room redo_text.old (D.room device.old) page.old.items (vec_capacity page.old) number taken.now kept }
     ensures phase { D.honest device.old → StaysOpen (kept_of kept) (D.image device.old) (D.image device.new) }
     ensures again { D.honest device.old → Covers (kept_of kept) (D.image device.old) → IsAsGood (kept_of kept) (D.image device.old) (D.image device.new) }
+    ensures settled { D.honest device.old → OnOk result (Only (D.image device.new) (D.survives device.new)) }
+    ensures redo_settled { T.honest redo_text.old → OnOk result (Only (T.text redo_text.new) (T.survives redo_text.new)) }
+    ensures survives { D.honest device.old → Only (D.image device.old) (D.survives device.old)
+        → AllStayOpen (kept_of kept) (D.image device.old) (D.survives device.new) }
     ensures order { ImageIsFirst D.honest D.image result (restore (kept_of kept)) device.old device.new redo_text.old redo_text.new }
     ensures emptied { OnOk result (page.new.items ≡ []) }
     ensures page_kept { vec_capacity page.old ≤ vec_capacity page.new }
@@ -47,6 +56,20 @@ fn change_undone<D: Device, T: TextStore, A: Allocator>(
     let after = kept.len;
     restore_image(device, kept)?;
     keep_undone(redo_text, page, number, taken, after)
+}
+
+/// Cuts off the line that ends the newest entry, and puts that on the disk.
+fn cut_end<T: TextStore>(store: &mut T, saved: u64) -> Result<(), DeviceFailed>
+    requires countable { T.failures store.old < u64.MAX }
+    requires within_text { T.honest store.old → saved ≤ length (T.text store.old) }
+    ensures text { T.honest store.old → OnOk result (T.text store.new ≡ take saved (T.text store.old)) }
+    ensures cut { T.honest store.old → OnErr result (IsPartlyCut saved (T.text store.old) (T.text store.new)) }
+    ensures settled { T.honest store.old → OnOk result (Only (T.text store.new) (T.survives store.new)) }
+    ensures survives { T.honest store.old → Only (T.text store.old) (T.survives store.old) → CutSurvives (T.text store.old) saved (T.survives store.new) }
+    ensures goes_on { GoesOn T.honest T.room T.failures (is_err result) store.old store.new }
+{
+    store.cut(saved)?;
+    store.sync()
 }
 
 /// Cuts off the line that ends the newest entry, and only then touches image and redo text: restores the image, and
@@ -67,13 +90,17 @@ fn open_and_change<D: Device, T: TextStore, A: Allocator>(
     ensures order { T.honest store.old → CutsFirst T.text saved device.old store.old redo_text.old device.new store.new redo_text.new result }
     ensures phase { D.honest device.old → StaysOpen (kept_of kept) (D.image device.old) (D.image device.new) }
     ensures again { D.honest device.old → RestoresAlike (kept_of kept) (D.image device.old) (D.image device.new) result }
+    ensures settles { EntrySettles D.honest D.image D.survives T.honest T.text T.survives
+        device.old store.old redo_text.old device.new store.new redo_text.new result }
+    ensures survives { (begins : ℕ) → UndoSurvives D.honest D.image D.survives T.honest T.text T.survives number taken.now kept begins saved
+        device.old store.old redo_text.old device.new store.new redo_text.new }
     ensures text { T.honest store.old → OnOk result (T.text store.new ≡ take saved (T.text store.old)) }
     ensures emptied { OnOk result (page.new.items ≡ []) }
     ensures page_kept { vec_capacity page.old ≤ vec_capacity page.new }
     ensures undoes { Undoes D.honest D.image D.room T.honest T.text T.room result device.old redo_text.old device.new redo_text.new number taken.now kept }
     ensures steps_on { StepsOn D.honest T.honest D.failures T.failures result device.old store.old redo_text.old device.new store.new redo_text.new }
 {
-    store.cut(saved)?;
+    cut_end(store, saved)?;
     change_undone(device, redo_text, page, number, taken, kept)?;
     Ok(())
 }
@@ -101,6 +128,10 @@ pub fn undo_entry<D: Device, T: TextStore, A: Allocator>(
         → UndoStops D.image T.text kept begins saved device.old store.old device.new store.new result }
     ensures left { LeftUndo D.honest D.image T.honest T.text number taken.now kept begins saved
         device.old store.old redo.old device.new store.new redo.new result }
+    ensures settles { EntrySettles D.honest D.image D.survives T.honest T.text T.survives
+        device.old store.old redo.old device.new store.new redo.new result }
+    ensures survives { UndoSurvives D.honest D.image D.survives T.honest T.text T.survives number taken.now kept begins saved
+        device.old store.old redo.old device.new store.new redo.new }
     ensures text { T.honest store.old → OnOk result (T.text store.new ≡ take begins (T.text store.old)) }
     ensures emptied { OnOk result (page.new.items ≡ []) }
     ensures page_kept { vec_capacity page.old ≤ vec_capacity page.new }
@@ -151,6 +182,10 @@ pub fn undo_entries<D: Device, T: TextStore, A: Allocator>(
         device.old store.old redo_text.old device.new store.new redo_text.new undone takens.old.items result }
     ensures few { IfOk result (λ n. n ≤ undone + length takens.old.items) }
     ensures finds { UndoSome D.honest D.image T.honest T.text
+        device.old store.old redo_text.old device.new store.new redo_text.new undone takens.old.items result }
+    ensures settles { StaySettled D.honest D.image D.survives T.honest T.text T.survives
+        device.old store.old redo_text.old device.new store.new redo_text.new result }
+    ensures survives { UndoSomeSurvives D.honest D.image D.survives T.honest T.text T.survives
         device.old store.old redo_text.old device.new store.new redo_text.new undone takens.old.items result }
     ensures steps_on { StepsOn D.honest T.honest D.failures T.failures result device.old store.old redo_text.old device.new store.new redo_text.new }
 {

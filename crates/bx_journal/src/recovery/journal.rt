@@ -1,5 +1,6 @@
 //! What reading a journal finds when a pair is opened.
 ghost use Rattle.std.specs.Prelude.{◌≡◌, ◌<◌, ◌≤◌, List, ℕ, length, IfSome, IfNone};
+ghost use Rattle.bx_entries.specs.Shown.{shown};
 ghost use Rattle.bx_entries.specs.inner.Journal.{HasRead};
 ghost use Rattle.bx_entries.specs.inner.Tally.{IsCounted};
 
@@ -7,7 +8,7 @@ use crate::SessionFault;
 use crate::recovery::windows::count_text;
 use crate::session::fault::of_text;
 use crate::session::read::read_journal;
-use bx_entries::{Counted, JournalRead, StageRead, told_length};
+use bx_entries::{Counted, JournalRead, StageRead, shown_len, told_length};
 use bx_store::TextStore;
 use std::alloc::{Allocator, Global};
 
@@ -20,10 +21,11 @@ pub enum Found<A: Allocator = Global> {
     Unfinished(JournalRead<A>),
 }
 
-/// The count of what was read in a text of so many bytes, where it is finished entries alone.
+/// The count of what was read in the front of a text of so many bytes, where it is finished entries alone and all of the text.
 fn as_counted<A: Allocator>(journal: &JournalRead<A>, len: u64) -> Option<Counted>
     requires few { length journal.now.entries.items ≤ 65535 }
-    ensures some { (text : List ℕ) → HasRead text journal.now → len ≡ length text → IfSome result (λ c. IsCounted text c.count c.told) }
+    ensures some { (text : List ℕ) → HasRead text journal.now → length text ≤ len → IfSome result (λ c. IsCounted text c.count c.told) }
+    ensures whole { (text : List ℕ) → HasRead text journal.now → length text ≤ len → IfSome result (λ c. len ≡ length text) }
     ensures few { IfSome result (λ c. c.count ≤ 65535) }
     ensures none { IfNone result (journal.now.stage ≡ StageRead.Between → journal.now.whole ≡ len → ⊥) }
 {
@@ -44,7 +46,17 @@ fn as_counted<A: Allocator>(journal: &JournalRead<A>, len: u64) -> Option<Counte
 
 ghost use Rattle.bx_journal.specs.inner.Recovery.{FindsText};
 
-/// Reads all of a journal's text. It changes nothing.
+/// What is read of a text.
+fn as_shown<A: Allocator>(bytes: Vec<u8, A>) -> Vec<u8, A>
+    ensures { result.items ≡ shown bytes.items }
+{
+    let mut front = bytes;
+    let n = shown_len(&front);
+    front.truncate(n);
+    front
+}
+
+/// Reads all of a journal's text, but for what a loss of power left without its bytes. It changes nothing.
 fn read_whole<T: TextStore, A: Allocator + Clone>(
     alloc: &A,
     store: &mut T,
@@ -57,7 +69,7 @@ fn read_whole<T: TextStore, A: Allocator + Clone>(
         Err(fault) => return Err(of_text(fault)),
     };
     let len = bytes.len() as u64;
-    let journal = match read_journal(alloc, bytes) {
+    let journal = match read_journal(alloc, as_shown(bytes)) {
         Ok(journal) => journal,
         Err(fault) => return Err(fault),
     };

@@ -2,7 +2,10 @@
 ghost use Rattle.std.specs.Prelude.{◌≡◌, ◌↔◌, ◌<◌, ◌≤◌, length, take, OnOk, OnErr, map, is_err};
 ghost use Rattle.bx_image.specs.Change.{AllWithin, restore};
 ghost use Rattle.bx_image.specs.Device.{GoesOn};
+ghost use Rattle.bx_image.specs.Power.{Only};
+ghost use Rattle.bx_journal.specs.inner.Fading.{BackSurvives, RestSurvives, TailSurvives};
 ghost use Rattle.bx_entries.specs.Kept.{run_of, kept_of};
+ghost use Rattle.bx_entries.specs.Shown.{shown};
 ghost use Rattle.bx_journal.specs.inner.Step.{StopsTail, TailRests, TailStops, TakesTail};
 ghost use Rattle.bx_journal.specs.inner.Devices.{OneMore};
 
@@ -11,16 +14,22 @@ use bx_image::{Device, DeviceFailed, Saved};
 use bx_store::TextStore;
 use std::alloc::Allocator;
 
-/// Cuts off an unfinished entry whose change is not in the image.
+/// Cuts off an unfinished entry whose change is not in the image, and puts that on the disk.
 pub fn drop_tail<T: TextStore>(store: &mut T, begins: u64) -> Result<(), DeviceFailed>
     requires countable { T.failures store.old < u64.MAX }
     requires within_text { T.honest store.old → begins ≤ length (T.text store.old) }
     ensures ok { T.honest store.old → TailRests (T.text store.old) begins (T.text store.new) result }
     ensures fault { T.honest store.old → TailStops (T.text store.old) begins (T.text store.new) result }
+    ensures shown_rests { T.honest store.old → TailRests (shown (T.text store.old)) begins (T.text store.new) result }
+    ensures shown_stops { T.honest store.old → TailStops (shown (T.text store.old)) begins (shown (T.text store.new)) result }
+    ensures settled { T.honest store.old → OnOk result (Only (T.text store.new) (T.survives store.new)) }
+    ensures survives { T.honest store.old → Only (T.text store.old) (T.survives store.old) → TailSurvives (T.text store.old) begins (T.survives store.new) }
+    ensures shown_survives { T.honest store.old → Only (T.text store.old) (T.survives store.old) → RestSurvives (shown (T.text store.old)) begins (T.survives store.new) }
     ensures text { T.honest store.old → OnOk result (T.text store.new ≡ take begins (T.text store.old)) }
     ensures goes_on { GoesOn T.honest T.room T.failures (is_err result) store.old store.new }
 {
-    store.cut(begins)
+    store.cut(begins)?;
+    store.sync()
 }
 
 /// Takes back the change of an entry that has its save line and no end, and cuts the entry off.
@@ -41,6 +50,8 @@ pub fn take_back<D: Device, T: TextStore, A: Allocator>(
         → StopsTail D.image T.text (kept_of kept) begins device.old store.old device.new store.new result }
     ensures image { D.honest device.old → OnOk result (D.image device.new ≡ restore (kept_of kept) (D.image device.old)) }
     ensures text { T.honest store.old → OnOk result (T.text store.new ≡ take begins (T.text store.old)) }
+    ensures survives { D.honest device.old → T.honest store.old → Only (D.image device.old) (D.survives device.old) → Only (T.text store.old) (T.survives store.old)
+        → BackSurvives (kept_of kept) (shown (T.text store.old)) (D.image device.old) begins (D.survives device.new) (T.survives store.new) }
     ensures device_honesty { D.honest device.new ↔ D.honest device.old }
     ensures store_honesty { T.honest store.new ↔ T.honest store.old }
     ensures room { D.room device.old ≤ D.room device.new }

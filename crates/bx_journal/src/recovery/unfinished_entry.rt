@@ -4,17 +4,23 @@ ghost use Rattle.bx_journal.specs.Calls.{AfterFault, OpenFault};
 ghost use Rattle.bx_entries.specs.inner.Journal.{HasRead};
 ghost use Rattle.bx_journal.specs.Opened.{RefusesDiffering};
 ghost use Rattle.bx_journal.specs.Opening.{RefusesText};
-ghost use Rattle.bx_journal.specs.inner.Devices.{AreBelow, AreCounted, AreUnfailed, LooksAt, OneMore, StepsOn};
+ghost use Rattle.bx_journal.specs.inner.Devices.{AreBelow, AreCounted, AreUnfailed, HaveStayed, LooksAt, OneMore, StepsOn};
+ghost use Rattle.bx_journal.specs.inner.Fading.{OpeningSurvives, PairSurvives};
+ghost use Rattle.bx_journal.specs.inner.Written.{AreSettled};
+ghost use Rattle.bx_image.specs.Power.{Only};
+ghost use Rattle.bx_journal.specs.Power.{RecoverySurvives};
 ghost use Rattle.bx_journal.specs.inner.Opening.{HasRoomFor};
 ghost use Rattle.bx_entries.specs.inner.Parsed.{entries_of};
 ghost use Rattle.bx_journal.specs.Recovery.{OpenKind};
 ghost use Rattle.bx_journal.specs.inner.Recovering.{CountsStack, FindsAgain, KeepsFoundUndone, KeepsRedoText, Opens, OpensRead, SparesClean, SparesPair, TellsRefused, TellsUndone, TellsUnfit};
 ghost use Rattle.bx_journal.specs.inner.Recovery.{HasLengths, IsUnfinishedIn, KeepsStack, LengthFault, LookReadFault, RecoverFault};
 ghost use Rattle.bx_journal.specs.Redo.{IsClean};
+ghost use Rattle.bx_entries.specs.Shown.{shown};
 ghost use Rattle.bx_entries.specs.Text.{IsAccepted, IsDamagedAt, Reading, Reads};
 ghost use Rattle.bx_journal.specs.Undoing.{HasLeft};
 
 use crate::protocol::redo_text::cut_redo;
+use crate::protocol::settle::settle;
 use crate::recovery::finished_journal::open_finished;
 use crate::recovery::journal::{Found, read_text};
 use crate::recovery::take_back::{drop_tail, take_back};
@@ -78,6 +84,8 @@ fn cut_unfinished<D: Device, T: TextStore, A: Allocator>(
     ensures unclean { IfOk result (λ o. (o.how ≡ How.Clean → ⊥) × (o.undone ≡ 0)) }
     ensures keeps { D.honest device.old → T.honest store.old
         → KeepsStack result (T.text store.old) (D.image device.old) (T.text store.new) (D.image device.new) }
+    ensures survives { D.honest device.old → T.honest store.old → Only (D.image device.old) (D.survives device.old) → Only (T.text store.old) (T.survives store.old)
+        → PairSurvives (T.text store.old) (D.image device.old) (D.survives device.new) (T.survives store.new) }
     ensures changes { IfOk result (λ o. o.changes ≡ length journal.entries.items) }
     ensures device_honesty { D.honest device.new ↔ D.honest device.old }
     ensures store_honesty { T.honest store.new ↔ T.honest store.old }
@@ -139,10 +147,40 @@ fn finish<D: Device, T: TextStore, A: Allocator>(
     ensures changes { IfOk result (λ o. o.changes ≡ length journal.entries.items) }
     ensures emptied { T.honest redo_text.old → OnOk result (T.text redo_text.new ≡ []) }
     ensures emptied_first { T.honest redo_text.old → OnErr result ((store.new ≡ store.old) ⊎ (T.text redo_text.new ≡ [])) }
+    ensures survives { D.honest device.old → T.honest store.old → T.honest redo_text.old
+        → AreSettled D.image T.text D.survives T.survives device.old store.old redo_text.old
+        → OpeningSurvives (T.text store.old) (D.image device.old) (T.text redo_text.old) (D.survives device.new) (T.survives store.new) (T.survives redo_text.new) }
     ensures steps_on { StepsOn D.honest T.honest D.failures T.failures result device.old store.old redo_text.old device.new store.new redo_text.new }
 {
     cut_redo(redo_text, 0)?;
     cut_unfinished(device, store, journal)
+}
+
+/// What opening takes before its first write, with all on the disk that the three have.
+fn get_ready<D: Device, T: TextStore, A: Allocator>(
+    device: &mut D,
+    store: &mut T,
+    redo_text: &mut T,
+    journal: &JournalRead<A>,
+) -> Result<(), SessionFault>
+    requires countable { AreBelow u64.MAX (D.failures device.old) (T.failures store.old) (T.failures redo_text.old) }
+    ensures lengths { D.honest device.old → (bytes : List ℕ) → HasRead bytes journal.now
+        → OnOk result (HasLengths journal.now (D.image device.old)) }
+    ensures fault { IfErr result (LookReadFault (D.honest device.old) journal.now (D.image device.old)) }
+    ensures room { OnOk result (HasRoomFor journal.now.stage (D.room device.new)) }
+    ensures settled { D.honest device.old → T.honest store.old → T.honest redo_text.old
+        → OnOk result (AreSettled D.image T.text D.survives T.survives device.new store.new redo_text.new) }
+    ensures stayed { HaveStayed D.honest T.honest D.image T.text device.old store.old redo_text.old device.new store.new redo_text.new }
+    ensures no_failure { AreUnfailed D.failures T.failures device.old store.old redo_text.old device.new store.new redo_text.new result }
+    ensures counts { AreCounted D.failures T.failures device.old store.old redo_text.old device.new store.new redo_text.new result }
+{
+    if let Err(fault) = prepare(device, journal) {
+        return Err(fault);
+    }
+    match settle(device, store, redo_text) {
+        Ok(()) => Ok(()),
+        Err(_) => Err(SessionFault::DeviceFailed),
+    }
 }
 
 /// Takes back what is unfinished in a journal that was read.
@@ -155,26 +193,29 @@ pub fn recover_read<D: Device, T: TextStore, A: Allocator>(
     requires countable { AreBelow u64.MAX (D.failures device.old) (T.failures store.old) (T.failures redo_text.old) }
     requires read { IsUnfinishedIn (T.honest store.old) (T.text store.old) journal }
     ensures opened { D.honest device.old → T.honest store.old → Opens D.image T.text device.old store.old device.new store.new result }
-    ensures left { T.honest store.old → (r : Reading) → Reads (T.text store.old) r → OnOk result (HasLeft (T.text store.old) (T.text store.new) r.entries) }
+    ensures left { T.honest store.old → (r : Reading) → Reads (shown (T.text store.old)) r → OnOk result (HasLeft (T.text store.old) (T.text store.new) r.entries) }
     ensures unclean { IfOk result (λ o. (o.how ≡ How.Clean → ⊥) × (o.undone ≡ 0)) }
     ensures sum { IfOk result (λ o. o.changes + o.undone ≤ 65535) }
-    ensures faults { D.honest device.old → T.honest store.old → (r : Reading) → Reads (T.text store.old) r → IfErr result (OpenFault r (D.image device.old)) }
+    ensures faults { D.honest device.old → T.honest store.old → (r : Reading) → Reads (shown (T.text store.old)) r → IfErr result (OpenFault r (D.image device.old)) }
     ensures kind { IfErr result RecoverFault }
-    ensures differs { D.honest device.old → T.honest store.old → RefusesDiffering result (λ e. e) (T.text store.old) (D.image device.old) }
+    ensures differs { D.honest device.old → T.honest store.old → RefusesDiffering result (λ e. e) (shown (T.text store.old)) (D.image device.old) }
     ensures keeps { D.honest device.old → T.honest store.old
         → KeepsStack result (T.text store.old) (D.image device.old) (T.text store.new) (D.image device.new) }
-    ensures counted { D.honest device.old → T.honest store.old → CountsStack (T.text store.old) (D.image device.old) result }
+    ensures counted { D.honest device.old → T.honest store.old → CountsStack (shown (T.text store.old)) (D.image device.old) result }
     ensures refused { D.honest device.old → T.honest store.old → SparesPair D.image T.text device.old store.old device.new store.new result }
     ensures emptied { T.honest redo_text.old → OnOk result (T.text redo_text.new ≡ []) }
-    ensures emptied_first { T.honest redo_text.old → OnErr result ((store.new ≡ store.old) ⊎ (T.text redo_text.new ≡ [])) }
+    ensures emptied_first { T.honest store.old → T.honest redo_text.old → OnErr result ((T.text store.new ≡ T.text store.old) ⊎ (T.text redo_text.new ≡ [])) }
     ensures redo_same { T.honest redo_text.old → IfErr result (λ e. AfterFault e (Unit {0}) (T.text redo_text.new ≡ T.text redo_text.old)) }
+    ensures survives { D.honest device.old → T.honest store.old → T.honest redo_text.old
+        → RecoverySurvives D.image D.survives T.text T.survives result (λ o. Unit {0}) (λ e. e)
+        device.old store.old redo_text.old device.new store.new redo_text.new }
     ensures device_honesty { D.honest device.new ↔ D.honest device.old }
     ensures store_honesty { T.honest store.new ↔ T.honest store.old }
     ensures redo_honesty { T.honest redo_text.new ↔ T.honest redo_text.old }
     ensures no_failure { AreUnfailed D.failures T.failures device.old store.old redo_text.old device.new store.new redo_text.new result }
     ensures counts { AreCounted D.failures T.failures device.old store.old redo_text.old device.new store.new redo_text.new result }
 {
-    if let Err(fault) = prepare(device, &journal) {
+    if let Err(fault) = get_ready(device, store, redo_text, &journal) {
         return Err(fault);
     }
     match finish(device, store, redo_text, journal) {
@@ -192,18 +233,18 @@ pub fn recover<D: Device, T: TextStore, A: Allocator + Clone>(
 ) -> Result<Recovered, SessionFault>
     requires countable { AreBelow u64.MAX (D.failures device.old) (T.failures store.old) (T.failures redo_text.old) }
     ensures opened { D.honest device.old → T.honest store.old → Opens D.image T.text device.old store.old device.new store.new result }
-    ensures left { T.honest store.old → (r : Reading) → Reads (T.text store.old) r → OnOk result (HasLeft (T.text store.old) (T.text store.new) r.entries) }
+    ensures left { T.honest store.old → (r : Reading) → Reads (shown (T.text store.old)) r → OnOk result (HasLeft (T.text store.old) (T.text store.new) r.entries) }
     ensures clean { D.honest device.old → T.honest store.old → SparesClean D.image T.text device.old store.old device.new store.new result }
-    ensures accepted { T.honest store.old → OnOk result (IsAccepted (T.text store.old)) }
-    ensures damaged { T.honest store.old → IfErr result (λ e. (line : ℕ) → e ≡ SessionFault.Damaged line → IsDamagedAt (T.text store.old) line) }
-    ensures unaccepted { T.honest store.old → (IsAccepted (T.text store.old) → ⊥) → MatchResult result (λ _. ⊥) RefusesText }
-    ensures faults { D.honest device.old → T.honest store.old → (r : Reading) → Reads (T.text store.old) r → IfErr result (OpenFault r (D.image device.old)) }
+    ensures accepted { T.honest store.old → OnOk result (IsAccepted (shown (T.text store.old))) }
+    ensures damaged { T.honest store.old → IfErr result (λ e. (line : ℕ) → e ≡ SessionFault.Damaged line → IsDamagedAt (shown (T.text store.old)) line) }
+    ensures unaccepted { T.honest store.old → (IsAccepted (shown (T.text store.old)) → ⊥) → MatchResult result (λ _. ⊥) RefusesText }
+    ensures faults { D.honest device.old → T.honest store.old → (r : Reading) → Reads (shown (T.text store.old)) r → IfErr result (OpenFault r (D.image device.old)) }
     ensures kind { IfErr result OpenKind }
     ensures unfinished { T.honest store.old → IfErr result (λ e. e ≡ SessionFault.Interrupted → IsClean (T.text store.old) → ⊥) }
-    ensures differs { D.honest device.old → T.honest store.old → RefusesDiffering result (λ e. e) (T.text store.old) (D.image device.old) }
+    ensures differs { D.honest device.old → T.honest store.old → RefusesDiffering result (λ e. e) (shown (T.text store.old)) (D.image device.old) }
     ensures keeps { D.honest device.old → T.honest store.old
         → KeepsStack result (T.text store.old) (D.image device.old) (T.text store.new) (D.image device.new) }
-    ensures counted { D.honest device.old → T.honest store.old → CountsStack (T.text store.old) (D.image device.old) result }
+    ensures counted { D.honest device.old → T.honest store.old → CountsStack (shown (T.text store.old)) (D.image device.old) result }
     ensures refused { D.honest device.old → T.honest store.old → SparesPair D.image T.text device.old store.old device.new store.new result }
     ensures clean_redo { T.honest redo_text.old → IfOk result (λ o. o.how ≡ How.Clean → T.text redo_text.new ≡ T.text redo_text.old) }
     ensures emptied { T.honest redo_text.old → IfOk result (λ o. (o.how ≡ How.Clean → ⊥) → (T.text redo_text.new ≡ []) × (o.undone ≡ 0)) }
@@ -217,6 +258,9 @@ pub fn recover<D: Device, T: TextStore, A: Allocator + Clone>(
     ensures finds_err { FindsAgain D.honest D.image T.honest T.text
         device.old store.old redo_text.old device.new store.new redo_text.new result }
     ensures redo_kept { KeepsRedoText D.honest D.image T.honest T.text device.old store.old redo_text.old result }
+    ensures survives { D.honest device.old → T.honest store.old → T.honest redo_text.old
+        → RecoverySurvives D.image D.survives T.text T.survives result (λ o. o.how ≡ How.Clean → ⊥) (λ e. e)
+        device.old store.old redo_text.old device.new store.new redo_text.new }
     ensures device_honesty { D.honest device.new ↔ D.honest device.old }
     ensures store_honesty { T.honest store.new ↔ T.honest store.old }
     ensures redo_honesty { T.honest redo_text.new ↔ T.honest redo_text.old }

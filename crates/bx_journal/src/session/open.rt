@@ -1,5 +1,6 @@
 //! Opening an image with its journal and its redo text.
 ghost use Rattle.std.specs.Prelude.{◌≡◌, ◌↔◌, ◌+◌, ◌<◌, [], List, ℕ, false, IfOk, IfErr, OnOk, MatchResult};
+ghost use Rattle.bx_entries.specs.Shown.{shown};
 ghost use Rattle.bx_entries.specs.Text.{IsAccepted, IsDamagedAt, Reading, Reads};
 ghost use Rattle.bx_journal.specs.Stack.{Recovers};
 
@@ -10,6 +11,8 @@ use bx_store::TextStore;
 use std::alloc::Allocator;
 
 impl<D: Device, T: TextStore, A: Allocator + Clone> Session<D, T, A> {
+    ghost use Rattle.bx_journal.specs.Images.{Images};
+    ghost use Rattle.bx_journal.specs.Power.{EmptiedSurvives, Found};
     ghost use Rattle.bx_journal.specs.Redo.{IsClean};
     ghost use Rattle.bx_journal.specs.Recovery.{OpenKind};
     ghost use Rattle.bx_journal.specs.Session.{HasUndone, IsReady};
@@ -19,13 +22,15 @@ impl<D: Device, T: TextStore, A: Allocator + Clone> Session<D, T, A> {
     ghost use Rattle.bx_journal.specs.Undoing.{HasLeft};
 
     /// Opens an image with its journal and its redo text. An unfinished entry is dropped, or its change is taken back;
-    /// the redo text is then emptied first. An `Err` hands all three back.
+    /// the redo text is then emptied first. Where a loss of power left zeros at the journal's end, what stands before them is
+    /// read, and the rest is dropped. An `Err` hands all three back.
     ///
     /// The faults come in this order: `DeviceFailed` and `NoMemory` of reading the journal, and `Damaged`. Beside
     /// finished entries alone `DeviceFailed` and `NoMemory` of reading the redo text, `DeviceFailed` of the image's length
     /// and `LengthDiffers`, `NoMemory` where the redo text is read entry by entry, and `RedoDamaged`. Beside anything else
-    /// `DeviceFailed` of the length and `LengthDiffers`, `NoMemory` of reserving, and `Interrupted` from the first write
-    /// on. Each but the last changes nothing, and after that one the three can be opened again.
+    /// `DeviceFailed` of the length and `LengthDiffers`, `NoMemory` of reserving, `DeviceFailed` of putting the three on the
+    /// disk, and `Interrupted` from the first write on. Each but the last changes nothing, and after that one the three can
+    /// be opened again.
     pub fn open(
         alloc: A,
         device: D,
@@ -37,28 +42,28 @@ impl<D: Device, T: TextStore, A: Allocator + Clone> Session<D, T, A> {
         requires redo_countable { T.failures redo_text < u64.MAX }
 
         // What is found, whatever image it is: the pair that is left stands for the recovered stack.
-        ensures opened { D.honest device → T.honest store → (r : _) → Reads (T.text store) r → IfOk result (λ o. OpensAs D.image T.text device store r o.0 o.1) }
-        ensures standing { D.honest device → T.honest store → (r : _) → Reads (T.text store) r → IfOk result (λ o. StandsRecovered D.image T.text device r o.0) }
-        ensures left { T.honest store → (r : Reading) → Reads (T.text store) r → IfOk result (λ o. HasLeft (T.text store) (T.text o.0.store) r.entries) }
+        ensures opened { D.honest device → T.honest store → (r : _) → Reads (shown (T.text store)) r → IfOk result (λ o. OpensAs D.image T.text device store r o.0 o.1) }
+        ensures standing { D.honest device → T.honest store → (r : _) → Reads (shown (T.text store)) r → IfOk result (λ o. StandsRecovered D.image T.text device r o.0) }
+        ensures left { T.honest store → (r : Reading) → Reads (shown (T.text store)) r → IfOk result (λ o. HasLeft (T.text store) (T.text o.0.store) r.entries) }
         ensures fresh { IfOk result (λ o. (o.0.count ≡ o.1.changes) × (o.0.undone ≡ o.1.undone) × (o.0.is_broken ≡ false)) }
         ensures clean { D.honest device → T.honest store
             → IfOk result (λ o. o.1.how ≡ How.Clean → IsPairSame D.image T.text device store o.0.device o.0.store) }
 
         // A text that isn't accepted is never opened, and one that is accepted is never called damaged.
-        ensures accepted { T.honest store → OnOk result (IsAccepted (T.text store)) }
-        ensures damaged { T.honest store → IfErr result (λ e. (line : ℕ) → e.3 ≡ SessionFault.Damaged line → IsDamagedAt (T.text store) line) }
-        ensures unaccepted { T.honest store → (IsAccepted (T.text store) → ⊥) → MatchResult result (λ _. ⊥) (λ e. RefusesText e.3) }
+        ensures accepted { T.honest store → OnOk result (IsAccepted (shown (T.text store))) }
+        ensures damaged { T.honest store → IfErr result (λ e. (line : ℕ) → e.3 ≡ SessionFault.Damaged line → IsDamagedAt (shown (T.text store)) line) }
+        ensures unaccepted { T.honest store → (IsAccepted (shown (T.text store)) → ⊥) → MatchResult result (λ _. ⊥) (λ e. RefusesText e.3) }
 
         // A length differs exactly where the newest finished entry tells another one than that of the image below which it stands.
-        ensures faults { D.honest device → T.honest store → (r : Reading) → Reads (T.text store) r → IfErr result (λ e. OpenFault r (D.image device) e.3) }
-        ensures differs { D.honest device → T.honest store → RefusesDiffering result (λ e. e.3) (T.text store) (D.image device) }
+        ensures faults { D.honest device → T.honest store → (r : Reading) → Reads (shown (T.text store)) r → IfErr result (λ e. OpenFault r (D.image device) e.3) }
+        ensures differs { D.honest device → T.honest store → RefusesDiffering result (λ e. e.3) (shown (T.text store)) (D.image device) }
 
         // An interruption comes only where something was unfinished, and no fault of another call comes at all.
         ensures unfinished { T.honest store → IfErr result (λ e. e.3 ≡ SessionFault.Interrupted → IsClean (T.text store) → ⊥) }
         ensures kind { IfErr result (λ e. OpenKind e.3) }
 
         // From a sound pair the stack is kept, whatever it answers.
-        ensures keeps { D.honest device → T.honest store → (s : _) → Recovers (T.text store) (D.image device) s → IfOk result (λ o. IsReady D.image T.text o.0 s) }
+        ensures keeps { D.honest device → T.honest store → (s : _) → Recovers (shown (T.text store)) (D.image device) s → IfOk result (λ o. IsReady D.image T.text o.0 s) }
         ensures keeps_err { D.honest device → T.honest store → IfErr result (λ e. KeepsFound (T.text store) (D.image device) (T.text e.1) (D.image e.0)) }
         ensures lengths_kept { D.honest device → T.honest store → IfErr result (λ e. KeepsLengths (T.text store) (D.image device) e.3) }
         ensures refused { D.honest device → T.honest store
@@ -84,6 +89,11 @@ impl<D: Device, T: TextStore, A: Allocator + Clone> Session<D, T, A> {
         ensures redo_kept { D.honest device → T.honest store → T.honest redo_text
             → IfErr result (λ e. KeepsRedo D.image T.text device store redo_text e.3) }
         ensures redo_same { T.honest redo_text → IfErr result (λ e. AfterFault e.3 (Unit {0}) (T.text e.2 ≡ T.text redo_text)) }
+        // Where something was unfinished, a loss of power leaves what opening again finds: the same stack, and nothing undone.
+        ensures survives { D.honest device → T.honest store → T.honest redo_text → (s : Images) → Found (T.text store) (D.image device) (T.text redo_text) s
+            → IfOk result (λ o. (o.1.how ≡ How.Clean → ⊥) → EmptiedSurvives D.image D.survives T.text T.survives s o.0.device o.0.store o.0.redo_text) }
+        ensures survives_err { D.honest device → T.honest store → T.honest redo_text → (s : Images) → Found (T.text store) (D.image device) (T.text redo_text) s
+            → IfErr result (λ e. AfterFault e.3 (EmptiedSurvives D.image D.survives T.text T.survives s e.0 e.1 e.2) (Unit {0})) }
         ensures device_honesty { IfOk result (λ o. D.honest o.0.device ↔ D.honest device) }
         ensures store_honesty { IfOk result (λ o. T.honest o.0.store ↔ T.honest store) }
         ensures redo_honesty { IfOk result (λ o. T.honest o.0.redo_text ↔ T.honest redo_text) }

@@ -3,14 +3,16 @@ ghost use Rattle.std.specs.Prelude.{◌≡◌, ◌↔◌, ◌+◌, ◌<◌, ◌�
 ghost use Rattle.bx_image.specs.Change.{effect, saved, AllWithin, Fits, IsOf};
 ghost use Rattle.bx_entries.specs.Kept.{kept_of};
 ghost use Rattle.bx_entries.specs.Entry.{end_text};
-ghost use Rattle.bx_journal.specs.inner.Devices.{FaultCounts};
+ghost use Rattle.bx_journal.specs.inner.Devices.{AreCounted, AreUnfailed};
 ghost use Rattle.bx_journal.specs.inner.Standing.{PrepareFault};
 ghost use Rattle.bx_journal.specs.inner.Step.{HasEntryRoom};
+ghost use Rattle.bx_journal.specs.inner.Written.{AreSettled};
 
 pub(crate) mod records;
 
 use crate::SessionFault;
 use crate::protocol::image::save_image;
+use crate::protocol::settle::settle;
 use bx_entries::{Words, entry_end, head_len, new_page};
 use bx_image::{Change, Device, MAX_LEN, Saved, check};
 use bx_store::TextStore;
@@ -24,16 +26,19 @@ pub struct Prepared<A: Allocator = Global> {
     pub end: Words,
 }
 
-/// Checks a change, saves what it takes, and makes room for it and for its entry of this number. It changes nothing.
+/// Checks a change, saves what it takes, and makes room for it and for its entry of this number, and
+/// puts on the disk what all three have. It changes nothing.
 pub fn prepare_change<D: Device, T: TextStore, A: Allocator + Clone>(
     alloc: &A,
     device: &mut D,
     store: &mut T,
+    redo: &mut T,
     change: &Change<A>,
     number: u32,
 ) -> Result<Prepared<A>, SessionFault>
     requires device_countable { D.failures device.old < u64.MAX }
     requires store_countable { T.failures store.old < u64.MAX }
+    requires redo_countable { T.failures redo.old < u64.MAX }
     ensures saved { D.honest device.old → IfOk result (λ p. kept_of p.kept ≡ kept_of (saved change.now (D.image device.old))) }
     ensures kept { D.honest device.old → IfOk result (λ p. IsOf (kept_of p.kept) (D.image device.old)) }
     ensures fits { D.honest device.old → IfOk result (λ p. Fits change.now (length (D.image device.old)) MAX_LEN) }
@@ -44,15 +49,19 @@ pub fn prepare_change<D: Device, T: TextStore, A: Allocator + Clone>(
     ensures page_room { IfOk result (λ p. 82 ≤ vec_capacity p.page) }
     ensures image_room { OnOk result (length (effect change.now []) ≤ D.room device.new) }
     ensures text_room { T.honest store.old → IfOk result (λ p. HasEntryRoom (T.text store.new) number p.kept p.end (T.room store.new)) }
+    ensures settled { D.honest device.old → T.honest store.old → T.honest redo.old
+        → OnOk result (AreSettled D.image T.text D.survives T.survives device.new store.new redo.new) }
     ensures large { D.honest device.old → IsErrOf result SessionFault.TooLarge → Fits change.now (length (D.image device.old)) MAX_LEN → ⊥ }
     ensures fitting { D.honest device.old → IsErrOf result SessionFault.NoMemory → Fits change.now (length (D.image device.old)) MAX_LEN }
     ensures kind { IfErr result PrepareFault }
     ensures image { D.honest device.old → D.image device.new ≡ D.image device.old }
     ensures text { T.honest store.old → T.text store.new ≡ T.text store.old }
+    ensures redo_same { T.honest redo.old → T.text redo.new ≡ T.text redo.old }
     ensures device_honesty { D.honest device.new ↔ D.honest device.old }
     ensures store_honesty { T.honest store.new ↔ T.honest store.old }
-    ensures no_failure { OnOk result ((D.failures device.new ≡ D.failures device.old) × (T.failures store.new ≡ T.failures store.old)) }
-    ensures counts { IfErr result (λ e. FaultCounts e (D.failures device.old) (T.failures store.old) (D.failures device.new) (T.failures store.new)) }
+    ensures redo_honesty { T.honest redo.new ↔ T.honest redo.old }
+    ensures no_failure { AreUnfailed D.failures T.failures device.old store.old redo.old device.new store.new redo.new result }
+    ensures counts { AreCounted D.failures T.failures device.old store.old redo.old device.new store.new redo.new result }
 {
     let len = device.len()?;
     let after = check(change, len)?;
@@ -66,5 +75,6 @@ pub fn prepare_change<D: Device, T: TextStore, A: Allocator + Clone>(
         .saturating_add(head)
         .saturating_add(end.as_bytes().len() as u64);
     store.reserve(most)?;
+    settle(device, store, redo)?;
     Ok(Prepared { kept, page, end })
 }

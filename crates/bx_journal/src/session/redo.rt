@@ -52,6 +52,7 @@ fn undone_left(undone: u32, made: u32) -> u32
 }
 
 impl<D: Device, T: TextStore, A: Allocator + Clone> Session<D, T, A> {
+    ghost use Rattle.bx_journal.specs.Power.{StepsSurvive};
     ghost use Rattle.bx_journal.specs.Session.{FailsSafely};
     ghost use Rattle.bx_journal.specs.Performing.{FindsSome, RedoesImages, StaysRedone};
     ghost use Rattle.bx_journal.specs.Undoing.{HasCount, IsOutOfStep, LeavesFront, RedoFault};
@@ -84,6 +85,10 @@ impl<D: Device, T: TextStore, A: Allocator + Clone> Session<D, T, A> {
         // An interruption leaves the old stack with some of the images made again, and another fault leaves all as it was.
         ensures finds { D.honest self.old.device → T.honest self.old.store → T.honest self.old.redo_text
             → FindsSome D.image T.text self.old self.new redo_of j result }
+
+        // So it is behind a loss of power inside the call; where it is accepted, the images behind it are on the disk.
+        ensures survives { D.honest self.old.device → T.honest self.old.store → T.honest self.old.redo_text
+            → StepsSurvive D.image D.survives T.text T.survives redo_of j self.old self.new result }
 
         ensures kind { IfErr result (RedoFault self.old.undone) }
         ensures nothing { ((self.old.is_broken ≡ false) × (self.old.undone < j)) ↔ IsErrOf result (SessionFault.NothingToRedo self.old.undone) }

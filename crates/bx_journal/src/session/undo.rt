@@ -21,6 +21,7 @@ fn count_left(count: u32, undone: u32) -> u32
 }
 
 impl<D: Device, T: TextStore, A: Allocator + Clone> Session<D, T, A> {
+    ghost use Rattle.bx_journal.specs.Power.{StepsSurvive};
     ghost use Rattle.bx_journal.specs.Session.{FailsSafely};
     ghost use Rattle.bx_journal.specs.Performing.{FindsSome, StaysReady, Steps, StopsUndo, UndoesImages};
     ghost use Rattle.bx_journal.specs.Undoing.{HasCount, IsOutOfStep, LeavesFront, UndoFault};
@@ -53,6 +54,10 @@ impl<D: Device, T: TextStore, A: Allocator + Clone> Session<D, T, A> {
         ensures fault { D.honest self.old.device → T.honest self.old.store → StopsUndo D.image T.text k self.old self.new result }
         ensures finds { D.honest self.old.device → T.honest self.old.store → T.honest self.old.redo_text
             → FindsSome D.image T.text self.old self.new undo_of k result }
+
+        // So it is behind a loss of power inside the call; where it is accepted, the images behind it are on the disk.
+        ensures survives { D.honest self.old.device → T.honest self.old.store → T.honest self.old.redo_text
+            → StepsSurvive D.image D.survives T.text T.survives undo_of k self.old self.new result }
 
         ensures kind { IfErr result (UndoFault self.old.count) }
         ensures few { ((self.old.is_broken ≡ false) × (self.old.count < k)) ↔ IsErrOf result (SessionFault.TooFew self.old.count) }

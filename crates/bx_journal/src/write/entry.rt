@@ -3,6 +3,7 @@ ghost use Rattle.std.specs.Prelude.{◌≡◌, ◌+◌, ◌*◌, ◌<◌, ◌≤
 ghost use Rattle.bx_image.specs.Change.{AllWithin};
 ghost use Rattle.bx_image.specs.Device.{GoesOn};
 ghost use Rattle.bx_image.specs.Image.{end_of};
+ghost use Rattle.bx_image.specs.Power.{FadesBehind};
 ghost use Rattle.bx_store.specs.Store.{IsPartlyAppended};
 ghost use Rattle.bx_entries.specs.Kept.{kept_of};
 ghost use Rattle.bx_entries.specs.Entry.{head_text};
@@ -30,6 +31,7 @@ pub fn put_head<T: TextStore, A: Allocator>(
     requires room { 82 ≤ vec_capacity page.old }
     ensures ok { T.honest store.old → OnOk result (T.text store.new ≡ T.text store.old ++ head_text number (kept_of kept.now)) }
     ensures fault { T.honest store.old → OnErr result (IsPartlyAppended (head_text number (kept_of kept.now)) (T.text store.old) (T.text store.new)) }
+    ensures fades { T.honest store.old → FadesBehind (T.text store.old) (head_text number (kept_of kept.now)) (T.survives store.old) (T.survives store.new) }
     ensures emptied { OnOk result (page.new.items ≡ []) }
     ensures page_room { vec_capacity page.old ≤ vec_capacity page.new }
     ensures goes_on { GoesOn T.honest T.room T.failures (is_err result) store.old store.new }
@@ -52,6 +54,7 @@ fn put_words<T: TextStore, A: Allocator>(
     requires short { length line < 34 }
     ensures ok { T.honest store.old → OnOk result (IsPaged (page.old.items ++ ended line) (T.text store.old) (T.text store.new) page.new.items) }
     ensures fault { T.honest store.old → OnErr result (IsPartlyAppended (page.old.items ++ ended line) (T.text store.old) (T.text store.new)) }
+    ensures fades { T.honest store.old → FadesBehind (T.text store.old) (page.old.items ++ ended line) (T.survives store.old) (T.survives store.new) }
     ensures room { vec_capacity page.old ≤ vec_capacity page.new }
     ensures goes_on { GoesOn T.honest T.room T.failures (is_err result) store.old store.new }
 {
@@ -72,6 +75,7 @@ fn put_runs<T: TextStore, A: Allocator>(
     requires room { 82 ≤ vec_capacity page.old }
     ensures ok { T.honest store.old → OnOk result (IsPaged (page.old.items ++ runs_text kept.now.runs) (T.text store.old) (T.text store.new) page.new.items) }
     ensures fault { T.honest store.old → OnErr result (IsPartlyAppended (page.old.items ++ runs_text kept.now.runs) (T.text store.old) (T.text store.new)) }
+    ensures fades { T.honest store.old → FadesBehind (T.text store.old) (page.old.items ++ runs_text kept.now.runs) (T.survives store.old) (T.survives store.new) }
     ensures room { vec_capacity page.old ≤ vec_capacity page.new }
     ensures goes_on { GoesOn T.honest T.room T.failures (is_err result) store.old store.new }
 {
@@ -95,6 +99,7 @@ fn put_run<T: TextStore, A: Allocator>(
     requires room { 82 ≤ vec_capacity page.old }
     ensures ok { T.honest store.old → OnOk result (IsPaged (page.old.items ++ run_text run.now) (T.text store.old) (T.text store.new) page.new.items) }
     ensures fault { T.honest store.old → OnErr result (IsPartlyAppended (page.old.items ++ run_text run.now) (T.text store.old) (T.text store.new)) }
+    ensures fades { T.honest store.old → FadesBehind (T.text store.old) (page.old.items ++ run_text run.now) (T.survives store.old) (T.survives store.new) }
     ensures room { vec_capacity page.old ≤ vec_capacity page.new }
     ensures goes_on { GoesOn T.honest T.room T.failures (is_err result) store.old store.new }
 {
@@ -125,6 +130,7 @@ fn put_row<T: TextStore, A: Allocator>(
     requires room { 82 ≤ vec_capacity page.old }
     ensures ok { T.honest store.old → OnOk result (IsPaged (page.old.items ++ row_text at bytes.now) (T.text store.old) (T.text store.new) page.new.items) }
     ensures fault { T.honest store.old → OnErr result (IsPartlyAppended (page.old.items ++ row_text at bytes.now) (T.text store.old) (T.text store.new)) }
+    ensures fades { T.honest store.old → FadesBehind (T.text store.old) (page.old.items ++ row_text at bytes.now) (T.survives store.old) (T.survives store.new) }
     ensures room { vec_capacity page.old ≤ vec_capacity page.new }
     ensures goes_on { GoesOn T.honest T.room T.failures (is_err result) store.old store.new }
 {
@@ -149,6 +155,7 @@ fn put_full_row<T: TextStore, A: Allocator>(
     requires room { 82 ≤ vec_capacity page.old }
     ensures ok { T.honest store.old → OnOk result (IsPaged (page.old.items ++ row_text at bytes.now) (T.text store.old) (T.text store.new) page.new.items) }
     ensures fault { T.honest store.old → OnErr result (IsPartlyAppended (page.old.items ++ row_text at bytes.now) (T.text store.old) (T.text store.new)) }
+    ensures fades { T.honest store.old → FadesBehind (T.text store.old) (page.old.items ++ row_text at bytes.now) (T.survives store.old) (T.survives store.new) }
     ensures room { vec_capacity page.old ≤ vec_capacity page.new }
     ensures goes_on { GoesOn T.honest T.room T.failures (is_err result) store.old store.new }
 {

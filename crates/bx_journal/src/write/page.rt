@@ -1,6 +1,7 @@
 //! Text that is gathered in a page, and appended when the page is full.
 ghost use Rattle.std.specs.Prelude.{◌≡◌, ◌+◌, ◌<◌, ◌≤◌, ◌++◌, [], length, vec_capacity, OnOk, OnErr, is_err};
 ghost use Rattle.bx_image.specs.Device.{GoesOn};
+ghost use Rattle.bx_image.specs.Power.{FadesBehind};
 ghost use Rattle.bx_store.specs.Store.{IsPartlyAppended};
 ghost use Rattle.bx_journal.specs.inner.Page.{IsPaged};
 
@@ -17,6 +18,7 @@ pub fn append_page<T: TextStore, A: Allocator>(
     requires fits { T.honest store.old → length (T.text store.old) + length page.old.items ≤ T.room store.old }
     ensures ok { T.honest store.old → OnOk result (T.text store.new ≡ T.text store.old ++ page.old.items) }
     ensures fault { T.honest store.old → OnErr result (IsPartlyAppended page.old.items (T.text store.old) (T.text store.new)) }
+    ensures fades { T.honest store.old → FadesBehind (T.text store.old) page.old.items (T.survives store.old) (T.survives store.new) }
     ensures empty { OnOk result (page.new.items ≡ []) }
     ensures room { vec_capacity page.old ≤ vec_capacity page.new }
     ensures goes_on { GoesOn T.honest T.room T.failures (is_err result) store.old store.new }
@@ -38,6 +40,7 @@ pub fn make_room<T: TextStore, A: Allocator>(
     requires room { more ≤ vec_capacity page.old }
     ensures ok { T.honest store.old → OnOk result (IsPaged page.old.items (T.text store.old) (T.text store.new) page.new.items) }
     ensures fault { T.honest store.old → OnErr result (IsPartlyAppended page.old.items (T.text store.old) (T.text store.new)) }
+    ensures fades { T.honest store.old → FadesBehind (T.text store.old) page.old.items (T.survives store.old) (T.survives store.new) }
     ensures free { OnOk result (length page.new.items + more ≤ vec_capacity page.new) }
     ensures room { vec_capacity page.old ≤ vec_capacity page.new }
     ensures goes_on { GoesOn T.honest T.room T.failures (is_err result) store.old store.new }
@@ -59,6 +62,7 @@ pub fn put_bytes<T: TextStore, A: Allocator>(
     requires room { length bytes.now ≤ vec_capacity page.old }
     ensures ok { T.honest store.old → OnOk result (IsPaged (page.old.items ++ bytes.now) (T.text store.old) (T.text store.new) page.new.items) }
     ensures fault { T.honest store.old → OnErr result (IsPartlyAppended (page.old.items ++ bytes.now) (T.text store.old) (T.text store.new)) }
+    ensures fades { T.honest store.old → FadesBehind (T.text store.old) (page.old.items ++ bytes.now) (T.survives store.old) (T.survives store.new) }
     ensures room { vec_capacity page.old ≤ vec_capacity page.new }
     ensures goes_on { GoesOn T.honest T.room T.failures (is_err result) store.old store.new }
 {

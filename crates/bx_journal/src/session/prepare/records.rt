@@ -3,11 +3,13 @@ ghost use Rattle.std.specs.Prelude.{◌≡◌, ◌+◌, ◌-◌, ◌^◌, ◌<�
 ghost use Rattle.bx_image.specs.Change.{AllWithin};
 ghost use Rattle.bx_journal.specs.Fault.{DeviceFault};
 ghost use Rattle.bx_journal.specs.inner.Devices.{AreCounted, AreUnfailed, HaveStayed};
+ghost use Rattle.bx_journal.specs.inner.Written.{AreSettled};
 ghost use Rattle.bx_journal.specs.inner.Takens.{AreZeros, AreReady, AllShaped, IsZeros, length_at, entries_len as entries_long};
 ghost use Rattle.bx_journal.specs.inner.Undoing.{HasRoomFor};
 
 use crate::SessionFault;
 use crate::protocol::fill::fill_last;
+use crate::protocol::settle::settle;
 use crate::session::read::entries::FinishedRead;
 use bx_entries::{EntryRead, head_len, new_page};
 use bx_image::{Device, MAX_LEN, Saved, room_to_restore};
@@ -133,10 +135,7 @@ fn make_room<D: Device, T: TextStore, A: Allocator>(
 
 /// Takes all the memory of restoring the last k entries of the text `from`, each of which gives the text `to` an entry,
 /// and then reads what the first of them overwrites. It changes nothing.
-///
-/// # Errors
-/// `DeviceFailed` of the lengths of the image and of `to`, `NoMemory`, `DeviceFailed` of reading the image, in this order.
-pub fn prepare_takens<D: Device, T: TextStore, A: Allocator + Clone>(
+fn take_records<D: Device, T: TextStore, A: Allocator + Clone>(
     alloc: &A,
     device: &mut D,
     from: &mut T,
@@ -167,4 +166,44 @@ pub fn prepare_takens<D: Device, T: TextStore, A: Allocator + Clone>(
     make_room(device, from, to, read, k, to_len, more)?;
     fill_last(device, &mut takens)?;
     Ok(Taking { takens, page })
+}
+
+/// Takes all the memory of restoring the last k entries of the text `from`, each of which gives the text `to` an entry,
+/// reads what the first of them overwrites, and puts on the disk what all three have. It changes nothing.
+///
+/// # Errors
+/// `DeviceFailed` of the lengths of the image and of `to`, `NoMemory`, `DeviceFailed` of reading the image, in this order,
+/// and then `DeviceFailed` of what can't be put on the disk.
+pub fn prepare_takens<D: Device, T: TextStore, A: Allocator + Clone>(
+    alloc: &A,
+    device: &mut D,
+    from: &mut T,
+    to: &mut T,
+    read: &FinishedRead<A>,
+    k: u32,
+) -> Result<Taking<A>, SessionFault>
+    requires device_countable { D.failures device.old < u64.MAX }
+    requires from_countable { T.failures from.old < u64.MAX }
+    requires to_countable { T.failures to.old < u64.MAX }
+    requires few { k ≤ length read.now.entries.items }
+    ensures kept { HasRoomFor (D.room device.new) read.now.entries.items k result }
+    ensures filled { D.honest device.old → IfOk result (λ o. AreReady (D.image device.old) (reverse read.now.entries.items) (reverse o.takens.items)) }
+    ensures shaped { IfOk result (λ o. AllShaped o.takens.items) }
+    ensures count { IfOk result (λ o. length o.takens.items ≡ k) }
+    ensures roomed { T.honest to.old → IfOk result (λ o. length (T.text to.new) + entries_long o.takens.items ≤ T.room to.new) }
+    ensures empty { IfOk result (λ o. o.page.items ≡ []) }
+    ensures page_room { IfOk result (λ o. 82 ≤ vec_capacity o.page) }
+    ensures settled { D.honest device.old → T.honest from.old → T.honest to.old
+        → OnOk result (AreSettled D.image T.text D.survives T.survives device.new from.new to.new) }
+    ensures kind { IfErr result DeviceFault }
+    ensures stayed { HaveStayed D.honest T.honest D.image T.text device.old from.old to.old device.new from.new to.new }
+    ensures no_failure { AreUnfailed D.failures T.failures device.old from.old to.old device.new from.new to.new result }
+    ensures counts { AreCounted D.failures T.failures device.old from.old to.old device.new from.new to.new result }
+{
+    let taking = match take_records(alloc, device, from, to, read, k) {
+        Ok(taking) => taking,
+        Err(fault) => return Err(fault),
+    };
+    settle(device, from, to)?;
+    Ok(taking)
 }

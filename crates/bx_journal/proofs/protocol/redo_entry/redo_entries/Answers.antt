@@ -1,4 +1,4 @@
-use Rattle.std.proofs.Common.{◌≡◌, ◌∙◌, ◌+◌, ◌∷◌, [], ◌<◌, ℕ, List, length, drop, sym, subst, arith, append-nil}
+use Rattle.std.proofs.Common.{◌≡◌, ◌∙◌, ◌+◌, ◌∷◌, [], ◌<◌, ◌≤◌, ℕ, List, length, drop, sym, subst, arith, append-nil}
 use Rattle.std.proofs.lemmas.Result.{err_from_is_err_and}
 use Rattle.bx_image.specs.Change.{effect, saved, IsAsGood}
 use Rattle.bx_entries.specs.Kept.{kept_of}
@@ -13,6 +13,9 @@ use Rattle.bx_journal.proofs.DeviceLemmas.{always_err, filling_fails, goes_furth
 use Rattle.bx_journal.proofs.LoopLemmas.{IsTurn, turn_of, none_gone, one_gone, places, long_at, first_below, left_at, standing}
 use Rattle.bx_journal.proofs.RedoLoop.{IsRedoBy, IsMadeAgain, restored, entry_fits, redo_stopped, rests_again, redone_next, room_behind, prefix_more}
 use Rattle.bx_journal.proofs.TurnLemmas.{rest_is_found}
+use Rattle.bx_journal.proofs.StepSurvivors.{found_at_rest, looked_at, survive_err}
+use Rattle.bx_entries.specs.Shown.{shown}
+use Rattle.bx_journal.specs.Redo.{Finds}
 use Rattle.bx_journal.proofs.protocol.redo_entry.redo_entries.Goals as goal
 use Rattle.bx_journal.proofs.protocol.redo_entry.redo_entries.Goals.{After-take_last-entry, After-as_bytes, After-fill_last, After-loop-i}
 
@@ -116,6 +119,10 @@ loop-i-preserved g c =
       front = λ th. prefix_more (g.T.TextStore.text c.args.store.now) (g.T.TextStore.text c.loop-i.store) (g.T.TextStore.text c.write_entry.new.store) (head_text (c.loop-i.count + 1) (kept_of c.take_last-entry.result.1)) c.as_bytes.result.now (inv.front th) (done.written th);
       steps_on = goes_further inv.steps_on wrote.steps_on filled.goes_on;
       fits = λ th. room_behind last again done new th (inv.fits th) wrote.store_room filled.entries_len;
+      settled = λ dh th rh on.
+          let here = inv.steps_on in
+          let d = here.device_honesty.1 dh in
+          looked_at _ _ _ _ _ _ _ _ (filled.image (wrote.steps_on.device_honesty.1 d)) (filled.survives (wrote.steps_on.device_honesty.1 d)) (wrote.settles d (here.store_honesty.1 th) (here.redo_honesty.1 rh));
       empty = wrote.emptied;
       page_room = omega (arith, inv.page_room, wrote.page_kept);
       rest = λ dh th rh s rest count.
@@ -134,6 +141,7 @@ loop-i-init g c = record {
   front = λ th. ([], sym (append-nil (g.T.TextStore.text c.args.store.now)));
   steps_on = none_yet;
   fits = c.requires.fits;
+  settled = λ dh th rh on. on;
   empty = c.requires.empty;
   page_room = c.requires.page_room;
   rest = λ dh th rh s rest count. rest.rest;
@@ -169,3 +177,35 @@ pub returns-in_err-fill_last-clause-steps_on : goal.returns-in_err-fill_last-cla
 returns-in_err-fill_last-clause-steps_on g c =
     filling_fails c.from_residual-in_err-fill_last.result (err_from_is_err_and c.from_residual-in_err-fill_last.result c.from_residual-in_err-fill_last.ensures.1).1 c.loop-i.invariant.steps_on c.in_ok-write_entry.ensures.steps_on
     c.in_err-fill_last.ensures.goes_on
+
+pub returns-in_err-write_entry-clause-survives : goal.returns-in_err-write_entry-clause-survives
+returns-in_err-write_entry-clause-survives g c dh th rh on s rest count =
+    let inv = c.loop-i.invariant in
+    let at = goal.at.returns-in_err-write_entry-clause-survives g c in
+    let d = inv.steps_on.device_honesty.1 dh in
+    let t = inv.steps_on.store_honesty.1 th in
+    let u = inv.steps_on.redo_honesty.1 rh in
+    let here = inv.images dh th rh s (standing rest) count in
+    let less : c.loop-i.i < length c.args.takens.now.items = omega (arith, c.loop-i-test.true, c.len-k.ensures) in
+    survive_err c.from_residual.result (λ y new redo. (j : ℕ) × (j ≤ length c.args.takens.now.items) × Finds (shown new) y redo (redo_of j s)) _ _ _ (λ y new redo image_there there redo_there. redo_stopped (turn g at.After-take_last-entry) (by g at.After-as_bytes) rh dh less s (record { rest = inv.rest dh th rh s rest count; undone = here.0.undone }) here.1
+    (λ stack writes. c.in_err-write_entry.ensures.survives d t u (inv.settled dh th rh on) stack writes y new redo image_there there redo_there))
+
+pub returns-in_err-fill_last-clause-survives : goal.returns-in_err-fill_last-clause-survives
+returns-in_err-fill_last-clause-survives g c dh th rh on s rest count =
+    let inv = c.loop-i.invariant in
+    let at = goal.at.returns-in_err-fill_last-clause-survives g c in
+    let last = turn g at.After-take_last-entry in
+    let again = by g at.After-as_bytes in
+    let done = made g at.After-fill_last in
+    let here = inv.images dh th rh s (standing rest) count in
+    let next = redone_next last again done rh dh th s here.0 here.1 in
+    let behind = rests_again last again done rh dh th s (record { rest = inv.rest dh th rh s rest count; undone = here.0.undone }) here.1 in
+    let did = c.in_ok-write_entry.ensures in
+    let d = inv.steps_on.device_honesty.1 dh in
+    let still = did.steps_on.device_honesty.1 d in
+    let settled = looked_at _ _ _ _ _ _ _ _ (c.in_err-fill_last.ensures.image still) (c.in_err-fill_last.ensures.survives still) (did.settles d (inv.steps_on.store_honesty.1 th) (inv.steps_on.redo_honesty.1 rh)) in
+    survive_err c.from_residual-in_err-fill_last.result (λ y new redo. (j : ℕ) × (j ≤ length c.args.takens.now.items) × Finds (shown new) y redo (redo_of j s)) _ _ _ (λ y new redo image_there there redo_there. (
+      c.loop-i.i + 1,
+      omega (arith, c.loop-i-test.true, c.len-k.ensures),
+      found_at_rest _ _ _ _ _ _ (redo_of (c.loop-i.i + 1) s) behind next.0.undone (settled.device y image_there) (settled.store new there) (settled.redo redo redo_there),
+    ))

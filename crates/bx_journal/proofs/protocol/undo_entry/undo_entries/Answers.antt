@@ -15,6 +15,9 @@ use Rattle.bx_journal.proofs.Phases.{rest_recovers}
 use Rattle.bx_journal.proofs.Shapes.{entry_long}
 use Rattle.bx_journal.proofs.StandingLoop.{IsTakenBack, rest_stops, undo_stopped, rests_below, stood_below, undone_next, room_left}
 use Rattle.bx_journal.proofs.TurnLemmas.{rest_is_found}
+use Rattle.bx_journal.proofs.StepSurvivors.{found_at_rest, looked_at, survive_err}
+use Rattle.bx_entries.specs.Shown.{shown}
+use Rattle.bx_journal.specs.Redo.{Finds}
 use Rattle.bx_journal.proofs.protocol.undo_entry.undo_entries.Goals as goal
 use Rattle.bx_journal.proofs.protocol.undo_entry.undo_entries.Goals.{After-take_last-entry, After-fill_last, After-loop-i}
 
@@ -118,6 +121,10 @@ loop-i-preserved g c =
       bound = by_len (nat_le c.take_last-entry.result.1.len MAX_LEN) c.loop-i.undone c.undone_with-undone.result (length ts) (length new) (c.args.undone + length c.args.takens.now.items) c.undone_with-undone.ensures filled.count (omega (arith, inv.bound, last.most));
       steps_on = goes_further inv.steps_on undo.steps_on filled.goes_on;
       fits = λ rh. room_left last done new rh (inv.fits rh) undo.undoes.redo_room filled.entries_len;
+      settled = λ dh th rh on.
+          let here = inv.steps_on in
+          let d = here.device_honesty.1 dh in
+          looked_at _ _ _ _ _ _ _ _ (filled.image (undo.steps_on.device_honesty.1 d)) (filled.survives (undo.steps_on.device_honesty.1 d)) (undo.settles d (here.store_honesty.1 th) (here.redo_honesty.1 rh));
       empty = undo.emptied;
       page_room = omega (arith, inv.page_room, undo.page_kept);
       rest = λ dh th stack rest. rests_below last done th dh stack (inv.rest dh th stack rest);
@@ -138,6 +145,7 @@ loop-i-init g c = record {
   bound = omega arith;
   steps_on = none_yet;
   fits = c.requires.fits;
+  settled = λ dh th rh on. on;
   empty = c.requires.empty;
   page_room = c.requires.page_room;
   rest = λ dh th stack rest. rest;
@@ -176,3 +184,34 @@ pub returns-in_err-fill_last-clause-steps_on : goal.returns-in_err-fill_last-cla
 returns-in_err-fill_last-clause-steps_on g c =
     filling_fails c.from_residual-in_err-fill_last.result (err_from_is_err_and c.from_residual-in_err-fill_last.result c.from_residual-in_err-fill_last.ensures.1).1 c.loop-i.invariant.steps_on c.in_ok-undo_entry.ensures.steps_on
     c.in_err-fill_last.ensures.goes_on
+
+pub returns-in_err-undo_entry-clause-survives : goal.returns-in_err-undo_entry-clause-survives
+returns-in_err-undo_entry-clause-survives g c dh th rh on s rest count =
+    let inv = c.loop-i.invariant in
+    let at = goal.at.returns-in_err-undo_entry-clause-survives g c in
+    let d = inv.steps_on.device_honesty.1 dh in
+    let t = inv.steps_on.store_honesty.1 th in
+    let u = inv.steps_on.redo_honesty.1 rh in
+    let here = inv.images dh th rh s (standing rest) count in
+    let less : c.loop-i.i < length c.args.takens.now.items = omega (arith, c.loop-i-test.true, c.len-k.ensures) in
+    survive_err c.from_residual.result (λ y new redo. (j : ℕ) × (j ≤ length c.args.takens.now.items) × Finds (shown new) y redo (undo_of j s)) _ _ _ (λ y new redo image_there there redo_there. undo_stopped (turn g at.After-take_last-entry) th dh less s (record { rest = inv.rest dh th s.stack rest.rest; undone = here.0.undone }) here.1
+    (λ below v f taken is. c.in_err-undo_entry.ensures.survives d t u (inv.settled dh th rh on) below v f taken is y new redo image_there there redo_there))
+
+pub returns-in_err-fill_last-clause-survives : goal.returns-in_err-fill_last-clause-survives
+returns-in_err-fill_last-clause-survives g c dh th rh on s rest count =
+    let inv = c.loop-i.invariant in
+    let at = goal.at.returns-in_err-fill_last-clause-survives g c in
+    let last = turn g at.After-take_last-entry in
+    let done = back g at.After-fill_last in
+    let here = inv.images dh th rh s (standing rest) count in
+    let next = undone_next last done th dh rh s here.0 here.1 in
+    let behind = rests_below last done th dh s.stack (inv.rest dh th s.stack rest.rest) in
+    let did = c.in_ok-undo_entry.ensures in
+    let d = inv.steps_on.device_honesty.1 dh in
+    let still = did.steps_on.device_honesty.1 d in
+    let settled = looked_at _ _ _ _ _ _ _ _ (c.in_err-fill_last.ensures.image still) (c.in_err-fill_last.ensures.survives still) (did.settles d (inv.steps_on.store_honesty.1 th) (inv.steps_on.redo_honesty.1 rh)) in
+    survive_err c.from_residual-in_err-fill_last.result (λ y new redo. (j : ℕ) × (j ≤ length c.args.takens.now.items) × Finds (shown new) y redo (undo_of j s)) _ _ _ (λ y new redo image_there there redo_there. (
+      c.loop-i.i + 1,
+      omega (arith, c.loop-i-test.true, c.len-k.ensures),
+      found_at_rest _ _ _ _ _ _ (undo_of (c.loop-i.i + 1) s) behind next.0.undone (settled.device y image_there) (settled.store new there) (settled.redo redo redo_there),
+    ))

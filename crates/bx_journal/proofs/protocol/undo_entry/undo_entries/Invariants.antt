@@ -5,6 +5,7 @@ use Rattle.bx_journal.specs.Phase.{IsAtRest}
 use Rattle.bx_journal.specs.Stack.{StandsFor}
 use Rattle.bx_journal.specs.inner.Takens.{entries_len}
 use Rattle.bx_journal.specs.inner.Turns.{AreStanding}
+use Rattle.bx_journal.specs.inner.Written.{AreSettled}
 use Rattle.bx_journal.proofs.DeviceLemmas.{HaveGoneOn}
 use Rattle.bx_journal.proofs.LoopLemmas.{AreLeft}
 use Rattle.bx_journal.proofs.protocol.undo_entry.undo_entries.Given as goal
@@ -16,6 +17,9 @@ invariant-loop-i g l = record {
   bound : l.undone + length l.takens.items ≤ l.fn.undone + length l.fn.takens.items;
   steps_on : HaveGoneOn g.D.Device.honest g.T.TextStore.honest g.D.Device.failures g.T.TextStore.failures l.fn.device l.fn.store l.fn.redo_text l.device l.store l.redo_text;
   fits : g.T.TextStore.honest l.fn.redo_text → length (g.T.TextStore.text l.redo_text) + entries_len l.takens.items ≤ g.T.TextStore.room l.redo_text;
+  settled : g.D.Device.honest l.fn.device → g.T.TextStore.honest l.fn.store → g.T.TextStore.honest l.fn.redo_text
+      → AreSettled g.D.Device.image g.T.TextStore.text g.D.Device.survives g.T.TextStore.survives l.fn.device l.fn.store l.fn.redo_text
+      → AreSettled g.D.Device.image g.T.TextStore.text g.D.Device.survives g.T.TextStore.survives l.device l.store l.redo_text;
   empty : l.page.items ≡ [];
   page_room : 82 ≤ vec_capacity l.page;
   rest : g.D.Device.honest l.fn.device → g.T.TextStore.honest l.fn.store → (stack : List (List ℕ)) → IsAtRest (g.T.TextStore.text l.fn.store) (g.D.Device.image l.fn.device) stack

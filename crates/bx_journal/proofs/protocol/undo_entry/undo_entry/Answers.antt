@@ -1,6 +1,6 @@
-use Rattle.std.proofs.Common.{◌≡◌, ◌⊎◌, ◌∙◌, ℕ, List, ◌∷◌, inl, inr, sym, ap, subst, Result, Ok, Err}
+use Rattle.std.proofs.Common.{rules, ◌≡◌, ◌⊎◌, ◌∙◌, ℕ, List, ◌∷◌, inl, inr, sym, ap, subst, Result, Ok, Err}
 use Rattle.std.specs.Prelude.{OnOk, OnErr}
-use Rattle.std.proofs.lemmas.Result.{on_err_weaker}
+use Rattle.std.proofs.lemmas.Result.{on_ok_weaker, on_err_weaker}
 use Rattle.bx_image.specs.Change.{restore}
 use Rattle.bx_entries.specs.Kept.{Kept, kept_of}
 use Rattle.bx_journal.specs.inner.Phase.{IsOpen}
@@ -14,6 +14,7 @@ use Rattle.bx_journal.proofs.Phases.{open_recovers}
 use Rattle.bx_journal.proofs.Sharper.{cut_is_sharp, either_below}
 use Rattle.bx_journal.proofs.StopLemmas.{first_stops, within_new, behind_stops}
 use Rattle.bx_journal.proofs.UndoSteps.{first_ok, first_tail}
+use Rattle.bx_entries.specs.Shown.{shown}
 use Rattle.bx_journal.proofs.protocol.undo_entry.undo_entry.Goals as goal
 
 always_err : {T E P : Type 0} (r : Result T E) → P → OnErr r P
@@ -98,3 +99,45 @@ returns-clause-fault g c dh th below v e t is =
     on_err_weaker c.drop_tail.result inr
     (c.drop_tail.ensures.fault (c.open_and_change.ensures.steps_on.store_honesty.1 th) y below t.entries (Ending v (kept_of c.args.kept))
     (tail_moves text x y below t.entries v (kept_of c.args.kept) c.args.begins tail good) (good.same ∙ sym (c.in_ok-open_and_change.ensures.undoes.image_is dh)))
+
+pub returns-in_err-open_and_change-clause-survives : goal.returns-in_err-open_and_change-clause-survives
+returns-in_err-open_and_change-clause-survives g c = c.in_err-open_and_change.ensures.survives c.args.begins
+
+pub returns-clause-survives : goal.returns-clause-survives
+returns-clause-survives g c dh th rh settled below v e t is y new redo image_there there redo_there =
+    let x : List ℕ = g.D.Device.image c.args.device.now in
+    let z : List ℕ = g.D.Device.image c.open_and_change.new.device in
+    let r : List ℕ = g.T.TextStore.text c.args.redo.now in
+    let text : List ℕ = g.T.TextStore.text c.open_and_change.new.store in
+    let old : Side = side_of (x ∷ below) x r in
+    let new_side : Side = side_of below (restore e.saved x) (kept_text r (kept_of c.args.taken.now) c.args.number c.args.kept.len) in
+    let done = c.in_ok-open_and_change.ensures in
+    let on_disk = done.settles dh th rh in
+    let cut_is = done.text th in
+    let first = first_ok (g.T.TextStore.text c.args.store.now) x below v e c.args.begins c.args.saved t text cut_is in
+    let tail = subst (λ s. HasTail text x below t.entries (Ending v s) c.args.begins) (sym is) (first_tail (g.T.TextStore.text c.args.store.now) x below v e c.args.begins c.args.saved t text cut_is) in
+    let good = done.again dh tail.sound.unfinished in
+    let restored : z ≡ restore e.saved x = done.undoes.image_is dh ∙ ap (λ (s : Kept). restore s x) is in
+    let same : y ≡ z = on_disk.device y image_there in
+    behind_stops (shown new) y redo old new_side (same ∙ restored) (on_disk.redo redo redo_there ∙ done.undoes.redo_is rh)
+    (subst (λ w. Recovers (shown new) w below) (sym same)
+    (c.drop_tail.ensures.survives (done.steps_on.store_honesty.1 th) on_disk.store z below t.entries (Ending v (kept_of c.args.kept))
+    (tail_moves text x z below t.entries v (kept_of c.args.kept) c.args.begins tail good) first.whole (good.same ∙ sym (done.undoes.image_is dh)) new there))
+
+pub returns-clause-settles : goal.returns-clause-settles
+returns-clause-settles g c dh th rh =
+    let on_disk = c.in_ok-open_and_change.ensures.settles dh th rh in
+    on_ok_weaker c.drop_tail.result (λ only. record { device = on_disk.device; store = only; redo = on_disk.redo })
+    (c.drop_tail.ensures.settled (c.in_ok-open_and_change.ensures.steps_on.store_honesty.1 th))
+
+pub returns-clause-steps_on : goal.returns-clause-steps_on
+returns-clause-steps_on g c =
+    let before = c.in_ok-open_and_change.ensures.steps_on in
+    let last = c.drop_tail.ensures.goes_on in
+    record {
+      device_honesty = before.device_honesty;
+      store_honesty = ((λ h. before.store_honesty.0 (last.honesty.0 h)), (λ h. last.honesty.1 (before.store_honesty.1 h)));
+      redo_honesty = before.redo_honesty;
+      no_failure = search rules;
+      failure = search rules;
+    }

@@ -1,8 +1,9 @@
-use Rattle.std.proofs.Common.{◌≡◌, ◌+◌, ◌≤◌, ℕ, rules, arith, inr, subst, sym, Result, Err}
+use Rattle.std.proofs.Common.{◌≡◌, ◌∙◌, ◌+◌, ◌≤◌, ℕ, List, rules, arith, inr, subst, sym, Result, Err}
 use Rattle.std.specs.Prelude.{OnOk}
 use Rattle.std.proofs.lemmas.Grind.{common_steps}
 use Rattle.std.proofs.lemmas.Result.{err_from_is_err_and, on_err_weaker, on_ok_weaker}
 use Rattle.bx_image.proofs.Changes.{OnErr-known}
+use Rattle.bx_journal.proofs.OpenedLemmas.{emptied_found, found_few, found_unclean, stopped_found}
 use Rattle.bx_journal.proofs.RecoverLemmas.{one_more_beside}
 use Rattle.bx_journal.proofs.CountedLemmas.{ok_always}
 use Rattle.bx_journal.proofs.recovery.unfinished_entry.finish.Goals as goal
@@ -36,3 +37,18 @@ returns-in_err-cut_redo-clause-steps_on g c = record {
   no_failure = none_ok _ c.from_residual.result _ (err_from_is_err_and c.from_residual.result c.from_residual.ensures.1).1;
   failure = OnErr-known c.from_residual.result (one_more c.in_err-cut_redo.ensures.goes_on.counted);
 }
+
+pub returns-in_err-cut_redo-clause-survives : goal.returns-in_err-cut_redo-clause-survives
+returns-in_err-cut_redo-clause-survives g c dh th rh on s found y new r there text_there redo_there =
+    let text : List ℕ = g.T.TextStore.text c.args.store.now in
+    let x : List ℕ = g.D.Device.image c.args.device.now in
+    stopped_found text x new y r s.stack found.recovers (found_unclean (g.T.TextStore.honest c.args.store.now) text c.args.journal c.requires.read th) (on.store new text_there) (on.device y there)
+
+pub returns-clause-survives : goal.returns-clause-survives
+returns-clause-survives g c dh th rh on s found y new r there text_there redo_there =
+    let text : List ℕ = g.T.TextStore.text c.args.store.now in
+    let x : List ℕ = g.D.Device.image c.args.device.now in
+    let cut = c.in_ok-cut_redo.ensures in
+    emptied_found new y r s.stack (c.cut_unfinished.ensures.survives dh th on.device on.store s.stack found.recovers y new there text_there)
+    (cut.settled rh r redo_there ∙ cut.redo rh)
+    (found_few (g.T.TextStore.honest c.args.store.now) text x s.stack c.args.journal c.requires.read th found.recovers)

@@ -1,39 +1,43 @@
-use Rattle.std.proofs.Common.{◌≡◌, List, ℕ, ap, sym, ◌∙◌, subst, inl, inr, ◌⊎◌, Result, Ok, Err}
+use Rattle.std.proofs.Common.{◌≡◌, List, ℕ, sym, ◌∙◌, subst, inl, inr, ◌⊎◌, Result, Ok, Err}
 use Rattle.std.specs.Prelude.{IfErr, OnErr}
 use Rattle.bx_image.proofs.Changes.{OnErr-known}
 use Rattle.bx_journal.specs.Calls.{AfterFault}
+use Rattle.bx_journal.specs.Power.{Found as FoundOnDisk}
 use Rattle.bx_journal.specs.Phase.{IsAtRest}
 use Rattle.bx_journal.specs.Stack.{Recovers}
-use Rattle.bx_entries.specs.Text.{Between}
-use Rattle.bx_journal.proofs.OpenedLemmas.{emptied_keeps, emptied_undone, err_then, find_opens, find_redo, find_refuses, finished_kept, finished_opened, finished_stack, finished_unfit, found_counted, found_few, found_read, found_unclean, recover_kind, unfinished_finds}
+use Rattle.bx_entries.specs.Shown.{shown}
+use Rattle.bx_entries.proofs.CleanLemmas.{clean_shown}
+use Rattle.bx_entries.specs.Text.{Between, IsAccepted, Reads}
+use Rattle.bx_entries.specs.inner.Parsed.{reading_of}
+use Rattle.bx_journal.proofs.OpenedLemmas.{emptied_keeps, emptied_undone, find_silent, finished_silent, unfinished_matches, err_then, find_opens, find_redo, find_refuses, finished_accepted, finished_faults, finished_kept, finished_opened, finished_other, finished_stack, finished_unfit, found_counted, found_few, found_read, found_unclean, recover_kind, unfinished_finds}
 use Rattle.bx_journal.proofs.LeftLemmas.{left_whole}
 use Rattle.bx_journal.proofs.CountedLemmas.{counted_rest, ok_always}
 use Rattle.bx_journal.proofs.recovery.unfinished_entry.recover.Goals as goal
 
 pub returns-in-Err-clause-faults : goal.returns-in-Err-clause-faults
 returns-in-Err-clause-faults g c dh th r reads =
-    find_opens (g.T.TextStore.honest c.args.store.now) (g.T.TextStore.text c.args.store.now) r th reads (g.D.Device.image c.args.device.now) c.in-Err.fault c.in-Err.ensures.fault
+    find_opens (g.T.TextStore.honest c.args.store.now) (shown (g.T.TextStore.text c.args.store.now)) r th reads (g.D.Device.image c.args.device.now) c.in-Err.fault c.in-Err.ensures.fault
 
 pub returns-in-Err-clause-differs : goal.returns-in-Err-clause-differs
 returns-in-Err-clause-differs g c dh th r n reads differs =
-    find_refuses (g.T.TextStore.honest c.args.store.now) (g.T.TextStore.text c.args.store.now) r th reads n c.in-Err.fault c.in-Err.ensures.fault
+    find_refuses (g.T.TextStore.honest c.args.store.now) (shown (g.T.TextStore.text c.args.store.now)) r th reads n c.in-Err.fault c.in-Err.ensures.fault
 
 pub returns-in-Err-clause-redo_unfit : goal.returns-in-Err-clause-redo_unfit
 returns-in-Err-clause-redo_unfit g c dh th rh line r =
-    find_redo (g.T.TextStore.honest c.args.store.now) (g.T.TextStore.text c.args.store.now) (record { entries = r.entries; stage = Between }) th r.finished.reads line c.in-Err.fault c.in-Err.ensures.fault
+    find_redo (g.T.TextStore.honest c.args.store.now) (shown (g.T.TextStore.text c.args.store.now)) (record { entries = r.entries; stage = Between }) th (subst (λ t. Reads t (record { entries = r.entries; stage = Between })) (sym (clean_shown (g.T.TextStore.text c.args.store.now) r.entries r.finished)) r.finished.reads) line c.in-Err.fault c.in-Err.ensures.fault
 
 pub returns-in-Finished-clause-opened : goal.returns-in-Finished-clause-opened
 returns-in-Finished-clause-opened g c dh th r reads =
     let text : List ℕ = g.T.TextStore.text c.args.store.now in
     let is = found_counted (g.T.TextStore.honest c.args.store.now) text c.in-Ok.found c.in-Finished.counted c.in-Ok.ensures.found c.in-Finished.is th in
-    finished_opened text (g.D.Device.image c.args.device.now) c.in-Finished.counted.count c.in-Finished.counted.told is c.open_finished.result _ _ r reads
+    finished_opened text (g.D.Device.image c.args.device.now) c.in-Finished.counted.count c.in-Finished.counted.told is c.open_finished.result _ _ r (subst (λ t. Reads t r) (clean_shown text is.entries is.finished) reads)
     (c.read_text.ensures.looks.same th) (c.open_finished.ensures.image dh) c.open_finished.ensures.clean (c.open_finished.ensures.same_length dh)
 
 pub returns-in-Finished-clause-left : goal.returns-in-Finished-clause-left
 returns-in-Finished-clause-left g c th r reads =
     let text : List ℕ = g.T.TextStore.text c.args.store.now in
     let is = found_counted (g.T.TextStore.honest c.args.store.now) text c.in-Ok.found c.in-Finished.counted c.in-Ok.ensures.found c.in-Finished.is th in
-    ok_always c.open_finished.result (left_whole text _ c.in-Finished.counted.count c.in-Finished.counted.told r is reads (c.read_text.ensures.looks.same th))
+    ok_always c.open_finished.result (left_whole text _ c.in-Finished.counted.count c.in-Finished.counted.told r is (subst (λ t. Reads t r) (clean_shown text is.entries is.finished) reads) (c.read_text.ensures.looks.same th))
 
 pub returns-in-Finished-clause-keeps : goal.returns-in-Finished-clause-keeps
 returns-in-Finished-clause-keeps g c dh th stack rec =
@@ -43,23 +47,23 @@ returns-in-Finished-clause-keeps g c dh th stack rec =
     let is = found_counted (g.T.TextStore.honest c.args.store.now) text c.in-Ok.found c.in-Finished.counted c.in-Ok.ensures.found c.in-Finished.is th in (
       ok_always c.open_finished.result
           (subst (λ t. IsAtRest t y stack) same
-          (counted_rest text (g.D.Device.image c.args.device.now) c.in-Finished.counted.count c.in-Finished.counted.told is y stack rec (c.open_finished.ensures.image dh))),
-      OnErr-known c.open_finished.result (subst (λ t. Recovers t y stack) same (subst (λ z. Recovers text z stack) (sym (c.open_finished.ensures.image dh)) rec)),
+          (counted_rest text (g.D.Device.image c.args.device.now) c.in-Finished.counted.count c.in-Finished.counted.told is y stack (subst (λ t. Recovers t (g.D.Device.image c.args.device.now) stack) (clean_shown text is.entries is.finished) rec) (c.open_finished.ensures.image dh))),
+      OnErr-known c.open_finished.result (subst (λ t. Recovers (shown t) y stack) same (subst (λ z. Recovers (shown text) z stack) (sym (c.open_finished.ensures.image dh)) rec)),
     )
 
 pub returns-in-Err-clause-keeps : goal.returns-in-Err-clause-keeps
-returns-in-Err-clause-keeps g c dh th stack rec = (tt, subst (λ t. Recovers t (g.D.Device.image c.args.device.now) stack) (sym (c.read_text.ensures.looks.same th)) rec)
+returns-in-Err-clause-keeps g c dh th stack rec = (tt, subst (λ t. Recovers (shown t) (g.D.Device.image c.args.device.now) stack) (sym (c.read_text.ensures.looks.same th)) rec)
 
 pub returns-in-Unfinished-clause-keeps : goal.returns-in-Unfinished-clause-keeps
 returns-in-Unfinished-clause-keeps g c dh th stack rec =
     c.recover_read.ensures.keeps dh (c.read_text.ensures.looks.honesty.1 th) stack
-    (subst (λ t. Recovers t (g.D.Device.image c.args.device.now) stack) (sym (c.read_text.ensures.looks.same th)) rec)
+    (subst (λ t. Recovers (shown t) (g.D.Device.image c.args.device.now) stack) (sym (c.read_text.ensures.looks.same th)) rec)
 
 pub returns-in-Finished-clause-counted : goal.returns-in-Finished-clause-counted
 returns-in-Finished-clause-counted g c dh th stack rec =
     let text : List ℕ = g.T.TextStore.text c.args.store.now in
     let is = found_counted (g.T.TextStore.honest c.args.store.now) text c.in-Ok.found c.in-Finished.counted c.in-Ok.ensures.found c.in-Finished.is th in
-    finished_stack text (g.D.Device.image c.args.device.now) c.in-Finished.counted.count c.in-Finished.counted.told is c.open_finished.result stack rec c.open_finished.ensures.clean
+    finished_stack text (g.D.Device.image c.args.device.now) c.in-Finished.counted.count c.in-Finished.counted.told is c.open_finished.result stack (subst (λ t. Recovers t (g.D.Device.image c.args.device.now) stack) (clean_shown text is.entries is.finished) rec) c.open_finished.ensures.clean
 
 pub returns-in-Finished-clause-redo_unfit : goal.returns-in-Finished-clause-redo_unfit
 returns-in-Finished-clause-redo_unfit g c dh th rh line r =
@@ -95,9 +99,9 @@ pub returns-in-Unfinished-clause-keeps_undone : goal.returns-in-Unfinished-claus
 returns-in-Unfinished-clause-keeps_undone g c dh th rh s finds =
     emptied_keeps _ _ s.undone c.recover_read.result (c.recover_read.ensures.emptied rh) c.recover_read.ensures.unclean c.recover_read.ensures.sum
 
-store_text : {S T E : Type 0} → (Q : Type 0) (text : S → List ℕ) (o : Result T E) (new mid old : S) → text mid ≡ text old → OnErr o ((new ≡ mid) ⊎ Q) → OnErr o ((text new ≡ text old) ⊎ Q)
+store_text : {S T E : Type 0} → (Q : Type 0) (text : S → List ℕ) (o : Result T E) (new mid old : S) → text mid ≡ text old → OnErr o ((text new ≡ text mid) ⊎ Q) → OnErr o ((text new ≡ text old) ⊎ Q)
 store_text Q text (Ok v) new mid old same h = tt
-store_text Q text (Err e) new mid old same h = elim h [ inl is ↦ inl (ap text is ∙ same) | inr q ↦ inr q ]
+store_text Q text (Err e) new mid old same h = elim h [ inl is ↦ inl (is ∙ same) | inr q ↦ inr q ]
 
 pub returns-in-Unfinished-clause-finds_err : goal.returns-in-Unfinished-clause-finds_err
 returns-in-Unfinished-clause-finds_err g c dh th rh s finds =
@@ -110,11 +114,59 @@ returns-in-Unfinished-clause-finds_err g c dh th rh s finds =
     (found_unclean (g.T.TextStore.honest c.args.store.now) text c.in-Unfinished.journal i th)
     (found_few (g.T.TextStore.honest c.args.store.now) text x s.stack c.in-Unfinished.journal i th finds.recovers)
     c.recover_read.result
-    (c.recover_read.ensures.keeps dh mid s.stack (subst (λ t. Recovers t x s.stack) (sym same) finds.recovers)).1
-    (store_text _ g.T.TextStore.text c.recover_read.result _ _ _ same (c.recover_read.ensures.emptied_first rh))
+    (c.recover_read.ensures.keeps dh mid s.stack (subst (λ t. Recovers (shown t) x s.stack) (sym same) finds.recovers)).1
+    (store_text _ g.T.TextStore.text c.recover_read.result _ _ _ same (c.recover_read.ensures.emptied_first mid rh))
     (subst (λ t. IfErr c.recover_read.result (λ e. AfterFault e (Unit {0}) ((g.T.TextStore.text c.recover_read.new.store ≡ t) × (g.D.Device.image c.recover_read.new.device ≡ x)))) same
     (c.recover_read.ensures.refused dh mid))
     (c.recover_read.ensures.redo_same rh)
 
 pub returns-in-Unfinished-clause-redo_kept : goal.returns-in-Unfinished-clause-redo_kept
 returns-in-Unfinished-clause-redo_kept g c dh th rh s finds = recover_kind c.recover_read.result c.recover_read.ensures.kind
+
+pub returns-in-Finished-clause-accepted : goal.returns-in-Finished-clause-accepted
+returns-in-Finished-clause-accepted g c th =
+    let text : List ℕ = g.T.TextStore.text c.args.store.now in
+    let is = found_counted (g.T.TextStore.honest c.args.store.now) text c.in-Ok.found c.in-Finished.counted c.in-Ok.ensures.found c.in-Finished.is th in
+    ok_always c.open_finished.result (subst (λ t. IsAccepted t) (sym (clean_shown text is.entries is.finished)) (finished_accepted text (g.D.Device.image c.args.device.now) c.in-Finished.counted.count c.in-Finished.counted.told is c.open_finished.result))
+
+pub returns-in-Finished-clause-unaccepted : goal.returns-in-Finished-clause-unaccepted
+returns-in-Finished-clause-unaccepted g c th none =
+    let text : List ℕ = g.T.TextStore.text c.args.store.now in
+    let is = found_counted (g.T.TextStore.honest c.args.store.now) text c.in-Ok.found c.in-Finished.counted c.in-Ok.ensures.found c.in-Finished.is th in
+    absurd (none (subst (λ t. IsAccepted t) (sym (clean_shown text is.entries is.finished)) (finished_accepted text (g.D.Device.image c.args.device.now) c.in-Finished.counted.count c.in-Finished.counted.told is c.open_finished.result)))
+
+pub returns-in-Finished-clause-faults : goal.returns-in-Finished-clause-faults
+returns-in-Finished-clause-faults g c dh th r reads =
+    let text : List ℕ = g.T.TextStore.text c.args.store.now in
+    let is = found_counted (g.T.TextStore.honest c.args.store.now) text c.in-Ok.found c.in-Finished.counted c.in-Ok.ensures.found c.in-Finished.is th in
+    finished_faults text (g.D.Device.image c.args.device.now) c.in-Finished.counted.count c.in-Finished.counted.told is c.open_finished.result _ _ _ r (subst (λ t. Reads t r) (clean_shown text is.entries is.finished) reads) dh c.open_finished.ensures.fault
+
+pub returns-in-Finished-clause-differs : goal.returns-in-Finished-clause-differs
+returns-in-Finished-clause-differs g c dh th r n reads differs =
+    let text : List ℕ = g.T.TextStore.text c.args.store.now in
+    let is = found_counted (g.T.TextStore.honest c.args.store.now) text c.in-Ok.found c.in-Finished.counted c.in-Ok.ensures.found c.in-Finished.is th in
+    c.open_finished.ensures.differs dh n (finished_other text (g.D.Device.image c.args.device.now) c.in-Finished.counted.count c.in-Finished.counted.told is c.open_finished.result r n (subst (λ t. Reads t r) (clean_shown text is.entries is.finished) reads) differs)
+
+pub returns-in-Unfinished-clause-accepted : goal.returns-in-Unfinished-clause-accepted
+returns-in-Unfinished-clause-accepted g c th =
+    let text : List ℕ = g.T.TextStore.text c.args.store.now in
+    let i = found_read (g.T.TextStore.honest c.args.store.now) text c.in-Ok.found c.in-Unfinished.journal c.in-Ok.ensures.found c.in-Unfinished.is in
+    ok_always c.recover_read.result (reading_of c.in-Unfinished.journal.entries.items c.in-Unfinished.journal.stage, subst (λ t. Reads (shown t) (reading_of c.in-Unfinished.journal.entries.items c.in-Unfinished.journal.stage)) (sym (i.is th)) i.read.reads)
+
+pub returns-in-Unfinished-clause-unaccepted : goal.returns-in-Unfinished-clause-unaccepted
+returns-in-Unfinished-clause-unaccepted g c th none =
+    let text : List ℕ = g.T.TextStore.text c.args.store.now in
+    let i = found_read (g.T.TextStore.honest c.args.store.now) text c.in-Ok.found c.in-Unfinished.journal c.in-Ok.ensures.found c.in-Unfinished.is in
+    absurd (none (reading_of c.in-Unfinished.journal.entries.items c.in-Unfinished.journal.stage, subst (λ t. Reads (shown t) (reading_of c.in-Unfinished.journal.entries.items c.in-Unfinished.journal.stage)) (sym (i.is th)) i.read.reads))
+
+pub returns-in-Err-clause-survives : goal.returns-in-Err-clause-survives
+returns-in-Err-clause-survives g c dh th rh s found = find_silent _ _ _ c.in-Err.fault c.in-Err.ensures.fault
+
+pub returns-in-Finished-clause-survives : goal.returns-in-Finished-clause-survives
+returns-in-Finished-clause-survives g c dh th rh s found = finished_silent _ c.open_finished.result _ _ _ _ _ _ c.open_finished.ensures.clean c.open_finished.ensures.fault
+
+pub returns-in-Unfinished-clause-survives : goal.returns-in-Unfinished-clause-survives
+returns-in-Unfinished-clause-survives g c dh th rh s found =
+    unfinished_matches c.recover_read.result _
+    (c.recover_read.ensures.survives dh (c.read_text.ensures.looks.honesty.1 th) rh s
+    (subst (λ t. FoundOnDisk t (g.D.Device.image c.args.device.now) (g.T.TextStore.text c.args.redo_text.now) s) (sym (c.read_text.ensures.looks.same th)) found))

@@ -1,4 +1,5 @@
 use Rattle.std.proofs.Common.{refl, ap, suc, sym, ◌∙◌}
+use Rattle.bx_entries.specs.Shown.{shown}
 use Rattle.bx_journal.specs.Stack.{image_at}
 use Rattle.bx_journal.proofs.Phases.{length-stack_of}
 use Rattle.bx_journal.proofs.OpenLemmas.{recovers_same}
@@ -18,7 +19,7 @@ returns-in-Err-clause-keeps_err g c dh th stack rec = (c.in-Err.ensures.keeps dh
 
 pub returns-in-Err-clause-lengths_kept : goal.returns-in-Err-clause-lengths_kept
 returns-in-Err-clause-lengths_kept g c dh th stack rec n is =
-    recovers_same (g.T.TextStore.text c.args.store) (g.D.Device.image c.args.device) stack c.in-Err.fault n rec (c.in-Err.ensures.faults dh th rec.reading rec.reads) is
+    recovers_same (shown (g.T.TextStore.text c.args.store)) (g.D.Device.image c.args.device) stack c.in-Err.fault n rec (c.in-Err.ensures.faults dh th rec.reading rec.reads) is
 
 pub returns-in-Ok-clause-undone : goal.returns-in-Ok-clause-undone
 returns-in-Ok-clause-undone g c dh th rh =

@@ -1,9 +1,9 @@
-use Rattle.std.proofs.Common.{◌≡◌, ℕ, suc, ◌+◌, List, [], length, refl, ap, sym, ◌∙◌, subst, arith}
+use Rattle.std.proofs.Common.{◌≡◌, ℕ, suc, ◌+◌, List, [], ◌∷◌, length, refl, ap, sym, ◌∙◌, subst, arith}
 use Rattle.bx_image.specs.declared.change.TheConstants.{MAX_LEN}
 use Rattle.bx_entries.specs.Kept.{kept_of}
 use Rattle.bx_image.specs.Change.{effect, Fits}
 use Rattle.bx_entries.specs.Entry.{head_text}
-use Rattle.bx_journal.specs.Machine.{top}
+use Rattle.bx_journal.specs.Machine.{top, changes_of}
 use Rattle.bx_journal.specs.Phase.{IsAtRest}
 use Rattle.bx_journal.specs.Redo.{IsRedoOf}
 use Rattle.bx_journal.specs.Stack.{StandsFor}
@@ -14,6 +14,7 @@ use Rattle.bx_journal.specs.inner.Devices.{HaveStayed}
 use Rattle.bx_journal.proofs.Stayed.{pair_stays, rest_step}
 use Rattle.bx_journal.specs.inner.Step.{WritesEntry}
 use Rattle.bx_journal.proofs.Ready.{IsPrepared, writes_entry, top_of_rest}
+use Rattle.bx_journal.proofs.StepSurvivors.{found_at_rest, found_either, found_of}
 use Rattle.bx_journal.proofs.session.Session.perform.Goals as goal
 use Rattle.bx_journal.proofs.session.Session.perform.Goals.{After-write_entry}
 
@@ -28,16 +29,16 @@ module _ (g : _) (c : After-write_entry g) where
   abbrev head : List ℕ
   head = head_text (c.self.inside.count + 1) (kept_of c.in_ok-ready.ready.kept)
 
-  stayed : HaveStayed g.D.Device.honest g.T.TextStore.honest g.D.Device.image g.T.TextStore.text c.self.inside.device c.self.inside.store c.self.inside.redo_text c.prepare_change.new.device c.prepare_change.new.store c.self.inside.redo_text
+  stayed : HaveStayed g.D.Device.honest g.T.TextStore.honest g.D.Device.image g.T.TextStore.text c.self.inside.device c.self.inside.store c.self.inside.redo_text c.prepare_change.new.device c.prepare_change.new.store c.prepare_change.new.redo
   stayed =
       let taken = c.prepare_change.ensures in
       record {
         device_honesty = taken.device_honesty;
         text_honesty = taken.store_honesty;
-        other_honesty = ((λ h. h), λ h. h);
+        other_honesty = taken.redo_honesty;
         image_same = taken.image;
         text_same = taken.text;
-        other_same = λ h. refl;
+        other_same = taken.redo_same;
       }
 
   prepared : g.D.Device.honest c.self.inside.device → IsPrepared c.args.change.now x c.self.inside.count (kept_of c.in_ok-ready.ready.kept) (length (effect c.args.change.now x)) head c.as_bytes-line.result.now
@@ -108,7 +109,7 @@ returns-in-Ok-clause-undone g c =
     rw (← c.self.view_is) (λ rh.
     let y : List ℕ = g.D.Device.image c.write_entry.new.device in
     record {
-      redo = subst (λ t. IsRedoOf t y (c.self.inside.count + 1) []) (sym (c.in-Ok.ensures.redo rh)) (empty_is_redo y (c.self.inside.count + 1) (omega arith));
+      redo = subst (λ t. IsRedoOf t y (c.self.inside.count + 1) []) (sym (c.in-Ok.ensures.redo (c.prepare_change.ensures.redo_honesty.1 rh))) (empty_is_redo y (c.self.inside.count + 1) (omega arith));
       counted = refl;
     })
 
@@ -119,4 +120,33 @@ returns-clause-finds g c =
     let before = stayed g b in
     let w = writes g b dh th s.stack ready.rest ready.count in
     let rest = rest_step before (λ d t u i rest. rest) dh th rh s ready undone in
-    rw w.1 at (change_stops _ _ _ _ _ _ _ s rest (omega (arith, ready.count)) (c.in-Err.ensures.left (before.device_honesty.1 dh) (before.text_honesty.1 th) rh s.stack w.0)))
+    rw w.1 at (change_stops _ _ _ _ _ _ _ s rest (omega (arith, ready.count)) (c.in-Err.ensures.left (before.device_honesty.1 dh) (before.text_honesty.1 th) (before.other_honesty.1 rh) s.stack w.0)))
+
+-- what is found behind an interruption
+pub returns-clause-survives : goal.returns-clause-survives
+returns-clause-survives g c =
+    rw (← c.self.view_is) (λ dh th rh s ready undone y new redo image_there there redo_there.
+    let b = (goal.at.returns-clause-survives g c).After-write_entry in
+    let before = stayed g b in
+    let w = writes g b dh th s.stack ready.rest ready.count in
+    let rest = rest_step before (λ d t u i rest. rest) dh th rh s ready undone in
+    let settled = c.in_ok-ready.ensures.settled dh th rh in
+    found_either _ _ _ _ _ (rw w.1 at (change_stops _ _ _ _ _ _ _ s rest (omega (arith, ready.count))
+    (c.in-Err.ensures.survives (before.device_honesty.1 dh) (before.text_honesty.1 th) (before.other_honesty.1 rh) settled s.stack w.0 y new redo image_there there redo_there))))
+
+-- and where the change is made
+pub returns-in-Ok-clause-survives : goal.returns-in-Ok-clause-survives
+returns-in-Ok-clause-survives g c =
+    rw (← c.self.view_is) (λ dh th rh s ready undone y new redo image_there there redo_there.
+    let b = (goal.at.returns-in-Ok-clause-survives g c).After-write_entry in
+    let before = stayed g b in
+    let d = before.device_honesty.1 dh in
+    let t = before.text_honesty.1 th in
+    let u = before.other_honesty.1 rh in
+    let w = writes g b dh th s.stack ready.rest ready.count in
+    let settled = c.in-Ok.ensures.settles d t u in
+    let rest : IsAtRest (g.T.TextStore.text c.write_entry.new.store) (g.D.Device.image c.write_entry.new.device) (effect c.args.change.now (top s.stack) ∷ s.stack) =
+    rw w.1 at (c.in-Ok.ensures.ok d t s.stack w.0) in
+    let empty : IsRedoOf (g.T.TextStore.text c.write_entry.new.redo) (g.D.Device.image c.write_entry.new.device) (changes_of (effect c.args.change.now (top s.stack) ∷ s.stack)) [] =
+    subst (λ r. IsRedoOf r (g.D.Device.image c.write_entry.new.device) (changes_of (effect c.args.change.now (top s.stack) ∷ s.stack)) []) (sym (c.in-Ok.ensures.redo u)) (empty_is_redo (g.D.Device.image c.write_entry.new.device) (changes_of (effect c.args.change.now (top s.stack) ∷ s.stack)) (omega (arith, ready.count))) in
+    found_of _ _ _ _ (found_at_rest _ _ _ _ _ _ _ rest empty (settled.device y image_there) (settled.store new there) (settled.redo redo redo_there)))

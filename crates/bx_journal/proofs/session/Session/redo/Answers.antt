@@ -11,6 +11,8 @@ use Rattle.bx_journal.specs.inner.Devices.{HaveStayed}
 use Rattle.bx_journal.proofs.DeviceLemmas.{one_more}
 use Rattle.bx_journal.proofs.SafeLemmas.{accepts, interrupts, refuses}
 use Rattle.bx_journal.proofs.Stayed.{left_since, looked_at, none_failed, other_order, read_since, rest_step, standing_step}
+use Rattle.bx_journal.specs.Images.{redo_of}
+use Rattle.bx_journal.proofs.StepSurvivors.{found_at_rest, found_of, found_some}
 use Rattle.bx_journal.proofs.session.Session.redo.Goals as goal
 use Rattle.bx_journal.proofs.session.Session.redo.Goals.{After-prepare_takens}
 
@@ -111,3 +113,27 @@ pub returns-clause-safe : goal.returns-clause-safe
 returns-clause-safe g c =
     let same = c.in_ok-taking.ensures.no_failure in
     rw (← c.self.view_is) (interrupts c.if-self.false refl refl refl (one_more _ (none_failed (stayed g (goal.at.returns-clause-safe g c).After-prepare_takens) (same.0, same.2, same.1 ∙ c.in_ok-read.ensures.looks.no_failure)) c.in-Err.ensures.steps_on))
+
+-- what is found behind an interruption
+pub returns-clause-survives : goal.returns-clause-survives
+returns-clause-survives g c =
+    rw (← c.self.view_is) (λ dh th rh s ready has y new redo image_there there redo_there.
+    let before = stayed g (goal.at.returns-clause-survives g c).After-prepare_takens in
+    let on = c.in_ok-taking.ensures.settled dh (c.in_ok-read.ensures.looks.honesty.1 rh) th in
+    let rest = rest_step before (λ d t u i rest. rest) dh th rh s ready has in
+    found_some _ _ _ redo_of _ _ (rw c.in_ok-taking.ensures.count at
+    (c.in-Err.ensures.survives (before.device_honesty.1 dh) (before.text_honesty.1 th) (before.other_honesty.1 rh) (record { device = on.device; store = on.redo; redo = on.store }) s rest (omega (arith, ready.count)) y new redo image_there there redo_there)))
+
+-- and where it is made
+pub returns-in-Ok-clause-survives : goal.returns-in-Ok-clause-survives
+returns-in-Ok-clause-survives g c =
+    rw (← c.self.view_is) (λ dh th rh s ready has y new redo image_there there redo_there.
+    let before = stayed g (goal.at.returns-in-Ok-clause-survives g c).After-prepare_takens in
+    let d = before.device_honesty.1 dh in
+    let t = before.text_honesty.1 th in
+    let u = before.other_honesty.1 rh in
+    let on = c.in_ok-taking.ensures.settled dh (c.in_ok-read.ensures.looks.honesty.1 rh) th in
+    let settled = c.in-Ok.ensures.settles d t u (record { device = on.device; store = on.redo; redo = on.store }) in
+    let done = rest_step before c.in-Ok.ensures.found dh th rh s ready has (omega (arith, ready.count)) in
+    found_of _ _ _ _ (rw c.in_ok-taking.ensures.count at
+    (found_at_rest _ _ _ _ _ _ (redo_of _ s) done.rest done.undone (settled.device y image_there) (settled.store new there) (settled.redo redo redo_there))))

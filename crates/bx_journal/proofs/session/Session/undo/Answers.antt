@@ -11,6 +11,9 @@ use Rattle.bx_journal.specs.inner.Devices.{HaveStayed}
 use Rattle.bx_journal.proofs.DeviceLemmas.{one_more}
 use Rattle.bx_journal.proofs.SafeLemmas.{accepts, interrupts, refuses}
 use Rattle.bx_journal.proofs.Stayed.{left_since, looked_at, none_failed, pair_step, read_since, rest_step, standing_step}
+use Rattle.bx_journal.specs.Images.{undo_of}
+use Rattle.bx_journal.proofs.LoopLemmas.{standing}
+use Rattle.bx_journal.proofs.StepSurvivors.{found_at_rest, found_of, found_some}
 use Rattle.bx_journal.proofs.session.Session.undo.Goals as goal
 use Rattle.bx_journal.proofs.session.Session.undo.Goals.{After-prepare_takens}
 
@@ -118,3 +121,27 @@ pub returns-clause-safe : goal.returns-clause-safe
 returns-clause-safe g c =
     let same = c.in_ok-taking.ensures.no_failure in
     rw (← c.self.view_is) (interrupts c.if-self.false refl refl refl (one_more _ (none_failed (stayed g (goal.at.returns-clause-safe g c).After-prepare_takens) (same.0, same.1 ∙ c.in_ok-read.ensures.looks.no_failure, same.2)) c.in-Err.ensures.steps_on))
+
+-- what is found behind an interruption
+pub returns-clause-survives : goal.returns-clause-survives
+returns-clause-survives g c =
+    rw (← c.self.view_is) (λ dh th rh s ready has y new redo image_there there redo_there.
+    let before = stayed g (goal.at.returns-clause-survives g c).After-prepare_takens in
+    let settled = c.in_ok-taking.ensures.settled dh (c.in_ok-read.ensures.looks.honesty.1 th) rh in
+    let rest = rest_step before (λ d t u i rest. rest) dh th rh s ready has in
+    found_some _ _ _ undo_of _ _ (rw c.in_ok-taking.ensures.count at
+    (c.in-Err.ensures.survives (before.device_honesty.1 dh) (before.text_honesty.1 th) (before.other_honesty.1 rh) settled s rest has.counted y new redo image_there there redo_there)))
+
+-- and where it is made
+pub returns-in-Ok-clause-survives : goal.returns-in-Ok-clause-survives
+returns-in-Ok-clause-survives g c =
+    rw (← c.self.view_is) (λ dh th rh s ready has y new redo image_there there redo_there.
+    let before = stayed g (goal.at.returns-in-Ok-clause-survives g c).After-prepare_takens in
+    let d = before.device_honesty.1 dh in
+    let t = before.text_honesty.1 th in
+    let u = before.other_honesty.1 rh in
+    let settled = c.in-Ok.ensures.settles d t u (c.in_ok-taking.ensures.settled dh (c.in_ok-read.ensures.looks.honesty.1 th) rh) in
+    let rest = rest_step before (λ d t u i rest. rest) dh th rh s ready has in
+    let done = c.in-Ok.ensures.images d t u s (standing rest) has.counted in
+    found_of _ _ _ _ (rw c.in_ok-taking.ensures.count at
+    (found_at_rest _ _ _ _ _ _ (undo_of _ s) (c.in-Ok.ensures.ok d t s.stack rest.rest) done.1.undone (settled.device y image_there) (settled.store new there) (settled.redo redo redo_there))))

@@ -10,6 +10,7 @@ use Rattle.bx_journal.specs.inner.Page.{IsPaged}
 use Rattle.bx_entries.specs.Text.{ended}
 use Rattle.bx_journal.proofs.PageLemmas.{paged_is, paged_more, paged_all, paged_length, part_is, part_front, part_behind, part_last, at_err}
 use Rattle.bx_entries.proofs.WriterLemmas.{head_is, head_long, start_long}
+use Rattle.bx_journal.proofs.FadeLemmas.{fades_front, fades_is, fades_behind, fades_last}
 use Rattle.bx_journal.proofs.write.entry.put_head.Goals as goal
 
 abbrev first_of : ℕ → Kept → List ℕ
@@ -125,3 +126,48 @@ returns-clause-fault g c honest =
     let two = paged_more (first_of n s) (lines_in s) _ _ _ _ _ one (c.in_ok-put_runs.ensures.ok mid) in
     let all = last_put n s _ _ _ _ _ _ c.save_text.ensures.text two (c.in_ok-put_words-2.ensures.ok last) in
     on_err_weaker c.append_page.result (part_last (head_text n s) _ _ _ _ all) (c.append_page.ensures.fault (c.in_ok-put_words-2.ensures.goes_on.honesty.1 last))
+
+pub returns-in_err-put_words-clause-fades : goal.returns-in_err-put_words-clause-fades
+returns-in_err-put_words-clause-fades g c honest =
+    let n : ℕ = c.args.number in
+    let s : Kept = kept_of c.args.kept.now in
+    fades_is _ _ _ _ _ (sym (head_is n s ∙ append_assoc (first_of n s) (lines_in s) (last_of n)))
+    (fades_front _ (first_of n s) (lines_in s ++ last_of n) _ _
+    (fades_is _ _ _ _ _ (first_is n s c.args.page.now.items c.start_words.result c.requires.empty c.start_words.ensures.text) (c.in_err-put_words.ensures.fades honest)))
+
+pub returns-in_err-put_runs-clause-fades : goal.returns-in_err-put_runs-clause-fades
+returns-in_err-put_runs-clause-fades g c honest =
+    let n : ℕ = c.args.number in
+    let s : Kept = kept_of c.args.kept.now in
+    let one = first_put n s _ _ _ _ _ c.requires.empty c.start_words.ensures.text (c.in_ok-put_words.ensures.ok honest) in
+    let start = fades_is _ _ _ _ _ (first_is n s c.args.page.now.items c.start_words.result c.requires.empty c.start_words.ensures.text) (c.in_ok-put_words.ensures.fades honest) in
+    fades_is _ _ _ _ _ (sym (head_is n s))
+    (fades_front _ (first_of n s ++ lines_in s) (last_of n) _ _
+    (fades_behind (first_of n s) (lines_in s) _ _ _ _ _ _ one start (c.in_err-put_runs.ensures.fades (c.in_ok-put_words.ensures.goes_on.honesty.1 honest))))
+
+pub returns-in_err-put_words-2-clause-fades : goal.returns-in_err-put_words-2-clause-fades
+returns-in_err-put_words-2-clause-fades g c honest =
+    let n : ℕ = c.args.number in
+    let s : Kept = kept_of c.args.kept.now in
+    let mid = c.in_ok-put_words.ensures.goes_on.honesty.1 honest in
+    let one = first_put n s _ _ _ _ _ c.requires.empty c.start_words.ensures.text (c.in_ok-put_words.ensures.ok honest) in
+    let two = paged_more (first_of n s) (lines_in s) _ _ _ _ _ one (c.in_ok-put_runs.ensures.ok mid) in
+    let start = fades_is _ _ _ _ _ (first_is n s c.args.page.now.items c.start_words.result c.requires.empty c.start_words.ensures.text) (c.in_ok-put_words.ensures.fades honest) in
+    let lines = fades_behind (first_of n s) (lines_in s) _ _ _ _ _ _ one start (c.in_ok-put_runs.ensures.fades mid) in
+    fades_is _ _ _ _ _ (ap (λ l. (first_of n s ++ lines_in s) ++ ended l) c.save_text.ensures.text ∙ sym (head_is n s))
+    (fades_behind (first_of n s ++ lines_in s) _ _ _ _ _ _ _ two lines (c.in_err-put_words-2.ensures.fades (c.in_ok-put_runs.ensures.goes_on.honesty.1 mid)))
+
+pub returns-clause-fades : goal.returns-clause-fades
+returns-clause-fades g c honest =
+    let n : ℕ = c.args.number in
+    let s : Kept = kept_of c.args.kept.now in
+    let mid = c.in_ok-put_words.ensures.goes_on.honesty.1 honest in
+    let last = c.in_ok-put_runs.ensures.goes_on.honesty.1 mid in
+    let one = first_put n s _ _ _ _ _ c.requires.empty c.start_words.ensures.text (c.in_ok-put_words.ensures.ok honest) in
+    let two = paged_more (first_of n s) (lines_in s) _ _ _ _ _ one (c.in_ok-put_runs.ensures.ok mid) in
+    let all = last_put n s _ _ _ _ _ _ c.save_text.ensures.text two (c.in_ok-put_words-2.ensures.ok last) in
+    let start = fades_is _ _ _ _ _ (first_is n s c.args.page.now.items c.start_words.result c.requires.empty c.start_words.ensures.text) (c.in_ok-put_words.ensures.fades honest) in
+    let lines = fades_behind (first_of n s) (lines_in s) _ _ _ _ _ _ one start (c.in_ok-put_runs.ensures.fades mid) in
+    let whole = fades_is _ _ _ _ _ (ap (λ l. (first_of n s ++ lines_in s) ++ ended l) c.save_text.ensures.text ∙ sym (head_is n s))
+    (fades_behind (first_of n s ++ lines_in s) _ _ _ _ _ _ _ two lines (c.in_ok-put_words-2.ensures.fades last)) in
+    fades_last (head_text n s) _ _ _ _ _ _ all whole (c.append_page.ensures.fades (c.in_ok-put_words-2.ensures.goes_on.honesty.1 last))

@@ -2,6 +2,7 @@ use Rattle.std.proofs.Common.{◌-◌, ◌≤◌, ◌++◌, map, false}
 use Rattle.std.specs.Prelude.{vec_capacity}
 use Rattle.std.specs.List.{range_with_len}
 use Rattle.bx_image.specs.Device.{GoesOn}
+use Rattle.bx_image.specs.Power.{FadesBehind}
 use Rattle.bx_entries.specs.Kept.{run_of}
 use Rattle.bx_entries.specs.inner.Entry.{rows_text, row}
 use Rattle.bx_journal.specs.inner.Page.{IsPaged}
@@ -14,6 +15,7 @@ invariant-loop-k g l =
     record {
       most : l.k ≤ l.count;
       puts : store.honest l.fn.store → IsPaged (l.fn.page.items ++ rows_text (map (row (run_of l.run)) (range_with_len 0 l.k))) (store.text l.fn.store) (store.text l.store) l.page.items;
+      fades : store.honest l.fn.store → FadesBehind (store.text l.fn.store) (l.fn.page.items ++ rows_text (map (row (run_of l.run)) (range_with_len 0 l.k))) (store.survives l.fn.store) (store.survives l.store);
       room : vec_capacity l.fn.page ≤ vec_capacity l.page;
       goes_on : GoesOn store.honest store.room store.failures false l.fn.store l.store;
     }
