@@ -1,6 +1,6 @@
 -- What steps of a file come to.
 use Rattle.std.proofs.Common.{◌≡◌, ℕ, ◌+◌, ◌-◌, ◌≤◌, inl, inr, List, [], ◌∷◌, ◌++◌, length, take, drop, Result, Ok, Err, ap, sym, ◌∙◌, arith}
-use Rattle.std.specs.Prelude.{OnErr}
+use Rattle.std.specs.Prelude.{OnOk, OnErr}
 use Rattle.std.proofs.lemmas.List.{take_rest}
 use Rattle.std.proofs.lemmas.Bool.{cases_lt}
 use Rattle.std.proofs.lemmas.List.{places, length-take, drop-drop}
@@ -85,3 +85,16 @@ IsPartlyCut-on_the_way n x y (m, least, most, is) = rw is (record {
   no_longer = omega (arith, length-cut x m);
   front = λ i old new. slice_index-cut x m i (omega arith);
 })
+
+-- what a write leaves is no longer than what its old length and its range's end are within
+pub within_placed : {T E : Type 0} (r : Result T E) (at most : ℕ) (bytes x y : List ℕ) → length x ≤ most → at + length bytes ≤ most → OnOk r (y ≡ place x at bytes) → OnErr r (IsFrontPlaced at bytes x y) → length y ≤ most
+within_placed (Ok v) at most bytes x y old end is failed =
+    rw is (let written = IsPartlyWritten-place x at bytes in omega (arith, written.no_longer))
+within_placed (Err e) at most bytes x y old end is failed =
+    let written = IsPartlyWritten-front at bytes x y failed in omega (arith, written.no_longer)
+
+-- the same of a change of the length
+pub within_cut : {T E : Type 0} (r : Result T E) (n most : ℕ) (x y : List ℕ) → length x ≤ most → n ≤ most → OnOk r (y ≡ cut x n) → OnErr r (IsCutOnTheWay n x y) → length y ≤ most
+within_cut (Ok v) n most x y old end is failed = rw is (omega (arith, length-cut x n))
+within_cut (Err e) n most x y old end is failed =
+    let left = IsPartlyCut-on_the_way n x y failed in omega (arith, left.no_longer)

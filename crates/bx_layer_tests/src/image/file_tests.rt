@@ -146,6 +146,18 @@ read 0 ~~x~~",
     Ok(())
 }
 
+// As the image of a block device, which has a length of its own.
+#[test]
+fn image_that_cannot_grow(rt: HostRuntime) -> Result<(), Fail> {
+    let name = "bx_image_that_cannot_grow.tmp";
+    let mut image = FileImage::fixed(SystemFile::new(new_file(&rt, name)?), 5);
+    let script = "reserve 5\n!reserve 6\nwrite 2 xyz\nread 0 ~~xyz\nfaults 0";
+    play(&rt, &mut image, script);
+    assert!(rt; image.refused() == Some(6));
+    fs::remove_file(&rt, name)?;
+    Ok(())
+}
+
 // A write at 5 GiB; then the file is cut behind its first byte, and made to end a byte behind 8 GiB.
 #[test]
 fn past_four_gibibytes(rt: HostRuntime) -> Result<(), Fail> {
