@@ -62,10 +62,10 @@ _bx() {
     od) options='-A -N -b -c -d -j -o -s -t -v -x' ;;
     hexdump) options='-C -n -s -v' ;;
     strings) options='-a -n -t' ;;
-    dd) options='-J' ;;
-    revert) options='-J -f -p -s' ;;
-    undo | redo) options='-J -k' ;;
-    log) options='-J' ;;
+    dd) options='-J -U' ;;
+    revert) options='-J -U -f -p -s' ;;
+    undo | redo) options='-J -U -k' ;;
+    log) options='-J -U' ;;
     *) return ;;
     esac
     case $command:$prev in

@@ -62,11 +62,11 @@ OPTIONS = [
     ("bx od -", "ANbcdjostvx"),
     ("bx hexdump -", "Cnsv"),
     ("bx strings -", "ant"),
-    ("bx revert -", "Jfps"),
-    ("bx undo -", "Jk"),
-    ("bx redo -", "Jk"),
-    ("bx log -", "J"),
-    ("bx dd -", "J"),
+    ("bx revert -", "JUfps"),
+    ("bx undo -", "JUk"),
+    ("bx redo -", "JUk"),
+    ("bx log -", "JU"),
+    ("bx dd -", "JU"),
 ]
 
 

@@ -70,6 +70,15 @@ pub struct Texts {
     ghost named: { redo ≡ journal ++ codes ".redo" },
 }
 
+/// Whether a job on an image waits for the disk.
+#[derive(Clone, Copy, Debug, PartialEq, Eq)]
+pub enum Durability {
+    /// Each step is on the disk before the next one begins.
+    Synced,
+    /// Nothing is forced onto the disk: a loss of power may take what was written, in any order.
+    Unsynced,
+}
+
 /// `dd`: what its operands ask for, and the operands themselves. Where `of=` names an image there are its texts; else `texts`
 /// is none, and the output is a stream.
 #[derive(Drop)]
@@ -80,6 +89,8 @@ pub struct DdJob {
     pub operands: Words,
     /// The texts of the image that `of=` names; none where it names none.
     pub texts: Option<Texts>,
+    /// Whether a change of the image waits for the disk.
+    pub durability: Durability,
     ghost planned: { IsPlanOf operands plan },
     ghost paired: { is_some texts ≡ is_some plan.output },
 }
@@ -98,6 +109,8 @@ pub struct RevertJob {
     pub image: Name,
     /// The names of the image's texts.
     pub texts: Texts,
+    /// Whether the change waits for the disk.
+    pub durability: Durability,
     ghost near: { at ≤ 2 ^ 62 },
 }
 
@@ -124,6 +137,8 @@ pub enum Job {
         image: Name,
         /// The names of its texts.
         texts: Texts,
+        /// Whether each step waits for the disk.
+        durability: Durability,
     },
     /// Makes the last undone changes again.
     Redo {
@@ -133,6 +148,8 @@ pub enum Job {
         image: Name,
         /// The names of its texts.
         texts: Texts,
+        /// Whether each step waits for the disk.
+        durability: Durability,
     },
     /// Lists the changes that stand.
     Log {
@@ -140,6 +157,8 @@ pub enum Job {
         image: Name,
         /// The names of its texts.
         texts: Texts,
+        /// Whether a recovery waits for the disk.
+        durability: Durability,
     },
     /// Writes a text of help.
     Help {

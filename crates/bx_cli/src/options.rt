@@ -198,8 +198,16 @@ const JOURNAL: Row = Row {
     help: "File that keeps what is overwritten [default: IMAGE.bxj]",
 };
 
-static REVERT: [Row; 4] = [
+const UNSYNCED: Row = Row {
+    id: "unsynced",
+    short: 'U',
+    value: None,
+    help: "Do not wait for the disk: faster, but a loss of power may take changes, or the undo",
+};
+
+static REVERT: [Row; 5] = [
     JOURNAL,
+    UNSYNCED,
     Row {
         id: "plain",
         short: 'p',
@@ -220,8 +228,9 @@ static REVERT: [Row; 4] = [
     },
 ];
 
-static UNDO: [Row; 2] = [
+static UNDO: [Row; 3] = [
     JOURNAL,
+    UNSYNCED,
     Row {
         id: "count",
         short: 'k',
@@ -230,8 +239,9 @@ static UNDO: [Row; 2] = [
     },
 ];
 
-static REDO: [Row; 2] = [
+static REDO: [Row; 3] = [
     JOURNAL,
+    UNSYNCED,
     Row {
         id: "count",
         short: 'k',
@@ -240,9 +250,9 @@ static REDO: [Row; 2] = [
     },
 ];
 
-static LOG: [Row; 1] = [JOURNAL];
+static LOG: [Row; 2] = [JOURNAL, UNSYNCED];
 
-static DD: [Row; 1] = [JOURNAL];
+static DD: [Row; 2] = [JOURNAL, UNSYNCED];
 
 /// The option or the flag of a row.
 fn arg_of<'a>(alloc: Global, row: &Row) -> Arg<'a> {

@@ -1,7 +1,9 @@
 //! From words to a job.
 ghost use Rattle.std.specs.Prelude.{◌≤◌, ◌^◌, IfOk, IfSome};
 
-use crate::job::{DdJob, HexdumpJob, Job, OdJob, RevertJob, StringsJob, Texts, XxdJob, XxdLook};
+use crate::job::{
+    DdJob, Durability, HexdumpJob, Job, OdJob, RevertJob, StringsJob, Texts, XxdJob, XxdLook,
+};
 use crate::options::program;
 use bx_commands::Fault;
 use bx_dd::parse;
@@ -150,6 +152,14 @@ fn texts_of(alloc: Global, m: &ArgMatches<'_>, image: &str) -> Result<Texts, Fau
         journal: Name::from_string(journal),
         redo: Name::from_string(redo),
     })
+}
+
+fn durability(m: &ArgMatches<'_>) -> Durability {
+    if m.get_flag("unsynced") {
+        Durability::Unsynced
+    } else {
+        Durability::Synced
+    }
 }
 
 pub(crate) fn radix(text: Option<&str>, none: Address, with_n: bool) -> Result<Address, Fault> {
@@ -302,6 +312,7 @@ fn dd(alloc: Global, m: &ArgMatches<'_>) -> Result<Job, Fault> {
         plan,
         operands,
         texts,
+        durability: durability(m),
     }))
 }
 
@@ -314,6 +325,7 @@ fn revert(alloc: Global, m: &ArgMatches<'_>) -> Result<Job, Fault> {
         at,
         image,
         texts,
+        durability: durability(m),
     }))
 }
 
@@ -324,6 +336,7 @@ fn undo(alloc: Global, m: &ArgMatches<'_>) -> Result<Job, Fault> {
         count,
         image,
         texts,
+        durability: durability(m),
     })
 }
 
@@ -334,10 +347,15 @@ fn redo(alloc: Global, m: &ArgMatches<'_>) -> Result<Job, Fault> {
         count,
         image,
         texts,
+        durability: durability(m),
     })
 }
 
 fn log(alloc: Global, m: &ArgMatches<'_>) -> Result<Job, Fault> {
     let (image, texts) = image_and_texts(alloc, m)?;
-    Ok(Job::Log { image, texts })
+    Ok(Job::Log {
+        image,
+        texts,
+        durability: durability(m),
+    })
 }

@@ -21,10 +21,9 @@ pub fn copy_onto<'a, R>(
 where
     R: Files<File = File> + Input + Eprint + AllocGlobal,
 {
-    let operands = same_words(rt.alloc(), &dd.operands)?;
     match &dd.plan.input {
-        Some(name) => copy_from(rt, operands, image, texts, name.as_str(), input(rt, name)?),
-        None => copy_from(rt, operands, image, texts, STANDARD_INPUT, rt.reader()),
+        Some(name) => copy_from(rt, dd, image, texts, name.as_str(), input(rt, name)?),
+        None => copy_from(rt, dd, image, texts, STANDARD_INPUT, rt.reader()),
     }
 }
 
@@ -40,7 +39,7 @@ fn same_words(alloc: Global, words: &Words) -> Result<Words, Fault> {
 
 fn copy_from<'a, R, I: Read + Drop>(
     rt: &R,
-    operands: Words,
+    dd: &'a DdJob,
     image: &'a Name,
     texts: &'a Texts,
     from: &'a str,
@@ -49,7 +48,8 @@ fn copy_from<'a, R, I: Read + Drop>(
 where
     R: Files<File = File> + Eprint + AllocGlobal,
 {
-    let session = open_session(rt, image, texts, true)?;
+    let operands = same_words(rt.alloc(), &dd.operands)?;
+    let session = open_session(rt, image, texts, true, dd.durability)?;
     let mut input = Noted::new(input);
     let asked = Command::Dd {
         operands,

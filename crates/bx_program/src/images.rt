@@ -2,9 +2,9 @@
 ghost use Rattle.std.specs.Prelude.{◌≡◌, IfOk};
 ghost use Rattle.bx_commands.specs.Command.{IsNear};
 
-use crate::files::trio;
+use crate::files::{SessionFiles, trio};
 use crate::stopped::{Devices, Stopped};
-use bx_cli::{Command, Fault, Reply, Texts, log_text, run_all};
+use bx_cli::{Command, Durability, Fault, Reply, Texts, log_text, run_all};
 use bx_image::{Device, FileImage, SystemFile};
 use bx_journal::{How, Session};
 use bx_store::{FileText, TextStore};
@@ -15,12 +15,20 @@ use std::rt::Files;
 
 type FileSession = Session<FileImage, FileText>;
 
-/// Opens the image and its texts, and says on standard error what was recovered. The files are locked up to the session's end.
+/// A file as a device holds it.
+fn held(file: File, durability: Durability) -> SystemFile {
+    let mut file = SystemFile::new(file);
+    file.waits = durability == Durability::Synced;
+    file
+}
+
+/// Opens the image and its texts for a command that may change them. The files are locked up to the session's end.
 pub fn open_session<'a, R>(
     rt: &R,
     image: &'a Name,
     texts: &'a Texts,
     make: bool,
+    durability: Durability,
 ) -> Result<FileSession, Stopped<'a>>
 where
     R: Files<File = File> + Eprint + AllocGlobal,
@@ -29,9 +37,41 @@ where
     ensures redo_text { IfOk result (λ s. ⟦<FileText as TextStore>⟧.failures s.redo_text ≡ 0) }
 {
     let files = trio(rt, image, texts, make)?;
-    let device = FileImage::new(SystemFile::new(files.image));
-    let store = FileText::new(SystemFile::new(files.journal));
-    let redo_text = FileText::new(SystemFile::new(files.redo));
+    session_of(rt, files, image, texts, durability)
+}
+
+/// Opens the image and its texts for a command that only reads what stands.
+pub fn open_to_look<'a, R>(
+    rt: &R,
+    image: &'a Name,
+    texts: &'a Texts,
+    durability: Durability,
+) -> Result<FileSession, Stopped<'a>>
+where
+    R: Files<File = File> + Eprint + AllocGlobal,
+    ensures { IfOk result (λ s. ⟦<FileText as TextStore>⟧.failures s.store ≡ 0) }
+{
+    let files = trio(rt, image, texts, false)?;
+    session_of(rt, files, image, texts, durability)
+}
+
+/// The session of files that were just opened. It says on standard error what was recovered.
+fn session_of<'a, R>(
+    rt: &R,
+    files: SessionFiles,
+    image: &'a Name,
+    texts: &'a Texts,
+    durability: Durability,
+) -> Result<FileSession, Stopped<'a>>
+where
+    R: Eprint + AllocGlobal,
+    ensures device { IfOk result (λ s. ⟦<FileImage as Device>⟧.failures s.device ≡ 0) }
+    ensures store { IfOk result (λ s. ⟦<FileText as TextStore>⟧.failures s.store ≡ 0) }
+    ensures redo_text { IfOk result (λ s. ⟦<FileText as TextStore>⟧.failures s.redo_text ≡ 0) }
+{
+    let device = FileImage::new(held(files.image, durability));
+    let store = FileText::new(held(files.journal, durability));
+    let redo_text = FileText::new(held(files.redo, durability));
     let (session, found) = match Session::open(rt.alloc(), device, store, redo_text) {
         Ok(opened) => opened,
         Err((device, store, redo_text, fault)) => {

@@ -4,13 +4,13 @@ ghost use Rattle.bx_commands.specs.Command.{IsNear};
 use crate::copies::{copy_onto, tell};
 use crate::files::input;
 use crate::hints::show_fault;
-use crate::images::{finish, log, open_session};
+use crate::images::{finish, log, open_session, open_to_look};
 use crate::stopped::{Noted, STANDARD_INPUT, Stopped};
 use crate::streams::Held;
 use crate::tally::Tally;
 use bx_cli::{
-    Command, DdJob, Done, Fault, HexdumpJob, Job, OdJob, Reply, RevertJob, StringsJob, Texts,
-    XxdJob, plan_words, run_dump,
+    Command, DdJob, Done, Durability, Fault, HexdumpJob, Job, OdJob, Reply, RevertJob, StringsJob,
+    Texts, XxdJob, plan_words, run_dump,
 };
 use bx_dd::Counts;
 use bx_text::{Bytes, IoFault, Name, Source, Words, dec_field, emit, emit_after};
@@ -120,13 +120,33 @@ where
             count,
             image,
             texts,
-        } => step(rt, Command::Undo { k: *count }, image, texts, out)?,
+            durability,
+        } => step(
+            rt,
+            Command::Undo { k: *count },
+            image,
+            texts,
+            *durability,
+            out,
+        )?,
         Job::Redo {
             count,
             image,
             texts,
-        } => step(rt, Command::Redo { j: *count }, image, texts, out)?,
-        Job::Log { image, texts } => show_log(rt, image, texts, out)?,
+            durability,
+        } => step(
+            rt,
+            Command::Redo { j: *count },
+            image,
+            texts,
+            *durability,
+            out,
+        )?,
+        Job::Log {
+            image,
+            texts,
+            durability,
+        } => show_log(rt, image, texts, *durability, out)?,
     }
     Ok(None)
 }
@@ -180,7 +200,7 @@ where
             offset: job.at,
         }
     };
-    let session = open_session(rt, &job.image, &job.texts, true)?;
+    let session = open_session(rt, &job.image, &job.texts, true, job.durability)?;
     finish(rt, session, asked, &job.image, &job.texts)?;
     Ok(())
 }
@@ -200,13 +220,14 @@ fn step<'a, R, W: Write>(
     asked: Command,
     image: &'a Name,
     texts: &'a Texts,
+    durability: Durability,
     out: &mut W,
 ) -> Result<(), Stopped<'a>>
 where
     R: Files<File = File> + Eprint + AllocGlobal,
     requires { IsNear asked }
 {
-    let session = open_session(rt, image, texts, false)?;
+    let session = open_session(rt, image, texts, false, durability)?;
     match finish(rt, session, asked, image, texts)? {
         Reply::Undone { left: standing } | Reply::Redone { changes: standing } => {
             Ok(show_number(out, standing)?)
@@ -220,12 +241,13 @@ fn show_log<'a, R, W: Write>(
     rt: &R,
     image: &'a Name,
     texts: &'a Texts,
+    durability: Durability,
     out: &mut W,
 ) -> Result<(), Stopped<'a>>
 where
     R: Files<File = File> + Eprint + AllocGlobal,
 {
-    let session = open_session(rt, image, texts, false)?;
+    let session = open_to_look(rt, image, texts, durability)?;
     let text = log(rt, session, image, texts)?;
     Ok(show(out, text.as_str())?)
 }

@@ -1,6 +1,8 @@
 //! The fields of jobs, as a case file names them.
 use crate::report::compare::{Wrong, differs, same_text};
-use bx_cli::{DdJob, HexdumpJob, Job, OdJob, RevertJob, StringsJob, Texts, XxdJob, XxdLook};
+use bx_cli::{
+    DdJob, Durability, HexdumpJob, Job, OdJob, RevertJob, StringsJob, Texts, XxdJob, XxdLook,
+};
 use bx_dd::{Letters, Plan, Shape};
 use bx_dump::od::{Address, Kind, NumForm, Size};
 use bx_text::{Name, Words};
@@ -42,6 +44,10 @@ fn limit(alloc: Global, limit: Option<u64>) -> Field {
         Some(n) => number(alloc, n),
         None => text(alloc, "none"),
     }
+}
+
+fn unsynced(alloc: Global, durability: Durability) -> Field {
+    flag(alloc, durability == Durability::Unsynced)
 }
 
 fn file(alloc: Global, file: &Option<Name>) -> Field {
@@ -163,6 +169,7 @@ fn dd_field(alloc: Global, job: &DdJob, name: &str) -> Field {
             None => text(alloc, "none"),
         },
         "operands" => joined(alloc, &job.operands),
+        "unsynced" => unsynced(alloc, job.durability),
         _ => conversion(alloc, &job.plan, name),
     }
 }
@@ -187,6 +194,7 @@ fn revert_field(alloc: Global, job: &RevertJob, name: &str) -> Field {
         "at" => number(alloc, job.at),
         "image" => text(alloc, job.image.as_str()),
         "journal" | "redo" => text_name(alloc, &job.texts, name),
+        "unsynced" => unsynced(alloc, job.durability),
         _ => Ok(None),
     }
 }
@@ -207,6 +215,22 @@ fn image_field(alloc: Global, image: &Name, texts: &Texts, name: &str) -> Field 
     }
 }
 
+/// The field of a job that makes steps back or again, or shows the changes; `count` is how many steps.
+fn step_field(
+    alloc: Global,
+    count: Option<u32>,
+    durability: Durability,
+    image: &Name,
+    texts: &Texts,
+    name: &str,
+) -> Field {
+    match (name, count) {
+        ("count", Some(count)) => number(alloc, count as u64),
+        ("unsynced", _) => unsynced(alloc, durability),
+        _ => image_field(alloc, image, texts, name),
+    }
+}
+
 /// The field of this name.
 fn field_of(alloc: Global, job: &Job, name: &str) -> Field {
     match job {
@@ -216,11 +240,23 @@ fn field_of(alloc: Global, job: &Job, name: &str) -> Field {
         Job::Strings(job) => strings_field(alloc, job, name),
         Job::Dd(job) => dd_field(alloc, job, name),
         Job::Revert(job) => revert_field(alloc, job, name),
-        Job::Undo { count, .. } if name == "count" => number(alloc, *count as u64),
-        Job::Undo { image, texts, .. } => image_field(alloc, image, texts, name),
-        Job::Redo { count, .. } if name == "count" => number(alloc, *count as u64),
-        Job::Redo { image, texts, .. } => image_field(alloc, image, texts, name),
-        Job::Log { image, texts } => image_field(alloc, image, texts, name),
+        Job::Undo {
+            count,
+            image,
+            texts,
+            durability,
+        }
+        | Job::Redo {
+            count,
+            image,
+            texts,
+            durability,
+        } => step_field(alloc, Some(*count), *durability, image, texts, name),
+        Job::Log {
+            image,
+            texts,
+            durability,
+        } => step_field(alloc, None, *durability, image, texts, name),
         Job::Help { .. } => Ok(None),
     }
 }
