@@ -164,6 +164,8 @@ fn is_journal_missing(image: &Option<Metadata>, image_name: &str, journal_name: 
 pub struct SessionFiles {
     /// The image.
     pub image: File,
+    /// Whether this run made the image.
+    pub is_image_made: bool,
     /// Its journal.
     pub journal: File,
     /// Its redo text.
@@ -227,6 +229,7 @@ pub fn trio<'a, R: Files<File = File>>(
     match open_texts(rt, texts, make) {
         Ok((journal, redo)) => Ok(SessionFiles {
             image: image.file,
+            is_image_made: image.made,
             journal,
             redo,
         }),

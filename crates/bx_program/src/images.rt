@@ -3,6 +3,7 @@ ghost use Rattle.std.specs.Prelude.{◌≡◌, IfOk};
 ghost use Rattle.bx_commands.specs.Command.{IsNear};
 
 use crate::files::{SessionFiles, trio};
+use crate::folders::keep_names;
 use crate::stopped::{Devices, Stopped};
 use bx_cli::{Command, Durability, Fault, Reply, Texts, log_text, run_all};
 use bx_image::{Device, FileImage, SystemFile};
@@ -22,7 +23,8 @@ fn held(file: File, durability: Durability) -> SystemFile {
     file
 }
 
-/// Opens the image and its texts for a command that may change them. The files are locked up to the session's end.
+/// Opens the image and its texts for a command that may change them, and puts their names on the disk. The files are locked up
+/// to the session's end.
 pub fn open_session<'a, R>(
     rt: &R,
     image: &'a Name,
@@ -37,6 +39,9 @@ where
     ensures redo_text { IfOk result (λ s. ⟦<FileText as TextStore>⟧.failures s.redo_text ≡ 0) }
 {
     let files = trio(rt, image, texts, make)?;
+    if durability == Durability::Synced {
+        keep_names(rt, &files, image, texts)?;
+    }
     session_of(rt, files, image, texts, durability)
 }
 

@@ -3,6 +3,7 @@
 
 mod copies;
 mod files;
+mod folders;
 mod hints;
 mod images;
 mod jobs;
