@@ -148,6 +148,17 @@ def run(bx, words, text, terminal, most=None, out=subprocess.DEVNULL):
         return got.decode().replace("\r\n", "\n")
 
 
+def output(name):
+    """Standard output: the null device, a file, or a pipe that nobody reads."""
+    if name is None:
+        return subprocess.DEVNULL
+    if name != "a closed pipe":
+        return open(name, "w")
+    ours, theirs = os.pipe()
+    os.close(ours)
+    return theirs
+
+
 def main():
     options = argparse.ArgumentParser()
     options.add_argument("--bx", default="./bx")
@@ -157,11 +168,12 @@ def main():
     cases = [(words, text, None, None, fault, hint) for words, text, fault, hint in CASES]
     cases += [(words, text, most, None, fault, hint) for words, text, most, fault, hint in FULL]
     cases.append(("xxd img", "", None, "/dev/full", "write failed after 0 bytes", "standard output: No space left on device"))
+    cases += [(words, "", None, "a closed pipe", None, None) for words in ("xxd img", "dd if=img", "undo img", "log img")]
     failed = 0
     for words, text, most, full, fault, hint in cases:
         line = f"bx: {fault}\n" if fault else ""
         more = f"hint: {hint}\n" if hint else ""
-        out = open(full, "w") if full else subprocess.DEVNULL
+        out = output(full)
         piped = run(bx, words, text, False, most, out)
         seen = run(bx, words, text, True, most, out)
         well = piped == line and seen == line + more

@@ -5,12 +5,16 @@ use bx_text::Words;
 use std::alloc::{AllocError, Global};
 use std::io;
 
-/// Writes the text of the fault, and behind it for a person the hint. A hint that can't be made or written is left out.
+/// Writes the text of the fault, and behind it for a person the hint. A hint that can't be made or written is left out. Where
+/// the reader of standard output has gone nothing is written, as by other programs.
 pub fn show_fault<R>(rt: &R, person: bool, words: &Words, stopped: Stopped<'_>) -> Fault
 where
     R: Eprint + AllocGlobal,
 {
     let fault = stopped.fault;
+    if stopped.is_unread() {
+        return fault;
+    }
     let _ = eprintln!(rt; "bx: {fault}");
     if person {
         let _ = show_hint(rt, words, stopped);

@@ -5,7 +5,7 @@ use bx_image::{Device, FileImage};
 use bx_journal::SessionFault;
 use bx_store::{FileText, TextStore};
 use bx_text::{IoFault, Name};
-use std::io::{self, Read, Seek, SeekFrom};
+use std::io::{self, ErrorKind, Read, Seek, SeekFrom};
 
 /// What is said in place of a file's name.
 pub const STANDARD_INPUT: &str = "standard input";
@@ -109,6 +109,16 @@ impl<'a> Stopped<'a> {
                 Stopped::by(self.fault, "standard output", error)
             }
             _ => self,
+        }
+    }
+
+    /// Whether standard output was not written because nobody reads it any more.
+    pub fn is_unread(&self) -> bool {
+        match (self.fault, self.reason) {
+            (Fault::Io(IoFault::WriteFailed { .. }), Reason::System(code)) => {
+                io::Error::from_raw_os_error(code).kind() == ErrorKind::BrokenPipe
+            }
+            _ => false,
         }
     }
 }
