@@ -216,6 +216,7 @@ fn od(alloc: Global, m: &ArgMatches<'_>) -> Result<Job, Fault> {
         options: OdOptions {
             address: radix(m.get_str("radix"), Address::Octal, true)?,
             kind: kind(m)?,
+            first: 0,
             skip: number_or(m, "skip", SizeStyle::Count, 0)?,
             limit: number(m, "limit", SizeStyle::Count)?,
             all: m.get_flag("all"),
@@ -268,6 +269,7 @@ fn hexdump(alloc: Global, m: &ArgMatches<'_>) -> Result<Job, Fault> {
     }
     Ok(Job::Hexdump(HexdumpJob {
         options: HexdumpOptions {
+            first: 0,
             skip: number_or(m, "skip", SizeStyle::Count, 0)?,
             limit: number(m, "limit", SizeStyle::Count)?,
             all: m.get_flag("all"),

@@ -1,5 +1,5 @@
 -- What od reads and writes, and why it stops.
-use Rattle.std.specs.Prelude.{◌≡◌, ℕ, ◌^◌, ◌<◌, ◌≤◌, ◌⊎◌, List, length, Option}
+use Rattle.std.specs.Prelude.{◌≡◌, ℕ, ◌+◌, ◌^◌, ◌<◌, ◌≤◌, ◌⊎◌, List, length, Option}
 use Rattle.std.specs.Io.KnownBytes.{Consumes, IsAtEnd}
 use Rattle.bx_text.specs.declared.fault.IoFault.{IoFault}
 use Rattle.bx_text.specs.declared.fault.IoFault.TheVariants.{SkipPastEnd}
@@ -13,12 +13,16 @@ Reaches count r0 r1 = (input : List ℕ) × Consumes r0 r1 input × (count ≤ l
 
 -- the dump that the options ask for
 abbrev pub od_of : OdOptions → Dump
-od_of o = record { text = od_text o.address o.kind o.all o.skip; skip = o.skip; limit = o.limit }
+od_of o = record { text = od_text o.address o.kind o.all (o.first + o.skip); skip = o.skip; limit = o.limit }
 
 -- the input ended before so many bytes
 abbrev pub EndsBefore : ℕ → Option (List ℕ) → Option (List ℕ) → Type 0
 EndsBefore count r0 r1 = (input : List ℕ) × Consumes r0 r1 input × (length input ≤ 2 ^ 40) × (length input < count) × IsAtEnd r1
 
 -- the input ended among the bytes to skip and nothing was written, or a front of the text was written
+abbrev pub StopsReaching : Dump → Option (List ℕ) → Option (List ℕ) → Option (List ℕ) → Option (List ℕ) → IoFault → Type 0
+StopsReaching d r0 r1 w0 w1 fault = (fault ≡ SkipPastEnd) × EndsBefore d.skip r0 r1 × (w1 ≡ w0) ⊎ WritesFrontOf d r0 r1 w0 w1 fault
+
+-- the same of the dump that the options ask for
 abbrev pub StopsOd : OdOptions → Option (List ℕ) → Option (List ℕ) → Option (List ℕ) → Option (List ℕ) → IoFault → Type 0
-StopsOd o r0 r1 w0 w1 fault = (fault ≡ SkipPastEnd) × EndsBefore o.skip r0 r1 × (w1 ≡ w0) ⊎ WritesFrontOf (od_of o) r0 r1 w0 w1 fault
+StopsOd o r0 r1 w0 w1 fault = StopsReaching (od_of o) r0 r1 w0 w1 fault

@@ -101,7 +101,7 @@ fn end_line(at: u64) -> ShortText<24>
 
 /// Writes the text of `hexdump -C` of the bytes from place `skip` on, at most `limit` of them, and answers how many they are.
 ///
-/// Addresses count from the input's start. Where no byte is dumped nothing is written: for an empty input, a limit of 0, and
+/// Addresses count from `first`, that of the input's first byte. Where no byte is dumped nothing is written: for an empty input, a limit of 0, and
 /// a skip to the end of the input or past it. The input may have 2^40 bytes, those included that are skipped, and no more of
 /// it is read than is needed. Nothing is flushed. After a fault a front of the text of the bytes that were read was written;
 /// `WriteFailed` counts it, and at most 2^14 bytes were read ahead of it.
@@ -113,7 +113,7 @@ pub fn hexdump_c<R: Read, W: Write>(
     ensures ok { IfOk result (WritesAll (hexdump_of o.now) (R.remaining r.old) (R.remaining r.new) (W.contents w.old) (W.contents w.new)) }
     ensures err { IfErr result (WritesFrontOf (hexdump_of o.now) (R.remaining r.old) (R.remaining r.new) (W.contents w.old) (W.contents w.new)) }
 {
-    let mut pages = FoldedPages::new(CanonLines, o.all, o.skip);
+    let mut pages = FoldedPages::new(CanonLines, o.all, o.first + o.skip);
     let lines = match dump_part(r, w, &mut pages, o.skip, o.limit, 0) {
         Ok(lines) => lines,
         Err(fault) => return Err(fault),
@@ -121,7 +121,7 @@ pub fn hexdump_c<R: Read, W: Write>(
     if lines.read == 0 {
         return Ok(0);
     }
-    let end = end_line(o.skip + lines.read);
+    let end = end_line(o.first + o.skip + lines.read);
     if let Err(fault) = emit_after(w, lines.written, end.as_bytes()) {
         return Err(fault);
     }

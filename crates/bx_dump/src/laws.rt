@@ -1,6 +1,7 @@
 //! What the definitions say, in other words.
 ghost use Rattle.std.specs.Prelude.{ℕ, ◌<◌, List};
 ghost use Rattle.bx_dump.specs.declared.od.options.Address.{Address};
+ghost use Rattle.bx_dump.specs.Behind.{DumpsBehind, RestAsksBehind};
 ghost use Rattle.bx_dump.specs.Laws.{ItemsAreBytes, ItemsAreLines, ValueIsSum};
 ghost use Rattle.bx_dump.specs.Runs.{ShowsRuns};
 
@@ -23,4 +24,15 @@ pub fn items_are_bytes()
 /// Says that the items of a C array stand on lines of two spaces and `cols` items, of which each but the last ends in a comma.
 pub fn items_are_lines()
     ensures { ItemsAreLines }
+{}
+
+/// Says that the dump of what stands behind some bytes of an input is that of the whole input, of which those are skipped.
+pub fn dumps_behind()
+    ensures { DumpsBehind }
+{}
+
+/// Says that options of `od`, `hexdump` and `xxd` that skip n bytes fewer, and have a first address, or a shift, of n more, ask
+/// for the dump of what stands behind n bytes.
+pub fn rest_asks_behind()
+    ensures { RestAsksBehind }
 {}

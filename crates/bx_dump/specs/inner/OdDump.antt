@@ -1,5 +1,5 @@
 -- What proofs alone need: what od reads, and why it stops.
-use Rattle.std.specs.Prelude.{◌≡◌, ℕ, ◌^◌, ◌⊎◌, List, Option}
+use Rattle.std.specs.Prelude.{◌≡◌, ℕ, ◌+◌, ◌^◌, ◌⊎◌, List, Option}
 use Rattle.bx_text.specs.declared.fault.IoFault.{IoFault}
 use Rattle.bx_text.specs.declared.fault.IoFault.TheVariants.{SkipPastEnd}
 use Rattle.bx_text.specs.Fold.{folded}
@@ -11,7 +11,7 @@ use Rattle.bx_dump.specs.declared.od.options.OdOptions.{OdOptions}
 
 -- od's lines of some bytes
 abbrev pub od_lines : OdOptions → List ℕ → List ℕ
-od_lines o bytes = folded (od_line o.address o.kind) o.all o.skip bytes
+od_lines o bytes = folded (od_line o.address o.kind) o.all (o.first + o.skip) bytes
 
 -- the lines of what comes behind the bytes that were taken were written
 abbrev pub WritesOdLines : OdOptions → ℕ → Option (List ℕ) → Option (List ℕ) → Option (List ℕ) → Option (List ℕ) → Part → Type 0

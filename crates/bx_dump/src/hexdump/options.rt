@@ -4,11 +4,14 @@ ghost use Rattle.std.specs.Prelude.{◌≤◌, ◌^◌};
 /// What hexdump shows.
 #[derive(Clone, Copy, Debug, PartialEq, Eq)]
 pub struct HexdumpOptions {
+    /// The address of the input's first byte, at most 2^62: 0, or how many bytes stand in front of an input that begins later.
+    pub first: u64,
     /// How many bytes are skipped: at most 2^62.
     pub skip: u64,
     /// The most bytes that are dumped.
     pub limit: Option<u64>,
     /// Whether lines that repeat the line before are shown too.
     pub all: bool,
+    ghost low: { first ≤ 2 ^ 62 },
     ghost near: { skip ≤ 2 ^ 62 },
 }

@@ -50,13 +50,13 @@ fn dump_lines<R: Read, W: Write>(
         address: o.address,
         kind: o.kind,
     };
-    let mut pages = FoldedPages::new(lines, o.all, o.skip);
+    let mut pages = FoldedPages::new(lines, o.all, o.first + o.skip);
     dump_pages(meter, r, w, &mut pages, o.limit, 0, block, &mut [0; PAGE])
 }
 
 /// Writes od's text of the bytes from place `skip` on, at most `limit` of them, and answers how many they are.
 ///
-/// Addresses count from the input's start, and the last line is the address behind the last byte, also where no byte is
+/// Addresses count from `first`, that of the input's first byte, and the last line is the address behind the last byte, also where no byte is
 /// dumped. An input that ends before `skip` bytes is `SkipPastEnd`, and then nothing is written. The input may have 2^40
 /// bytes, those included that are skipped, and no more of it is read than is needed. Nothing is flushed. After another fault
 /// a front of the text of the bytes that were read was written; `WriteFailed` counts it, and comes only behind the bytes
@@ -77,7 +77,7 @@ pub fn od<R: Read, W: Write>(r: &mut R, w: &mut W, o: &OdOptions) -> Result<u64,
         Ok(lines) => lines,
         Err(fault) => return Err(fault),
     };
-    let end = end_line(o.address, o.skip + lines.read);
+    let end = end_line(o.address, o.first + o.skip + lines.read);
     if let Err(fault) = emit_after(w, lines.written, end.as_bytes()) {
         return Err(fault);
     }

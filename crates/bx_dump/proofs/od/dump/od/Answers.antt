@@ -34,44 +34,44 @@ reaches_behind count r0 r1 r2 input front rest = (
 pub returns-in-Err-dump_lines-clause-err : goal.returns-in-Err-dump_lines-clause-err
 returns-in-Err-dump_lines-clause-err g c =
     let o = c.args.o.now in
-    let lines = folded (od_line o.address o.kind) o.all o.skip in
+    let lines = folded (od_line o.address o.kind) o.all (o.first + o.skip) in
     let text = λ (xs : List ℕ). lines (part_of o.skip o.limit xs) in
-    let other = λ (xs : List ℕ). od_text o.address o.kind o.all o.skip (part_of o.skip o.limit xs) in
+    let other = λ (xs : List ℕ). od_text o.address o.kind o.all (o.first + o.skip) (part_of o.skip o.limit xs) in
     let rest = rw c.in_default.ensures.open.1 at c.in-Err-dump_lines.ensures.err in
-    inr (front_of (od_of o) _ _ _ _ c.in-Err-dump_lines.fault (front_then 0 (2 ^ 7) text other o.skip o.limit 0 0 _ _ _ _ c.in-Err-dump_lines.fault (λ xs. (od_end o.address (o.skip + length (part_of o.skip o.limit xs)), refl))
+    inr (front_of (od_of o) _ _ _ _ c.in-Err-dump_lines.fault (front_then 0 (2 ^ 7) text other o.skip o.limit 0 0 _ _ _ _ c.in-Err-dump_lines.fault (λ xs. (od_end o.address (o.first + o.skip + length (part_of o.skip o.limit xs)), refl))
     (λ xs. omega (
       arith,
-      od_end_few o.address (o.skip + length (part_of o.skip o.limit xs)),
-      length-append (text xs) (od_end o.address (o.skip + length (part_of o.skip o.limit xs))),
-      length-append (text []) (od_end o.address (o.skip + length (part_of o.skip o.limit []))),
+      od_end_few o.address (o.first + o.skip + length (part_of o.skip o.limit xs)),
+      length-append (text xs) (od_end o.address (o.first + o.skip + length (part_of o.skip o.limit xs))),
+      length-append (text []) (od_end o.address (o.first + o.skip + length (part_of o.skip o.limit []))),
     ))
     (front_behind 0 lines o.skip o.limit 0 _ _ _ _ _ c.in-Err-dump_lines.fault c.in_default.ensures.ok rest)))
 
 pub returns-in-Err-emit_after-clause-err : goal.returns-in-Err-emit_after-clause-err
 returns-in-Err-emit_after-clause-err g c =
     let o = c.args.o.now in
-    let lines = folded (od_line o.address o.kind) o.all o.skip in
+    let lines = folded (od_line o.address o.kind) o.all (o.first + o.skip) in
     let text = λ (xs : List ℕ). lines (part_of o.skip o.limit xs) in
-    let other = λ (xs : List ℕ). od_text o.address o.kind o.all o.skip (part_of o.skip o.limit xs) in
+    let other = λ (xs : List ℕ). od_text o.address o.kind o.all (o.first + o.skip) (part_of o.skip o.limit xs) in
     let done = c.in-Ok.lines in
     let whole = part_whole lines o.skip o.limit _ _ _ _ _ done.read done.written c.in_default.ensures.ok (rw c.in_default.ensures.open.1 at c.in-Ok.ensures.ok) in
     let line = rw (c.as_bytes.ensures.value, c.end_line-end.ensures) at c.in-Err-emit_after.ensures.err in
     let none : 0 + done.written ≡ done.written = omega arith in
-    inr (front_of (od_of o) _ _ _ _ c.in-Err-emit_after.fault (stop_then text other o.skip o.limit _ _ _ _ _ done.read done.written (od_end o.address (o.skip + done.read))
-    (λ xs e. ap (λ n. text xs ++ od_end o.address (o.skip + n)) e) whole (2 ^ 7) 0 c.in-Err-emit_after.fault (omega (arith, od_end_few o.address (o.skip + done.read))) (rw none line)))
+    inr (front_of (od_of o) _ _ _ _ c.in-Err-emit_after.fault (stop_then text other o.skip o.limit _ _ _ _ _ done.read done.written (od_end o.address (o.first + o.skip + done.read))
+    (λ xs e. ap (λ n. text xs ++ od_end o.address (o.first + o.skip + n)) e) whole (2 ^ 7) 0 c.in-Err-emit_after.fault (omega (arith, od_end_few o.address (o.first + o.skip + done.read))) (rw none line)))
 
 pub returns-clause-ok : goal.returns-clause-ok
 returns-clause-ok g c =
     let o = c.args.o.now in
-    let lines = folded (od_line o.address o.kind) o.all o.skip in
+    let lines = folded (od_line o.address o.kind) o.all (o.first + o.skip) in
     let text = λ (xs : List ℕ). lines (part_of o.skip o.limit xs) in
-    let other = λ (xs : List ℕ). od_text o.address o.kind o.all o.skip (part_of o.skip o.limit xs) in
+    let other = λ (xs : List ℕ). od_text o.address o.kind o.all (o.first + o.skip) (part_of o.skip o.limit xs) in
     let done = c.in-Ok.lines in
     let whole = part_whole lines o.skip o.limit _ _ _ _ _ done.read done.written c.in_default.ensures.ok (rw c.in_default.ensures.open.1 at c.in-Ok.ensures.ok) in
     let line = rw (c.as_bytes.ensures.value, c.end_line-end.ensures) at c.in_default-emit_after.ensures.ok in
-    all_of (od_of o) _ _ _ _ done.read (done.written + length (od_end o.address (o.skip + done.read)))
-    (part_then text other o.skip o.limit _ _ _ _ _ done.read done.written (od_end o.address (o.skip + done.read))
-    (λ xs e. ap (λ n. text xs ++ od_end o.address (o.skip + n)) e) whole line)
+    all_of (od_of o) _ _ _ _ done.read (done.written + length (od_end o.address (o.first + o.skip + done.read)))
+    (part_then text other o.skip o.limit _ _ _ _ _ done.read done.written (od_end o.address (o.first + o.skip + done.read))
+    (λ xs e. ap (λ n. text xs ++ od_end o.address (o.first + o.skip + n)) e) whole line)
 
 pub returns-clause-reached : goal.returns-clause-reached
 returns-clause-reached g c =

@@ -1,0 +1,85 @@
+-- Dumps of what stands behind bytes that were passed.
+use Rattle.std.proofs.Common.{◌≡◌, ℕ, ◌+◌, ◌-◌, ◌≤◌, Bool, List, ◌++◌, length, drop, Option, None, Some, refl, sym, ap, ◌∙◌, arith}
+use Rattle.std.proofs.lemmas.List.{drop-drop, drop_at}
+use Rattle.bx_dump.specs.Behind.{behind, DumpsBehind, IsOdRest, IsHexdumpRest, IsXxdRest, RestAsksBehind}
+use Rattle.bx_dump.specs.Hexdump.{hexdump_of}
+use Rattle.bx_dump.specs.OdDump.{od_of}
+use Rattle.bx_dump.specs.Pages.{Dump}
+use Rattle.bx_dump.specs.Styles.{group_of, include_items, styled, xxd_of}
+use Rattle.bx_dump.specs.Xxd.{bits_line}
+use Rattle.bx_dump.specs.Lines.{in_lines}
+use Rattle.bx_text.specs.Dump.{dump_line}
+use Rattle.bx_dump.specs.inner.Pages.{capped}
+use Rattle.bx_dump.specs.inner.Rows.{plain_line}
+use Rattle.bx_dump.specs.inner.Styles.{named_text}
+use Rattle.bx_dump.specs.declared.hexdump.options.HexdumpOptions.{HexdumpOptions}
+use Rattle.bx_dump.specs.declared.od.options.OdOptions.{OdOptions}
+use Rattle.bx_dump.specs.declared.xxd.options.XxdOptions.{XxdOptions}
+use Rattle.bx_dump.specs.declared.xxd.options.XxdStyle.{XxdStyle}
+use Rattle.bx_dump.specs.declared.xxd.options.XxdStyle.TheVariants.{Normal, Plain, Bits, Include}
+
+-- what stands behind the front of an input
+past : (front input : List ℕ) (skip : ℕ) → length front ≤ skip → drop (skip - length front) input ≡ drop skip (front ++ input)
+past front input skip le =
+    let rest : length front + (skip - length front) ≡ skip = omega arith in
+    ap (drop (skip - length front)) (sym (drop_at front input (length front) refl))
+    ∙ drop-drop (skip - length front) (length front) (front ++ input)
+    ∙ ap (λ n. drop n (front ++ input)) rest
+
+pub dumps_behind : DumpsBehind
+dumps_behind d front input le = ap (λ xs. d.text (capped d.limit xs)) (past front input d.skip le)
+
+pub od_rest : (n : ℕ) (whole rest : OdOptions) → IsOdRest n whole rest → od_of rest ≡ behind n (od_of whole)
+od_rest n whole rest is =
+    let start : rest.first + rest.skip ≡ whole.first + whole.skip = omega (arith, is.skip, is.first) in
+    let skip : rest.skip ≡ whole.skip - n = omega (arith, is.skip) in
+    rw (start, skip, is.shown.0, is.shown.1, is.shown.2, is.shown.3) refl
+
+pub hexdump_rest : (n : ℕ) (whole rest : HexdumpOptions) → IsHexdumpRest n whole rest → hexdump_of rest ≡ behind n (hexdump_of whole)
+hexdump_rest n whole rest is =
+    let start : rest.first + rest.skip ≡ whole.first + whole.skip = omega (arith, is.skip, is.first) in
+    let skip : rest.skip ≡ whole.skip - n = omega (arith, is.skip) in
+    rw (start, skip, is.shown.0, is.shown.1) refl
+
+-- a dump by its parts
+same_dump : (f g : List ℕ → List ℕ) (a b : ℕ) (l m : Option ℕ) → f ≡ g → a ≡ b → l ≡ m →
+    ◌≡◌ {A = Dump} (record { text = f; skip = a; limit = l }) (record { text = g; skip = b; limit = m })
+same_dump f g a b l m p q r = rw (p, q, r) refl
+
+-- the text in each style, of what it needs of the options
+normal_text : ℕ → ℕ → Bool → ℕ → List ℕ → List ℕ
+normal_text cols group upper start bytes = in_lines (dump_line upper cols (group_of cols group)) cols start bytes
+
+binary_text : ℕ → ℕ → ℕ → List ℕ → List ℕ
+binary_text cols group start bytes = in_lines (bits_line cols (group_of cols group)) cols start bytes
+
+digits_text : Bool → ℕ → List ℕ → List ℕ
+digits_text upper cols bytes = in_lines (plain_line upper) cols 0 bytes
+
+same_normal : (a b c d s t : ℕ) (u v : Bool) → a ≡ b → c ≡ d → u ≡ v → s ≡ t → normal_text a c u s ≡ normal_text b d v t
+same_normal a b c d s t u v p q r e = cc
+
+same_binary : (a b c d s t : ℕ) → a ≡ b → c ≡ d → s ≡ t → binary_text a c s ≡ binary_text b d t
+same_binary a b c d s t p q e = cc
+
+same_digits : (a b : ℕ) (u v : Bool) → a ≡ b → u ≡ v → digits_text u a ≡ digits_text v b
+same_digits a b u v p q = cc
+
+same_text : (n : ℕ) (style : XxdStyle) (whole rest : XxdOptions) → IsXxdRest n whole rest → styled style rest ≡ styled style whole
+unfolding normal_text binary_text digits_text
+same_text n Normal whole rest is =
+    let start : rest.seek + rest.shift ≡ whole.seek + whole.shift = omega (arith, is.seek, is.shift) in
+    same_normal rest.cols whole.cols rest.group whole.group _ _ rest.upper whole.upper is.shown.0 is.shown.1 is.shown.3 start
+same_text n Bits whole rest is =
+    let start : rest.seek + rest.shift ≡ whole.seek + whole.shift = omega (arith, is.seek, is.shift) in
+    same_binary rest.cols whole.cols rest.group whole.group _ _ is.shown.0 is.shown.1 start
+same_text n Plain whole rest is = same_digits rest.cols whole.cols rest.upper whole.upper is.shown.0 is.shown.3
+same_text n (Include None) whole rest is = ap include_items is.shown.0
+same_text n (Include (Some name)) whole rest is = ap (named_text name.now) is.shown.0
+
+pub xxd_rest : (n : ℕ) (style : XxdStyle) (whole rest : XxdOptions) → IsXxdRest n whole rest → xxd_of style rest ≡ behind n (xxd_of style whole)
+xxd_rest n style whole rest is =
+    same_dump (styled style rest) (styled style whole) rest.seek (whole.seek - n) rest.limit whole.limit (same_text n style whole rest is) (omega (arith, is.seek)) is.shown.2
+
+pub rest_asks_behind : RestAsksBehind
+rest_asks_behind n = (od_rest n, hexdump_rest n, xxd_rest n)
