@@ -4,7 +4,7 @@ man = $(DESTDIR)$(PREFIX)/share/man/man1
 bash = $(DESTDIR)$(PREFIX)/share/bash-completion/completions
 fish = $(DESTDIR)$(PREFIX)/share/fish/vendor_completions.d
 zsh = $(DESTDIR)$(PREFIX)/share/zsh/$(if $(filter /usr,$(PREFIX)),vendor-completions,site-functions)
-.PHONY: all look test install uninstall package tour pictures check-docs compare record hostile hints bench clean
+.PHONY: all look test install uninstall package tour pictures check-docs compare record hostile hints power bench clean
 
 all: bx
 
@@ -80,6 +80,10 @@ hostile: all
 # What standard error gets at each fault, on a terminal and in a pipe.
 hints: all
 	scripts/hints.py --bx ./bx
+
+# The order in which the files of a command reach the disk, by strace.
+power: all
+	scripts/power.py --counts --bx ./bx
 
 bench: all
 	bench/run.sh

@@ -1,6 +1,6 @@
 #!/usr/bin/env bash
 # Runs bx on bad texts, full devices, closed pipes and closed streams, on what is no regular file, on loop devices, two at
-# once, and with each memory request and each read or write failing in turn. Compares exit statuses, messages, and that
+# once, and with each memory request and each read, write or sync failing in turn. Compares exit statuses, messages, and that
 # image, journal and redo file are as they should be. Prints a line for each case, and a count at the end; the status is 1 where a case
 # fails. Outside the gate. Loop devices want root.
 #
@@ -101,7 +101,10 @@ bad_dumps() {
 
 bad_journals() {
     head -c 1000000 /dev/zero > text
-    fresh ABxyEFGH text && expect "a journal of a megabyte of NUL bytes" same 1 "journal line 1 is damaged" undo img
+    fresh ABxyEFGH text && expect "a journal of a megabyte of NUL bytes, as a loss of power leaves one" any 1 "only 0 changes to undo" undo img
+    [ "$(cat img)" = ABxyEFGH ] && [ ! -s img.bxj ] && say 1 "and it is empty" || say 0 "and it is empty"
+    (head -c 1000 /dev/zero && printf '\1') > text
+    fresh ABxyEFGH text && expect "an image that begins with NUL bytes as a journal" same 1 "journal line 1 is damaged" undo img
     letters 1000000 s > text
     fresh ABxyEFGH text && expect "a journal of a line of a megabyte" same 1 "journal line 1 is damaged" log img
     (printf 'change 00000001 00000008\n' && letters 1000000 a) > text
@@ -750,8 +753,9 @@ loop_devices() {
     losetup -d "$loop" && loop=
 }
 
-# A library that makes the Nth memory request fail, the Nth read, write or other call on a file fail, the Nth read or write
-# move one byte, or answers each lock as a file system that has none.
+# A library that makes the Nth memory request fail, the Nth read, write, sync or other call on a file fail, the Nth sync fail on
+# a full disk, each sync of a folder fail with error N, the Nth read or write move one byte, or answers each lock as a file
+# system that has none.
 build_shim() {
     cat > shim.c << 'END'
 #define _GNU_SOURCE
@@ -798,6 +802,14 @@ ssize_t pwrite64(int d, const void *b, size_t n, off64_t o) { REAL(pwrite64); SO
 int ftruncate(int d, off_t n) { REAL(ftruncate); if (strikes('f')) { errno = EIO; return -1; } return real(d, n); }
 int statx(int d, const char *p, int g, unsigned m, struct statx *s) { REAL(statx); if (strikes('f')) { errno = EIO; return -1; } return real(d, p, g, m, s); }
 off_t lseek(int d, off_t o, int w) { REAL(lseek); if (strikes('f')) { errno = EIO; return -1; } return real(d, o, w); }
+static int is_folder(int d) { struct stat s; return fstat(d, &s) == 0 && S_ISDIR(s.st_mode); }
+int fsync(int d) {
+    REAL(fsync);
+    if (strikes('f')) { errno = EIO; return -1; }
+    if (strikes('d')) { errno = ENOSPC; return -1; }
+    if (armed && what == 'o' && is_folder(d)) { errno = (int)at; return -1; }
+    return real(d);
+}
 int flock(int d, int how) { REAL(flock); if (armed && what == 'n') { errno = EOPNOTSUPP; return -1; } if (strikes('f')) { errno = EIO; return -1; } return real(d, how); }
 int ftruncate64(int d, off64_t n) { REAL(ftruncate64); if (strikes('f')) { errno = EIO; return -1; } return real(d, n); }
 END
@@ -867,6 +879,86 @@ each_call() { # each_call NAME IMAGE JOURNAL FIRST ARG ..
         shimmed s "$n" "$@" && [ "$(base64 -w 0 < img)" = "$after" ] || wrong=$((wrong + 1))
     done
     [ "$wrong" = 0 ] && say 1 "each read and write of $name moves one byte" "$total runs" || say 0 "each read and write of $name moves one byte" "$wrong of $total wrong"
+}
+
+# A disk that is full at each sync of a command in turn: the folder's can't be opened, those before the first write change nothing,
+# and those behind it are interrupted. Opening again recovers, and undoing all gives the first image.
+each_sync() { # each_sync NAME IMAGE JOURNAL FIRST ARG ..
+    local name=$1 image=$2 journal=$3 first=$4 n total wrong=0 found want
+    shift 4
+    fresh "$image" "$journal" undone
+    shimmed d 0 "$@" || wrong=1
+    total=$(cat count)
+    for n in $(seq 1 "$total"); do
+        fresh "$image" "$journal" undone
+        shimmed d "$n" "$@" && wrong=$((wrong + 1))
+        found=$(grep '^bx: [cdi]' err)
+        case $n in
+            1) want="bx: cannot open file" ;;
+            [234]) want="bx: device failed" ;;
+            *) want="bx: interrupted: open again to recover" ;;
+        esac
+        [ "$found" = "$want" ] || wrong=$((wrong + 1))
+        if [ "$n" -le 4 ] && [ "$(trio_sum)" != "$sums" ]; then wrong=$((wrong + 1)); fi
+        "$bx" undo -k 0 img > out 2>&1 || wrong=$((wrong + 1))
+        "$bx" undo -k "$("$bx" log img | wc -l)" img > out 2>&1
+        [ "$(cat img)" = "$first" ] && [ ! -s img.bxj ] || wrong=$((wrong + 1))
+    done
+    [ "$wrong" = 0 ] && [ "$total" -gt 4 ] && say 1 "a full disk at each sync of $name" "$total syncs" || say 0 "a full disk at each sync of $name" "$wrong wrong of $total"
+    fresh "$image" "$journal" undone
+    shimmed d 1 "$1" -U "${@:2}" && [ "$(cat count)" = 0 ] && say 1 "$name -U syncs nothing" || say 0 "$name -U syncs nothing" "$(cat count)"
+}
+
+# A folder that answers a sync with an error, at each command that may write: one that has no such sync, or is not to be synced
+# by this user, is passed by, and any other error refuses the command and changes nothing.
+folder_syncs() {
+    local error number text well command
+    for error in EINVAL=22 ENOSYS=38 EOPNOTSUPP=95 EPERM=1 EACCES=13 EIO=5 ENOSPC=28 EROFS=30 EDQUOT=122; do
+        number=${error#*=}
+        well=1
+        for command in "revert -f dump img" "dd if=plain of=img conv=notrunc" "undo img" "redo img"; do
+            fresh ABxyEFGH text undone
+            # shellcheck disable=SC2086
+            shimmed o "$number" $command
+            case "$? $number $(grep -v records err)" in
+                "0 22 " | "0 38 " | "0 95 " | "0 1 " | "0 13 ") [ "$(trio_sum)" != "$sums" ] || well=0 ;;
+                "1 5 bx: cannot open file" | "1 28 bx: cannot open file" | "1 30 bx: cannot open file" | "1 122 bx: cannot open file")
+                    [ "$(trio_sum)" = "$sums" ] || well=0 ;;
+                *) well=0 ;;
+            esac
+            fresh ABxyEFGH text undone
+            # shellcheck disable=SC2086
+            shimmed o "$number" ${command/ / -U } || well=0
+        done
+        fresh ABxyEFGH text undone
+        shimmed o "$number" log img || well=0
+        say "$well" "a folder that answers a sync by ${error%=*}"
+    done
+}
+
+# A folder that may be searched and written, and not be read, so that it can't be opened: by another user, since root opens it.
+shut_folder() {
+    local as=() name=revert
+    if [ "$(id -u)" = 0 ]; then
+        if ! command -v setpriv > /dev/null; then
+            echo "left out: a folder that can't be opened (as root, and no setpriv)"
+            return
+        fi
+        as=(setpriv --reuid=65534 --regid=65534 --clear-groups)
+    fi
+    chmod 711 .
+    mkdir shut
+    cp "$bx" shut/bx
+    printf ABCDEFGH > shut/img
+    printf '2: 7879\n' > shut/dump
+    [ ${#as[@]} = 0 ] || chown -R 65534 shut
+    chmod 333 shut
+    if "${as[@]}" shut/bx revert -f shut/dump shut/img > out 2> err && [ "$(cat shut/img)" = ABxyEFGH ]; then name=; fi
+    say "$([ -z "$name" ] && echo 1 || echo 0)" "a change in a folder that can't be opened" "$(cat err)"
+    "${as[@]}" shut/bx undo shut/img > out 2> err && [ "$(cat shut/img)" = ABCDEFGH ] && say 1 "and its undo" || say 0 "and its undo" "$(cat err)"
+    chmod 755 shut
+    rm -rf shut
+    chmod 700 .
 }
 
 # The same for a command that only reads and writes: what is written is a front of the text. Where memory is refused it is nothing,
@@ -954,6 +1046,11 @@ failing_calls() {
     each_call "undo" ABxyEFGH text ABCDEFGH undo img
     each_call "redo" ABCDEFGH none ABCDEFGH redo img
     each_call "redo over a journal" ABxyEFGH text ABCDEFGH redo img
+    each_sync "revert" ABCDEFGH none ABCDEFGH revert -f dump img
+    each_sync "dd" ABxyEFGH text ABCDEFGH dd if=plain of=img obs=3 seek=1 conv=ucase
+    each_sync "undo" ABxyEFGH text ABCDEFGH undo img
+    each_sync "redo" ABxyEFGH text ABCDEFGH redo img
+    folder_syncs
     each_of_dump xxd
     each_of_dump xxd -i
     each_of_dump od -t x2
@@ -1013,6 +1110,7 @@ full_disk
 killed
 two_at_once
 loop_devices
+shut_folder
 failing_calls
 if [ "${RT_TRY:-1 10 40}" != no ] && command -v rt > /dev/null; then
     # shellcheck disable=SC2086
