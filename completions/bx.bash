@@ -7,6 +7,16 @@ _bx_files() {
     mapfile -t COMPREPLY < <(compgen -P "$lead" -f -- "$cur")
 }
 
+# The names of files that may be images: journals and redo files are none.
+_bx_images() {
+    local name left=()
+    _bx_files
+    for name in "${COMPREPLY[@]}"; do
+        [[ $name == *.bxj || $name == *.redo ]] || left+=("$name")
+    done
+    COMPREPLY=("${left[@]}")
+}
+
 # The names of dd's operands that weren't given, each with its '='.
 _bx_operands() {
     local names='if= of= ibs= obs= bs= cbs= skip= seek= count= conv=' line=" ${COMP_WORDS[*]:2}" name left=''
@@ -39,7 +49,8 @@ _bx_dd() {
     *) [[ $prev == '=' ]] && name=${COMP_WORDS[COMP_CWORD - 2]} ;;
     esac
     case $name in
-    if | of) _bx_files ;;
+    if) _bx_files ;;
+    of) _bx_images ;;
     conv) _bx_conversions ;;
     '') _bx_operands ;;
     esac
@@ -78,6 +89,7 @@ _bx() {
         case $command:$cur in
         *:-*) _bx_words "$options -h --help" ;;
         dd:*) _bx_dd ;;
+        revert:* | undo:* | redo:* | log:*) _bx_images ;;
         *) _bx_files ;;
         esac
         ;;

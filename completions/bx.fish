@@ -1,5 +1,10 @@
 # Completion of bx for fish.
 
+# The names of files that may be images: journals and redo files are none.
+function __bx_image
+    __fish_complete_path $argv | string match -rv '^[^\t]*\.(bxj|redo)(\t|$)'
+end
+
 # An operand of dd: a name that wasn't given with its '=', or a value that can be known.
 function __bx_operand
     set -l token (commandline -ct)
@@ -10,9 +15,10 @@ function __bx_operand
             for word in block unblock lcase ucase swab sync notrunc
                 contains -- $word $given; or echo $front$word
             end
-        case 'if=*' 'of=*'
-            set -l name (string sub -l 3 -- $token)
-            __fish_complete_path (string sub -s 4 -- $token) | string replace -r '^' $name
+        case 'if=*'
+            __fish_complete_path (string sub -s 4 -- $token) | string replace -r '^' if=
+        case 'of=*'
+            __bx_image (string sub -s 4 -- $token) | string replace -r '^' of=
         case '*=*'
         case '*'
             set -l given (commandline -opc | string match -r '^[a-z]+=')
@@ -43,7 +49,8 @@ complete -c bx -n $none -a log -d 'List the changes of an image'
 complete -c bx -n $none -a help -d 'Show the help of a command'
 complete -c bx -n '__fish_seen_subcommand_from help' -a "$commands"
 
-complete -c bx -n "__fish_seen_subcommand_from xxd od hexdump strings revert undo redo log" -F
+complete -c bx -n '__fish_seen_subcommand_from xxd od hexdump strings' -F
+complete -c bx -n '__fish_seen_subcommand_from revert undo redo log' -a '(__bx_image (commandline -ct))'
 
 complete -c bx -n '__fish_seen_subcommand_from xxd' -s b -d 'Eight binary digits for each byte'
 complete -c bx -n '__fish_seen_subcommand_from xxd' -s c -x -d 'Bytes on a line, 1 to 256'

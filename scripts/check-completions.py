@@ -23,7 +23,8 @@ COMMANDS = ["xxd", "od", "hexdump", "strings", "dd", "revert", "undo", "redo", "
 TYPES = ["c"] + [form + size for form in "doux" for size in "1248"]
 OPERANDS = ["if=", "of=", "ibs=", "obs=", "bs=", "cbs=", "skip=", "seek=", "count=", "conv="]
 CONVERSIONS = ["block", "unblock", "lcase", "ucase", "swab", "sync", "notrunc"]
-FILES = ["a file", "image", "image.bxj"]
+FILES = ["a file", "image", "image.bxj", "image.bxj.redo"]
+IMAGES = ["a file", "image"]
 
 # What is typed, and what has to be offered for its last word: of dd, the value alone behind a '='.
 CASES = [
@@ -35,20 +36,23 @@ CASES = [
     ("bx od -t x", ["x1", "x2", "x4", "x8"]),
     ("bx strings -t ", ["d", "o", "x"]),
     ("bx xxd ", FILES),
-    ("bx xxd im", ["image", "image.bxj"]),
+    ("bx xxd im", FILES[1:]),
     ("bx xxd -c ", []),
     ("bx hexdump -C ", FILES),
-    ("bx undo -k 2 ", FILES),
+    ("bx undo -k 2 ", IMAGES),
     ("bx undo -k ", []),
     ("bx revert -f ", FILES),
     ("bx redo -J ", FILES),
-    ("bx log ", FILES),
+    ("bx log ", IMAGES),
+    ("bx revert ", IMAGES),
+    ("bx redo im", ["image"]),
     ("bx dd ", OPERANDS),
     ("bx dd c", ["cbs=", "count=", "conv="]),
     ("bx dd if=image ", [word for word in OPERANDS if word != "if="]),
     ("bx dd if=image of", ["of="]),
     ("bx dd if=", FILES),
-    ("bx dd bs=4 of=im", ["image", "image.bxj"]),
+    ("bx dd bs=4 of=im", ["image"]),
+    ("bx dd if=im", FILES[1:]),
     ("bx dd conv=", CONVERSIONS),
     ("bx dd conv=s", ["swab", "sync"]),
     ("bx dd conv=lcase,s", ["swab", "sync"]),

@@ -19,6 +19,9 @@ PAIRS = "bytes are pairs of digits, with at most one space between two; under -p
 SIZE = "a number as 512, 0x200 or 01000, with "
 OLDER = "move journal and redo file away, and with them the older images"
 CHANGE = "change2 00000001 0000000000000008\n00000002: 4344" + " " * 37 + "CD\nsave 00000001\ndone2 00000001 0000000000000008\n"
+NO_JOURNAL = "no journal is here, so no change is known; -J names one that is elsewhere, and bx revert and bx dd make one"
+NEGATIVE = "there are no negative places and counts"
+DASH = "- is a file's name here; without a name standard input is read"
 DD = "Usage: bx dd [OPTIONS] [OPERAND]..."
 XXD = "Usage: bx xxd [OPTIONS] [FILE]"
 OD = "Usage: bx od [OPTIONS] [FILE]"
@@ -83,20 +86,31 @@ CASES = [
     ("xxd \udcff", "", "bad arguments", "a word is not UTF-8; a file of such a name can be given by a link to it"),
     ("undo", "", "bad arguments", "the following required arguments were not provided: <IMAGE>; Usage: bx undo <IMAGE>"),
     ("frobnicate", "", "bad arguments", "unrecognized subcommand 'frobnicate'; Usage: bx <COMMAND>"),
-    ("log new", "", "cannot open file", "new.bxj: no journal is here, so no change is known; -J names one that is elsewhere, and bx revert and bx dd make one"),
+    ("log new", "", "cannot open file", "new.bxj: " + NO_JOURNAL),
     ("log none", "", "cannot open file", "none: No such file or directory"),
     ("revert dir", "0: 41\n", "cannot open file", "dir: it is no regular file and no block device"),
     ("revert -J dir new", "0: 41\n", "cannot open file", "dir: it is no regular file"),
     ("revert -J img new", "0: 41\n", "journal line 1 is damaged", "img; mend the line; or " + OLDER),
     ("log -J img.bxj hard", "", "cannot open file", "img.bxj: another program has it locked, or it is one of the others by another name"),
     ("revert -J new.bxj /proc/self/mem", "0: 41\n", "device failed", "/proc/self/mem: Invalid argument; nothing was changed"),
+    ("undoo img", "", "bad arguments", "unrecognized subcommand 'undoo': did you mean 'undo'; Usage: bx <COMMAND>"),
+    ("xxd -r words", "", "bad arguments", "unexpected argument '-r' found: bx revert writes the bytes of a dump onto an image; " + XXD),
+    ("od -r words", "", "bad arguments", "unexpected argument '-r' found; " + OD),
+    ("xxd -s -4 img", "", "bad arguments", "unexpected argument '-4' found: " + NEGATIVE + "; " + XXD),
+    ("xxd -s-4 img", "", "bad arguments", "-4: " + NEGATIVE + "; " + XXD),
+    ("undo -k-1 img", "", "bad arguments", "-1: " + NEGATIVE + "; Usage: bx undo [OPTIONS] <IMAGE>"),
+    ("dd skip=-1", "", "operand 1: bad number", "skip=-1: " + NEGATIVE + "; a number is decimal, with b, k, M or G behind it where wanted; " + DD),
+    ("xxd -", "", "cannot open file", "-: No such file or directory; " + DASH),
+    ("dd if=-", "", "cannot open file", "-: No such file or directory; " + DASH),
+    ("revert -f - img", "", "cannot open file", "-: No such file or directory; " + DASH),
+    ("log img.bxj", "", "cannot open file", "img.bxj.bxj: " + NO_JOURNAL + "; its image has the name of a journal or a redo file"),
     ("xxd img", "", None, None),
     ("log img", "", None, None),
 ]
 
 # The same with a limit on the size of files, or standard output on a device that is full.
 FULL = [
-    ("revert img", "00: " + "41 " * 16 + "\n", 200, "interrupted: open again to recover", "img.bxj: File too large; the next command on the image finishes or drops what was begun"),
+    ("revert img", "00: " + "41 " * 16 + "\n", 200, "interrupted: open again to recover", "img.bxj: File too large; the next command on the image takes back or drops what was begun; look by bx log first"),
 ]
 
 

@@ -2,6 +2,7 @@
 ghost use Rattle.std.specs.Prelude.{◌≡◌, [], OnOk, IfSome, string_bytes};
 ghost use Rattle.bx_cli.specs.Hint.{advice_of, hint_of, joined};
 
+use crate::instead::{NO_NEGATIVE, has_negative, instead, is_negative, similar};
 use crate::options::program;
 use crate::plan::{MOST_LEAST, MOST_STEPS, columns, count_or, kind, number, radix, words_of};
 use bx_commands::Fault;
@@ -96,7 +97,7 @@ fn session_advice(fault: SessionFault) -> &'static str
         SessionFault::JournalFull =>
             "move journal and redo file away to go on, and with them the older images",
         SessionFault::Interrupted =>
-            "the next command on the image finishes or drops what was begun",
+            "the next command on the image takes back or drops what was begun; look by bx log first",
         SessionFault::LengthDiffers { .. } => {
             "it may have another journal; where its length alone was changed, truncate -s gives that back; or move journal and redo file away, and with them the older images"
         }
@@ -173,17 +174,21 @@ pub fn misuse_of(alloc: Global, words: &Words, fault: Fault) -> Result<Misuse, F
         Ok(matches) => refused_later(alloc, fault, &matches),
         Err(error) => {
             let text = error.to_string(alloc)?;
-            Ok(told(alloc, text.as_str())?)
+            let mut found = told(alloc, text.as_str())?;
+            found.reason = instead(words.get(0).unwrap_or(""), found.word.as_str());
+            Ok(found)
         }
     }
 }
 
-/// What clap says of words that it refuses: its first lines, and the usage.
+/// What clap says of words that it refuses: its first lines, the names that it finds similar, and the usage.
 fn told(alloc: Global, text: &str) -> Result<Misuse, AllocError> {
     let text = text.strip_prefix("error: ").unwrap_or(text);
     let (word, rest) = text.split_once("\n\n").unwrap_or((text, ""));
+    let mut word = lines_with(alloc, word, "")?;
+    push_part(&mut word, ": did you mean ", similar(rest))?;
     Ok(Misuse {
-        word: lines_with(alloc, word, "")?,
+        word,
         reason: "",
         usage: lines_with(alloc, rest, "Usage: ")?,
     })
@@ -233,7 +238,10 @@ fn wrong_word<'a>(fault: Fault, name: &str, m: &ArgMatches<'a>) -> (&'a str, &'s
             | DdFault::NumberTooLarge(place)
             | DdFault::ZeroSize(place)
             | DdFault::Repeated(place),
-        ) => (operand(m, place).unwrap_or(""), ""),
+        ) => {
+            let word = operand(m, place).unwrap_or("");
+            (word, if has_negative(word) { NO_NEGATIVE } else { "" })
+        }
         Fault::Usage => match wrong_value(name, m) {
             Some(found) => found,
             None => missing(name),
@@ -270,7 +278,16 @@ fn wrong_value<'a>(name: &str, m: &ArgMatches<'a>) -> Option<(&'a str, &'static 
     };
     for id in &VALUES {
         if !is_value(m, id, style) {
-            return Some((m.get_str(id)?, form_of(id, style)));
+            let value = m.get_str(id)?;
+            let form = form_of(id, style);
+            return Some((
+                value,
+                if is_negative(value) {
+                    NO_NEGATIVE
+                } else {
+                    form
+                },
+            ));
         }
     }
     None

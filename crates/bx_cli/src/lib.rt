@@ -3,6 +3,7 @@
 
 mod dump;
 mod hint;
+mod instead;
 mod job;
 pub mod laws;
 mod options;

@@ -1,4 +1,7 @@
 //! What the program writes of a fault.
+mod names;
+
+use crate::hints::names::name_hint;
 use crate::stopped::{Reason, Stopped};
 use bx_cli::{Fault, Known, hint_text, misuse_of};
 use bx_text::Words;
@@ -37,10 +40,15 @@ where
         show_known(rt, stopped.fault, &known);
     } else {
         let reason = reason_text(rt.alloc(), stopped.reason)?;
+        let file = stopped.file.unwrap_or("");
         let known = Known {
-            subject: stopped.file.unwrap_or(""),
+            subject: file,
             reason: reason.as_str(),
-            usage: "",
+            usage: if stopped.fault == Fault::OpenFailed {
+                name_hint(file)
+            } else {
+                ""
+            },
         };
         show_known(rt, stopped.fault, &known);
     }

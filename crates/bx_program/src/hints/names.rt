@@ -1,0 +1,23 @@
+//! What is said of the names of files.
+
+/// What is said where a file is named as standard input is in other programs.
+const DASH: &str = "- is a file's name here; without a name standard input is read";
+
+/// What is said of an image that is named as texts of images are.
+const TEXT_NAME: &str = "its image has the name of a journal or a redo file";
+
+/// What may be wrong with the name of a file that wasn't opened; empty where nothing is known.
+pub fn name_hint(file: &str) -> &'static str {
+    if file == "-" {
+        DASH
+    } else if file.strip_suffix(".bxj").is_some_and(is_of_text) {
+        TEXT_NAME
+    } else {
+        ""
+    }
+}
+
+/// Whether it is a name as journals and redo files have.
+fn is_of_text(name: &str) -> bool {
+    name.ends_with(".bxj") || name.ends_with(".redo")
+}
