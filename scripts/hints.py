@@ -1,8 +1,9 @@
 #!/usr/bin/env python3
-"""Tries each fault that bx can give with standard error on a terminal and in a pipe.
+"""Tries each fault that bx can give, and what it says after a success, with standard error on a terminal and in a pipe.
 
-In the pipe standard error has the fault's line alone, in the terminal a hint behind it where there is one to give. Prints a
-line for each case, and a count at the end; the status is 1 where a case fails. The texts stand in this file. Outside the gate.
+In the pipe standard error has the fault's line alone, or nothing; in the terminal hints behind it where there are some to
+give. Prints a line for each case, and a count at the end; the status is 1 where a case fails. The texts stand in this file.
+Outside the gate.
 
 Usage: scripts/hints.py [--bx PATH OF bx] [--show]
 --show prints what the terminal got in each case.
@@ -19,9 +20,11 @@ PAIRS = "bytes are pairs of digits, with at most one space between two; under -p
 SIZE = "a number as 512, 0x200 or 01000, with "
 OLDER = "move journal and redo file away, and with them the older images"
 CHANGE = "change2 00000001 0000000000000008\n00000002: 4344" + " " * 37 + "CD\nsave 00000001\ndone2 00000001 0000000000000008\n"
+UNDONE = CHANGE.replace("4344", "7879").replace("CD", "xy")
 NO_JOURNAL = "no journal is here, so no change is known; -J names one that is elsewhere, and bx revert and bx dd make one"
 NEGATIVE = "there are no negative places and counts"
 DASH = "- is a file's name here; without a name standard input is read"
+LATER = "it was modified later than its journal, perhaps by another program; bx %s goes back"
 DD = "Usage: bx dd [OPTIONS] [OPERAND]..."
 XXD = "Usage: bx xxd [OPTIONS] [FILE]"
 OD = "Usage: bx od [OPTIONS] [FILE]"
@@ -44,7 +47,16 @@ FILES = {
     "far": "ffffffffffffffff: 41\n",
     "high": "3fffffffffffffff: 41\n",
     "digits": "414",
+    "later": "ABxyEFGH",
+    "later.bxj": CHANGE,
+    "later.bxj.redo": UNDONE,
+    "undone": "ABCDEFGH",
+    "undone.bxj": "",
+    "undone.bxj.redo": UNDONE,
 }
+
+# Images that were modified later than their journals.
+LATER_FILES = ["later"]
 
 # The words, the standard input, the text of the fault, and the hint (none: no line).
 CASES = [
@@ -104,8 +116,17 @@ CASES = [
     ("dd if=-", "", "cannot open file", "-: No such file or directory; " + DASH),
     ("revert -f - img", "", "cannot open file", "-: No such file or directory; " + DASH),
     ("log img.bxj", "", "cannot open file", "img.bxj.bxj: " + NO_JOURNAL + "; its image has the name of a journal or a redo file"),
+    ("undo later.bxj.redo", "", "cannot open file", "later.bxj.redo.bxj: " + NO_JOURNAL + "; its image has the name of a journal or a redo file"),
     ("xxd img", "", None, None),
     ("log img", "", None, None),
+    # after a success
+    ("undo later", "", None, "later: " + LATER % "redo -k 1"),
+    ("redo later", "", None, "later: " + LATER % "undo -k 1"),
+    ("undo -k 0 later", "", None, None),
+    ("redo -k 0 later", "", None, None),
+    ("log later", "", None, None),
+    ("undo img", "", None, None),
+    ("redo undone", "", None, None),
 ]
 
 # The same with a limit on the size of files, or standard output on a device that is full.
@@ -116,8 +137,9 @@ FULL = [
 
 def make(folder):
     for name, text in FILES.items():
-        with open(os.path.join(folder, name), "w") as file:
+        with open(os.path.join(folder, name), "w", newline="") as file:
             file.write(text)
+        os.utime(os.path.join(folder, name), (1e9, 1e9 + (name in LATER_FILES)))
     os.mkdir(os.path.join(folder, "dir"))
     os.link(os.path.join(folder, "img.bxj"), os.path.join(folder, "hard"))
 

@@ -1,5 +1,6 @@
-//! What the program writes of a fault.
+//! What the program writes of a fault, and for a person of a success.
 mod names;
+pub mod remarks;
 
 use crate::hints::names::name_hint;
 use crate::stopped::{Reason, Stopped};

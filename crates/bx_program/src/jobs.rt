@@ -3,6 +3,7 @@ ghost use Rattle.bx_commands.specs.Command.{IsNear};
 
 use crate::copies::{copy_onto, tell};
 use crate::files::input;
+use crate::hints::remarks::Remarks;
 use crate::hints::show_fault;
 use crate::images::{finish, log, open_session, open_to_look};
 use crate::stopped::{Noted, STANDARD_INPUT, Stopped};
@@ -45,7 +46,7 @@ where
     R: Files<File = File> + Env + Input + Print + Eprint + AllocGlobal,
 {
     match planned(rt, words) {
-        Ok(job) => match perform(rt, &job) {
+        Ok(job) => match perform_for(rt, person, &job) {
             Ok(()) => Ok(()),
             Err(stopped) => Err(show_fault(rt, person, words, stopped)),
         },
@@ -78,13 +79,32 @@ fn read_words<R: Env + AllocGlobal>(rt: &R, words: &mut Words) -> Result<(), Sto
     Ok(())
 }
 
+/// Runs a job and writes what it shows; for a person then the hints on what was done.
+fn perform_for<'a, R>(rt: &R, person: bool, job: &'a Job) -> Result<(), Stopped<'a>>
+where
+    R: Files<File = File> + Input + Print + Eprint + AllocGlobal,
+{
+    let mut remarks = Remarks::new(person);
+    perform_seen(rt, job, &mut remarks)?;
+    remarks.tell(rt, job);
+    Ok(())
+}
+
 /// Runs a job, and writes what it shows.
 pub fn perform<'a, R>(rt: &R, job: &'a Job) -> Result<(), Stopped<'a>>
 where
     R: Files<File = File> + Input + Print + Eprint + AllocGlobal,
 {
+    perform_seen(rt, job, &mut Remarks::new(false))
+}
+
+/// Runs a job, and writes what it shows; `remarks` see it.
+fn perform_seen<'a, R>(rt: &R, job: &'a Job, remarks: &mut Remarks) -> Result<(), Stopped<'a>>
+where
+    R: Files<File = File> + Input + Print + Eprint + AllocGlobal,
+{
     let mut out = Tally::new(io::writer(rt));
-    let counts = match run_job(rt, job, &mut out) {
+    let counts = match run_job(rt, job, &mut out, remarks) {
         Ok(counts) => counts,
         Err(stopped) => return Err(stopped.on_output(out.error)),
     };
@@ -104,6 +124,7 @@ fn run_job<'a, R, W: Write>(
     rt: &R,
     job: &'a Job,
     out: &mut W,
+    remarks: &mut Remarks,
 ) -> Result<Option<Counts>, Stopped<'a>>
 where
     R: Files<File = File> + Input + Eprint + AllocGlobal,
@@ -128,6 +149,7 @@ where
             texts,
             *durability,
             out,
+            remarks,
         )?,
         Job::Redo {
             count,
@@ -141,6 +163,7 @@ where
             texts,
             *durability,
             out,
+            remarks,
         )?,
         Job::Log {
             image,
@@ -222,12 +245,14 @@ fn step<'a, R, W: Write>(
     texts: &'a Texts,
     durability: Durability,
     out: &mut W,
+    remarks: &mut Remarks,
 ) -> Result<(), Stopped<'a>>
 where
     R: Files<File = File> + Eprint + AllocGlobal,
     requires { IsNear asked }
 {
     let session = open_session(rt, image, texts, false, durability)?;
+    remarks.look_at_times(rt, image, texts);
     match finish(rt, session, asked, image, texts)? {
         Reply::Undone { left: standing } | Reply::Redone { changes: standing } => {
             Ok(show_number(out, standing)?)

@@ -1,0 +1,60 @@
+//! What a person may want to know after a success.
+use bx_cli::{Job, Texts};
+use bx_text::Name;
+use std::fs::{self, File};
+use std::rt::Files;
+
+/// What was seen of a job while it ran. Nothing is looked at where no person looks at standard error.
+#[derive(Drop)]
+pub struct Remarks {
+    person: bool,
+    // the image was modified later than its journal
+    is_later: bool,
+}
+
+impl Remarks {
+    /// Nothing was seen yet. `person` says whether a person looks at standard error.
+    pub fn new(person: bool) -> Remarks {
+        Remarks {
+            person,
+            is_later: false,
+        }
+    }
+
+    /// Looks which of image and journal was modified later, once what was unfinished is recovered and before the command
+    /// writes. A block device has no such time.
+    pub fn look_at_times<R: Files<File = File>>(&mut self, rt: &R, image: &Name, texts: &Texts) {
+        if self.person {
+            self.is_later = is_later(rt, image.as_str(), texts.journal.as_str()) == Some(true);
+        }
+    }
+
+    /// Writes what there is to say of a job that was done, each on a line of its own. One that can't be written is left out.
+    pub fn tell<R: Eprint>(&self, rt: &R, job: &Job) {
+        match job {
+            Job::Undo { count, image, .. } => self.tell_of_times(rt, image, *count, "redo"),
+            Job::Redo { count, image, .. } => self.tell_of_times(rt, image, *count, "undo"),
+            _ => {}
+        }
+    }
+
+    /// That another program may have written the image, and the command that goes back.
+    fn tell_of_times<R: Eprint>(&self, rt: &R, image: &Name, count: u32, back: &str) {
+        if self.is_later && count > 0 {
+            let image = image.as_str();
+            let _ = eprintln!(rt;
+                "hint: {image}: it was modified later than its journal, perhaps by another program; bx {back} -k {count} goes back"
+            );
+        }
+    }
+}
+
+/// Whether the first file was modified later than the second; none where one of them is no regular file, or has no time.
+fn is_later<R: Files<File = File>>(rt: &R, image: &str, journal: &str) -> Option<bool> {
+    let image = fs::metadata(rt, image).ok()?;
+    let journal = fs::metadata(rt, journal).ok()?;
+    if !image.is_file() {
+        return None;
+    }
+    Some(image.modified().ok()? > journal.modified().ok()?)
+}
