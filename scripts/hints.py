@@ -24,6 +24,7 @@ UNDONE = CHANGE.replace("4344", "7879").replace("CD", "xy")
 NO_JOURNAL = "no journal is here, so no change is known; -J names one that is elsewhere, and bx revert and bx dd make one"
 NEGATIVE = "there are no negative places and counts"
 DASH = "- is a file's name here; without a name standard input is read"
+UNLIKE = "the characters beside the digits aren't those of the bytes in line %d; bx undo takes this back, and bx revert --help shows the form of a line"
 LATER = "it was modified later than its journal, perhaps by another program; bx %s goes back"
 DD = "Usage: bx dd [OPTIONS] [OPERAND]..."
 XXD = "Usage: bx xxd [OPTIONS] [FILE]"
@@ -120,6 +121,16 @@ CASES = [
     ("xxd img", "", None, None),
     ("log img", "", None, None),
     # after a success
+    ("revert img", "00000000: 4142 7879                                ABxy\n", None, None),
+    ("revert img", "00000000: 4142 4344                                ABxy\n", None, None),
+    ("revert img", "*\n\n00000000: 4142 2020                                AB\n", None, None),
+    ("revert img", "00000000: 2020 4142  AB\r\n", None, None),
+    ("revert img", "00000000: 0941 0d0a                                .A..\n", None, None),
+    ("revert img", "00000000: 41  B\n", None, UNLIKE % 1),
+    ("revert img", "00000000: 41\n\n*\n00000004: 01000001 01000010  AB\n", None, UNLIKE % 4),
+    ("revert img", "00000000: 44434241 48474645                    ABCDEFGH\n", None, UNLIKE % 1),
+    ("revert img", "00000000: 41 42 43 44  45 46 47 48                           ABCDEFGH\n", None, UNLIKE % 1),
+    ("revert -p img", "41 42  43\n", None, None),
     ("undo later", "", None, "later: " + LATER % "redo -k 1"),
     ("redo later", "", None, "later: " + LATER % "undo -k 1"),
     ("undo -k 0 later", "", None, None),

@@ -1,2 +1,3 @@
+pub mod AgreeingLemmas
 pub mod XxdRows
 pub mod XxdReverts

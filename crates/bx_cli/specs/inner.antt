@@ -1,3 +1,4 @@
 -- What no public contract names.
+pub mod Beside
 pub mod CopyOut
 pub mod JobDump

@@ -396,7 +396,7 @@ fn revert<'a>(alloc: Global) -> Result<Command<'a>, AllocError> {
     let command = Command::new(alloc, "revert")
         .about("Write the bytes of a dump onto an image")
         .after_help(
-            "OFFSET: decimal, 0x and hexadecimal, or 0 and octal. Image, journal and redo file are made where they are missing.\n\nEXAMPLES:\n  echo '00000002: 7879' | bx revert disk.img     two bytes at place 2\n  bx revert -f edited.txt disk.img               a dump of xxd that was edited\n  echo 7879 | bx revert -p -s 0x200 disk.img     two bytes at place 512",
+            "OFFSET: decimal, 0x and hexadecimal, or 0 and octal. Image, journal and redo file are made where they are missing.\n\nA line: an address in hexadecimal, a colon, a space, pairs of hexadecimal digits with at most one space between two;\nfrom two spaces on nothing is read, so edit digits and not the characters beside them.\nRead, but not as they are meant: dumps of xxd -b (binary digits), of xxd -e (bytes in another order) and of xxd -d\n(decimal addresses), and pairs behind a gap of two spaces, as in lines of hexdump -C.\n\nEXAMPLES:\n  echo '00000002: 7879' | bx revert disk.img     two bytes at place 2\n  bx revert -f edited.txt disk.img               a dump of xxd that was edited\n  echo 7879 | bx revert -p -s 0x200 disk.img     two bytes at place 512",
         );
     changer(alloc, command, &REVERT)
 }

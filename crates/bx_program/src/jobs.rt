@@ -136,7 +136,7 @@ where
         | Job::Hexdump(HexdumpJob { file, .. })
         | Job::Strings(StringsJob { file, .. }) => return dump_file(rt, job, file, out),
         Job::Dd(dd) => return copy(rt, job, dd, out),
-        Job::Revert(job) => revert(rt, job)?,
+        Job::Revert(job) => revert(rt, job, remarks)?,
         Job::Undo {
             count,
             image,
@@ -206,7 +206,7 @@ fn show_number<W: Write>(out: &mut W, number: u32) -> Result<(), Fault> {
 }
 
 /// Puts the bytes of a dump onto the image: the whole dump is read first.
-fn revert<'a, R>(rt: &R, job: &'a RevertJob) -> Result<(), Stopped<'a>>
+fn revert<'a, R>(rt: &R, job: &'a RevertJob, remarks: &mut Remarks) -> Result<(), Stopped<'a>>
 where
     R: Files<File = File> + Input + Eprint + AllocGlobal,
 {
@@ -214,6 +214,7 @@ where
         Some(name) => whole(rt.alloc(), name.as_str(), input(rt, name)?)?,
         None => whole(rt.alloc(), STANDARD_INPUT, rt.reader())?,
     };
+    remarks.look_at_dump(text.as_slice(), job.plain);
     let text = Bytes::from_vec(text);
     let asked: Command = if job.plain {
         Command::RevertPlain { text, at: job.at }

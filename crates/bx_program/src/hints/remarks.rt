@@ -1,5 +1,5 @@
 //! What a person may want to know after a success.
-use bx_cli::{Job, Texts};
+use bx_cli::{Job, Texts, unlike_line};
 use bx_text::Name;
 use std::fs::{self, File};
 use std::rt::Files;
@@ -10,6 +10,8 @@ pub struct Remarks {
     person: bool,
     // the image was modified later than its journal
     is_later: bool,
+    // the line of the dump whose characters aren't those of its bytes
+    unlike: Option<u64>,
 }
 
 impl Remarks {
@@ -18,6 +20,7 @@ impl Remarks {
         Remarks {
             person,
             is_later: false,
+            unlike: None,
         }
     }
 
@@ -29,12 +32,29 @@ impl Remarks {
         }
     }
 
+    /// Looks at a dump: where it isn't plain, whether the characters beside the digits are those of the bytes.
+    pub fn look_at_dump(&mut self, dump: &[u8], plain: bool) {
+        if self.person {
+            self.unlike = if plain { None } else { unlike_line(dump) };
+        }
+    }
+
     /// Writes what there is to say of a job that was done, each on a line of its own. One that can't be written is left out.
     pub fn tell<R: Eprint>(&self, rt: &R, job: &Job) {
         match job {
+            Job::Revert(_) => self.tell_of_dump(rt),
             Job::Undo { count, image, .. } => self.tell_of_times(rt, image, *count, "redo"),
             Job::Redo { count, image, .. } => self.tell_of_times(rt, image, *count, "undo"),
             _ => {}
+        }
+    }
+
+    /// What may be wrong with a dump that was reverted.
+    fn tell_of_dump<R: Eprint>(&self, rt: &R) {
+        if let Some(line) = self.unlike {
+            let _ = eprintln!(rt;
+                "hint: the characters beside the digits aren't those of the bytes in line {line}; bx undo takes this back, and bx revert --help shows the form of a line"
+            );
         }
     }
 
