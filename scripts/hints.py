@@ -22,6 +22,7 @@ OLDER = "move journal and redo file away, and with them the older images"
 CHANGE = "change2 00000001 0000000000000008\n00000002: 4344" + " " * 37 + "CD\nsave 00000001\ndone2 00000001 0000000000000008\n"
 UNDONE = CHANGE.replace("4344", "7879").replace("CD", "xy")
 NO_JOURNAL = "no journal is here, so no change is known; -J names one that is elsewhere, and bx revert and bx dd make one"
+TAKEN = ": it has the name of a journal or a redo file, and was taken as an image"
 NEGATIVE = "there are no negative places and counts"
 DASH = "- is a file's name here; without a name standard input is read"
 UNLIKE = "the characters beside the digits aren't those of the bytes in line %d; bx undo takes this back, and bx revert --help shows the form of a line"
@@ -51,6 +52,8 @@ FILES = {
     "later": "ABxyEFGH",
     "later.bxj": CHANGE,
     "later.bxj.redo": UNDONE,
+    "twin.bxj": CHANGE,
+    "twin.bxj.bxj": "",
     "undone": "ABCDEFGH",
     "undone.bxj": "",
     "undone.bxj.redo": UNDONE,
@@ -121,6 +124,12 @@ CASES = [
     ("xxd img", "", None, None),
     ("log img", "", None, None),
     # after a success
+    ("revert imgae", "0: 41\n", None, "imgae: it was missing, so it was made; its journal is imgae.bxj"),
+    ("revert -J elsewhere imgae", "0: 41\n", None, "imgae: it was missing, so it was made; its journal is elsewhere"),
+    ("revert img", "0: 41\n", None, None),
+    ("revert -", "0: 41\n", None, "-: it was missing, so it was made; its journal is -.bxj\nhint: " + DASH),
+    ("revert none.bxj", "0: 41\n", None, "none.bxj: it was missing, so it was made; its journal is none.bxj.bxj\nhint: none.bxj" + TAKEN),
+    ("log twin.bxj", "", None, "twin.bxj" + TAKEN),
     ("revert img", "00000000: 4142 7879                                ABxy\n", None, None),
     ("revert img", "00000000: 4142 4344                                ABxy\n", None, None),
     ("revert img", "*\n\n00000000: 4142 2020                                AB\n", None, None),
@@ -131,6 +140,10 @@ CASES = [
     ("revert img", "00000000: 44434241 48474645                    ABCDEFGH\n", None, UNLIKE % 1),
     ("revert img", "00000000: 41 42 43 44  45 46 47 48                           ABCDEFGH\n", None, UNLIKE % 1),
     ("revert -p img", "41 42  43\n", None, None),
+    ("revert undone", "\n*\n", None, "the dump has no bytes, but what was undone is given up"),
+    ("revert -p undone", "", None, "the dump has no bytes, but what was undone is given up"),
+    ("revert undone", "0: 41\n", None, None),
+    ("revert img", "", None, None),
     ("undo later", "", None, "later: " + LATER % "redo -k 1"),
     ("redo later", "", None, "later: " + LATER % "undo -k 1"),
     ("undo -k 0 later", "", None, None),

@@ -85,6 +85,7 @@ where
     R: Files<File = File> + Input + Print + Eprint + AllocGlobal,
 {
     let mut remarks = Remarks::new(person);
+    remarks.look_before(rt, job);
     perform_seen(rt, job, &mut remarks)?;
     remarks.tell(rt, job);
     Ok(())

@@ -1,7 +1,9 @@
 //! What is said of the names of files.
+use bx_cli::{Job, Texts};
+use bx_text::Name;
 
 /// What is said where a file is named as standard input is in other programs.
-const DASH: &str = "- is a file's name here; without a name standard input is read";
+pub const DASH: &str = "- is a file's name here; without a name standard input is read";
 
 /// What is said of an image that is named as texts of images are.
 const TEXT_NAME: &str = "its image has the name of a journal or a redo file";
@@ -18,6 +20,21 @@ pub fn name_hint(file: &str) -> &'static str {
 }
 
 /// Whether it is a name as journals and redo files have.
-fn is_of_text(name: &str) -> bool {
+pub fn is_of_text(name: &str) -> bool {
     name.ends_with(".bxj") || name.ends_with(".redo")
+}
+
+/// The image of a job, and its texts; none where the job has no image.
+pub fn image_of(job: &Job) -> Option<(&Name, &Texts)> {
+    match job {
+        Job::Revert(job) => Some((&job.image, &job.texts)),
+        Job::Undo { image, texts, .. }
+        | Job::Redo { image, texts, .. }
+        | Job::Log { image, texts, .. } => Some((image, texts)),
+        Job::Dd(dd) => match (&dd.plan.output, &dd.texts) {
+            (Some(image), Some(texts)) => Some((image, texts)),
+            _ => None,
+        },
+        _ => None,
+    }
 }

@@ -1,15 +1,23 @@
 //! What a person may want to know after a success.
+use crate::hints::names::{DASH, image_of, is_of_text};
 use bx_cli::{Job, Texts, unlike_line};
 use bx_text::Name;
 use std::fs::{self, File};
+use std::io::ErrorKind;
 use std::rt::Files;
 
 /// What was seen of a job while it ran. Nothing is looked at where no person looks at standard error.
 #[derive(Drop)]
 pub struct Remarks {
     person: bool,
+    // the image was missing before
+    is_new: bool,
+    // something was undone before, and could be made again
+    was_undone: bool,
     // the image was modified later than its journal
     is_later: bool,
+    // the dump gives no byte
+    is_empty: bool,
     // the line of the dump whose characters aren't those of its bytes
     unlike: Option<u64>,
 }
@@ -19,8 +27,22 @@ impl Remarks {
     pub fn new(person: bool) -> Remarks {
         Remarks {
             person,
+            is_new: false,
+            was_undone: false,
             is_later: false,
+            is_empty: false,
             unlike: None,
+        }
+    }
+
+    /// Looks whether the job's image is missing, and whether something is undone, before the job opens a file.
+    pub fn look_before<R: Files<File = File>>(&mut self, rt: &R, job: &Job) {
+        if !self.person {
+            return;
+        }
+        if let Some((image, texts)) = image_of(job) {
+            self.is_new = is_missing(rt, image.as_str());
+            self.was_undone = is_filled(rt, texts.redo.as_str());
         }
     }
 
@@ -32,20 +54,45 @@ impl Remarks {
         }
     }
 
-    /// Looks at a dump: where it isn't plain, whether the characters beside the digits are those of the bytes.
+    /// Looks at a dump: whether it gives a byte, and, where it isn't plain, whether the characters beside the digits are those
+    /// of the bytes.
     pub fn look_at_dump(&mut self, dump: &[u8], plain: bool) {
         if self.person {
+            self.is_empty = !dump.iter().any(|byte| byte.is_ascii_hexdigit());
             self.unlike = if plain { None } else { unlike_line(dump) };
         }
     }
 
     /// Writes what there is to say of a job that was done, each on a line of its own. One that can't be written is left out.
     pub fn tell<R: Eprint>(&self, rt: &R, job: &Job) {
+        if !self.person {
+            return;
+        }
+        if let Some((image, texts)) = image_of(job) {
+            self.tell_of_image(rt, image.as_str(), texts.journal.as_str());
+        }
         match job {
             Job::Revert(_) => self.tell_of_dump(rt),
             Job::Undo { count, image, .. } => self.tell_of_times(rt, image, *count, "redo"),
             Job::Redo { count, image, .. } => self.tell_of_times(rt, image, *count, "undo"),
             _ => {}
+        }
+    }
+
+    /// Whether the image was made, and what may be wrong with its name.
+    fn tell_of_image<R: Eprint>(&self, rt: &R, image: &str, journal: &str) {
+        if self.is_new {
+            let _ = eprintln!(rt;
+                "hint: {image}: it was missing, so it was made; its journal is {journal}"
+            );
+        }
+        if self.is_new && image == "-" {
+            let _ = eprintln!(rt; "hint: {DASH}");
+        }
+        if is_of_text(image) {
+            let _ = eprintln!(rt;
+                "hint: {image}: it has the name of a journal or a redo file, and was taken as an image"
+            );
         }
     }
 
@@ -55,6 +102,9 @@ impl Remarks {
             let _ = eprintln!(rt;
                 "hint: the characters beside the digits aren't those of the bytes in line {line}; bx undo takes this back, and bx revert --help shows the form of a line"
             );
+        }
+        if self.is_empty && self.was_undone {
+            let _ = eprintln!(rt; "hint: the dump has no bytes, but what was undone is given up");
         }
     }
 
@@ -67,6 +117,19 @@ impl Remarks {
             );
         }
     }
+}
+
+/// Whether no file has this name.
+fn is_missing<R: Files<File = File>>(rt: &R, name: &str) -> bool {
+    match fs::metadata(rt, name) {
+        Ok(_) => false,
+        Err(error) => error.kind() == ErrorKind::NotFound,
+    }
+}
+
+/// Whether a file has this name and isn't empty.
+fn is_filled<R: Files<File = File>>(rt: &R, name: &str) -> bool {
+    fs::metadata(rt, name).is_ok_and(|file| file.len() > 0)
 }
 
 /// Whether the first file was modified later than the second; none where one of them is no regular file, or has no time.
