@@ -14,6 +14,8 @@ mod runs;
 #[cfg(test)]
 mod shared;
 #[cfg(test)]
+mod slow;
+#[cfg(test)]
 mod store;
 #[cfg(test)]
 mod text;

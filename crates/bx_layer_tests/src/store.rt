@@ -1,10 +1,11 @@
 //! Texts in memory, in files and behind fuses, and refused growths.
 //!
-//! A script has a call on each line: `reserve N`, `append TEXT`, `cut N`, and what is looked at: `len N`, `read N TEXT`, `text TEXT`,
+//! A script has a call on each line: `reserve N`, `append TEXT`, `cut N`, `sync`, and what is looked at: `len N`, `read N TEXT`, `text TEXT`,
 //! `faults N`. A `!` in front says that the call fails.
 ghost use Rattle.std.specs.Prelude.{◌≡◌, ◌↔◌};
 
 use crate::shared::{Step, assert_told, new_file, step_of};
+use crate::slow::Slow;
 use bx_image::{Part, SystemFile};
 use bx_store::{FileText, FuseText, MemText, TextFault, TextStore};
 use linked_list_allocator::LocalHeap;
@@ -87,6 +88,11 @@ fn cuts<T: TextStore>(rt: &impl Abort, store: &mut T, len: u64) -> bool {
     store.cut(len).is_ok()
 }
 
+fn syncs<T: TextStore>(rt: &impl Abort, store: &mut T) -> bool {
+    assert!(rt; store.faults() < u64::MAX);
+    store.sync().is_ok()
+}
+
 fn has_faults<T: TextStore>(rt: &impl Abort, store: &T, faults: u64) -> bool {
     assert!(rt; store.faults() == faults);
     true
@@ -98,6 +104,7 @@ fn succeeds<T: TextStore>(rt: &impl Abort, alloc: Global, store: &mut T, step: S
         "reserve" => store.reserve(step.number).is_ok(),
         "append" => appends(rt, store, step.value.as_bytes()),
         "cut" => cuts(rt, store, step.number),
+        "sync" => syncs(rt, store),
         "len" => has_len(rt, store, step.number),
         "read" => reads_two(rt, store, step.number, step.text),
         "text" => reads(rt, alloc, store, step.value),
@@ -128,6 +135,7 @@ fn text_in_memory(rt: HostRuntime) {
 reserve 5
 append abc
 append de
+sync
 len 5
 read 2 cd
 cut 4
@@ -199,6 +207,35 @@ fn part_of_a_failed_cut(rt: HostRuntime) -> Result<(), Fail> {
     assert_left(&rt, rt.alloc(), Part::All, "len 1")
 }
 
+// A sync fails as an append does: once, and for good. The text stays.
+fn assert_sync_fails(rt: &impl Abort, alloc: Global, once: bool, script: &str) {
+    let mut text = FuseText::new(MemText::new(alloc), 1, Part::All, once);
+    play(rt, alloc, &mut text, "reserve 9\nappend AB\n!sync\ntext AB");
+    play(rt, alloc, &mut text, script);
+}
+
+#[test]
+fn syncs_fail_as_appends(rt: HostRuntime) {
+    assert_sync_fails(&rt, rt.alloc(), true, "sync\nappend C\nfaults 1");
+    assert_sync_fails(&rt, rt.alloc(), false, "!sync\n!append C\nfaults 3");
+    let mut text = FuseText::new(MemText::new(rt.alloc()), 2, Part::Nothing, true);
+    let script = "reserve 9\nsync\nsync\n!append AB\nlen 0\nsync\nfaults 1";
+    play(&rt, rt.alloc(), &mut text, script);
+}
+
+fn play_slow(rt: &impl Abort, alloc: Global, file: Slow, script: &str) {
+    play(rt, alloc, &mut FileText::new(file), script);
+}
+
+// A sync is tried again where it was interrupted, up to the thousandth time, and one that fails is counted.
+#[test]
+fn interrupted_and_failing_syncs(rt: HostRuntime) {
+    play_slow(&rt, rt.alloc(), Slow::new(999), "sync\nsync\nfaults 0");
+    play_slow(&rt, rt.alloc(), Slow::new(1000), "!sync\nfaults 1");
+    let script = "!sync\ntext 0123456789abcdef\n!sync\nfaults 2";
+    play_slow(&rt, rt.alloc(), Slow::full(), script);
+}
+
 // A length and a text are read, and then reading fails, but the text is cut.
 fn assert_two_reads<T: TextStore>(rt: &impl Abort, alloc: Global, store: &mut T) {
     assert!(rt; store.faults() < u64::MAX);
@@ -245,9 +282,11 @@ reserve 4611686018427387904
 !reserve 4611686018427387905
 append one;
 append two;
+sync
 text one;two;
 read 6 o;
 cut 5
+sync
 append !
 len 6
 faults 0",

@@ -72,10 +72,28 @@ fn part_of_a_failed_cut(rt: HostRuntime) -> Result<(), Fail> {
     Ok(())
 }
 
+// A sync fails as a write does: once, and for good. What was written stays, and a write behind it fails, or goes through.
+fn assert_sync_fails(rt: &impl Abort, alloc: Global, once: bool, script: &str) -> Result<(), Fail> {
+    let mut image = fused(alloc, 1, Part::All, once)?;
+    play(rt, &mut image, "reserve 6\nwrite 0 x\n!sync\nread 0 xB");
+    play(rt, &mut image, script);
+    Ok(())
+}
+
+#[test]
+fn syncs_fail_as_writes(rt: HostRuntime) -> Result<(), Fail> {
+    assert_sync_fails(&rt, rt.alloc(), true, "sync\nwrite 1 y\nfaults 1")?;
+    assert_sync_fails(&rt, rt.alloc(), false, "!sync\n!write 1 y\nfaults 3")?;
+    let mut image = fused(rt.alloc(), 2, Part::Nothing, true)?;
+    let script = "reserve 6\nsync\nsync\n!write 0 x\nread 0 AB\nsync\nfaults 1";
+    play(&rt, &mut image, script);
+    Ok(())
+}
+
 // The second of two bytes that are read fails, or the length before them. Writes pass where reads fail.
 fn assert_reads_fail(rt: &impl Abort, alloc: Global, pass: u64) -> Result<(), Fail> {
     let mut image = fused_reads(alloc, b"ABCD", pass)?;
-    let script = "read 1 BC\n!read 0 AB\nreserve 4\nwrite 0 x\ncut 3\n!len 0\nfaults 2";
+    let script = "read 1 BC\n!read 0 AB\nreserve 4\nwrite 0 x\nsync\ncut 3\n!len 0\nfaults 2";
     play(rt, &mut image, script);
     assert_bytes(rt, image.into_inner().as_slice(), b"xBC");
     Ok(())

@@ -1,86 +1,14 @@
 //! Images in files: short and interrupted calls, files open for reading alone, and addresses past 4 GiB.
-ghost use Rattle.std.specs.Prelude.{[]};
-
 use crate::image::guarded::{assert_countable, assert_failed, play};
 use crate::shared::new_file;
+use crate::slow::Slow;
 use bx_image::{Device, DeviceFailed, FileImage, RandomAccess, Stop, SystemFile};
 use std::fs::{self, File};
 use std::process::Abort;
 use std::test::Fail;
 
-/// A file of 16 bytes that moves three bytes a call, after some interruptions.
-#[derive(Drop)]
-struct Slow {
-    bytes: [u8; 16],
-    interruptions: u32,
-    left: u32,
-}
-
-impl Slow {
-    fn stop(&mut self) -> Result<(), Stop> {
-        if self.left == 0 {
-            self.left = self.interruptions;
-            return Ok(());
-        }
-        self.left -= 1;
-        Err(Stop::Interrupted)
-    }
-}
-
-impl RandomAccess for Slow {
-    ghost content = { λ _. [] };
-
-    ghost honest = { λ _. ⊥ };
-
-    ghost survives = { λ _ _. ⊥ };
-
-    ghost within = { λ f honest. absurd honest };
-
-    ghost present = { λ f honest. absurd honest };
-
-    fn size(&mut self) -> Result<u64, Stop> {
-        self.stop()?;
-        Ok(16)
-    }
-
-    fn read_some(&mut self, at: u64, buf: &mut [u8]) -> Result<usize, Stop> {
-        self.stop()?;
-        let count = buf.len().min(3);
-        if at > 16 - count as u64 {
-            return Ok(0);
-        }
-        let start = at as usize;
-        buf[..count].copy_from_slice(&self.bytes[start..start + count]);
-        Ok(count)
-    }
-
-    fn write_some(&mut self, at: u64, bytes: &[u8]) -> Result<usize, Stop> {
-        self.stop()?;
-        let count = bytes.len().min(3);
-        if at > 16 - count as u64 {
-            return Ok(0);
-        }
-        let start = at as usize;
-        self.bytes[start..start + count].copy_from_slice(&bytes[..count]);
-        Ok(count)
-    }
-
-    fn resize(&mut self, n: u64) -> Result<(), Stop> {
-        self.stop()?;
-        if n == 16 { Ok(()) } else { Err(Stop::Failed) }
-    }
-
-    fn sync(&mut self) -> Result<(), Stop> {
-        self.stop()
-    }
-}
-
 fn slow_image(interruptions: u32) -> FileImage<Slow> {
-    FileImage::new(Slow {
-        bytes: *b"0123456789abcdef",
-        interruptions,
-        left: interruptions,
-    })
+    FileImage::new(Slow::new(interruptions))
 }
 
 fn read_slow(
@@ -97,7 +25,7 @@ fn read_slow(
 #[test]
 fn short_and_interrupted_calls(rt: HostRuntime) {
     let mut image = slow_image(999);
-    let script = "len 16\nwrite 4 ABCDEFGH\nread 3 3ABCDEFGHc\ncut 16\nfaults 0";
+    let script = "len 16\nwrite 4 ABCDEFGH\nread 3 3ABCDEFGHc\nsync\ncut 16\nsync\nfaults 0";
     play(&rt, &mut image, script);
     assert_failed(&rt, read_slow(&rt, &mut image, 10, &mut [0; 10]));
     play(&rt, &mut image, "!write 14 xyz\n!cut 3\nfaults 3");
@@ -109,6 +37,15 @@ fn a_thousand_interruptions(rt: HostRuntime) {
     assert_failed(&rt, read_slow(&rt, &mut slow_image(1000), 0, &mut [0; 1]));
     play(&rt, &mut slow_image(1000), "!write 0 x");
     play(&rt, &mut slow_image(1000), "!cut 16");
+    play(&rt, &mut slow_image(1000), "!sync\nfaults 1");
+}
+
+// The bytes stay, and each sync that fails is counted.
+#[test]
+fn a_sync_that_fails(rt: HostRuntime) {
+    let mut image = FileImage::new(Slow::full());
+    let script = "write 4 ABC\n!sync\nread 3 3ABC7\n!sync\nfaults 2";
+    play(&rt, &mut image, script);
 }
 
 fn read(
@@ -132,9 +69,11 @@ fn image_in_a_file(rt: HostRuntime) -> Result<(), Fail> {
 len 0
 reserve 9223372036854775808
 write 2 xyz
+sync
 read 0 ~~xyz
 cut 3
 cut 5
+sync
 read 0 ~~x~~",
     );
     assert_failed(&rt, read(&rt, &mut image, 1, &mut [9; 5]));
@@ -177,5 +116,16 @@ read 5368709120 f~~~
 faults 0",
     );
     fs::remove_file(&rt, name)?;
+    Ok(())
+}
+
+// The system can't sync what is no file, and is only asked where the file waits for it.
+#[test]
+fn a_sync_reaches_the_system(rt: HostRuntime) -> Result<(), Fail> {
+    let mut null = SystemFile::new(File::open(&rt, "/dev/null")?);
+    assert!(rt; null.sync() == Err(Stop::Failed));
+    assert!(rt; null.error.is_some());
+    null.waits = false;
+    assert!(rt; null.sync() == Ok(()));
     Ok(())
 }

@@ -57,6 +57,12 @@ fn cut<D: Device>(rt: &impl Abort, device: &mut D, n: u64) -> Result<(), DeviceF
     device.set_len(n)
 }
 
+/// Puts what was written on the disk.
+fn sync<D: Device>(rt: &impl Abort, device: &mut D) -> Result<(), DeviceFailed> {
+    assert_countable(rt, device);
+    device.sync()
+}
+
 /// The bytes that the device has.
 pub fn content<D: Device>(rt: &impl Abort, alloc: Global, device: &mut D) -> Result<Vec<u8>, Fail> {
     assert_countable(rt, device);
@@ -140,6 +146,7 @@ fn succeeds<D: Device>(rt: &impl Abort, device: &mut D, step: Step<'_>) -> bool 
         "reserve" => reserve(device, step.number).is_ok(),
         "write" => write(rt, device, step.number, step.text.as_bytes()).is_ok(),
         "cut" => cut(rt, device, step.number).is_ok(),
+        "sync" => sync(rt, device).is_ok(),
         "len" => has_length(rt, device, step.number),
         "read" => reads(rt, device, step.number, step.text),
         _ => {
@@ -155,8 +162,8 @@ fn play_step<D: Device>(rt: &impl Abort, device: &mut D, line: &str) {
     assert!(rt; right, "{line}");
 }
 
-/// Plays a script: on each line a call, `reserve N`, `write N TEXT`, `cut N`, or what is looked at, `len N`, `read N TEXT` (the
-/// length too), `faults N`. A `!` in front says that the call fails.
+/// Plays a script: on each line a call, `reserve N`, `write N TEXT`, `cut N`, `sync`, or what is looked at, `len N`,
+/// `read N TEXT` (the length too), `faults N`. A `!` in front says that the call fails.
 pub fn play<D: Device>(rt: &impl Abort, device: &mut D, script: &str) {
     for line in script.lines() {
         play_step(rt, device, line);
