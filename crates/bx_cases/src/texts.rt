@@ -1,6 +1,7 @@
 //! Cases of texts that are opened.
 mod damage;
 mod growths;
+mod zeros;
 
 use crate::report::compare::{Wrong, differs, same_bytes};
 use crate::report::tally::{Failure, at};
@@ -14,6 +15,7 @@ use crate::sweep::images::{History, Images, history_of};
 use crate::sweep::recovery::openings;
 use crate::texts::damage::{changed_bytes, fronts};
 use crate::texts::growths::OpeningOf;
+use crate::texts::zeros::fronts_with_zeros;
 use bx_case_files::TextCase;
 use bx_image::Device;
 use bx_journal::Session;
@@ -21,7 +23,7 @@ use bx_store::TextStore;
 use std::alloc::Global;
 
 /// The ways in which a text is opened.
-pub static SWEEPS: [&str; 8] = [
+pub static SWEEPS: [&str; 9] = [
     "in memory",
     "in pages",
     "in files",
@@ -30,6 +32,7 @@ pub static SWEEPS: [&str; 8] = [
     "openings stopped",
     "fronts",
     "changed bytes",
+    "fronts with zeros",
 ];
 
 /// Opens a text in one way. Tells how often.
@@ -43,7 +46,8 @@ pub fn play_text(rt: &HostRuntime, case: &TextCase, sweep: usize) -> Result<u32,
         4 => opening_growths(alloc, case),
         5 => stopped(alloc, case),
         6 => fronts(alloc, texts_of(case)),
-        _ => changed_bytes(alloc, texts_of(case), case.all_changes),
+        7 => changed_bytes(alloc, texts_of(case), case.all_changes),
+        _ => fronts_with_zeros(alloc, texts_of(case)),
     };
     match played {
         Ok(plays) => Ok(plays),

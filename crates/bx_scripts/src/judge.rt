@@ -1,4 +1,5 @@
 //! What opening is to answer, by a slow reading of the format of journals and redo texts.
+use crate::zeros::read_front;
 use std::alloc::{AllocError, Global};
 
 /// The greatest length of an image.
@@ -61,7 +62,7 @@ struct Reading {
 pub enum Ending {
     /// Behind a finished entry, or before the first.
     Clean,
-    /// In an entry of which the image has nothing.
+    /// In an entry of which the image has nothing, or in zeros that a loss of power left.
     Dropped,
     /// In the entry of this number, which is taken back.
     Restored { number: u32 },
@@ -421,15 +422,16 @@ fn unwound(alloc: Global, entries: &[Entry], image: &[u8]) -> Result<Option<Vec<
     Ok(Some(bytes))
 }
 
-/// How a text that was read is found, and the image that is left.
+/// How a text that was read to its end is found, and the image that is left. `is_whole`: all of it was read.
 fn left_of(
     alloc: Global,
     reading: &Reading,
     image: &[u8],
     rest: &[u8],
+    is_whole: bool,
 ) -> Result<(Ending, Vec<u8>), AllocError> {
     match reading.stage {
-        Stage::Between if rest.is_empty() => Ok((Ending::Clean, image.to_vec(alloc)?)),
+        Stage::Between if rest.is_empty() && is_whole => Ok((Ending::Clean, image.to_vec(alloc)?)),
         Stage::Between | Stage::Saving => Ok((Ending::Dropped, image.to_vec(alloc)?)),
         Stage::Ending => {
             let number = reading.number().min(MOST_ENTRIES) as u32;
@@ -564,11 +566,13 @@ pub fn judge(
     redo: &[u8],
 ) -> Result<Verdict, AllocError> {
     let mut reading = Reading::new(alloc);
-    let (reads, rest) = read(alloc, &mut reading, journal)?;
+    let text = read_front(journal);
+    let (reads, rest) = read(alloc, &mut reading, text)?;
     if !reads {
         return Ok(Err(Refusal::Damaged { line: reading.line }));
     }
-    let (ending, left) = left_of(alloc, &reading, image, rest)?;
+    let is_whole = text.len() == journal.len();
+    let (ending, left) = left_of(alloc, &reading, image, rest, is_whole)?;
     match reading.told {
         Some(expected) if expected != left.len() as u64 => {
             Ok(Err(Refusal::LengthDiffers { expected }))

@@ -19,6 +19,9 @@ const ROWS: usize = 16;
 /// Of the changes of a text's bytes about so many are made.
 const CHANGES: usize = 400;
 
+/// Of a text of some bytes, so many of these at all its places are read.
+const BYTES_READ: usize = 1 << 20;
+
 /// Runs of words whose input and output have at most so many bytes have their growths refused.
 const SMALL: usize = 4;
 
@@ -77,4 +80,11 @@ pub fn is_swept(row: usize, rows: usize) -> bool {
 pub fn change_step(len: usize) -> usize {
     let step = len.saturating_mul(255) / CHANGES;
     step.saturating_add(1).min(255)
+}
+
+/// Whether a front of so many bytes is opened of a text of this length, or its byte at this place changed: of a text whose
+/// fronts have many bytes together, one in so many, and the first.
+pub fn is_taken(place: usize, len: usize) -> bool {
+    let step = (len.saturating_mul(len) / BYTES_READ).saturating_add(1);
+    place.checked_rem(step) == Some(0)
 }

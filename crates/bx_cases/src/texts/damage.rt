@@ -6,7 +6,7 @@ use crate::session::devices::{Held, MemDevices, Texts, in_memory, unchanged};
 use crate::session::open::{MemSession, close, open};
 use crate::session::places::Memory;
 use crate::session::standing::{Standing, again};
-use crate::sweep::weight::change_step;
+use crate::sweep::weight::{change_step, is_taken};
 use bx_case_files::Opening;
 use bx_cli::Fault;
 use bx_journal::SessionFault;
@@ -130,7 +130,7 @@ fn opens_so(alloc: Global, texts: Texts<'_>, verdict: &Verdict) -> Result<(), Wr
 }
 
 /// Opening answers what the judge answers; where it refuses, nothing changes.
-fn judged(alloc: Global, texts: Texts<'_>) -> Result<(), Wrong> {
+pub fn judged(alloc: Global, texts: Texts<'_>) -> Result<(), Wrong> {
     let verdict = judge(alloc, texts.image, texts.journal, texts.redo)?;
     if is_long(&verdict) {
         return Ok(());
@@ -139,7 +139,7 @@ fn judged(alloc: Global, texts: Texts<'_>) -> Result<(), Wrong> {
 }
 
 /// The text that is cut off or changed: the journal's, or that of what was undone where there is any.
-fn text_of<'a>(texts: Texts<'a>) -> &'a [u8] {
+pub fn text_of<'a>(texts: Texts<'a>) -> &'a [u8] {
     if texts.redo.is_empty() {
         texts.journal
     } else {
@@ -148,7 +148,7 @@ fn text_of<'a>(texts: Texts<'a>) -> &'a [u8] {
 }
 
 /// The same with another text in its place.
-fn with_text<'a>(texts: Texts<'a>, text: &'a [u8]) -> Texts<'a> {
+pub fn with_text<'a>(texts: Texts<'a>, text: &'a [u8]) -> Texts<'a> {
     if texts.redo.is_empty() {
         Texts {
             journal: text,
@@ -162,14 +162,16 @@ fn with_text<'a>(texts: Texts<'a>, text: &'a [u8]) -> Texts<'a> {
     }
 }
 
-/// Opens each front of the text. Tells how many they are.
+/// Opens each front of the text, or of a long one some. Tells how many they are.
 pub fn fronts(alloc: Global, texts: Texts<'_>) -> Result<u32, Wrong> {
     let text = text_of(texts);
     let mut count = 0u32;
     for n in 0..=text.len() {
-        let (front, _) = text.split_at(n.min(text.len()));
-        judged(alloc, with_text(texts, front))?;
-        count = count.saturating_add(1);
+        if is_taken(n, text.len()) {
+            let (front, _) = text.split_at(n.min(text.len()));
+            judged(alloc, with_text(texts, front))?;
+            count = count.saturating_add(1);
+        }
     }
     Ok(count)
 }
@@ -180,7 +182,9 @@ pub fn changed_bytes(alloc: Global, texts: Texts<'_>, all: bool) -> Result<u32, 
     let step = if all { 1 } else { change_step(len) };
     let mut count = 0u32;
     for place in 0..len {
-        count = count.saturating_add(changed_byte(alloc, texts, place, step)?);
+        if is_taken(place, len) {
+            count = count.saturating_add(changed_byte(alloc, texts, place, step)?);
+        }
     }
     Ok(count)
 }
