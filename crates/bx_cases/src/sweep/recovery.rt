@@ -106,28 +106,37 @@ pub fn recovered(alloc: Global, texts: Texts<'_>) -> Result<(MemSession, Opening
     }
 }
 
-/// Stops an opening at one call: it stays what is expected. Answers what is left, if it was stopped.
-fn stopped_opening(
-    alloc: Global,
-    texts: Texts<'_>,
-    expected: &Images<'_>,
-    fused: Fused,
-) -> Result<Option<Held>, Wrong> {
-    let devices = match open(alloc, in_fused(alloc, texts, fused)?) {
-        Ok(_) => return Ok(None),
-        Err((devices, Fault::Session(SessionFault::DeviceFailed | SessionFault::Interrupted))) =>
-            devices,
-        Err((_, fault)) => return Err(refused(alloc, fault)),
-    };
-    let left = held_fused(alloc, devices)?;
-    still_stands(alloc, left.texts(), expected)?;
-    Ok(Some(left))
+/// Stops an opening at one call. Answers what is left, if it was stopped.
+fn stopped_opening(alloc: Global, texts: Texts<'_>, fused: Fused) -> Result<Option<Held>, Wrong> {
+    match open(alloc, in_fused(alloc, texts, fused)?) {
+        Ok(_) => Ok(None),
+        Err((devices, Fault::Session(SessionFault::DeviceFailed | SessionFault::Interrupted))) => {
+            Ok(Some(held_fused(alloc, devices)?))
+        }
+        Err((_, fault)) => Err(refused(alloc, fault)),
+    }
 }
 
 /// What was left, opened, is what is expected.
 fn still_stands(alloc: Global, texts: Texts<'_>, expected: &Images<'_>) -> Result<(), Wrong> {
     let (session, _) = recovered(alloc, texts)?;
     stands_for(alloc, session, expected)
+}
+
+/// What a stopped opening left stays what is expected. It is added to the list, where nothing left the same bytes.
+fn add_left(
+    alloc: Global,
+    left: Held,
+    expected: &Images<'_>,
+    list: &mut Vec<Held>,
+    opened: &[Held],
+) -> Result<(), Wrong> {
+    if is_seen(list.as_slice(), left.texts()) || is_seen(opened, left.texts()) {
+        return Ok(());
+    }
+    still_stands(alloc, left.texts(), expected)?;
+    list.push(left)?;
+    Ok(())
 }
 
 /// Stops an opening in one way at each call, and adds what each leaves to the list. Tells how often it was stopped.
@@ -137,11 +146,12 @@ fn stop_kind(
     expected: &Images<'_>,
     kind: u32,
     list: &mut Vec<Held>,
+    opened: &[Held],
 ) -> Result<u32, Wrong> {
     let mut stops = 0u32;
     for pass in 0..MOST_CALLS {
-        match stopped_opening(alloc, texts, expected, fuse_at(kind, pass))? {
-            Some(left) => list.push(left)?,
+        match stopped_opening(alloc, texts, fuse_at(kind, pass))? {
+            Some(left) => add_left(alloc, left, expected, list, opened)?,
             None => break,
         }
         stops = stops.saturating_add(1);
@@ -155,10 +165,11 @@ fn stop_each(
     texts: Texts<'_>,
     expected: &Images<'_>,
     list: &mut Vec<Held>,
+    opened: &[Held],
 ) -> Result<u32, Wrong> {
     let mut stops = 0u32;
     for kind in 0..OPENING_KINDS {
-        let more = stop_kind(alloc, texts, expected, kind, list)?;
+        let more = stop_kind(alloc, texts, expected, kind, list, opened)?;
         stops = stops.saturating_add(more);
     }
     Ok(stops)
@@ -181,30 +192,34 @@ pub fn openings(
     seen: &mut Vec<Held>,
 ) -> Result<u32, Wrong> {
     let mut stops = 0u32;
+    let before = seen.len();
     let mut list = Vec::new(alloc);
     list.push(left)?;
     for _ in 0..MOST_CALLS {
         let Some(left) = list.pop() else {
             return Ok(stops);
         };
-        let more = stop_new(alloc, left, expected, &mut list, seen)?;
+        let more = stop_new(alloc, left, expected, &mut list, seen, before)?;
         stops = stops.saturating_add(more);
     }
     Err(Wrong::Unknown)
 }
 
-/// Stops the opening of what was left at each call, where it wasn't opened before. Tells how often.
+/// Stops the opening of what was left at each call, where it wasn't opened before. What was opened behind the first `before`
+/// is expected to stand for the same. Tells how often.
 fn stop_new(
     alloc: Global,
     left: Held,
     expected: &Images<'_>,
     list: &mut Vec<Held>,
     seen: &mut Vec<Held>,
+    before: usize,
 ) -> Result<u32, Wrong> {
     if is_seen(seen.as_slice(), left.texts()) {
         return Ok(0);
     }
-    let more = stop_each(alloc, left.texts(), expected, list)?;
+    let (_, opened) = seen.as_slice().split_at(before.min(seen.len()));
+    let more = stop_each(alloc, left.texts(), expected, list, opened)?;
     seen.push(left)?;
     Ok(more)
 }
