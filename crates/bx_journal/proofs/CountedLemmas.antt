@@ -17,7 +17,7 @@ use Rattle.bx_journal.proofs.OpenLemmas.{begins_told, differs_of, one_told, same
 use Rattle.bx_journal.proofs.Phases.{length-stack_of}
 use Rattle.bx_journal.proofs.Sane.{read_sane, have_lengths}
 
-left_none : (text : List ℕ) → shown text ≡ text → (split text).rest ≡ [] → left_over text ≡ []
+pub left_none : (text : List ℕ) → shown text ≡ text → (split text).rest ≡ [] → left_over text ≡ []
 left_none text same whole = ap (λ t. (split t).rest ++ drop (length t) text) same ∙ ap (λ r. r ++ drop (length text) text) whole ∙ drop_of_length-le text (omega arith)
 
 -- what opening finds in such a text

@@ -43,3 +43,4 @@ pub mod LeftLemmas
 pub mod WindowLemmas
 pub mod ListLemmas
 pub mod LastLemmas
+pub mod Reopening

@@ -1,5 +1,7 @@
 -- What opening leaves and answers, told of the devices that it is given.
 use Rattle.std.specs.Prelude.{◌≡◌, ℕ, List, [], Result, MatchResult}
+use Rattle.bx_journal.specs.declared.session.answers.How.{How}
+use Rattle.bx_journal.specs.declared.session.answers.How.TheVariants.{Clean}
 use Rattle.bx_journal.specs.declared.session.answers.Recovered.{Recovered}
 use Rattle.bx_journal.specs.declared.session.fault.SessionFault.{SessionFault}
 use Rattle.bx_journal.specs.declared.session.fault.SessionFault.TheVariants.{LengthDiffers, RedoDamaged}
@@ -10,8 +12,10 @@ use Rattle.bx_journal.specs.Images.{Images}
 use Rattle.bx_journal.specs.Judging.{RefusesRedo}
 use Rattle.bx_journal.specs.Opening.{IsOpened, RefusesLength}
 use Rattle.bx_journal.specs.Power.{Found}
-use Rattle.bx_journal.specs.Redo.{RefusesRedoAt, found_undone}
-use Rattle.bx_journal.specs.Session.{HasUndone}
+use Rattle.bx_journal.specs.Machine.{changes_of}
+use Rattle.bx_journal.specs.Phase.{IsAtRest}
+use Rattle.bx_journal.specs.Redo.{IsRedoOf, RefusesRedoAt, found_undone}
+use Rattle.bx_journal.specs.Session.{HasUndone, IsReady}
 use Rattle.bx_journal.specs.SessionView.{SessionView}
 use Rattle.bx_journal.specs.Stack.{Recovers, image_at, recovered}
 use Rattle.bx_journal.specs.Standing.{IsStanding}
@@ -61,3 +65,15 @@ Refinds image text d t u d_new t_new u_new e = (s : Images) → Found (text t) (
 -- a redo text of which opening finds images is never refused
 abbrev pub KeepsRedo : {D T : Type 0} → (D → List ℕ) → (T → List ℕ) → D → T → T → SessionFault → Type 0
 KeepsRedo image text d t u e = (s : Images) → Found (text t) (image d) (text u) s → (line : ℕ) → e ≡ RedoDamaged line → ⊥
+
+-- image and texts are those of a session that is ready with these images, as it is when it is closed
+abbrev pub ShowImages : {D T : Type 0} → (D → List ℕ) → (T → List ℕ) → D → T → T → Images → Type 0
+ShowImages image text d t u s = IsAtRest (text t) (image d) s.stack × IsRedoOf (text u) (image d) (changes_of s.stack) s.undone
+
+-- nothing was unfinished and nothing was written, and the session is ready with these images
+pub record IsReopened {D T : Type 0} (image : D → List ℕ) (text : T → List ℕ) (d : D) (t u : T) (images : Images) (s : SessionView D T) (how : How) : Type 0 where
+  pub clean : how ≡ Clean
+  pub pair_same : IsPairSame image text d t s.device s.store
+  pub redo_same : text s.redo_text ≡ text u
+  pub ready : IsReady image text s images.stack
+  pub undone : HasUndone image text s images.undone

@@ -17,7 +17,8 @@ impl<D: Device, T: TextStore, A: Allocator + Clone> Session<D, T, A> {
     ghost use Rattle.bx_journal.specs.Recovery.{OpenKind};
     ghost use Rattle.bx_journal.specs.Session.{HasUndone, IsReady};
     ghost use Rattle.bx_journal.specs.Calls.{AfterFault, OpenFault};
-    ghost use Rattle.bx_journal.specs.Opened.{IsPairSame, Refinds, KeepsFound, KeepsImages, KeepsLengths, KeepsRedo, OpensAs, RefusesDiffering, RefusesRightly, RefusesUnfit, StandsRecovered};
+    ghost use Rattle.bx_journal.specs.Fault.{DeviceFault};
+    ghost use Rattle.bx_journal.specs.Opened.{IsPairSame, IsReopened, Refinds, ShowImages, KeepsFound, KeepsImages, KeepsLengths, KeepsRedo, OpensAs, RefusesDiffering, RefusesRightly, RefusesUnfit, StandsRecovered};
     ghost use Rattle.bx_journal.specs.Opening.{ThreeCounts, RefusesText};
     ghost use Rattle.bx_journal.specs.Undoing.{HasLeft};
 
@@ -80,6 +81,10 @@ impl<D: Device, T: TextStore, A: Allocator + Clone> Session<D, T, A> {
             → IfErr result (λ e. RefusesRightly D.image T.text device store redo_text e.3) }
         ensures redo_unfit { D.honest device → T.honest store → T.honest redo_text
             → RefusesUnfit result (λ e. e.3) (T.text store) (D.image device) (T.text redo_text) }
+
+        // What a session left that was ready is opened with the same images, and nothing is written.
+        ensures reopens { D.honest device → T.honest store → T.honest redo_text → (s : Images) → ShowImages D.image T.text device store redo_text s
+            → MatchResult result (λ o. IsReopened D.image T.text device store redo_text s o.0 o.1.how) (λ e. DeviceFault e.3) }
 
         // From what an interruption left the undone images are kept, or given up where something is unfinished.
         ensures keeps_undone { D.honest device → T.honest store → T.honest redo_text

@@ -42,6 +42,7 @@ impl<D: Device, T: TextStore, A: Allocator + Clone> Session<D, T, A> {
         ensures accepted { D.honest self.old.device → T.honest self.old.store → Steps D.image T.text self.old self.new UndoStep k drop result }
         ensures sound { D.honest self.old.device → T.honest self.old.store → StaysReady D.image T.text self.old self.new (drop k) result }
         ensures left { IfOk result (λ left. (left + k ≡ self.old.count) × (self.new.count ≡ left) × (self.new.is_broken ≡ false)) }
+        ensures few_undone { OnOk result (self.new.undone ≤ self.old.undone + k) }
 
         // The text is then that of the other entries.
         ensures text { T.honest self.old.store → LeavesFront (T.text self.old.store) k (T.text self.new.store) result }
