@@ -134,32 +134,47 @@ for file in random text zeros; do
 done
 
 # Changes of an image: a dump of less bytes written onto an image, taken back and made again, and opening beside a full journal.
+# With -U, since the tools beside don't wait for the disk either.
 C=changes
 bare='rm -f image image.bxj image.bxj.redo'
 xxd less > dump; xxd -p less > plain
 before=$bare made=image
-row $C 8 'revert, a new image'      'xxd -r dump image'     -- "$BX" revert -f dump image    -- xxd -r dump image
-row $C 8 'revert -p, a new image'   'xxd -r -p dump image'  -- "$BX" revert -p -f plain image -- xxd -r -p plain image
+row $C 8 'revert, a new image'      'xxd -r dump image'     -- "$BX" revert -U -f dump image -- xxd -r dump image
+row $C 8 'revert -p, a new image'   'xxd -r -p dump image'  -- "$BX" revert -U -p -f plain image -- xxd -r -p plain image
 before="$bare; cp few image"
-row $C - 'revert over an image'     'xxd -r dump image'     -- "$BX" revert -f dump image    -- xxd -r dump image
-row $C - 'dd over an image'         'dd conv=notrunc'       -- "$BX" dd if=less of=image conv=notrunc -- dd if=less of=image conv=notrunc
-before="$bare; cp few image; '$BX' revert -f dump image"
-row $C - 'undo of that'             'cp of a copy'          -- "$BX" undo image              -- cp few image
-before="$before; '$BX' undo image > undone"
-row $C - 'redo of that'             'cp of a copy'          -- "$BX" redo image              -- cp less image
+row $C - 'revert over an image'     'xxd -r dump image'     -- "$BX" revert -U -f dump image -- xxd -r dump image
+row $C - 'dd over an image'         'dd conv=notrunc'       -- "$BX" dd -U if=less of=image conv=notrunc -- dd if=less of=image conv=notrunc
+before="$bare; cp few image; '$BX' revert -U -f dump image"
+row $C - 'undo of that'             'cp of a copy'          -- "$BX" undo -U image           -- cp few image
+before="$before; '$BX' undo -U image > undone"
+row $C - 'redo of that'             'cp of a copy'          -- "$BX" redo -U image           -- cp less image
 made=-
-before="$bare; cp few image; '$BX' revert -f dump image"
-row $C 4 'undo -k 0, a large journal' 'cat of the journal'  -- "$BX" undo -k 0 image         -- cat image.bxj
-before="$before; printf '0: 41' | '$BX' revert image"
-row $C - 'undo of a byte, a large journal' 'cat of the journal' -- "$BX" undo image          -- cat image.bxj
-before="$bare; cp few image; '$BX' revert -f dump image; '$BX' undo image > undone"
-row $C 4 'undo -k 0, a large redo file' 'cat of the redo file' -- "$BX" undo -k 0 image      -- cat image.bxj.redo
+before="$bare; cp few image; '$BX' revert -U -f dump image"
+row $C 4 'undo -k 0, a large journal' 'cat of the journal'  -- "$BX" undo -U -k 0 image      -- cat image.bxj
+before="$before; printf '0: 41' | '$BX' revert -U image"
+row $C - 'undo of a byte, a large journal' 'cat of the journal' -- "$BX" undo -U image       -- cat image.bxj
+before="$bare; cp few image; '$BX' revert -U -f dump image; '$BX' undo -U image > undone"
+row $C 4 'undo -k 0, a large redo file' 'cat of the redo file' -- "$BX" undo -U -k 0 image   -- cat image.bxj.redo
 awk 'BEGIN { for (n = 1; n < 65536; n++) printf "change2 %08x %016x\n00000000: %-40s %s\nsave %08x\ndone2 %08x %016x\n",
   n, 16, "4142 4344 4546 4748 494a 4b4c 4d4e 4f50", "ABCDEFGHIJKLMNOP", n, n, 16 }' > many.bxj
 printf ABCDEFGHIJKLMNOP > many; head -c "$(($(stat -c %s many.bxj) / 68 * 16))" less | xxd > same
 before=: made=-
-row $C - 'undo -k 0, 65,535 changes' 'xxd -r of as much'    -- "$BX" undo -k 0 many          -- xxd -r same
+row $C - 'undo -k 0, 65,535 changes' 'xxd -r of as much'    -- "$BX" undo -U -k 0 many       -- xxd -r same
 row $C - 'log, 65,535 changes'      'xxd -r of as much'     -- "$BX" log many                -- xxd -r same
+
+# The same on the disk, as bx makes them by default: each step is synced, and beside it what the tool wrote is, once.
+Y='changes on the disk'
+printf '0: 41' > byte
+before="$bare; cp few image; sync image" made=image
+row "$Y" - 'revert over an image'   'xxd -r, sync'          -- "$BX" revert -f dump image    -- sh -c 'xxd -r dump image; sync image'
+row "$Y" - 'dd over an image'       'dd conv=notrunc,fsync' -- "$BX" dd if=less of=image conv=notrunc -- dd if=less of=image conv=notrunc,fsync
+row "$Y" - 'revert of a byte'       'xxd -r, sync'          -- "$BX" revert -f byte image    -- sh -c 'xxd -r byte image; sync image'
+before="$before; '$BX' revert -f dump image"
+row "$Y" - 'undo of a revert'       'cp of a copy, sync'    -- "$BX" undo image              -- sh -c 'cp few image; sync image'
+before="$before; '$BX' undo image > undone"
+row "$Y" - 'redo of a revert'       'cp of a copy, sync'    -- "$BX" redo image              -- sh -c 'cp less image; sync image'
+before="$bare; cp few image; sync image; for i in 1 2 3 4 5 6 7 8 9 10; do '$BX' revert -f byte image; done"
+row "$Y" - 'undo of ten bytes'      'cp of a copy, sync'    -- "$BX" undo -k 10 image        -- sh -c 'cp few image; sync image'
 [ "$with_calls" = yes ] || exit 0
 
 # Single calls of the libraries, which bx makes only together with others: bench/calls.rt.in is proved and built in a
