@@ -882,7 +882,7 @@ each_call() { # each_call NAME IMAGE JOURNAL FIRST ARG ..
 }
 
 # A disk that is full at each sync of a command in turn: the folder's can't be opened, those before the first write change nothing,
-# and those behind it are interrupted. Opening again recovers, and undoing all gives the first image.
+# and those after it are interrupted. Opening again recovers, and undoing all gives the first image.
 each_sync() { # each_sync NAME IMAGE JOURNAL FIRST ARG ..
     local name=$1 image=$2 journal=$3 first=$4 n total wrong=0 found want
     shift 4

@@ -124,7 +124,7 @@ def steps(count, settled=SETTLED):
 COUNTS = [
     ("a change of a new image", nothing, "revert -f dump IMAGE", 0, "FI" + SETTLED + "JRDJ"),
     ("a change", image, "revert -f dump IMAGE", 0, "F" + SETTLED + "JRDJ"),
-    ("a change behind another", changes(1), "revert -f dump IMAGE", 0, "F" + SETTLED + "JRDJ"),
+    ("a second change", changes(1), "revert -f dump IMAGE", 0, "F" + SETTLED + "JRDJ"),
     ("a change that gives up what was undone", changes(2, 1), "revert -f dump IMAGE", 0, "F" + SETTLED + "JRDJ"),
     ("a change by dd", image, "dd if=dump OF", 0, "F" + SETTLED + "JRDJ"),
     ("a longer image by dd", image, "dd if=dump obs=1 seek=100 OF", 0, "F" + SETTLED + "JRDJ"),
