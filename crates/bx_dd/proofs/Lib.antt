@@ -11,3 +11,4 @@ pub mod PlanLemmas
 mod Rows
 pub mod LawLemmas
 pub mod OperandLaws
+pub mod BehindLemmas

@@ -6,6 +6,7 @@ pub mod Transfer
 pub mod Streaming
 pub mod Operands
 pub mod Parsing
+pub mod Behind
 pub mod Laws
 pub mod OperandGrammar
 pub mod inner

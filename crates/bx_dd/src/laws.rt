@@ -1,6 +1,9 @@
 //! What the definitions say, in other words.
+ghost use Rattle.bx_dd.specs.Behind.{RestCopiesBehind};
 ghost use Rattle.bx_dd.specs.Laws.{FirstFaultIsFirst, SwapTurnsLowestBit};
 ghost use Rattle.bx_dd.specs.OperandGrammar.{OperandHasForm, OperandsHaveForm, WordsAreAskedFor};
+
+use std::alloc::Allocator;
 
 /// Says that each byte of a swapped block is the one at its place with the lowest bit turned, where the block has that place.
 pub fn swap_turns_lowest_bit()
@@ -28,4 +31,10 @@ pub fn operands_have_form()
 /// conversions among the words of `conv`.
 pub fn words_are_asked_for()
     ensures { WordsAreAskedFor }
+{}
+
+/// Says that what the rest of a plan makes of the bytes behind some others, and counts, is what the whole plan makes of them
+/// all, of which it skips those.
+pub fn rest_copies_behind<A: Allocator>()
+    ensures { RestCopiesBehind A }
 {}
