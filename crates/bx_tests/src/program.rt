@@ -233,6 +233,13 @@ patch.img = ABxyEFGH
 patch.img.bxj = change2 00000001 0000000000000008|00000002: 4344                                     CD|save 00000001|done2 00000001 0000000000000008|
 patch.img.bxj.redo has 0
 redo patch.img -> only 0 changes to redo
+undo -U patch.img -> done
+patch.img = ABCDEFGH
+redo -U patch.img -> done
+log -U patch.img -> done
+revert -U -f patch.dump ./patch.img -> done
+undo -U -k 2 patch.img -> done
+patch.img = ABCDEFGH
 rm patch.img patch.img.bxj patch.img.bxj.redo patch.dump",
     )
 }
@@ -260,6 +267,8 @@ onto.img = 01231032547698
 undo onto.img -> done
 onto.img = 0123456789
 onto.img.bxj has 0
+dd if=onto.in of=onto.img conv=notrunc -U -> done
+onto.img = xy23456789
 rm onto.img onto.img.bxj onto.img.bxj.redo onto.in",
     )
 }
