@@ -70,6 +70,7 @@ compare: all
 # The case files that hold what the real tools do, and random lists of commands, written again.
 record:
 	scripts/record-cases.py
+	scripts/boundary-cases.py
 	scripts/random-cases.py
 
 # Bad texts, full devices, closed pipes and streams, what is no file, two programs at once, loop devices (as root), and each

@@ -1,11 +1,12 @@
 //! Bytes as a row of parts.
 use crate::fault::{CaseFault, Trouble};
 use crate::quoted::{digit, pair, push_quoted};
+use crate::seeds::{push_seeded, seeded};
 use crate::values::small;
 use std::alloc::Global;
 
-/// The most times that a part is written.
-const MOST_TIMES: u32 = 100_000_000;
+/// The most times that a part is written, and the most bytes of a seed.
+pub const MOST_TIMES: u32 = 100_000_000;
 
 /// How many times a part is written, and the part.
 fn times_of(line: u64, rest: &[u8]) -> Result<(u32, &[u8]), CaseFault> {
@@ -52,6 +53,10 @@ fn push_part<'a>(
     line: u64,
     row: &'a [u8],
 ) -> Result<&'a [u8], CaseFault> {
+    if let Some((count, seed, behind)) = seeded(line, row)? {
+        push_seeded(out, count, seed)?;
+        return Ok(behind);
+    }
     let (times, part) = times_of(line, row)?;
     let mut bytes = Vec::new(alloc);
     let behind = match part {

@@ -1,8 +1,9 @@
 //! The lines of a case file, taken one after another.
 use crate::bytes::push_parts;
+use crate::dump::push_dump;
 use crate::entries::Entry;
 use crate::fault::{CaseFault, Trouble};
-use crate::values::{number, push_words, text};
+use crate::values::{number, push_words, split_space, text};
 use bx_text::Words;
 use std::alloc::Global;
 
@@ -12,6 +13,18 @@ pub struct Cursor<'a> {
     entries: &'a [Entry<'a>],
     taken: usize,
     line: u64,
+}
+
+/// Puts the lines of a dump behind the others: the value is the address of the first and the bytes that they show.
+fn push_dumped(alloc: Global, bytes: &mut Vec<u8>, entry: Entry<'_>) -> Result<(), CaseFault> {
+    let (at, parts) = split_space(entry.value);
+    let Some(at) = number(at) else {
+        return Err(CaseFault::at(entry.line, Trouble::BadNumber));
+    };
+    let mut shown = Vec::new(alloc);
+    push_parts(alloc, &mut shown, entry.line, parts.unwrap_or(b""))?;
+    push_dump(alloc, bytes, at, shown.as_slice())?;
+    Ok(())
 }
 
 impl<'a> Cursor<'a> {
@@ -144,6 +157,10 @@ impl<'a> Cursor<'a> {
         if let Some(entry) = self.take(b"|") {
             bytes.extend_from_slice(entry.value)?;
             bytes.push(b'\n')?;
+            return Ok(true);
+        }
+        if let Some(entry) = self.take(b">") {
+            push_dumped(alloc, bytes, entry)?;
             return Ok(true);
         }
         let Some(entry) = self.take(b"+") else {

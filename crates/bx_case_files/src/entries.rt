@@ -2,7 +2,7 @@
 use crate::fault::{CaseFault, Trouble};
 use std::alloc::Global;
 
-/// A line: the word before its colon, or its mark `|` or `+`; and the value behind it. Lines are counted from 1.
+/// A line: the word before its colon, or its mark `|`, `+` or `>`; and the value behind it. Lines are counted from 1.
 #[derive(Clone, Copy)]
 pub struct Entry<'a> {
     pub line: u64,
@@ -27,7 +27,7 @@ pub fn entries(alloc: Global, text: &[u8]) -> Result<Vec<Entry<'_>>, CaseFault> 
 fn entry_of(line: u64, part: &[u8]) -> Result<Option<Entry<'_>>, CaseFault> {
     let split = match part {
         [] | [b'#', ..] => return Ok(None),
-        [b'|' | b'+', ..] => 1,
+        [b'|' | b'+' | b'>', ..] => 1,
         _ => match part.iter().position(|b| *b == b':') {
             Some(colon) => colon,
             None => return Err(CaseFault::at(line, Trouble::NoColon)),

@@ -20,13 +20,14 @@ enum Kind {
 }
 
 /// The words of lines.
-static KNOWN: [&str; 36] = [
+static KNOWN: [&str; 38] = [
     "kind",
     "case",
     "from",
     "words",
     "input",
     "output",
+    "sum",
     "count",
     "records",
     "fault",
@@ -57,6 +58,7 @@ static KNOWN: [&str; 36] = [
     "bytes",
     "|",
     "+",
+    ">",
 ];
 
 /// Whether lines of this word are known.

@@ -4,11 +4,13 @@
 mod bytes;
 mod case;
 mod cursor;
+mod dump;
 mod entries;
 mod fault;
 mod file;
 mod kinds;
 mod quoted;
+mod seeds;
 mod values;
 
 pub use case::{Case, CaseFile, Opening, Records, Test};
@@ -17,4 +19,4 @@ pub use file::read_cases;
 pub use kinds::commands::{Answer, Ask, CommandsCase, Left, Row, Write};
 pub use kinds::reading::{ReadingCase, Reads};
 pub use kinds::texts::{Found, Outcome, TextCase};
-pub use kinds::words::{Refusal, WordsCase};
+pub use kinds::words::{Refusal, Sum, WordsCase};

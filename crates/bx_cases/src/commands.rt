@@ -9,7 +9,7 @@ use crate::commands::rows::{play_each, play_once};
 use crate::commands::stops::play_stops;
 use crate::report::tally::{Failure, at};
 use crate::session::places::{Files, Memory, Pages, Place};
-use crate::sweep::weight::is_swept;
+use crate::sweep::weight::{is_large, is_swept};
 use bx_case_files::CommandsCase;
 use bx_image::Device;
 use bx_store::TextStore;
@@ -29,6 +29,7 @@ pub static SWEEPS: [&str; 6] = [
 pub fn play_commands(rt: &HostRuntime, case: &CommandsCase, sweep: usize) -> Result<u32, Failure> {
     let alloc = rt.alloc();
     match sweep {
+        3..=5 if is_large(case) => Ok(0),
         0 => play_at(alloc, &Memory, case),
         1 => play_at(alloc, &Pages, case),
         2 => play_at(alloc, &Files::new(rt), case),
@@ -38,7 +39,8 @@ pub fn play_commands(rt: &HostRuntime, case: &CommandsCase, sweep: usize) -> Res
     }
 }
 
-/// Plays a case at a place, with the devices opened again behind each command, behind any one of them, and at the end alone.
+/// Plays a case at a place, with the devices opened again behind each command; and where it isn't large behind any one of
+/// them, and at the end alone.
 fn play_at<D: Device + Drop, T: TextStore + Drop, P: Place<D, T>>(
     alloc: Global,
     place: &P,
@@ -46,6 +48,9 @@ fn play_at<D: Device + Drop, T: TextStore + Drop, P: Place<D, T>>(
 ) -> Result<u32, Failure> {
     if let Err(wrong) = play_each(alloc, place, case) {
         return Err(at(0, wrong));
+    }
+    if is_large(case) {
+        return Ok(1);
     }
     let mut plays = 1u32;
     for behind in 0..case.rows.len() {

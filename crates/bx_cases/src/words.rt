@@ -34,12 +34,15 @@ pub static SWEEPS: [&str; 12] = [
     "growths refused",
 ];
 
+/// The last sweep of cases that give a sum in place of the output.
+const BYTE_BY_BYTE: usize = 2;
+
 /// No play makes so many calls.
 const MOST_CALLS: u32 = 100_000;
 
 /// Plays a case in one way. Tells how often.
 pub fn play_words(alloc: Global, case: &WordsCase, sweep: usize) -> Result<u32, Failure> {
-    if sweep > 0 && case.input.is_none() {
+    if sweep > 0 && case.input.is_none() || sweep > BYTE_BY_BYTE && case.sum.is_some() {
         return Ok(0);
     }
     match plan(alloc, case) {

@@ -3,7 +3,7 @@ use crate::case::Records;
 use crate::cursor::Cursor;
 use crate::fault::{CaseFault, Trouble};
 use crate::kinds::told::some_bytes;
-use crate::values::records;
+use crate::values::{number, records, split_space, text};
 use bx_text::Words;
 use std::alloc::Global;
 
@@ -14,6 +14,13 @@ pub struct Refusal {
     pub status: u8,
 }
 
+/// How long an output is, and its MD5 digest in 32 digits.
+#[derive(Drop)]
+pub struct Sum {
+    pub len: u64,
+    pub md5: String,
+}
+
 /// The words of a command line, and what comes of them.
 #[derive(Drop)]
 pub struct WordsCase {
@@ -21,8 +28,10 @@ pub struct WordsCase {
     pub words: Words,
     /// What is read; without it the words are only planned.
     pub input: Option<Vec<u8>>,
-    /// What is written.
+    /// What is written; empty where its sum is given.
     pub output: Vec<u8>,
+    /// The sum of what is written, in its place.
+    pub sum: Option<Sum>,
     /// How many bytes are dumped, where it is told.
     pub count: Option<u64>,
     /// What dd counts, where it is told.
@@ -41,14 +50,33 @@ fn given(alloc: Global, cursor: &mut Cursor<'_>) -> Result<(Words, Option<Vec<u8
     Ok((words, cursor.bytes(alloc, "input")?))
 }
 
-/// What is written, and what is counted.
-fn written(
-    alloc: Global,
-    cursor: &mut Cursor<'_>,
-) -> Result<(Vec<u8>, Option<u64>, Option<Records>), CaseFault> {
-    let output = some_bytes(alloc, cursor, "output")?;
+/// The sum of what is written, if the next line gives it.
+fn sum_of(alloc: Global, cursor: &mut Cursor<'_>) -> Result<Option<Sum>, CaseFault> {
+    let Some(value) = cursor.value("sum")? else {
+        return Ok(None);
+    };
+    let (len, md5) = split_space(value);
+    match (number(len), md5) {
+        (Some(len), Some(md5)) => Ok(Some(Sum {
+            len,
+            md5: text(alloc, cursor.line(), md5)?,
+        })),
+        _ => Err(cursor.trouble(Trouble::BadNumber)),
+    }
+}
+
+/// What is written, or its sum.
+fn written(alloc: Global, cursor: &mut Cursor<'_>) -> Result<(Vec<u8>, Option<Sum>), CaseFault> {
+    match sum_of(alloc, cursor)? {
+        Some(sum) => Ok((Vec::new(alloc), Some(sum))),
+        None => Ok((some_bytes(alloc, cursor, "output")?, None)),
+    }
+}
+
+/// How many bytes are dumped, and what dd counts.
+fn counts(cursor: &mut Cursor<'_>) -> Result<(Option<u64>, Option<Records>), CaseFault> {
     let count = cursor.number("count")?;
-    Ok((output, count, counted(cursor)?))
+    Ok((count, counted(cursor)?))
 }
 
 /// What stops it, and what is planned.
@@ -63,12 +91,14 @@ fn planned(
 /// The case whose lines follow.
 pub fn words_case(alloc: Global, cursor: &mut Cursor<'_>) -> Result<WordsCase, CaseFault> {
     let (words, input) = given(alloc, cursor)?;
-    let (output, count, records) = written(alloc, cursor)?;
+    let (output, sum) = written(alloc, cursor)?;
+    let (count, records) = counts(cursor)?;
     let (fault, job) = planned(alloc, cursor)?;
     Ok(WordsCase {
         words,
         input,
         output,
+        sum,
         count,
         records,
         fault,

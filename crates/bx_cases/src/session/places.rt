@@ -82,7 +82,9 @@ impl<'a> Files<'a> {
 
     fn open(&self, name: &str) -> Result<SystemFile, Wrong> {
         let file = File::options().read(true).write(true).open(self.rt, name)?;
-        Ok(SystemFile::new(file))
+        let mut file = SystemFile::new(file);
+        file.waits = false;
+        Ok(file)
     }
 
     fn opened(&self) -> Result<Devices<FileImage, FileText>, Wrong> {

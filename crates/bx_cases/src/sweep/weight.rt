@@ -25,6 +25,9 @@ const BYTES_READ: usize = 1 << 20;
 /// Runs of words whose input and output have at most so many bytes have their growths refused.
 const SMALL: usize = 4;
 
+/// Cases whose image has more bytes than this, or what a command of theirs is given and leaves, are large.
+const LARGE: usize = 16_384;
+
 /// Whether the growths of a run of words are refused.
 pub fn is_small(input: &[u8], output: &[u8]) -> bool {
     input.len().saturating_add(output.len()) <= SMALL
@@ -41,6 +44,11 @@ fn row_weight(row: &Row) -> usize {
     given
         .saturating_add(row.left.image.len())
         .saturating_add(COMMAND)
+}
+
+/// Whether nothing is in the way of a case in any play, since it is large.
+pub fn is_large(case: &CommandsCase) -> bool {
+    case.image.len() > LARGE || case.rows.iter().any(|row| row_weight(row) > LARGE)
 }
 
 /// The bytes that a case begins with, and what its commands weigh.

@@ -1,7 +1,7 @@
 //! What a run came to, beside what its case tells.
 use crate::report::compare::{
     Wrong, differs, fault_text, front_of, no_fault, same_bytes, same_fault, same_faults,
-    same_number, status_of,
+    same_number, same_text, status_of,
 };
 use crate::words::run::{Ran, run_freely};
 use crate::words::streams::Act;
@@ -9,6 +9,7 @@ use bx_case_files::{Records, Refusal, WordsCase};
 use bx_cli::{Done, Fault, Job};
 use bx_dd::{Counts, report};
 use bx_text::IoFault;
+use md5::{Digest, Md5};
 use std::alloc::{AllocError, Global};
 use std::fmt::Write;
 
@@ -77,6 +78,25 @@ fn counted(alloc: Global, case: &WordsCase, done: Done) -> Result<(), Wrong> {
     }
 }
 
+/// What was written is what the case tells, or has the sum that it tells.
+fn same_output(alloc: Global, case: &WordsCase, output: &[u8]) -> Result<(), Wrong> {
+    let Some(sum) = &case.sum else {
+        return same_bytes(alloc, "output", case.output.as_slice(), output);
+    };
+    same_number(alloc, "length of output", sum.len, output.len() as u64)?;
+    let found = digest_of(alloc, output)?;
+    same_text(alloc, "MD5 of output", sum.md5.as_str(), found.as_str())
+}
+
+/// The MD5 digest in 32 digits.
+fn digest_of(alloc: Global, bytes: &[u8]) -> Result<String, AllocError> {
+    let mut text = String::new(alloc);
+    for byte in Md5::digest(bytes) {
+        write!(text, "{byte:02x}")?;
+    }
+    Ok(text)
+}
+
 /// What a run came to that nothing stopped.
 pub fn right(
     alloc: Global,
@@ -84,7 +104,7 @@ pub fn right(
     done: Result<Done, Fault>,
     output: &[u8],
 ) -> Result<(), Wrong> {
-    same_bytes(alloc, "output", case.output.as_slice(), output)?;
+    same_output(alloc, case, output)?;
     match done {
         Err(fault) => refused(alloc, &case.fault, fault),
         Ok(done) => {
