@@ -10,6 +10,7 @@ ghost use Rattle.bx_store.specs.Store.{IsPartlyAppended, IsPartlyCut};
 use crate::{DeviceFailed, NoMemory, TextFault, TextStore};
 use bx_image::{Fuse, Part};
 use std::alloc::Allocator;
+use std::marker::Model;
 
 // Counts a failure.
 fn failed(failures: &mut u64) -> DeviceFailed
@@ -78,7 +79,17 @@ pub struct FuseText<T: TextStore> {
     writes: Fuse,
     part: Part,
     failures: u64,
-    ghost counted: { T.failures store ≤ failures },
+}
+
+impl<T: TextStore> Model for FuseText<T> {
+    ghost use Rattle.std.specs.Prelude.{◌≤◌};
+    ghost use Rattle.bx_image.specs.Fuse.{Fused};
+
+    ghost Value = { Fused T };
+
+    ghost view = { λ f. record { within = f.store; reads = f.reads; writes = f.writes; part = f.part; failures = f.failures } };
+
+    ghost invariant = { λ f. T.failures f.store ≤ f.failures };
 }
 
 impl<T: TextStore> FuseText<T> {
@@ -86,7 +97,7 @@ impl<T: TextStore> FuseText<T> {
     /// `part` of a call that fails on purpose takes effect.
     pub fn new(store: T, pass: u64, part: Part, once: bool) -> Self
         requires { T.failures store ≡ 0 }
-        ensures store { result.store ≡ store }
+        ensures within { result.within ≡ store }
         ensures writes { result.writes ≡ (if once then Once pass else After pass) }
         ensures reads { result.reads ≡ Never }
         ensures part { result.part ≡ part }
@@ -107,7 +118,7 @@ impl<T: TextStore> FuseText<T> {
     /// Passes `pass` calls of `len`, `read_all` and `read_at`, then fails all. Calls that write pass.
     pub fn on_reads(store: T, pass: u64) -> Self
         requires { T.failures store ≡ 0 }
-        ensures store { result.store ≡ store }
+        ensures within { result.within ≡ store }
         ensures writes { result.writes ≡ Never }
         ensures reads { result.reads ≡ After pass }
         ensures text { ⟦<FuseText<T> as TextStore>⟧.text result ≡ T.text store }
@@ -126,7 +137,7 @@ impl<T: TextStore> FuseText<T> {
 
     /// The store within, as it is.
     pub fn into_inner(self) -> T
-        ensures store { result ≡ self.store }
+        ensures within { result ≡ self.within }
         ensures text { T.text result ≡ ⟦<FuseText<T> as TextStore>⟧.text self }
         ensures honest { T.honest result ↔ ⟦<FuseText<T> as TextStore>⟧.honest self }
         ensures room { T.room result ≡ ⟦<FuseText<T> as TextStore>⟧.room self }
@@ -137,17 +148,17 @@ impl<T: TextStore> FuseText<T> {
 }
 
 impl<T: TextStore> TextStore for FuseText<T> {
-    ghost text = { λ f. T.text f.store };
+    ghost text = { λ f. T.text f.within };
 
-    ghost honest = { λ f. T.honest f.store };
+    ghost honest = { λ f. T.honest f.within };
 
-    ghost room = { λ f. T.room f.store };
+    ghost room = { λ f. T.room f.within };
 
     ghost failures = { λ f. f.failures };
 
-    ghost survives = { λ f. T.survives f.store };
+    ghost survives = { λ f. T.survives f.within };
 
-    ghost present = { λ f. T.present f.store };
+    ghost present = { λ f. T.present f.within };
 
     fn len(&mut self) -> Result<u64, DeviceFailed> {
         if !self.reads.blows() {

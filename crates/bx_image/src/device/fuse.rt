@@ -7,6 +7,7 @@ ghost use Rattle.bx_image.specs.Image.{place, cut};
 ghost use Rattle.bx_image.specs.Power.{Follows, KeepsOutside, KeepsBelow};
 
 use crate::{Device, DeviceFailed, NoMemory};
+use std::marker::Model;
 
 /// How much of a call that fails takes effect.
 #[derive(Clone, Copy, Debug, PartialEq, Eq)]
@@ -148,7 +149,17 @@ pub struct FuseImage<D: Device> {
     writes: Fuse,
     part: Part,
     failures: u64,
-    ghost counted: { D.failures device ≤ failures },
+}
+
+impl<D: Device> Model for FuseImage<D> {
+    ghost use Rattle.std.specs.Prelude.{◌≤◌};
+    ghost use Rattle.bx_image.specs.Fuse.{Fused};
+
+    ghost Value = { Fused D };
+
+    ghost view = { λ f. record { within = f.device; reads = f.reads; writes = f.writes; part = f.part; failures = f.failures } };
+
+    ghost invariant = { λ f. D.failures f.device ≤ f.failures };
 }
 
 impl<D: Device> FuseImage<D> {
@@ -156,7 +167,7 @@ impl<D: Device> FuseImage<D> {
     /// `part` of a call that fails on purpose takes effect.
     pub fn new(device: D, pass: u64, part: Part, once: bool) -> Self
         requires { D.failures device ≡ 0 }
-        ensures device { result.device ≡ device }
+        ensures within { result.within ≡ device }
         ensures writes { result.writes ≡ (if once then Fuse.Once pass else Fuse.After pass) }
         ensures reads { result.reads ≡ Fuse.Never }
         ensures part { result.part ≡ part }
@@ -177,7 +188,7 @@ impl<D: Device> FuseImage<D> {
     /// Passes `pass` calls of `len` and `read_at`, then fails all. Calls that write pass.
     pub fn on_reads(device: D, pass: u64) -> Self
         requires { D.failures device ≡ 0 }
-        ensures device { result.device ≡ device }
+        ensures within { result.within ≡ device }
         ensures writes { result.writes ≡ Fuse.Never }
         ensures reads { result.reads ≡ Fuse.After pass }
         ensures image { ⟦<FuseImage<D> as Device>⟧.image result ≡ D.image device }
@@ -196,7 +207,7 @@ impl<D: Device> FuseImage<D> {
 
     /// The device within, as it is.
     pub fn into_inner(self) -> D
-        ensures device { result ≡ self.device }
+        ensures within { result ≡ self.within }
         ensures image { D.image result ≡ ⟦<FuseImage<D> as Device>⟧.image self }
         ensures honest { D.honest result ↔ ⟦<FuseImage<D> as Device>⟧.honest self }
         ensures room { D.room result ≡ ⟦<FuseImage<D> as Device>⟧.room self }
@@ -207,19 +218,19 @@ impl<D: Device> FuseImage<D> {
 }
 
 impl<D: Device> Device for FuseImage<D> {
-    ghost image = { λ f. D.image f.device };
+    ghost image = { λ f. D.image f.within };
 
-    ghost honest = { λ f. D.honest f.device };
+    ghost honest = { λ f. D.honest f.within };
 
-    ghost room = { λ f. D.room f.device };
+    ghost room = { λ f. D.room f.within };
 
     ghost failures = { λ f. f.failures };
 
-    ghost survives = { λ f. D.survives f.device };
+    ghost survives = { λ f. D.survives f.within };
 
-    ghost within_room = { λ f. D.within_room f.device };
+    ghost within_room = { λ f. D.within_room f.within };
 
-    ghost present = { λ f. D.present f.device };
+    ghost present = { λ f. D.present f.within };
 
     fn len(&mut self) -> Result<u64, DeviceFailed> {
         if !self.reads.blows() {

@@ -1,8 +1,8 @@
 use Rattle.std.proofs.Common.{rules}
 use Rattle.bx_store.proofs.fuse.FuseText.into_inner.Goals as goal
 
-pub returns-clause-store : goal.returns-clause-store
-returns-clause-store g c = search rules
+pub returns-clause-within : goal.returns-clause-within
+returns-clause-within g c = search rules
 
 pub returns-clause-text : goal.returns-clause-text
 returns-clause-text g c = search rules
