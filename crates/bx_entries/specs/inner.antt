@@ -1,4 +1,4 @@
--- What no public contract names.
+-- What no public contract of another crate names. Some calls that this crate exports, for bx_journal alone, name it.
 pub mod Entry
 pub mod Fault
 pub mod Faded
