@@ -19,8 +19,11 @@ const ROWS: usize = 16;
 /// Of the changes of a text's bytes about so many are made.
 const CHANGES: usize = 400;
 
-/// Of a text of some bytes, so many of these at all its places are read.
-const BYTES_READ: usize = 1 << 20;
+/// Texts of at most so many bytes are cut off and changed at each place.
+const LONG_TEXT: usize = 8_192;
+
+/// Longer ones at so many places.
+const PLACES: usize = 32;
 
 /// Runs of words whose input and output have at most so many bytes have their growths refused.
 const SMALL: usize = 4;
@@ -90,9 +93,10 @@ pub fn change_step(len: usize) -> usize {
     step.saturating_add(1).min(255)
 }
 
-/// Whether a front of so many bytes is opened of a text of this length, or its byte at this place changed: of a text whose
-/// fronts have many bytes together, one in so many, and the first.
+/// Whether a text of this length is cut off, or changed, at a place: a long one at some places, and at the first.
 pub fn is_taken(place: usize, len: usize) -> bool {
-    let step = (len.saturating_mul(len) / BYTES_READ).saturating_add(1);
-    place.checked_rem(step) == Some(0)
+    if len <= LONG_TEXT {
+        return true;
+    }
+    place.checked_rem((len / PLACES).saturating_add(1)) == Some(0)
 }

@@ -139,7 +139,7 @@ pub fn judged(alloc: Global, texts: Texts<'_>) -> Result<(), Wrong> {
 }
 
 /// The text that is cut off or changed: the journal's, or that of what was undone where there is any.
-pub fn text_of<'a>(texts: Texts<'a>) -> &'a [u8] {
+fn text_of<'a>(texts: Texts<'a>) -> &'a [u8] {
     if texts.redo.is_empty() {
         texts.journal
     } else {
@@ -148,7 +148,7 @@ pub fn text_of<'a>(texts: Texts<'a>) -> &'a [u8] {
 }
 
 /// The same with another text in its place.
-pub fn with_text<'a>(texts: Texts<'a>, text: &'a [u8]) -> Texts<'a> {
+fn with_text<'a>(texts: Texts<'a>, text: &'a [u8]) -> Texts<'a> {
     if texts.redo.is_empty() {
         Texts {
             journal: text,

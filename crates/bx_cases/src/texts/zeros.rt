@@ -2,14 +2,17 @@
 use crate::report::compare::Wrong;
 use crate::session::devices::Texts;
 use crate::sweep::weight::is_taken;
-use crate::texts::damage::{judged, text_of, with_text};
+use crate::texts::damage::judged;
 use bx_scripts::judge::judge;
 use std::alloc::Global;
 
-/// Opens each front of the text, or of a long one some, with its last 1, 2, 4 .. bytes zero, and with one zero in each line
-/// that is not of a finished entry. Tells how often.
+/// Opens each front of a journal, or of a long one some, with its last 1, 2, 4 .. bytes zero, and with one zero in each line
+/// that is not of a finished entry. Beside a redo text none. Tells how often.
 pub fn fronts_with_zeros(alloc: Global, texts: Texts<'_>) -> Result<u32, Wrong> {
-    let text = text_of(texts);
+    if !texts.redo.is_empty() {
+        return Ok(0);
+    }
+    let text = texts.journal;
     let mut count = 0u32;
     for n in 0..=text.len() {
         if is_taken(n, text.len()) {
@@ -19,6 +22,11 @@ pub fn fronts_with_zeros(alloc: Global, texts: Texts<'_>) -> Result<u32, Wrong> 
         }
     }
     Ok(count)
+}
+
+/// The same with another journal.
+fn with_journal<'a>(texts: Texts<'a>, journal: &'a [u8]) -> Texts<'a> {
+    Texts { journal, ..texts }
 }
 
 /// Opens a front with its last 1, 2, 4 .. bytes zero. Tells how often.
@@ -33,19 +41,15 @@ fn zero_ends(alloc: Global, texts: Texts<'_>, front: &[u8]) -> Result<u32, Wrong
         for byte in left.iter_mut().rev().take(zeros) {
             *byte = 0;
         }
-        judged(alloc, with_text(texts, left.as_slice()))?;
+        judged(alloc, with_journal(texts, left.as_slice()))?;
         zeros = zeros.saturating_mul(2);
         count = count.saturating_add(1);
     }
     Ok(count)
 }
 
-/// How many bytes in front of a journal are finished entries; all where opening refuses it, or it isn't the journal that is
-/// cut off.
+/// How many bytes in front of a journal are finished entries; all where opening refuses it.
 fn finished(alloc: Global, texts: Texts<'_>, front: &[u8]) -> Result<usize, Wrong> {
-    if !texts.redo.is_empty() {
-        return Ok(front.len());
-    }
     match judge(alloc, texts.image, front, texts.redo)? {
         Ok(found) => Ok(found.kept.min(front.len())),
         Err(_) => Ok(front.len()),
@@ -81,7 +85,7 @@ fn zeroed(
         return Ok(false);
     };
     let before = std::mem::replace(byte, 0);
-    judged(alloc, with_text(texts, left.as_slice()))?;
+    judged(alloc, with_journal(texts, left.as_slice()))?;
     if let Some(byte) = left.get_mut(place) {
         *byte = before;
     }
