@@ -1,3 +1,4 @@
 pub mod AgreeingLemmas
 pub mod XxdRows
 pub mod XxdReverts
+pub mod BehindLemmas

@@ -3,5 +3,6 @@ pub mod Hint
 pub mod Job
 pub mod Dump
 pub mod JobDump
+pub mod JobBehind
 pub mod XxdLaws
 pub mod inner

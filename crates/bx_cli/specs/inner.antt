@@ -2,3 +2,4 @@
 pub mod Beside
 pub mod CopyOut
 pub mod JobDump
+pub mod JobBehind

@@ -53,7 +53,7 @@ pub fn run_dump<R: Read, W: Write, A: Allocator + Clone>(
 }
 
 /// The style of the look.
-fn xxd_style(look: XxdLook, file: &Option<Name>) -> XxdStyle<'_>
+pub(crate) fn xxd_style(look: XxdLook, file: &Option<Name>) -> XxdStyle<'_>
     ensures style { IsStyleOf look file.now result }
     ensures countable { IsCountable result }
 {
@@ -80,7 +80,7 @@ fn run_xxd<R: Read, W: Write>(job: &XxdJob, r: &mut R, w: &mut W) -> Result<u64,
 }
 
 /// Writes what the plan makes of the input, as it is read. A plan that seeks is refused before anything is read.
-fn run_dd<R: Read, W: Write, A: Allocator + Clone>(
+pub(crate) fn run_dd<R: Read, W: Write, A: Allocator + Clone>(
     alloc: A,
     plan: &Plan,
     r: &mut R,

@@ -2,6 +2,7 @@
 ghost use Rattle.std.specs.Prelude.{◌≡◌, ◌≤◌, ◌^◌, ◌++◌, codes, is_some};
 ghost use Rattle.bx_dd.specs.Parsing.{IsPlanOf};
 
+use crate::behind::{blocks_of, passable_of};
 use bx_dd::Plan;
 use bx_dump::hexdump::HexdumpOptions;
 use bx_dump::od::OdOptions;
@@ -169,6 +170,7 @@ pub enum Job {
 
 impl Job {
     ghost use Rattle.bx_cli.specs.Job.{is_dump};
+    ghost use Rattle.bx_cli.specs.JobBehind.{CanPass, passable};
 
     /// Whether the job only reads one input and writes one output; dd does so without `of=`.
     pub fn is_dump(&self) -> bool
@@ -178,6 +180,22 @@ impl Job {
             Job::Od(_) | Job::Xxd(_) | Job::Hexdump(_) | Job::Strings(_) => true,
             Job::Dd(job) => job.plan.output.is_none(),
             _ => false,
+        }
+    }
+
+    /// How many of the bytes that the job skips a seek can pass, in an input of which `length` bytes are left; of dd's whole
+    /// blocks. `run_dump_behind` takes it.
+    pub fn passable(&self, length: u64) -> u64
+        ensures value { result ≡ passable self.now length }
+        ensures allowed { CanPass result self.now }
+        ensures within { result ≤ length }
+    {
+        match self {
+            Job::Od(job) => passable_of(job.options.skip, job.options.first, length),
+            Job::Xxd(job) => passable_of(job.options.seek, job.options.shift, length),
+            Job::Hexdump(job) => passable_of(job.options.skip, job.options.first, length),
+            Job::Dd(job) => blocks_of(job.plan.skip, job.plan.ibs, length),
+            _ => 0,
         }
     }
 }

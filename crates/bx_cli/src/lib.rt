@@ -1,6 +1,7 @@
 //! From the words of a command line to a job, and lists of commands run on a session.
 #![tactic(auto)]
 
+mod behind;
 mod beside;
 mod dump;
 mod hint;
@@ -10,6 +11,7 @@ pub mod laws;
 mod options;
 mod plan;
 
+pub use behind::run_dump_behind;
 pub use beside::unlike_line;
 pub use bx_commands::{Command, Fault, Reply, log_text, run_all};
 pub use dump::{Done, run_dump};
