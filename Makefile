@@ -66,6 +66,7 @@ check-completions:
 # The real tools beside bx, on random inputs and options.
 compare: all
 	scripts/compare.py --bx ./bx
+	scripts/seeks.py --bx ./bx
 
 # The case files that hold what the real tools do, and random lists of commands, written again.
 record:

@@ -1,8 +1,8 @@
 //! dd.
-use crate::files::input;
 use crate::images::{finish, open_session};
+use crate::input::{Placed, file, standard};
 use crate::stopped::{Noted, STANDARD_INPUT, Stopped};
-use bx_cli::{Command, DdJob, Fault, Reply, Texts};
+use bx_cli::{Command, DdJob, Fault, Job, Reply, Texts};
 use bx_dd::{Counts, report};
 use bx_text::{IoFault, Name, Words};
 use std::alloc::Global;
@@ -11,9 +11,10 @@ use std::io::Read;
 use std::rt::Files;
 
 /// Puts what the operands make of the input onto the image, and tells the counts. The input is opened first, and read whole
-/// before the image is written: they may be one file.
+/// before the image is written: they may be one file. `dd` is what the job has.
 pub fn copy_onto<'a, R>(
     rt: &R,
+    job: &Job,
     dd: &'a DdJob,
     image: &'a Name,
     texts: &'a Texts,
@@ -22,19 +23,24 @@ where
     R: Files<File = File> + Input + Eprint + AllocGlobal,
 {
     match &dd.plan.input {
-        Some(name) => copy_from(rt, dd, image, texts, name.as_str(), input(rt, name)?),
-        None => copy_from(rt, dd, image, texts, STANDARD_INPUT, rt.reader()),
+        Some(name) => copy_from(rt, dd, image, texts, name.as_str(), file(rt, job, name)?),
+        None => copy_from(rt, dd, image, texts, STANDARD_INPUT, standard(rt, job)?),
     }
 }
 
-fn same_words(alloc: Global, words: &Words) -> Result<Words, Fault> {
-    let mut same = Words::new(alloc);
-    for i in 0..words.len() {
-        if let Some(word) = words.get(i) {
-            same.push(word)?;
+/// The operands for what stands behind passed bytes: `skip=` tells how many blocks are left to skip.
+fn operands_behind(alloc: Global, dd: &DdJob, passed: u64) -> Result<Words, Fault> {
+    let left = dd.plan.skip.saturating_sub(passed / dd.plan.ibs);
+    let skip = format!(in alloc; "skip={left}")?;
+    let mut operands = Words::new(alloc);
+    for i in 0..dd.operands.len() {
+        match dd.operands.get(i) {
+            Some(word) if word.starts_with("skip=") => operands.push(skip.as_str())?,
+            Some(word) => operands.push(word)?,
+            None => {}
         }
     }
-    Ok(same)
+    Ok(operands)
 }
 
 fn copy_from<'a, R, I: Read + Drop>(
@@ -43,14 +49,14 @@ fn copy_from<'a, R, I: Read + Drop>(
     image: &'a Name,
     texts: &'a Texts,
     from: &'a str,
-    input: I,
+    input: Placed<I>,
 ) -> Result<(), Stopped<'a>>
 where
     R: Files<File = File> + Eprint + AllocGlobal,
 {
-    let operands = same_words(rt.alloc(), &dd.operands)?;
+    let operands = operands_behind(rt.alloc(), dd, input.passed)?;
     let session = open_session(rt, image, texts, true, dd.durability)?;
-    let mut input = Noted::new(input);
+    let mut input = Noted::new(input.reader);
     let asked = Command::Dd {
         operands,
         input: &mut input,

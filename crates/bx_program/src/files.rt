@@ -1,4 +1,4 @@
-//! The files that a job names.
+//! The files of a session.
 use crate::stopped::Stopped;
 use bx_cli::Texts;
 use bx_text::Name;
@@ -6,14 +6,6 @@ use std::fs::{self, File, Metadata, TryLockError};
 use std::io::{self, ErrorKind};
 use std::os::unix::fs::{FileTypeExt, MetadataExt};
 use std::rt::Files;
-
-/// A file that is only read.
-pub fn input<'a, R: Files<File = File>>(rt: &R, name: &'a Name) -> Result<File, Stopped<'a>> {
-    match File::open(rt, name.as_str()) {
-        Ok(file) => Ok(file),
-        Err(error) => Err(Stopped::unopened(name.as_str(), error)),
-    }
-}
 
 /// What stands in a file that is changed.
 #[derive(Clone, Copy, PartialEq, Eq)]

@@ -1,17 +1,18 @@
 //! The jobs, and one run of the program.
+ghost use Rattle.bx_cli.specs.JobBehind.{CanPass};
 ghost use Rattle.bx_commands.specs.Command.{IsNear};
 
 use crate::copies::{copy_onto, tell};
-use crate::files::input;
 use crate::hints::remarks::Remarks;
 use crate::hints::show_fault;
 use crate::images::{finish, log, open_session, open_to_look};
+use crate::input::{Placed, file, open, standard};
 use crate::stopped::{Noted, STANDARD_INPUT, Stopped};
 use crate::streams::Held;
 use crate::tally::Tally;
 use bx_cli::{
     Command, DdJob, Done, Durability, Fault, HexdumpJob, Job, OdJob, Reply, RevertJob, StringsJob,
-    Texts, XxdJob, plan_words, run_dump,
+    Texts, XxdJob, plan_words, run_dump_behind,
 };
 use bx_dd::Counts;
 use bx_text::{Bytes, IoFault, Name, Source, Words, dec_field, emit, emit_after};
@@ -187,7 +188,7 @@ where
 {
     match (&dd.plan.output, &dd.texts) {
         (Some(image), Some(texts)) => {
-            copy_onto(rt, dd, image, texts)?;
+            copy_onto(rt, job, dd, image, texts)?;
             Ok(None)
         }
         _ => dump_file(rt, job, &dd.plan.input, out),
@@ -212,7 +213,7 @@ where
     R: Files<File = File> + Input + Eprint + AllocGlobal,
 {
     let text = match &job.dump {
-        Some(name) => whole(rt.alloc(), name.as_str(), input(rt, name)?)?,
+        Some(name) => whole(rt.alloc(), name.as_str(), open(rt, name)?)?,
         None => whole(rt.alloc(), STANDARD_INPUT, rt.reader())?,
     };
     remarks.look_at_dump(text.as_slice(), job.plain);
@@ -283,15 +284,15 @@ where
 fn dump_file<'a, R, W: Write>(
     rt: &R,
     job: &Job,
-    file: &'a Option<Name>,
+    named: &'a Option<Name>,
     out: &mut W,
 ) -> Result<Option<Counts>, Stopped<'a>>
 where
     R: Files<File = File> + Input + AllocGlobal,
 {
-    let done = match file {
-        Some(name) => dump_from(rt.alloc(), job, name.as_str(), input(rt, name)?, out)?,
-        None => dump_from(rt.alloc(), job, STANDARD_INPUT, rt.reader(), out)?,
+    let done = match named {
+        Some(name) => dump_from(rt.alloc(), job, name.as_str(), file(rt, job, name)?, out)?,
+        None => dump_from(rt.alloc(), job, STANDARD_INPUT, standard(rt, job)?, out)?,
     };
     match done {
         Done::Dumped(_) => Ok(None),
@@ -299,17 +300,20 @@ where
     }
 }
 
-/// Dumps or copies an input, of which this is the name.
+/// Dumps or copies an input, of which this is the name, behind the bytes that were passed.
 fn dump_from<'a, I: Read + Drop, W: Write>(
     alloc: Global,
     job: &Job,
     name: &'a str,
-    input: I,
+    input: Placed<I>,
     out: &mut W,
-) -> Result<Done, Stopped<'a>> {
-    let mut input = Noted::new(input);
-    match run_dump(alloc, job, &mut input, out) {
+) -> Result<Done, Stopped<'a>>
+    requires { CanPass input.passed job.now }
+{
+    let Placed { reader, passed } = input;
+    let mut reader = Noted::new(reader);
+    match run_dump_behind(alloc, job, passed, &mut reader, out) {
         Ok(done) => Ok(done),
-        Err(fault) => Err(Stopped::from(fault).on_input(name, input.error)),
+        Err(fault) => Err(Stopped::from(fault).on_input(name, reader.error)),
     }
 }

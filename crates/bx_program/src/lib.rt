@@ -6,6 +6,7 @@ mod files;
 mod folders;
 mod hints;
 mod images;
+mod input;
 mod jobs;
 mod stopped;
 mod streams;
