@@ -111,7 +111,7 @@ fn whole(
     input: &[u8],
     each: usize,
 ) -> Result<u32, Failure> {
-    let ran = run_freely(alloc, job, input, each);
+    let ran = run_freely(alloc, job, case.length, input, each);
     match right(alloc, case, ran.done, ran.output.as_slice()) {
         Ok(()) => Ok(1),
         Err(wrong) => Err(at(0, wrong)),

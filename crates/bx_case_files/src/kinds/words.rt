@@ -28,6 +28,8 @@ pub struct WordsCase {
     pub words: Words,
     /// What is read; without it the words are only planned.
     pub input: Option<Vec<u8>>,
+    /// The length of the whole input, where a seek passed what it could of the bytes to skip. `input` is what stands behind.
+    pub length: Option<u64>,
     /// What is written; empty where its sum is given.
     pub output: Vec<u8>,
     /// The sum of what is written, in its place.
@@ -42,12 +44,16 @@ pub struct WordsCase {
     pub job: Option<Words>,
 }
 
-/// The words, and what is read.
-fn given(alloc: Global, cursor: &mut Cursor<'_>) -> Result<(Words, Option<Vec<u8>>), CaseFault> {
+/// The words, what is read, and the length of the whole input.
+fn given(
+    alloc: Global,
+    cursor: &mut Cursor<'_>,
+) -> Result<(Words, Option<Vec<u8>>, Option<u64>), CaseFault> {
     let Some(words) = cursor.words(alloc, "words")? else {
         return Err(cursor.next_trouble(Trouble::MissingLine("words")));
     };
-    Ok((words, cursor.bytes(alloc, "input")?))
+    let input = cursor.bytes(alloc, "input")?;
+    Ok((words, input, cursor.number("length")?))
 }
 
 /// The sum of what is written, if the next line gives it.
@@ -90,13 +96,14 @@ fn planned(
 
 /// The case whose lines follow.
 pub fn words_case(alloc: Global, cursor: &mut Cursor<'_>) -> Result<WordsCase, CaseFault> {
-    let (words, input) = given(alloc, cursor)?;
+    let (words, input, length) = given(alloc, cursor)?;
     let (output, sum) = written(alloc, cursor)?;
     let (count, records) = counts(cursor)?;
     let (fault, job) = planned(alloc, cursor)?;
     Ok(WordsCase {
         words,
         input,
+        length,
         output,
         sum,
         count,

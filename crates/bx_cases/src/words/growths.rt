@@ -2,9 +2,10 @@
 use crate::report::compare::{Wrong, same_bytes};
 use crate::sweep::hunt::Call;
 use crate::words::outcome::right;
+use crate::words::run::dumped;
 use bumpalo::Bump;
 use bx_case_files::WordsCase;
-use bx_cli::{Done, Fault, Job, run_dump};
+use bx_cli::{Done, Fault, Job};
 use bx_dd::report;
 use bx_ration::{squeeze, used};
 use bx_text::IoFault;
@@ -43,7 +44,7 @@ impl Call for RunOf<'_> {
 fn ran<'a>(alloc: Global, bump: &'a Bump, run: &RunOf<'_>) -> Result<bool, Wrong> {
     let mut from = run.input;
     let mut to = Vec::new(alloc);
-    let done = run_dump(bump, run.job, &mut from, &mut to);
+    let done = dumped(bump, run.job, run.case.length, &mut from, &mut to);
     if done == Err(Fault::Io(IoFault::NoMemory)) {
         same_bytes(alloc, "output without memory", b"", to.as_slice())?;
         return Ok(false);

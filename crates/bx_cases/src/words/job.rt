@@ -90,6 +90,7 @@ fn od_field(alloc: Global, job: &OdJob, name: &str) -> Field {
     match name {
         "address" => address(alloc, job.options.address),
         "kind" => kind(alloc, job.options.kind),
+        "first" => number(alloc, job.options.first),
         "skip" => number(alloc, job.options.skip),
         "limit" => limit(alloc, job.options.limit),
         "all" => flag(alloc, job.options.all),
@@ -123,6 +124,7 @@ fn xxd_field(alloc: Global, job: &XxdJob, name: &str) -> Field {
 
 fn hexdump_field(alloc: Global, job: &HexdumpJob, name: &str) -> Field {
     match name {
+        "first" => number(alloc, job.options.first),
         "skip" => number(alloc, job.options.skip),
         "limit" => limit(alloc, job.options.limit),
         "all" => flag(alloc, job.options.all),

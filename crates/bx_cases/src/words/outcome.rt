@@ -147,7 +147,7 @@ pub fn turned_right(
         Act::Interrupt | Act::Half => right(alloc, case, ran.done, output),
         Act::Nothing if reads => {
             let (front, _) = input.split_at(ran.given.min(input.len()));
-            ended(alloc, job, front, ran.done, output)
+            ended(alloc, job, case.length, front, ran.done, output)
         }
         Act::Fail if reads => stopped(
             alloc,
@@ -173,11 +173,12 @@ pub fn turned_right(
 fn ended(
     alloc: Global,
     job: &Job,
+    length: Option<u64>,
     front: &[u8],
     done: Result<Done, Fault>,
     output: &[u8],
 ) -> Result<(), Wrong> {
-    let wanted = run_freely(alloc, job, front, usize::MAX);
+    let wanted = run_freely(alloc, job, length, front, usize::MAX);
     same_bytes(alloc, "output of a front", wanted.output.as_slice(), output)?;
     if wanted.done == done {
         return Ok(());

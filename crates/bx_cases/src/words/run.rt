@@ -1,8 +1,9 @@
 //! Runs of a job, between a reader and a writer that may do something at one of their calls.
 use crate::words::streams::{Input, Output, Turn};
 use bx_case_files::WordsCase;
-use bx_cli::{Done, Fault, Job, run_dump};
-use std::alloc::Global;
+use bx_cli::{Done, Fault, Job, run_dump, run_dump_behind};
+use std::alloc::{Allocator, Global};
+use std::io::{Read, Write};
 
 /// The most bytes that a reader gives, and that a writer takes, in one call; of long ones more, so that the calls stay few.
 const EACH_READ: usize = 50;
@@ -22,11 +23,25 @@ pub struct Ran {
     pub came: bool,
 }
 
+/// Runs a job on its input, or, where the length of the whole input is told, on what stands behind a seek.
+pub fn dumped<R: Read, W: Write, A: Allocator + Clone>(
+    alloc: A,
+    job: &Job,
+    length: Option<u64>,
+    from: &mut R,
+    to: &mut W,
+) -> Result<Done, Fault> {
+    match length {
+        Some(length) => run_dump_behind(alloc, job, job.passable(length), from, to),
+        None => run_dump(alloc, job, from, to),
+    }
+}
+
 /// Runs a job.
-fn run(alloc: Global, job: &Job, from: Input<'_>, to: Output) -> Ran {
+fn run(alloc: Global, job: &Job, length: Option<u64>, from: Input<'_>, to: Output) -> Ran {
     let mut from = from;
     let mut to = to;
-    let done = run_dump(alloc, job, &mut from, &mut to);
+    let done = dumped(alloc, job, length, &mut from, &mut to);
     let Output { taken, turn, .. } = to;
     Ran {
         done,
@@ -37,10 +52,10 @@ fn run(alloc: Global, job: &Job, from: Input<'_>, to: Output) -> Ran {
 }
 
 /// Runs a job with nothing in its way.
-pub fn run_freely(alloc: Global, job: &Job, input: &[u8], each: usize) -> Ran {
+pub fn run_freely(alloc: Global, job: &Job, length: Option<u64>, input: &[u8], each: usize) -> Ran {
     let from = Input::new(input, each, Turn::never());
     let to = Output::new(alloc, each, Turn::never());
-    run(alloc, job, from, to)
+    run(alloc, job, length, from, to)
 }
 
 /// How many bytes of so many go through in one call.
@@ -64,5 +79,5 @@ pub fn run_turned(
     };
     let from = Input::new(input, each_of(input.len(), EACH_READ), reading);
     let to = Output::new(alloc, each_of(case.output.len(), EACH_WRITE), writing);
-    run(alloc, job, from, to)
+    run(alloc, job, case.length, from, to)
 }
