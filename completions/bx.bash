@@ -73,10 +73,10 @@ _bx() {
     od) options='-A -N -b -c -d -j -o -s -t -v -x' ;;
     hexdump) options='-C -n -s -v' ;;
     strings) options='-a -n -t' ;;
-    dd) options='-J -U' ;;
-    revert) options='-J -U -f -p -s' ;;
-    undo | redo) options='-J -U -k' ;;
-    log) options='-J -U' ;;
+    dd) options='-J -U --mounted' ;;
+    revert) options='-J -U -f -p -s --mounted' ;;
+    undo | redo) options='-J -U -k --mounted' ;;
+    log) options='-J -U --mounted' ;;
     *) return ;;
     esac
     case $command:$prev in

@@ -85,20 +85,25 @@ complete -c bx -n '__fish_seen_subcommand_from strings' -s t -x -a 'd o x' -d 'S
 
 complete -c bx -n '__fish_seen_subcommand_from dd' -s J -r -F -d 'Journal of the image'
 complete -c bx -n '__fish_seen_subcommand_from dd' -s U -d 'Do not wait for the disk'
+complete -c bx -n '__fish_seen_subcommand_from dd' -l mounted -d 'Change a device that is mounted'
 complete -c bx -n '__fish_seen_subcommand_from dd' -a '(__bx_operand)'
 
 complete -c bx -n '__fish_seen_subcommand_from revert' -s J -r -F -d 'Journal of the image'
 complete -c bx -n '__fish_seen_subcommand_from revert' -s U -d 'Do not wait for the disk'
+complete -c bx -n '__fish_seen_subcommand_from revert' -l mounted -d 'Change a device that is mounted'
 complete -c bx -n '__fish_seen_subcommand_from revert' -s f -r -F -d 'File to read the dump from'
 complete -c bx -n '__fish_seen_subcommand_from revert' -s p -d 'The dump is digits alone'
 complete -c bx -n '__fish_seen_subcommand_from revert' -s s -x -d 'Bytes to add to each address'
 
 complete -c bx -n '__fish_seen_subcommand_from undo' -s J -r -F -d 'Journal of the image'
 complete -c bx -n '__fish_seen_subcommand_from undo' -s U -d 'Do not wait for the disk'
+complete -c bx -n '__fish_seen_subcommand_from undo' -l mounted -d 'Change a device that is mounted'
 complete -c bx -n '__fish_seen_subcommand_from undo' -s k -x -d 'Changes to take back, 0 to 65535'
 complete -c bx -n '__fish_seen_subcommand_from redo' -s J -r -F -d 'Journal of the image'
 complete -c bx -n '__fish_seen_subcommand_from redo' -s U -d 'Do not wait for the disk'
+complete -c bx -n '__fish_seen_subcommand_from redo' -l mounted -d 'Change a device that is mounted'
 complete -c bx -n '__fish_seen_subcommand_from redo' -s k -x -d 'Changes to make again, 0 to 65535'
 
 complete -c bx -n '__fish_seen_subcommand_from log' -s J -r -F -d 'Journal of the image'
 complete -c bx -n '__fish_seen_subcommand_from log' -s U -d 'Do not wait for the disk'
+complete -c bx -n '__fish_seen_subcommand_from log' -l mounted -d 'Change a device that is mounted'

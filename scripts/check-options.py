@@ -26,6 +26,8 @@ FAULTS = {
     "Fault": "bx_commands/src/fault.rt",
 }
 COMMANDS = ["xxd", "od", "hexdump", "strings", "dd", "revert", "undo", "redo", "log"]
+# what a command wants beside an option, where it isn't an image
+COMMON = {"dd": [], "xxd": [], "od": [], "strings": [], "hexdump": ["-C"]}
 VALUES = ["1", "x", "x1", "other"]
 OPERANDS = ["if", "of", "ibs", "obs", "bs", "cbs", "skip", "seek", "count", "conv", "files", "status", "iflag", "oflag"]
 WORDS = ["block", "unblock", "lcase", "ucase", "swab", "sync", "notrunc", "noerror", "fdatasync", "fsync", "ascii",
@@ -140,6 +142,24 @@ def fish_options(text, command):
     return {letter: bool(value) for letter, value in found}
 
 
+def long_options(bx, command, synopsis, section, readme, zsh, fish):
+    """The long options of a command: those of its help, and what each other place has."""
+    script = f'. completions/bx.bash; COMP_WORDS=(bx {command} -) COMP_CWORD=2; _bx; printf "%s\\n" "${{COMPREPLY[@]}}"'
+    bash = subprocess.run(["bash", "-c", script], capture_output=True, text=True, check=True).stdout
+    block = re.search(rf"^    {command}\)\n(.*?)^      ;;", zsh, re.M | re.S)
+    line = next((line for line in readme.splitlines() if line.startswith(f"bx {command} ")), "")
+    found = {
+        f"bx {command} --help": re.findall(r"^ +(?:-\w, )?--([a-z]\w+)", bx.run(command, "--help").stdout, re.M),
+        f"{command} in the man page's synopsis": re.findall(r"Fl -(\w+)", synopsis),
+        f"{command} in the man page": re.findall(r"^\.It Fl -(\w+)", section, re.M),
+        f"{command} in README.md": re.findall(r"\[--(\w+)\]", line),
+        f"{command} in bx.bash": re.findall(r"--(\w+)", bash),
+        f"{command} in _bx": re.findall(r"'--(\w+)\[", block.group(1) if block else ""),
+        f"{command} in bx.fish": re.findall(rf"^complete -c bx -n '__fish_seen_subcommand_from {command}' -l (\w+)", fish, re.M),
+    }
+    return {name: set(options) - {"help"} for name, options in found.items()}
+
+
 def fault_texts():
     """Numbers and texts of the faults, as the sources of the crates have them."""
     texts = {}
@@ -194,6 +214,10 @@ def main():
             report.same(f"{command} in bx.bash", set(taken), bash_options(command))
             report.same(f"{command} in _bx", taken, zsh_options(zsh, command))
             report.same(f"{command} in bx.fish", taken, fish_options(fish, command))
+            longer = long_options(bx, command, synopsis.get(command, ""), sections.get(command, ""), readme, zsh, fish)
+            taken = {name for name in longer[f"bx {command} --help"] if bx.takes(command, *COMMON.get(command, ["image"]), f"--{name}")}
+            for place, options in longer.items():
+                report.same(f"long options of {place}", taken, options)
         if "dd" in commands:
             operands, words = bx.operands(), bx.words()
             report.same("operands in bx dd --help", operands, set(re.findall(r"^  (\w+)=", bx.run("dd", "--help").stdout, re.M)) & set(OPERANDS))

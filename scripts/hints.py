@@ -16,6 +16,7 @@ import sys
 import tempfile
 
 DUMP = "; for digits alone give -p"
+READERS = "it holds bytes of the image, and more people may read it than the image; chmod narrows that"
 PAIRS = "bytes are pairs of digits, with at most one space between two; under -p there are digits and white space alone"
 SIZE = "a number as 512, 0x200 or 01000, with "
 OLDER = "move journal and redo file away, and with them the older images"
@@ -35,6 +36,8 @@ OD = "Usage: bx od [OPTIONS] [FILE]"
 FILES = {
     "img": "ABxyEFGH",
     "img.bxj": CHANGE,
+    "private": "ABxyEFGH",
+    "private.bxj": CHANGE,
     "new": "ABCDEFGH",
     "long": "ABxyEFGHI",
     "long.bxj": CHANGE,
@@ -107,7 +110,8 @@ CASES = [
     ("revert dir", "0: 41\n", "cannot open file", "dir: it is no regular file and no block device"),
     ("revert -J dir new", "0: 41\n", "cannot open file", "dir: it is no regular file"),
     ("revert -J img new", "0: 41\n", "journal line 1 is damaged", "img; mend the line; or " + OLDER),
-    ("log -J img.bxj hard", "", "cannot open file", "img.bxj: another program has it locked, or it is one of the others by another name"),
+    ("log -J img.bxj hard", "", "cannot open file", "img.bxj: it is one of the others by another name"),
+    ("undo -J img.bxj hard", "", "cannot open file", "img.bxj: another program has it locked, or it is one of the others by another name"),
     ("revert -J new.bxj /proc/self/mem", "0: 41\n", "device failed", "/proc/self/mem: Invalid argument; nothing was changed"),
     ("undoo img", "", "bad arguments", "unrecognized subcommand 'undoo': did you mean 'undo'; Usage: bx <COMMAND>"),
     ("xxd -r words", "", "bad arguments", "unexpected argument '-r' found: bx revert writes the bytes of a dump onto an image; " + XXD),
@@ -123,6 +127,7 @@ CASES = [
     ("undo later.bxj.redo", "", "cannot open file", "later.bxj.redo.bxj: " + NO_JOURNAL + "; its image has the name of a journal or a redo file"),
     ("xxd img", "", None, None),
     ("log img", "", None, None),
+    ("log private", "", None, "private.bxj: " + READERS),
     # after a success
     ("revert imgae", "0: 41\n", None, "imgae: it was missing, so it was made; its journal is imgae.bxj"),
     ("revert -J elsewhere imgae", "0: 41\n", None, "imgae: it was missing, so it was made; its journal is elsewhere"),
@@ -163,6 +168,7 @@ def make(folder):
     for name, text in FILES.items():
         with open(os.path.join(folder, name), "w", newline="") as file:
             file.write(text)
+        os.chmod(os.path.join(folder, name), 0o600 if name == "private" else 0o644)
         os.utime(os.path.join(folder, name), (1e9, 1e9 + (name in LATER_FILES)))
     os.mkdir(os.path.join(folder, "dir"))
     os.link(os.path.join(folder, "img.bxj"), os.path.join(folder, "hard"))

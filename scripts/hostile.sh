@@ -1,8 +1,8 @@
 #!/usr/bin/env bash
-# Runs bx on bad texts, full devices, closed pipes and closed streams, on what is no regular file, on loop devices, two at
-# once, and with each memory request and each read, write or sync failing in turn. Compares exit statuses, messages, and that
-# image, journal and redo file are as they should be. Prints a line for each case, and a count at the end; the status is 1 where a case
-# fails. Outside the gate. Loop devices want root.
+# Runs bx on bad texts, full devices, closed pipes and closed streams, on what is no regular file, on loop devices, as another
+# user, two at once, and with each memory request and each read, write or sync failing in turn. Compares exit statuses, messages, and
+# that image, journal and redo file are as they should be. Prints a line for each case, and a count at the end; the status is 1
+# where a case fails. Outside the gate. Loop devices and another user want root.
 #
 # Usage: scripts/hostile.sh [PATH OF bx]
 # RT_TRY has the numbers of the memory requests that are refused in the toolchain's checked build too, which takes some
@@ -251,6 +251,128 @@ other_kinds() {
     [ "$before" = "$(ls; stat -c %s img dump)" ] && [ ! -e /.bxj ] && [ ! -e /dev/null.bxj ] && [ ! -e /.bxj.redo ] \
         && say 1 "nothing was made beside them" || say 0 "nothing was made beside them"
     rm -rf folder pipe socket
+}
+
+# Runs bx as a user who is neither root nor the owner of the files, in a folder that is this user's.
+as_other() { # as_other ARG ..
+    setpriv --reuid=65534 --regid=65534 --clear-groups "$work/other/bx" "$@"
+}
+
+bits() { # bits FILE ..: permission bits, owner and group
+    stat -c '%a %u:%g' "$@" 2> /dev/null | tr '\n' ' '
+}
+
+# Journal and redo file have no bit that their image lacks, and none to execute, under any umask; root gives those of
+# another's image to its owner.
+private_texts() {
+    local mask mode wanted found user
+    user=$(id -u):$(id -g)
+    printf '0: 58\n' > dump
+    for mask in 000 022 077; do
+        for mode in 600 640 644 755 400; do
+            fresh secret
+            chmod "$mode" img
+            [ "$mode" = 400 ] && [ "$(id -u)" != 0 ] && continue
+            (umask "$mask" && timeout 60 "$bx" revert -f dump img 2> err)
+            wanted=$(printf '%o' $((0$mode & 0666 & ~0$mask)))
+            found=$(bits img.bxj img.bxj.redo)
+            [ "$found" = "$wanted $user $wanted $user " ] && say 1 "texts of an image of $mode, umask $mask" "$wanted" || say 0 "texts of an image of $mode, umask $mask" "$found"
+        done
+        rm -f new new.bxj new.bxj.redo
+        (umask "$mask" && timeout 60 "$bx" revert -f dump new 2> err)
+        wanted=$(printf '%o' $((0666 & ~0$mask)))
+        found=$(bits new new.bxj new.bxj.redo)
+        [ "$found" = "$wanted $user $wanted $user $wanted $user " ] && say 1 "a new image and its texts, umask $mask" "$wanted" || say 0 "a new image and its texts, umask $mask" "$found"
+        rm -f new new.bxj new.bxj.redo
+    done
+    fresh secret
+    : > img.bxj
+    chmod 600 img
+    chmod 644 img.bxj
+    timeout 60 "$bx" revert -f dump img
+    [ "$(stat -c %a img.bxj)" = 644 ] && [ "$(stat -c %a img.bxj.redo)" = 600 ] && say 1 "a journal that is there keeps its bits" || say 0 "a journal that is there keeps its bits"
+}
+
+# Root on another's image, and another on root's: who may do what with the texts, and who may list the changes.
+other_users() {
+    if [ "$(id -u)" != 0 ] || ! command -v setpriv > /dev/null; then
+        echo "left out: another user (no root, or no setpriv)"
+        return
+    fi
+    local found shown
+    mkdir other
+    cp "$bx" other/bx
+    chmod 755 "$work" other/bx
+    chown 65534:65534 other
+    cd other || exit 1
+    printf '0: 58\n' > dump
+    printf secret > key
+    chown 65534:65534 key
+    chmod 600 key
+    (umask 022 && timeout 60 "$bx" revert -f dump key)
+    found=$(bits key.bxj key.bxj.redo)
+    [ "$found" = "600 65534:65534 600 65534:65534 " ] && say 1 "root makes the texts of another's image" || say 0 "root makes the texts of another's image" "$found"
+    [ "$(as_other undo key 2> err)" = 0 ] && [ "$(cat key)" = secret ] && say 1 "whose owner undoes it" || say 0 "whose owner undoes it" "$(cat err)"
+    # an image that another may write, but of a group that isn't theirs
+    printf secret > shared
+    chmod 666 shared
+    (umask 000 && as_other revert -f dump shared 2> err)
+    found=$(bits shared.bxj shared.bxj.redo)
+    [ "$found" = "606 65534:65534 606 65534:65534 " ] && say 1 "the group's bits are for the image's group alone" || say 0 "the group's bits are for the image's group alone" "$found $(cat err)"
+    # changes that may only be looked at
+    cd .. || exit 1
+    mkdir -m 755 looked
+    cd looked || exit 1
+    printf ABCDEFGH > img
+    printf '0: 58\n' > dump
+    "$bx" revert -f dump img
+    rm img.bxj.redo
+    chmod 644 img img.bxj
+    shown=$(as_other log img 2> err)
+    [ "$shown" = "1 8 1" ] && [ ! -s err ] && [ ! -e img.bxj.redo ] && say 1 "log of files that may only be read" || say 0 "log of files that may only be read" "$(cat err)"
+    "$bx" undo img > out && "$bx" redo img > out
+    chmod 644 img.bxj.redo
+    [ "$(as_other log img 2> err)" = "1 8 1" ] && say 1 "and with a redo file" || say 0 "and with a redo file" "$(cat err)"
+    exec 9< img.bxj
+    flock -s -n 9
+    [ "$(as_other log img 2> err)" = "1 8 1" ] && say 1 "and beside another reader" || say 0 "and beside another reader" "$(cat err)"
+    exec 9<&-
+    head -n 3 img.bxj > text
+    cp text img.bxj
+    as_other log img > out 2> err
+    [ $? = 1 ] && [ "$(cat err)" = "bx: cannot open file" ] && [ ! -s out ] && cmp -s text img.bxj && say 1 "log of what is unfinished and may only be read" || say 0 "log of what is unfinished and may only be read" "$(cat err)"
+    "$bx" log img > out 2> err
+    [ "$(cat err)" = "bx: recovered: change 1 was taken back" ] && [ ! -s img.bxj ] && say 1 "which root's log recovers" || say 0 "which root's log recovers" "$(cat err)"
+    cd .. || exit 1
+    rm -rf other looked
+}
+
+# A command that is refused leaves nothing that it made.
+nothing_left() {
+    local command
+    mkdir left
+    cd left || exit 1
+    printf '0: 4g\n' > ../bad
+    printf '0: 41\n' > ../dump
+    patched > ../changed
+    for command in "revert -f ../bad img" "revert -p -f ../bad img" "revert -f ../missing img" "revert -f .. img" "revert img" \
+        "dd if=.. of=img" "dd if=../missing of=img" "dd of=img" "dd if=../dump of=img obs=1 seek=281474976710655" "undo img" "redo img" "log img" \
+        "revert -f ../dump -J no/such img" "revert -f ../dump -J .. img" "revert -f ../dump -J ../changed img"; do
+        # shellcheck disable=SC2086
+        timeout 60 "$bx" $command > ../out 2> ../err <&-
+        [ $? = 1 ] && [ -z "$(ls -A)" ] && [ ! -e ../changed.redo ] && say 1 "nothing is left by $command" "$(cat ../err)" || say 0 "nothing is left by $command" "$(ls -A | tr '\n' ' ')"
+        rm -f ./* ../changed.redo
+    done
+    for command in "undo img" "redo img"; do
+        printf AB > img
+        : > img.bxj
+        # shellcheck disable=SC2086
+        timeout 60 "$bx" $command > ../out 2> ../err
+        [ "$(ls -A | tr '\n' ' ')" = "img img.bxj " ] && say 1 "no redo file is left by $command" "$(cat ../err)" || say 0 "no redo file is left by $command" "$(ls -A | tr '\n' ' ')"
+        rm -f ./*
+    done
+    cd .. || exit 1
+    rmdir left
 }
 
 # Another program that holds a lock.
@@ -667,17 +789,40 @@ on_both() { # on_both COMMAND .. with DEV and JOURNAL in the place of the names
     say "$same" "on a device and on a file: $*"
 }
 
-# A change that a device has no room for is interrupted, and the next opening takes it back.
+# A change that a device has no room for is refused before anything is written.
 too_long() { # too_long NAME ARG ..
-    local name=$1 before status told
+    local name=$1 before status
     shift
-    before=$(sha256sum < "$loop")
+    before=$(cat "$loop" device.bxj device.bxj.redo | sha256sum)
     "$bx" "$@" > out 2> err
     status=$?
-    told=$("$bx" log -J device.bxj "$loop" 2>&1 > /dev/null)
-    [ "$status" = 1 ] && [ "$(cat err)" = "bx: interrupted: open again to recover" ] \
-        && [[ $told == "bx: recovered: change "*" was taken back" ]] && [ "$(sha256sum < "$loop")" = "$before" ] \
-        && say 1 "$name" "$told" || say 0 "$name" "status $status, $(cat err), $told"
+    [ "$status" = 1 ] && [ "$(cat err)" = "bx: out of memory" ] \
+        && [ "$(cat "$loop" device.bxj device.bxj.redo | sha256sum)" = "$before" ] \
+        && say 1 "$name" || say 0 "$name" "status $status, $(cat err)"
+}
+
+# A device that is mounted is refused, and with --mounted it is changed; log writes nothing.
+mounted_device() {
+    local before command
+    if ! command -v mkfs.ext2 > /dev/null || ! mkfs.ext2 -q -F "$loop" 2> err || ! mkdir mounted || ! mount -o ro "$loop" mounted 2> err; then
+        echo "left out: a device that is mounted (no mkfs.ext2, or it can't be mounted)"
+        return
+    fi
+    rm -f device.bxj device.bxj.redo
+    printf '3ff: 00\n' > dump
+    before=$(sha256sum < "$loop")
+    for command in "revert -f dump -J device.bxj $loop" "dd if=dump of=$loop -J device.bxj" "undo -J device.bxj $loop" "redo -J device.bxj $loop"; do
+        # shellcheck disable=SC2086
+        "$bx" $command > out 2> err
+        [ $? = 1 ] && [ "$(cat err)" = "bx: cannot open file" ] && [ ! -e device.bxj ] && [ "$(sha256sum < "$loop")" = "$before" ] \
+            && say 1 "a device that is mounted: $command" || say 0 "a device that is mounted: $command" "$(cat err)"
+    done
+    "$bx" revert --mounted -f dump -J device.bxj "$loop" 2> err && [ "$("$bx" log -J device.bxj "$loop")" = "1 1048576 1" ] \
+        && [ "$("$bx" undo --mounted -J device.bxj "$loop")" = 0 ] && say 1 "and with --mounted" || say 0 "and with --mounted" "$(cat err)"
+    [ "$(stat -c %a device.bxj device.bxj.redo | tr '\n' ' ')" = "600 600 " ] && say 1 "a device's texts are its user's alone" || say 0 "a device's texts are its user's alone"
+    umount mounted
+    "$bx" revert -f dump -J device.bxj "$loop" 2> err && say 1 "and once it is unmounted" || say 0 "and once it is unmounted" "$(cat err)"
+    rm -f device.bxj device.bxj.redo
 }
 
 killed_on_device() {
@@ -739,8 +884,6 @@ loop_devices() {
     on_both log -J JOURNAL DEV
     too_long "a revert past a device's end" revert -s 1 -f dump -J device.bxj "$loop"
     too_long "a dd past a device's end" dd if=tail_bytes of="$loop" obs=1 seek=$((size - 4999)) conv=notrunc -J device.bxj
-    too_long "a dd that would make a device shorter" dd if=tail_bytes of="$loop" obs=1 seek=$((size - 5001)) -J device.bxj
-    too_long "a dd that would make a device longer" dd if=/dev/null of="$loop" obs=1 seek=$((size + 1)) -J device.bxj
     on_both log -J JOURNAL DEV
     on_both undo -k 2 -J JOURNAL DEV
     on_both redo -J JOURNAL DEV
@@ -748,8 +891,17 @@ loop_devices() {
     on_both redo -k 6 -J JOURNAL DEV
     on_both undo -k 6 -J JOURNAL DEV
     [ "$(sha256sum < "$loop")" = "$first" ] && [ ! -s device.bxj ] && say 1 "the device is as it was" || say 0 "the device is as it was"
+    # without notrunc, as the real dd: the length stays, and so does what lies behind
+    cp plain.img want
+    dd if=tail_bytes of=want bs=1 seek=$((size / 2)) conv=notrunc 2> err
+    "$bx" dd if=tail_bytes of="$loop" obs=1 seek=$((size / 2)) -J device.bxj 2> err && cmp -s "$loop" want \
+        && [ "$(stat -c %s device.bxj)" -lt 100000 ] && say 1 "a dd into the middle of a device, without notrunc" || say 0 "a dd into the middle of a device, without notrunc" "$(cat err)"
+    dd if=tail_bytes of=want bs=1 seek=7 conv=notrunc,ucase 2> err
+    "$bx" dd if=tail_bytes of="$loop" obs=1 seek=7 conv=ucase -J device.bxj 2> err && cmp -s "$loop" want && say 1 "and with another conversion" || say 0 "and with another conversion" "$(cat err)"
+    [ "$("$bx" undo -k 2 -J device.bxj "$loop")" = 0 ] && cmp -s "$loop" plain.img && say 1 "and undone" || say 0 "and undone"
     killed_on_device
     [ "$(sha256sum < "$loop")" = "$first" ] && say 1 "the device is as it was, after kills" || say 0 "the device is as it was, after kills"
+    mounted_device
     losetup -d "$loop" && loop=
 }
 
@@ -1018,6 +1170,27 @@ each_of_words() { # each_of_words ARG ..
     [ "$wrong" = 0 ] && [ "$refused" -gt 0 ] && say 1 "each memory request of $*" "$refused of $total refused" || say 0 "each memory request of $*" "$wrong of $total wrong"
 }
 
+# One file by two names on a file system without locks.
+aliases_without_locks() {
+    local command
+    printf AB > one
+    patched > own
+    for command in "revert -f dump -J own two" "revert -f dump -J one one" "undo -J hard one" "log -J hard one" "revert -f dump -J hard one" "log -J own two"; do
+        printf ABxyEFGH > two
+        ln -sf own own.redo
+        ln -f one hard
+        # shellcheck disable=SC2086
+        shimmed n 0 $command
+        [ $? != 0 ] && [ "$(cat one)" = AB ] && [ "$(patched | sha256sum)" = "$(sha256sum < own)" ] && [ "$(cat two)" = ABxyEFGH ] && [ ! -e hard.redo ] && [ ! -e one.redo ] \
+            && say 1 "one file by two names, without locks: $command" "$(cat err)" || say 0 "one file by two names, without locks: $command" "$(cat err)"
+        rm -f hard.redo one.redo
+    done
+    ln -s dangling j
+    shimmed n 0 revert -f dump -J j dangling
+    [ $? = 1 ] && [ ! -e dangling ] && [ ! -e j.redo ] && say 1 "a new image as its journal, by a link" || say 0 "a new image as its journal, by a link" "$(cat err)"
+    rm -f one own own.redo two hard j dangling
+}
+
 failing_calls() {
     if ! build_shim; then
         echo "left out: each memory request, read and write (no C compiler)"
@@ -1040,6 +1213,7 @@ failing_calls() {
     : > input
     shimmed n 0 revert -f dump img && "$bx" log img > out && [ "$(cat out)" = "1 8 2" ] \
         && say 1 "a file system without locks" || say 0 "a file system without locks" "$(cat err)"
+    aliases_without_locks
     each_call "revert" ABCDEFGH none ABCDEFGH revert -f dump img
     each_call "revert over a journal" ABxyEFGH text ABCDEFGH revert -f dump img
     each_call "dd onto an image" ABxyEFGH text ABCDEFGH dd if=plain of=img obs=3 seek=1 conv=ucase
@@ -1101,6 +1275,9 @@ bad_journals
 bad_redo_files
 two_names
 other_kinds
+private_texts
+other_users
+nothing_left
 held
 fronts
 words

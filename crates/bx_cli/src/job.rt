@@ -80,6 +80,15 @@ pub enum Durability {
     Unsynced,
 }
 
+/// How a job uses an image and its texts.
+#[derive(Clone, Copy, Debug, PartialEq, Eq)]
+pub struct Access {
+    /// Whether it waits for the disk.
+    pub durability: Durability,
+    /// Whether it changes a block device that is mounted.
+    pub mounted: bool,
+}
+
 /// `dd`: what its operands ask for, and the operands themselves. Where `of=` names an image there are its texts; else `texts`
 /// is none, and the output is a stream.
 #[derive(Drop)]
@@ -90,8 +99,8 @@ pub struct DdJob {
     pub operands: Words,
     /// The texts of the image that `of=` names; none where it names none.
     pub texts: Option<Texts>,
-    /// Whether a change of the image waits for the disk.
-    pub durability: Durability,
+    /// How the image is used.
+    pub access: Access,
     ghost planned: { IsPlanOf operands plan },
     ghost paired: { is_some texts ≡ is_some plan.output },
 }
@@ -110,8 +119,8 @@ pub struct RevertJob {
     pub image: Name,
     /// The names of the image's texts.
     pub texts: Texts,
-    /// Whether the change waits for the disk.
-    pub durability: Durability,
+    /// How the image is used.
+    pub access: Access,
     ghost near: { at ≤ 2 ^ 62 },
 }
 
@@ -138,8 +147,8 @@ pub enum Job {
         image: Name,
         /// The names of its texts.
         texts: Texts,
-        /// Whether each step waits for the disk.
-        durability: Durability,
+        /// How the image is used.
+        access: Access,
     },
     /// Makes the last undone changes again.
     Redo {
@@ -149,8 +158,8 @@ pub enum Job {
         image: Name,
         /// The names of its texts.
         texts: Texts,
-        /// Whether each step waits for the disk.
-        durability: Durability,
+        /// How the image is used.
+        access: Access,
     },
     /// Lists the changes that stand.
     Log {
@@ -158,8 +167,8 @@ pub enum Job {
         image: Name,
         /// The names of its texts.
         texts: Texts,
-        /// Whether a recovery waits for the disk.
-        durability: Durability,
+        /// How the image is used where something is recovered.
+        access: Access,
     },
     /// Writes a text of help.
     Help {

@@ -17,6 +17,7 @@ pub use bx_commands::{Command, Fault, Reply, log_text, run_all};
 pub use dump::{Done, run_dump};
 pub use hint::{Known, Misuse, hint_text, misuse_of};
 pub use job::{
-    DdJob, Durability, HexdumpJob, Job, OdJob, RevertJob, StringsJob, Texts, XxdJob, XxdLook,
+    Access, DdJob, Durability, HexdumpJob, Job, OdJob, RevertJob, StringsJob, Texts, XxdJob,
+    XxdLook,
 };
 pub use plan::plan_words;

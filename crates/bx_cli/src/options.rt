@@ -314,7 +314,16 @@ fn changer<'a>(
     command: Command<'a>,
     rows: &[Row],
 ) -> Result<Command<'a>, AllocError> {
-    with_rows(alloc, command, rows)?.arg(image(alloc))
+    with_rows(alloc, command, rows)?
+        .arg(mounted(alloc))?
+        .arg(image(alloc))
+}
+
+fn mounted<'a>(alloc: Global) -> Arg<'a> {
+    Arg::new(alloc, "mounted")
+        .long("mounted")
+        .action(ArgAction::SetTrue)
+        .help("Change a block device even while it is mounted")
 }
 
 fn image<'a>(alloc: Global) -> Arg<'a> {
@@ -381,7 +390,9 @@ fn dd<'a>(alloc: Global) -> Result<Command<'a>, AllocError> {
         .after_help(
             "Operands:\n  if=FILE       File to read [default: standard input]\n  of=IMAGE      Image that is changed [default: none, standard output is written]\n  ibs=BYTES     Bytes of an input block, 1 to 16777216 [default: 512]\n  obs=BYTES     Bytes of an output block [default: 512]\n  bs=BYTES      Both, 1 to 16777216\n  cbs=BYTES     Bytes of a record of block and unblock, 1 to 16777216\n  skip=BLOCKS   Input blocks to skip first [default: 0]\n  seek=BLOCKS   Output blocks in front of the place in IMAGE [default: 0]\n  count=BLOCKS  Most input blocks to copy [default: all]\n  conv=WORDS    Of block, unblock, lcase, ucase, swab, sync, notrunc, with commas\n\nNumbers: decimal, then b (512), k or K (1024), M (1048576) or G (1073741824); 2x80 is 160.\n\nEXAMPLES:\n  bx dd if=boot.bin of=disk.img seek=1 conv=notrunc    a file onto byte 512 of an image\n  bx dd if=log.txt conv=ucase count=1                  the first 512 bytes in upper case\n  bx dd if=cards conv=unblock cbs=80                   a line for each 80 bytes",
         );
-    with_rows(alloc, command, &DD)?.arg(operands(alloc))
+    with_rows(alloc, command, &DD)?
+        .arg(mounted(alloc))?
+        .arg(operands(alloc))
 }
 
 fn operands<'a>(alloc: Global) -> Arg<'a> {

@@ -2,7 +2,8 @@
 ghost use Rattle.std.specs.Prelude.{◌≤◌, ◌^◌, IfOk, IfSome};
 
 use crate::job::{
-    DdJob, Durability, HexdumpJob, Job, OdJob, RevertJob, StringsJob, Texts, XxdJob, XxdLook,
+    Access, DdJob, Durability, HexdumpJob, Job, OdJob, RevertJob, StringsJob, Texts, XxdJob,
+    XxdLook,
 };
 use crate::options::program;
 use bx_commands::Fault;
@@ -154,11 +155,15 @@ fn texts_of(alloc: Global, m: &ArgMatches<'_>, image: &str) -> Result<Texts, Fau
     })
 }
 
-fn durability(m: &ArgMatches<'_>) -> Durability {
-    if m.get_flag("unsynced") {
+fn access(m: &ArgMatches<'_>) -> Access {
+    let durability = if m.get_flag("unsynced") {
         Durability::Unsynced
     } else {
         Durability::Synced
+    };
+    Access {
+        durability,
+        mounted: m.get_flag("mounted"),
     }
 }
 
@@ -314,7 +319,7 @@ fn dd(alloc: Global, m: &ArgMatches<'_>) -> Result<Job, Fault> {
         plan,
         operands,
         texts,
-        durability: durability(m),
+        access: access(m),
     }))
 }
 
@@ -327,7 +332,7 @@ fn revert(alloc: Global, m: &ArgMatches<'_>) -> Result<Job, Fault> {
         at,
         image,
         texts,
-        durability: durability(m),
+        access: access(m),
     }))
 }
 
@@ -338,7 +343,7 @@ fn undo(alloc: Global, m: &ArgMatches<'_>) -> Result<Job, Fault> {
         count,
         image,
         texts,
-        durability: durability(m),
+        access: access(m),
     })
 }
 
@@ -349,7 +354,7 @@ fn redo(alloc: Global, m: &ArgMatches<'_>) -> Result<Job, Fault> {
         count,
         image,
         texts,
-        durability: durability(m),
+        access: access(m),
     })
 }
 
@@ -358,6 +363,6 @@ fn log(alloc: Global, m: &ArgMatches<'_>) -> Result<Job, Fault> {
     Ok(Job::Log {
         image,
         texts,
-        durability: durability(m),
+        access: access(m),
     })
 }

@@ -1,4 +1,5 @@
 //! dd.
+use crate::files::look::is_device;
 use crate::images::{finish, open_session};
 use crate::input::{Placed, file, standard};
 use crate::stopped::{Noted, STANDARD_INPUT, Stopped};
@@ -28,17 +29,26 @@ where
     }
 }
 
-/// The operands for what stands behind passed bytes: `skip=` tells how many blocks are left to skip.
-fn operands_behind(alloc: Global, dd: &DdJob, passed: u64) -> Result<Words, Fault> {
+/// The operands for what stands behind passed bytes: `skip=` tells how many blocks are left to skip. Of a block device, whose
+/// length stays, they have `conv=notrunc`, as the real dd takes it.
+fn operands_of(alloc: Global, dd: &DdJob, passed: u64, keeps_length: bool) -> Result<Words, Fault> {
     let left = dd.plan.skip.saturating_sub(passed / dd.plan.ibs);
     let skip = format!(in alloc; "skip={left}")?;
     let mut operands = Words::new(alloc);
+    let mut is_kept = !keeps_length;
     for i in 0..dd.operands.len() {
         match dd.operands.get(i) {
             Some(word) if word.starts_with("skip=") => operands.push(skip.as_str())?,
+            Some(word) if keeps_length && word.starts_with("conv=") => {
+                operands.push(format!(in alloc; "{word},notrunc")?.as_str())?;
+                is_kept = true;
+            }
             Some(word) => operands.push(word)?,
             None => {}
         }
+    }
+    if !is_kept {
+        operands.push("conv=notrunc")?;
     }
     Ok(operands)
 }
@@ -54,8 +64,9 @@ fn copy_from<'a, R, I: Read + Drop>(
 where
     R: Files<File = File> + Eprint + AllocGlobal,
 {
-    let operands = operands_behind(rt.alloc(), dd, input.passed)?;
-    let session = open_session(rt, image, texts, true, dd.durability)?;
+    let keeps_length = is_device(rt, image.as_str());
+    let operands = operands_of(rt.alloc(), dd, input.passed, keeps_length)?;
+    let session = open_session(rt, image, texts, true, dd.access)?;
     let mut input = Noted::new(input.reader);
     let asked = Command::Dd {
         operands,

@@ -1,154 +1,41 @@
 //! The files of a session.
+mod alias;
+pub mod look;
+mod mode;
+mod mounts;
+pub mod open;
+pub mod text_file;
+
+use crate::files::alias::is_apart;
+use crate::files::look::{Holds, look, look_at_all};
+use crate::files::mode::Permits;
+use crate::files::open::{Opened, Purpose, take_away};
 use crate::stopped::Stopped;
 use bx_cli::Texts;
 use bx_text::Name;
-use std::fs::{self, File, Metadata, TryLockError};
-use std::io::{self, ErrorKind};
-use std::os::unix::fs::{FileTypeExt, MetadataExt};
+use std::fs::File;
+use std::io::{self, Seek, SeekFrom};
+use std::os::unix::fs::FileTypeExt;
 use std::rt::Files;
 
-/// What stands in a file that is changed.
-#[derive(Clone, Copy, PartialEq, Eq)]
-enum Holds {
-    /// An image: a regular file or a block device.
-    Image,
-    /// A journal or a redo text, which grows: a regular file.
-    Text,
+/// Which of an image, its journal and its redo text this run made.
+#[derive(Clone, Copy, Debug, PartialEq, Eq)]
+pub struct Made {
+    /// The image.
+    pub image: bool,
+    /// Its journal.
+    pub journal: bool,
+    /// Its redo text.
+    pub redo: bool,
 }
 
-impl Holds {
-    /// Whether a file of this kind can hold it.
-    fn suits(self, file: &Metadata) -> bool {
-        let kind = file.file_type();
-        kind.is_file() || (self == Holds::Image && kind.is_block_device())
-    }
-
-    /// What is said of a file that can't hold it.
-    fn unsuited(self) -> &'static str {
-        match self {
-            Holds::Image => "it is no regular file and no block device",
-            Holds::Text => "it is no regular file",
-        }
-    }
-}
-
-/// A file that is open to be changed, is what it has to be, and is locked.
-#[derive(Drop)]
-struct Opened<'a> {
-    file: File,
-    name: &'a str,
-    made: bool,
-}
-
-/// What stands under a name, links followed. None is a file that is missing and may be made. It is asked before any file is
-/// opened, since to open a pipe or a device may already do something to it.
-fn look<'a, R>(
-    rt: &R,
-    name: &'a str,
-    make: bool,
-    holds: Holds,
-) -> Result<Option<Metadata>, Stopped<'a>>
-where
-    R: Files<File = File>,
-{
-    match fs::metadata(rt, name) {
-        Ok(file) if holds.suits(&file) => Ok(Some(file)),
-        Ok(_) => Err(Stopped::refused(name, holds.unsuited())),
-        Err(e) if e.kind() != ErrorKind::NotFound => Err(Stopped::unopened(name, e)),
-        Err(_) if make => Ok(None),
-        Err(_) if holds == Holds::Text => Err(Stopped::refused(name, NO_JOURNAL)),
-        Err(e) => Err(Stopped::unopened(name, e)),
-    }
-}
-
-/// What is said of a journal that is missing and isn't to be made.
-const NO_JOURNAL: &str =
-    "no journal is here, so no change is known; -J names one that is elsewhere, and bx revert and bx dd make one";
-
-/// Opens a file to be read and written, and says whether it was made.
-fn open_or_make<R>(rt: &R, name: &str, make: bool) -> io::Result<(File, bool)>
-where
-    R: Files<File = File>,
-{
-    let mut how = File::options();
-    how.read(true).write(true);
-    match how.open(rt, name) {
-        Err(e) if make && e.kind() == ErrorKind::NotFound => {}
-        outcome => return Ok((outcome?, false)),
-    }
-    match how.create_new(true).open(rt, name) {
-        // Another program made it by now, or a link leads to a file that is missing.
-        Err(e) if e.kind() == ErrorKind::AlreadyExists => {
-            Ok((how.create_new(false).create(true).open(rt, name)?, false))
-        }
-        outcome => Ok((outcome?, true)),
-    }
-}
-
-/// Locks a file, without waiting, up to its closing. A lock belongs to one opening, so a file that this run has open under
-/// another name is refused like one that another program holds. Where the file system has no locks it goes on without.
-fn lock<'a>(file: &File, name: &'a str) -> Result<(), Stopped<'a>> {
-    match file.try_lock() {
-        Ok(()) => Ok(()),
-        Err(TryLockError::Error(e)) if e.kind() == ErrorKind::Unsupported => Ok(()),
-        Err(TryLockError::Error(e)) => Err(Stopped::unopened(name, e)),
-        Err(TryLockError::WouldBlock) => Err(Stopped::refused(
-            name,
-            "another program has it locked, or it is one of the others by another name",
-        )),
-    }
-}
-
-/// Whether both are the same file.
-fn is_same(a: &Metadata, b: &Metadata) -> bool {
-    a.dev() == b.dev() && a.ino() == b.ino()
-}
-
-/// Whether the open file is what it has to be, and, now that it is locked, still has its name: another run may have taken it
-/// away before.
-fn is_in_place<R>(rt: &R, name: &str, file: &File, holds: Holds) -> io::Result<bool>
-where
-    R: Files<File = File>,
-{
-    let opened = file.metadata()?;
-    let named = fs::metadata(rt, name)?;
-    Ok(holds.suits(&opened) && is_same(&opened, &named))
-}
-
-impl<'a> Opened<'a> {
-    /// Opens a file, locks it, and looks at it again.
-    fn new<R>(rt: &R, name: &'a str, make: bool, holds: Holds) -> Result<Opened<'a>, Stopped<'a>>
-    where
-        R: Files<File = File>,
-    {
-        let (file, made) = match open_or_make(rt, name, make) {
-            Ok(opened) => opened,
-            Err(error) => return Err(Stopped::unopened(name, error)),
-        };
-        lock(&file, name)?;
-        match is_in_place(rt, name, &file, holds) {
-            Ok(true) => Ok(Opened { file, name, made }),
-            Ok(false) => Err(Stopped::refused(name, "another file has its name now")),
-            Err(error) => Err(Stopped::unopened(name, error)),
-        }
-    }
-
-    /// Takes the file away again, if this run made it.
-    fn unmake<R: Files<File = File>>(&self, rt: &R) {
-        if self.made {
-            let _ = fs::remove_file(rt, self.name);
-        }
-    }
-}
-
-/// The journal of a block device has a name of its own, since the folder of devices is no place that lasts.
-fn is_journal_missing(image: &Option<Metadata>, image_name: &str, journal_name: &str) -> bool {
-    match image {
-        Some(file) if file.file_type().is_block_device() => {
-            journal_name.strip_prefix(image_name) == Some(".bxj")
-        }
-        _ => false,
-    }
+impl Made {
+    /// None of them.
+    pub const NONE: Made = Made {
+        image: false,
+        journal: false,
+        redo: false,
+    };
 }
 
 /// An image, its journal and its redo text: open, locked, and each a file of its own.
@@ -156,44 +43,110 @@ fn is_journal_missing(image: &Option<Metadata>, image_name: &str, journal_name: 
 pub struct SessionFiles {
     /// The image.
     pub image: File,
-    /// Whether this run made the image.
-    pub is_image_made: bool,
+    /// The image's length, where it can't have another one: of a block device.
+    pub length: Option<u64>,
     /// Its journal.
     pub journal: File,
-    /// Its redo text.
-    pub redo: File,
+    /// Its redo text; none where it is missing and isn't made.
+    pub redo: Option<File>,
+    /// Which of them this run made.
+    pub made: Made,
 }
 
-/// Looks at all three before one is opened. What is no file of its kind, or is missing and isn't to be made, is refused here.
-fn look_at_all<'a, R>(
+impl SessionFiles {
+    /// Takes those away again that this run made and nothing was written to.
+    pub fn unmake<R: Files<File = File>>(&self, rt: &R, image: &Name, texts: &Texts) {
+        if self.made.image {
+            take_away(rt, image.as_str(), &self.image);
+        }
+        if self.made.journal {
+            take_away(rt, texts.journal.as_str(), &self.journal);
+        }
+        if let Some(redo) = self.redo.as_ref().filter(|_| self.made.redo) {
+            take_away(rt, texts.redo.as_str(), redo);
+        }
+    }
+}
+
+/// The length of a file that can't have another one.
+fn fixed_length(mut file: &File) -> io::Result<Option<u64>> {
+    if file.metadata()?.file_type().is_block_device() {
+        return Ok(Some(file.seek(SeekFrom::End(0))?));
+    }
+    Ok(None)
+}
+
+/// The three as a session takes them.
+fn files_of<'a>(
+    image: Opened<'a>,
+    journal: Opened<'a>,
+    redo: Option<Opened<'a>>,
+) -> Result<SessionFiles, Stopped<'a>> {
+    let length = match fixed_length(&image.file) {
+        Ok(length) => length,
+        Err(error) => return Err(Stopped::unopened(image.name, error)),
+    };
+    let (redo, redo_made) = match redo {
+        Some(redo) => (Some(redo.file), redo.made),
+        None => (None, false),
+    };
+    Ok(SessionFiles {
+        image: image.file,
+        length,
+        journal: journal.file,
+        redo,
+        made: Made {
+            image: image.made,
+            journal: journal.made,
+            redo: redo_made,
+        },
+    })
+}
+
+/// The redo text, which is none of the other two.
+fn open_redo<'a, R>(
     rt: &R,
-    image: &'a Name,
-    texts: &'a Texts,
-    make: bool,
-) -> Result<(), Stopped<'a>>
+    name: &'a str,
+    purpose: Purpose,
+    image: &Opened<'_>,
+    journal: &Opened<'_>,
+) -> Result<Opened<'a>, Stopped<'a>>
 where
     R: Files<File = File>,
 {
-    let found = look(rt, image.as_str(), make, Holds::Image)?;
-    if is_journal_missing(&found, image.as_str(), texts.journal.as_str()) {
-        return Err(Stopped::refused(
-            image.as_str(),
-            "a block device wants -J and a journal elsewhere",
-        ));
+    let redo = Opened::new(rt, name, purpose, Holds::Text)?;
+    match is_apart(&redo, image).and_then(|()| is_apart(&redo, journal)) {
+        Ok(()) => Ok(redo),
+        Err(stopped) => {
+            redo.unmake(rt);
+            Err(stopped)
+        }
     }
-    look(rt, texts.journal.as_str(), make, Holds::Text)?;
-    look(rt, texts.redo.as_str(), true, Holds::Text)?;
-    Ok(())
 }
 
 /// The journal, and then the redo text. A journal that was made is taken away again where the redo text is refused.
-fn open_texts<'a, R>(rt: &R, texts: &'a Texts, make: bool) -> Result<(File, File), Stopped<'a>>
+fn make_texts<'a, R>(
+    rt: &R,
+    texts: &'a Texts,
+    make: bool,
+    image: &Opened<'a>,
+) -> Result<(Opened<'a>, Opened<'a>), Stopped<'a>>
 where
     R: Files<File = File>,
 {
-    let journal = Opened::new(rt, texts.journal.as_str(), make, Holds::Text)?;
-    match Opened::new(rt, texts.redo.as_str(), true, Holds::Text) {
-        Ok(redo) => Ok((journal.file, redo.file)),
+    let permits = match image.file.metadata() {
+        Ok(file) => Permits::beside(&file),
+        Err(error) => return Err(Stopped::unopened(image.name, error)),
+    };
+    let purpose = Purpose::Make(permits);
+    let of_journal = if make { purpose } else { Purpose::Change };
+    let journal = Opened::new(rt, texts.journal.as_str(), of_journal, Holds::Text)?;
+    let outcome = match is_apart(&journal, image) {
+        Ok(()) => open_redo(rt, texts.redo.as_str(), purpose, image, &journal),
+        Err(stopped) => Err(stopped),
+    };
+    match outcome {
+        Ok(redo) => Ok((journal, redo)),
         Err(stopped) => {
             journal.unmake(rt);
             Err(stopped)
@@ -203,31 +156,61 @@ where
 
 /// The image, then its journal, then its redo text. `make` says whether an image and a journal that are missing are made; the
 /// redo text always is. All three are looked at before one is opened, and what was made is taken away again where a later one
-/// is refused.
+/// is refused. The texts that are made may be read by nobody who may not read the image. `mounted` says whether the image may be
+/// a block device that is mounted.
 ///
 /// # Errors
 /// `OpenFailed` where one is missing and isn't to be made, can't be opened, is no regular file (and, for the image, no block
-/// device either), or is locked by another program or under another name, and where a block device has no journal of another
-/// name than `IMAGE.bxj`. No file is then changed, and none is made, but for an empty one behind a link that led to no file,
-/// or whose place could not be looked at again.
-pub fn trio<'a, R: Files<File = File>>(
+/// device either), or is locked by another program or under another name; where two of them are one file; where a block device
+/// has no journal of another name than `IMAGE.bxj`, or is mounted. No file is then changed, and none is made, but for an empty
+/// one behind a link that led to no file, or whose place could not be looked at again.
+pub fn trio<'a, R>(
     rt: &R,
     image: &'a Name,
     texts: &'a Texts,
     make: bool,
-) -> Result<SessionFiles, Stopped<'a>> {
-    look_at_all(rt, image, texts, make)?;
-    let image = Opened::new(rt, image.as_str(), make, Holds::Image)?;
-    match open_texts(rt, texts, make) {
-        Ok((journal, redo)) => Ok(SessionFiles {
-            image: image.file,
-            is_image_made: image.made,
-            journal,
-            redo,
-        }),
+    mounted: bool,
+) -> Result<SessionFiles, Stopped<'a>>
+where
+    R: Files<File = File> + AllocGlobal,
+{
+    look_at_all(rt, image, texts, make, !mounted)?;
+    let purpose = if make {
+        Purpose::Make(Permits::of_image())
+    } else {
+        Purpose::Change
+    };
+    let image = Opened::new(rt, image.as_str(), purpose, Holds::Image)?;
+    match make_texts(rt, texts, make, &image) {
+        Ok((journal, redo)) => files_of(image, journal, Some(redo)),
         Err(stopped) => {
             image.unmake(rt);
             Err(stopped)
         }
     }
+}
+
+/// The image, then its journal, then its redo text where it has one. None is made.
+///
+/// # Errors
+/// As of `trio`.
+pub fn existing<'a, R>(
+    rt: &R,
+    image: &'a Name,
+    texts: &'a Texts,
+    purpose: Purpose,
+) -> Result<SessionFiles, Stopped<'a>>
+where
+    R: Files<File = File>,
+{
+    let redo_is_there = look(rt, texts.redo.as_str(), true, Holds::Text)?.is_some();
+    let image = Opened::new(rt, image.as_str(), purpose, Holds::Image)?;
+    let journal = Opened::new(rt, texts.journal.as_str(), purpose, Holds::Text)?;
+    is_apart(&journal, &image)?;
+    let redo = if redo_is_there {
+        Some(open_redo(rt, texts.redo.as_str(), purpose, &image, &journal)?)
+    } else {
+        None
+    };
+    files_of(image, journal, redo)
 }

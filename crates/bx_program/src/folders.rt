@@ -47,7 +47,7 @@ pub fn keep_names<'a, R: Files<File = File>>(
     let folder = folder_of(texts.journal.as_str());
     sync(rt, folder)?;
     let of_image = folder_of(image.as_str());
-    if files.is_image_made && of_image != folder {
+    if files.made.image && of_image != folder {
         sync(rt, of_image)?;
     }
     Ok(())

@@ -1,5 +1,6 @@
 //! What the program writes of a fault, and for a person of a success.
 mod names;
+mod readers;
 pub mod remarks;
 
 use crate::hints::names::name_hint;
@@ -78,6 +79,9 @@ fn reason_text(alloc: Global, reason: Reason) -> Result<String, AllocError> {
         Reason::Unknown => Ok(String::new(alloc)),
         Reason::System(code) => system_text(alloc, code),
         Reason::Told(why) => String::from_str(alloc, why),
+        Reason::Fixed { has, wanted } => {
+            format!(in alloc; "it has {has} bytes and can't grow to {wanted}")
+        }
         Reason::Lengths { has, expected } => {
             format!(in alloc; "it has {has} bytes and not {expected}")
         }

@@ -2,19 +2,30 @@
 ghost use Rattle.std.specs.Prelude.{◌≡◌, IfOk};
 ghost use Rattle.bx_commands.specs.Command.{IsNear};
 
-use crate::files::{SessionFiles, trio};
+use crate::files::look::look_at_all;
+use crate::files::open::Purpose;
+use crate::files::text_file::TextFile;
+use crate::files::{Made, SessionFiles, existing, trio};
 use crate::folders::keep_names;
 use crate::stopped::{Devices, Stopped};
-use bx_cli::{Command, Durability, Fault, Reply, Texts, log_text, run_all};
+use bx_cli::{Access, Command, Durability, Fault, Reply, Texts, log_text, run_all};
 use bx_image::{Device, FileImage, SystemFile};
-use bx_journal::{How, Session};
+use bx_journal::{How, Session, SessionFault};
 use bx_store::{FileText, TextStore};
 use bx_text::{Name, NoMemory};
 use std::fs::File;
 use std::io::Read;
 use std::rt::Files;
 
-type FileSession = Session<FileImage, FileText>;
+type FileSession = Session<FileImage, FileText<TextFile>>;
+
+/// A session on an image and its texts, and which of them this run made: those are taken away again where a command is refused
+/// before anything was written to them.
+#[derive(Drop)]
+pub struct OpenSession {
+    session: FileSession,
+    made: Made,
+}
 
 /// A file as a device holds it.
 fn held(file: File, durability: Durability) -> SystemFile {
@@ -30,34 +41,45 @@ pub fn open_session<'a, R>(
     image: &'a Name,
     texts: &'a Texts,
     make: bool,
-    durability: Durability,
-) -> Result<FileSession, Stopped<'a>>
+    access: Access,
+) -> Result<OpenSession, Stopped<'a>>
 where
     R: Files<File = File> + Eprint + AllocGlobal,
-    ensures device { IfOk result (λ s. ⟦<FileImage as Device>⟧.failures s.device ≡ 0) }
-    ensures store { IfOk result (λ s. ⟦<FileText as TextStore>⟧.failures s.store ≡ 0) }
-    ensures redo_text { IfOk result (λ s. ⟦<FileText as TextStore>⟧.failures s.redo_text ≡ 0) }
+    ensures device { IfOk result (λ o. ⟦<FileImage as Device>⟧.failures o.session.device ≡ 0) }
+    ensures store { IfOk result (λ o. ⟦<FileText<TextFile> as TextStore>⟧.failures o.session.store ≡ 0) }
+    ensures redo_text { IfOk result (λ o. ⟦<FileText<TextFile> as TextStore>⟧.failures o.session.redo_text ≡ 0) }
 {
-    let files = trio(rt, image, texts, make)?;
-    if durability == Durability::Synced {
-        keep_names(rt, &files, image, texts)?;
+    let files = trio(rt, image, texts, make, access.mounted)?;
+    if access.durability == Durability::Synced {
+        if let Err(stopped) = keep_names(rt, &files, image, texts) {
+            files.unmake(rt, image, texts);
+            return Err(stopped);
+        }
     }
-    session_of(rt, files, image, texts, durability)
+    session_of(rt, files, image, texts, access.durability)
 }
 
-/// Opens the image and its texts for a command that only reads what stands.
+/// Opens the image and its texts for a command that only reads what stands: without writing anything, where nothing is
+/// unfinished. Else it recovers.
 pub fn open_to_look<'a, R>(
     rt: &R,
     image: &'a Name,
     texts: &'a Texts,
-    durability: Durability,
-) -> Result<FileSession, Stopped<'a>>
+    access: Access,
+) -> Result<OpenSession, Stopped<'a>>
 where
     R: Files<File = File> + Eprint + AllocGlobal,
-    ensures { IfOk result (λ s. ⟦<FileText as TextStore>⟧.failures s.store ≡ 0) }
+    ensures { IfOk result (λ o. ⟦<FileText<TextFile> as TextStore>⟧.failures o.session.store ≡ 0) }
 {
-    let files = trio(rt, image, texts, false)?;
-    session_of(rt, files, image, texts, durability)
+    look_at_all(rt, image, texts, false, false)?;
+    let files = existing(rt, image, texts, Purpose::Read)?;
+    match session_of(rt, files, image, texts, Durability::Unsynced) {
+        Err(stopped) if stopped.fault == Fault::from(SessionFault::Interrupted) => {}
+        outcome => return outcome,
+    }
+    look_at_all(rt, image, texts, false, !access.mounted).map_err(Stopped::unrecovered)?;
+    let files = existing(rt, image, texts, Purpose::Change).map_err(Stopped::unrecovered)?;
+    session_of(rt, files, image, texts, access.durability)
 }
 
 /// The session of files that were just opened. It says on standard error what was recovered.
@@ -67,57 +89,80 @@ fn session_of<'a, R>(
     image: &'a Name,
     texts: &'a Texts,
     durability: Durability,
-) -> Result<FileSession, Stopped<'a>>
+) -> Result<OpenSession, Stopped<'a>>
 where
-    R: Eprint + AllocGlobal,
-    ensures device { IfOk result (λ s. ⟦<FileImage as Device>⟧.failures s.device ≡ 0) }
-    ensures store { IfOk result (λ s. ⟦<FileText as TextStore>⟧.failures s.store ≡ 0) }
-    ensures redo_text { IfOk result (λ s. ⟦<FileText as TextStore>⟧.failures s.redo_text ≡ 0) }
+    R: Files<File = File> + Eprint + AllocGlobal,
+    ensures device { IfOk result (λ o. ⟦<FileImage as Device>⟧.failures o.session.device ≡ 0) }
+    ensures store { IfOk result (λ o. ⟦<FileText<TextFile> as TextStore>⟧.failures o.session.store ≡ 0) }
+    ensures redo_text { IfOk result (λ o. ⟦<FileText<TextFile> as TextStore>⟧.failures o.session.redo_text ≡ 0) }
 {
-    let device = FileImage::new(held(files.image, durability));
-    let store = FileText::new(held(files.journal, durability));
-    let redo_text = FileText::new(held(files.redo, durability));
+    let made = files.made;
+    let device = image_of(held(files.image, durability), files.length);
+    let store = FileText::new(TextFile::new(Some(held(files.journal, durability))));
+    let redo = files.redo.map(|file| held(file, durability));
+    let redo_text = FileText::new(TextFile::new(redo));
     let (session, found) = match Session::open(rt.alloc(), device, store, redo_text) {
         Ok(opened) => opened,
         Err((device, store, redo_text, fault)) => {
             let trio = (device, store, redo_text);
             let devices = Devices { trio, image, texts };
-            return Err(devices.stopped(Fault::from(fault)));
+            return Err(devices.refused(rt, Fault::from(fault), made));
         }
     };
-    match found.how {
-        How::Clean => {}
+    let recovered = tell_recovered(rt, found.how);
+    Ok(OpenSession {
+        session,
+        made: if recovered { Made::NONE } else { made },
+    })
+}
+
+/// The image of a file, which may have a length that stays.
+fn image_of(file: SystemFile, length: Option<u64>) -> FileImage
+    ensures { ⟦<FileImage as Device>⟧.failures result ≡ 0 }
+{
+    match length {
+        Some(length) => FileImage::fixed(file, length),
+        None => FileImage::new(file),
+    }
+}
+
+/// Says on standard error what was recovered, and answers whether anything was.
+fn tell_recovered<R: Eprint>(rt: &R, how: How) -> bool {
+    match how {
+        How::Clean => false,
         How::Dropped => {
             let _ = eprintln!(rt; "bx: recovered: an unfinished entry was dropped");
+            true
         }
         How::Restored { number } => {
             let _ = eprintln!(rt; "bx: recovered: change {number} was taken back");
+            true
         }
     }
-    Ok(session)
 }
 
 /// Runs one command on a session that was just opened, and closes it.
 pub fn finish<'a, R, I: Read + Drop>(
     rt: &R,
-    mut session: FileSession,
+    opened: OpenSession,
     asked: Command<I>,
     image: &'a Name,
     texts: &'a Texts,
 ) -> Result<Reply, Stopped<'a>>
 where
-    R: AllocGlobal,
+    R: Files<File = File> + AllocGlobal,
     requires near { IsNear asked }
-    requires device { ⟦<FileImage as Device>⟧.failures session.device ≡ 0 }
-    requires store { ⟦<FileText as TextStore>⟧.failures session.store ≡ 0 }
-    requires redo_text { ⟦<FileText as TextStore>⟧.failures session.redo_text ≡ 0 }
+    requires device { ⟦<FileImage as Device>⟧.failures opened.session.device ≡ 0 }
+    requires store { ⟦<FileText<TextFile> as TextStore>⟧.failures opened.session.store ≡ 0 }
+    requires redo_text { ⟦<FileText<TextFile> as TextStore>⟧.failures opened.session.redo_text ≡ 0 }
 {
+    let OpenSession { mut session, made } = opened;
     match command(rt, &mut session, asked) {
         Ok(reply) => Ok(reply),
         Err(fault) => {
             let trio = session.close();
             let devices = Devices { trio, image, texts };
-            Err(devices.stopped(fault))
+            Err(devices.refused(rt, fault, made))
         }
     }
 }
@@ -132,8 +177,8 @@ where
     R: AllocGlobal,
     requires near { IsNear command }
     requires device { ⟦<FileImage as Device>⟧.failures session.old.device ≡ 0 }
-    requires store { ⟦<FileText as TextStore>⟧.failures session.old.store ≡ 0 }
-    requires redo_text { ⟦<FileText as TextStore>⟧.failures session.old.redo_text ≡ 0 }
+    requires store { ⟦<FileText<TextFile> as TextStore>⟧.failures session.old.store ≡ 0 }
+    requires redo_text { ⟦<FileText<TextFile> as TextStore>⟧.failures session.old.redo_text ≡ 0 }
 {
     let mut list = Vec::new(rt.alloc());
     list.push(command).map_err(|_| NoMemory)?;
@@ -148,14 +193,15 @@ where
 /// The changes of a session that was just opened as text, a line each, the oldest first.
 pub fn log<'a, R>(
     rt: &R,
-    mut session: FileSession,
+    opened: OpenSession,
     image: &'a Name,
     texts: &'a Texts,
 ) -> Result<String, Stopped<'a>>
 where
     R: AllocGlobal,
-    requires { ⟦<FileText as TextStore>⟧.failures session.store ≡ 0 }
+    requires { ⟦<FileText<TextFile> as TextStore>⟧.failures opened.session.store ≡ 0 }
 {
+    let mut session = opened.session;
     match session.log() {
         Ok(rows) => Ok(log_text(rt.alloc(), rows.as_slice())?),
         Err(fault) => {

@@ -11,7 +11,7 @@ use crate::stopped::{Noted, STANDARD_INPUT, Stopped};
 use crate::streams::Held;
 use crate::tally::Tally;
 use bx_cli::{
-    Command, DdJob, Done, Durability, Fault, HexdumpJob, Job, OdJob, Reply, RevertJob, StringsJob,
+    Access, Command, DdJob, Done, Fault, HexdumpJob, Job, OdJob, Reply, RevertJob, StringsJob,
     Texts, XxdJob, plan_words, run_dump_behind,
 };
 use bx_dd::Counts;
@@ -143,13 +143,13 @@ where
             count,
             image,
             texts,
-            durability,
+            access,
         } => step(
             rt,
             Command::Undo { k: *count },
             image,
             texts,
-            *durability,
+            *access,
             out,
             remarks,
         )?,
@@ -157,21 +157,21 @@ where
             count,
             image,
             texts,
-            durability,
+            access,
         } => step(
             rt,
             Command::Redo { j: *count },
             image,
             texts,
-            *durability,
+            *access,
             out,
             remarks,
         )?,
         Job::Log {
             image,
             texts,
-            durability,
-        } => show_log(rt, image, texts, *durability, out)?,
+            access,
+        } => show_log(rt, image, texts, *access, out)?,
     }
     Ok(None)
 }
@@ -226,7 +226,7 @@ where
             offset: job.at,
         }
     };
-    let session = open_session(rt, &job.image, &job.texts, true, job.durability)?;
+    let session = open_session(rt, &job.image, &job.texts, true, job.access)?;
     finish(rt, session, asked, &job.image, &job.texts)?;
     Ok(())
 }
@@ -246,7 +246,7 @@ fn step<'a, R, W: Write>(
     asked: Command,
     image: &'a Name,
     texts: &'a Texts,
-    durability: Durability,
+    access: Access,
     out: &mut W,
     remarks: &mut Remarks,
 ) -> Result<(), Stopped<'a>>
@@ -254,7 +254,7 @@ where
     R: Files<File = File> + Eprint + AllocGlobal,
     requires { IsNear asked }
 {
-    let session = open_session(rt, image, texts, false, durability)?;
+    let session = open_session(rt, image, texts, false, access)?;
     remarks.look_at_times(rt, image, texts);
     match finish(rt, session, asked, image, texts)? {
         Reply::Undone { left: standing } | Reply::Redone { changes: standing } => {
@@ -269,13 +269,13 @@ fn show_log<'a, R, W: Write>(
     rt: &R,
     image: &'a Name,
     texts: &'a Texts,
-    durability: Durability,
+    access: Access,
     out: &mut W,
 ) -> Result<(), Stopped<'a>>
 where
     R: Files<File = File> + Eprint + AllocGlobal,
 {
-    let session = open_to_look(rt, image, texts, durability)?;
+    let session = open_to_look(rt, image, texts, access)?;
     let text = log(rt, session, image, texts)?;
     Ok(show(out, text.as_str())?)
 }

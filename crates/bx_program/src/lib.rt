@@ -12,6 +12,6 @@ mod stopped;
 mod streams;
 mod tally;
 
-pub use files::{SessionFiles, trio};
+pub use files::{Made, SessionFiles, trio};
 pub use jobs::{perform, run};
 pub use stopped::{Reason, Stopped};

@@ -1,11 +1,16 @@
 //! What stopped a job.
+use crate::files::Made;
+use crate::files::open::take_away;
+use crate::files::text_file::TextFile;
 use bx_cli::{Fault, Texts};
 use bx_dd::DdFault;
 use bx_image::{Device, FileImage};
 use bx_journal::SessionFault;
 use bx_store::{FileText, TextStore};
-use bx_text::{IoFault, Name};
+use bx_text::{IoFault, Name, NoMemory};
+use std::fs::File;
 use std::io::{self, ErrorKind, Read, Seek, SeekFrom};
+use std::rt::Files;
 
 /// What is said in place of a file's name.
 pub const STANDARD_INPUT: &str = "standard input";
@@ -19,6 +24,13 @@ pub enum Reason {
     System(i32),
     /// In words.
     Told(&'static str),
+    /// The file has so many bytes and can't grow, and the change wants it to have `wanted`.
+    Fixed {
+        /// How many it has.
+        has: u64,
+        /// How many it would have.
+        wanted: u64,
+    },
     /// The file has so many bytes, and should have as many as `expected`.
     Lengths {
         /// How many it has.
@@ -83,6 +95,17 @@ impl<'a> Stopped<'a> {
         }
     }
 
+    /// The same, or, where the system doesn't let a file be written, that recovery has to.
+    pub fn unrecovered(self) -> Stopped<'a> {
+        match self.reason {
+            Reason::System(code) if is_unwritable(code) => Stopped {
+                reason: Reason::Told(UNFINISHED),
+                ..self
+            },
+            _ => self,
+        }
+    }
+
     /// By words that aren't any.
     pub fn by_words(why: &'static str) -> Stopped<'a> {
         Stopped {
@@ -123,11 +146,23 @@ impl<'a> Stopped<'a> {
     }
 }
 
+/// What is said of a file that has to be written before the changes can be listed.
+const UNFINISHED: &str =
+    "a change is unfinished, and recovery has to write this file; let someone run bx log who may";
+
+/// Whether the system's number says that a file may not be written.
+fn is_unwritable(code: i32) -> bool {
+    matches!(
+        io::Error::from_raw_os_error(code).kind(),
+        ErrorKind::PermissionDenied | ErrorKind::ReadOnlyFilesystem
+    )
+}
+
 /// The devices of a session, with their names.
 #[derive(Drop)]
 pub struct Devices<'a> {
     /// The image, the journal and the redo text.
-    pub trio: (FileImage, FileText, FileText),
+    pub trio: (FileImage, FileText<TextFile>, FileText<TextFile>),
     /// The image's name.
     pub image: &'a Name,
     /// The names of the other two.
@@ -135,6 +170,31 @@ pub struct Devices<'a> {
 }
 
 impl<'a> Devices<'a> {
+    /// The device that stopped a session. Where nothing was begun, the files that this run made are taken away again.
+    pub fn refused<R>(&self, rt: &R, fault: Fault, made: Made) -> Stopped<'a>
+    where
+        R: Files<File = File>,
+    {
+        if fault != Fault::from(SessionFault::Interrupted) {
+            self.unmake(rt, made);
+        }
+        self.stopped(fault)
+    }
+
+    /// Takes files away that nothing was written to.
+    fn unmake<R: Files<File = File>>(&self, rt: &R, made: Made) {
+        let (image, journal, redo) = &self.trio;
+        if made.image {
+            take_away(rt, self.image.as_str(), &image.file().file);
+        }
+        if let Some(file) = journal.file().file().filter(|_| made.journal) {
+            take_away(rt, self.texts.journal.as_str(), &file.file);
+        }
+        if let Some(file) = redo.file().file().filter(|_| made.redo) {
+            take_away(rt, self.texts.redo.as_str(), &file.file);
+        }
+    }
+
     /// The device that stopped a session.
     pub fn stopped(&self, fault: Fault) -> Stopped<'a> {
         let Fault::Session(why) = fault else {
@@ -143,6 +203,7 @@ impl<'a> Devices<'a> {
         match why {
             SessionFault::DeviceFailed | SessionFault::Interrupted => self.failed(fault),
             SessionFault::LengthDiffers { expected } => self.differs(fault, expected),
+            SessionFault::NoMemory => self.unfitting(fault),
             SessionFault::Damaged { .. } => Stopped::by(fault, self.texts.journal.as_str(), None),
             SessionFault::RedoDamaged { .. } => Stopped::by(fault, self.texts.redo.as_str(), None),
             _ => Stopped::from(fault),
@@ -155,11 +216,26 @@ impl<'a> Devices<'a> {
         if image.faults() > 0 {
             Stopped::by(fault, self.image.as_str(), image.file().error)
         } else if journal.faults() > 0 {
-            Stopped::by(fault, self.texts.journal.as_str(), journal.file().error)
+            Stopped::by(fault, self.texts.journal.as_str(), journal.file().error())
         } else if redo.faults() > 0 {
-            Stopped::by(fault, self.texts.redo.as_str(), redo.file().error)
+            Stopped::by(fault, self.texts.redo.as_str(), redo.file().error())
         } else {
             Stopped::from(fault)
+        }
+    }
+
+    /// The image, where it can't grow and the change doesn't fit.
+    fn unfitting(&self, fault: Fault) -> Stopped<'a> {
+        match self.trio.0.refused() {
+            Some(wanted) => Stopped {
+                fault: Fault::from(NoMemory),
+                file: Some(self.image.as_str()),
+                reason: Reason::Fixed {
+                    has: self.trio.0.reserved(),
+                    wanted,
+                },
+            },
+            None => Stopped::from(fault),
         }
     }
 

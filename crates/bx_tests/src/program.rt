@@ -3,13 +3,15 @@
 //! `WORDS -> FAULT` runs the words, which end with this fault's text, or with `done`. Under `WORDS => FAULT` image, journal and redo
 //! text, `one.img` and those beside it, also stay. `NAME := BYTES` writes a file, `NAME = BYTES` looks at one, where `|` stands for a
 //! newline, and `NAME has N` at its length. `dir NAME` makes a folder, `hard NAME NAME` and `soft NAME NAME` link a second name to the
-//! first. `no NAME NAME` says that there are none, `rm NAME NAME` takes them away, and `rmdir NAME` a folder.
+//! first. `no NAME NAME` says that there are none, `rm NAME NAME` takes them away, and `rmdir NAME` a folder. `private NAME`
+//! leaves a file to its owner, and `within NAME NAME` says that nobody may do more with the first than with the second.
 use crate::expected::words;
 use bx_cli::{Fault, Texts, plan_words};
 use bx_program::{perform, trio};
 use bx_text::Name;
 use std::alloc::{AllocError, Global};
-use std::os::unix::fs::symlink;
+use std::fs::Permissions;
+use std::os::unix::fs::{MetadataExt, PermissionsExt, symlink};
 use std::process::Abort;
 use std::test::Fail;
 use std::{fs, io};
@@ -50,6 +52,19 @@ fn are_missing(rt: &HostRuntime, names: &str) -> bool {
     true
 }
 
+fn make_private(rt: &HostRuntime, name: &str) -> Result<bool, Fail> {
+    fs::set_permissions(rt, name, Permissions::from_mode(0o600))?;
+    Ok(true)
+}
+
+/// Whether the first file has no permission bit that the second lacks, and none to execute.
+fn is_within(rt: &HostRuntime, names: &str) -> Result<bool, Fail> {
+    let (inner, outer) = names.split_once(' ').unwrap_or((names, names));
+    let inner = fs::metadata(rt, inner)?.mode() & 0o777;
+    let outer = fs::metadata(rt, outer)?.mode() & 0o666;
+    Ok(inner & !outer == 0)
+}
+
 fn remove(rt: &HostRuntime, names: &str) -> Result<bool, Fail> {
     for name in names.split(' ') {
         fs::remove_file(rt, name)?;
@@ -84,6 +99,8 @@ fn tidy(rt: &HostRuntime, line: &str) -> Result<bool, Fail> {
     match word {
         "no" => Ok(are_missing(rt, names)),
         "rm" => remove(rt, names),
+        "private" => make_private(rt, names),
+        "within" => is_within(rt, names),
         _ => {
             let (name, new) = names.split_once(' ').unwrap_or((names, ""));
             arrange(rt, word, name, new)?;
@@ -165,14 +182,74 @@ order.dump := 00000000: 4g|
 revert -f order.dump -J no/such/dir order.img -> cannot open file
 no order.img
 revert -f order.dump order.img -> line 1: bad pair
-order.img has 0
-order.img.bxj has 0
-order.img.bxj.redo has 0
-rm order.img order.img.bxj order.img.bxj.redo order.dump",
+no order.img order.img.bxj order.img.bxj.redo
+rm order.dump",
     )
 }
 
-// Each command that opens a session makes the redo text where it is missing; where the journal is missing nothing is made.
+// A command that is refused leaves nothing that it made: neither image nor journal nor redo text. What was there stays.
+#[test]
+fn nothing_is_left_behind(rt: HostRuntime) -> Result<(), Fail> {
+    play(
+        &rt,
+        &rt,
+        "\
+left.dump := 00000000: 4g|
+left.ones := 0: 41|
+revert -f left.dump left.img -> line 1: bad pair
+dd if=. of=left.img -> read failed
+revert -p -f left.dump left.img -> line 1: bad pair
+no left.img left.img.bxj left.img.bxj.redo
+left.img.bxj := change2 00000001 0000000000000000|save 00000001|done2 00000001 0000000000000008|
+revert -f left.ones left.img -> image should have 8 bytes
+left.img.bxj := hello|
+revert -f left.ones left.img -> journal line 1 is damaged
+no left.img left.img.bxj.redo
+left.img.bxj = hello|
+rm left.img.bxj
+left.img.bxj.redo := hello|
+revert -f left.ones left.img -> redo line 1 is damaged
+no left.img left.img.bxj
+left.img.bxj.redo = hello|
+rm left.img.bxj.redo
+left.img := AB
+undo left.img -> cannot open file
+left.img.bxj := 
+undo left.img -> only 0 changes to undo
+redo left.img -> only 0 changes to redo
+no left.img.bxj.redo
+left.img.bxj has 0
+left.img = AB
+rm left.img left.img.bxj left.dump left.ones",
+    )
+}
+
+// The texts of an image may be read and written by nobody who may not do so with the image. A test can't set the umask.
+#[test]
+fn private_image(rt: HostRuntime) -> Result<(), Fail> {
+    play(
+        &rt,
+        &rt,
+        "\
+private.img := AB
+private private.img
+private.dump := 0: 61|
+revert -f private.dump private.img -> done
+within private.img.bxj private.img
+within private.img.bxj.redo private.img
+rm private.img private.img.bxj private.img.bxj.redo
+revert -f private.dump private.img -> done
+within private.img.bxj private.img
+within private.img.bxj.redo private.img
+private private.img.bxj
+rm private.img.bxj.redo
+revert -f private.dump private.img -> done
+within private.img.bxj.redo private.img
+rm private.img private.img.bxj private.img.bxj.redo private.dump",
+    )
+}
+
+// Each command that may change an image makes the redo text where it is missing; `log` makes none, and where the journal is missing nothing is made.
 #[test]
 fn redo_text_is_made(rt: HostRuntime) -> Result<(), Fail> {
     play(
@@ -189,8 +266,11 @@ log made.img -> cannot open file
 no made.img.bxj.redo
 made.j := 
 log -J made.j made.img -> done
-made.j.redo has 0
-rm made.j.redo
+no made.j.redo
+made.j := change2 00000001 0000000000000004|
+log -J made.j made.img -> done
+made.j has 0
+no made.j.redo
 undo -k 0 -J made.j made.img -> done
 made.j.redo has 0
 rm made.j.redo
@@ -320,7 +400,7 @@ fn texts(rt: &HostRuntime) -> Result<Texts, AllocError> {
 // Plays a script while another session holds the files.
 fn play_beside(abort: &impl Abort, rt: &HostRuntime, script: &str) -> Result<(), Fail> {
     let (image, texts) = (name_of(rt, "one.img")?, texts(rt)?);
-    let first = trio(rt, &image, &texts, false);
+    let first = trio(rt, &image, &texts, false, false);
     assert!(abort; first.is_ok());
     play(abort, rt, script)
 }

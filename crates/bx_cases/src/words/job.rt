@@ -1,7 +1,8 @@
 //! The fields of jobs, as a case file names them.
 use crate::report::compare::{Wrong, differs, same_text};
 use bx_cli::{
-    DdJob, Durability, HexdumpJob, Job, OdJob, RevertJob, StringsJob, Texts, XxdJob, XxdLook,
+    Access, DdJob, Durability, HexdumpJob, Job, OdJob, RevertJob, StringsJob, Texts, XxdJob,
+    XxdLook,
 };
 use bx_dd::{Letters, Plan, Shape};
 use bx_dump::od::{Address, Kind, NumForm, Size};
@@ -46,8 +47,12 @@ fn limit(alloc: Global, limit: Option<u64>) -> Field {
     }
 }
 
-fn unsynced(alloc: Global, durability: Durability) -> Field {
-    flag(alloc, durability == Durability::Unsynced)
+fn access_field(alloc: Global, access: Access, name: &str) -> Field {
+    match name {
+        "unsynced" => flag(alloc, access.durability == Durability::Unsynced),
+        "mounted" => flag(alloc, access.mounted),
+        _ => Ok(None),
+    }
 }
 
 fn file(alloc: Global, file: &Option<Name>) -> Field {
@@ -171,7 +176,7 @@ fn dd_field(alloc: Global, job: &DdJob, name: &str) -> Field {
             None => text(alloc, "none"),
         },
         "operands" => joined(alloc, &job.operands),
-        "unsynced" => unsynced(alloc, job.durability),
+        "unsynced" | "mounted" => access_field(alloc, job.access, name),
         _ => conversion(alloc, &job.plan, name),
     }
 }
@@ -196,7 +201,7 @@ fn revert_field(alloc: Global, job: &RevertJob, name: &str) -> Field {
         "at" => number(alloc, job.at),
         "image" => text(alloc, job.image.as_str()),
         "journal" | "redo" => text_name(alloc, &job.texts, name),
-        "unsynced" => unsynced(alloc, job.durability),
+        "unsynced" | "mounted" => access_field(alloc, job.access, name),
         _ => Ok(None),
     }
 }
@@ -221,14 +226,14 @@ fn image_field(alloc: Global, image: &Name, texts: &Texts, name: &str) -> Field 
 fn step_field(
     alloc: Global,
     count: Option<u32>,
-    durability: Durability,
+    access: Access,
     image: &Name,
     texts: &Texts,
     name: &str,
 ) -> Field {
     match (name, count) {
         ("count", Some(count)) => number(alloc, count as u64),
-        ("unsynced", _) => unsynced(alloc, durability),
+        ("unsynced" | "mounted", _) => access_field(alloc, access, name),
         _ => image_field(alloc, image, texts, name),
     }
 }
@@ -246,19 +251,19 @@ fn field_of(alloc: Global, job: &Job, name: &str) -> Field {
             count,
             image,
             texts,
-            durability,
+            access,
         }
         | Job::Redo {
             count,
             image,
             texts,
-            durability,
-        } => step_field(alloc, Some(*count), *durability, image, texts, name),
+            access,
+        } => step_field(alloc, Some(*count), *access, image, texts, name),
         Job::Log {
             image,
             texts,
-            durability,
-        } => step_field(alloc, None, *durability, image, texts, name),
+            access,
+        } => step_field(alloc, None, *access, image, texts, name),
         Job::Help { .. } => Ok(None),
     }
 }

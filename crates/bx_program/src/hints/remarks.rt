@@ -1,5 +1,6 @@
 //! What a person may want to know after a success.
 use crate::hints::names::{DASH, image_of, is_of_text};
+use crate::hints::readers::tell_of_readers;
 use bx_cli::{Job, Texts, unlike_line};
 use bx_text::Name;
 use std::fs::{self, File};
@@ -64,12 +65,13 @@ impl Remarks {
     }
 
     /// Writes what there is to say of a job that was done, each on a line of its own. One that can't be written is left out.
-    pub fn tell<R: Eprint>(&self, rt: &R, job: &Job) {
+    pub fn tell<R: Files<File = File> + Eprint>(&self, rt: &R, job: &Job) {
         if !self.person {
             return;
         }
         if let Some((image, texts)) = image_of(job) {
             self.tell_of_image(rt, image.as_str(), texts.journal.as_str());
+            tell_of_readers(rt, image.as_str(), texts);
         }
         match job {
             Job::Revert(_) => self.tell_of_dump(rt),
