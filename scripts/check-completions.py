@@ -60,17 +60,18 @@ CASES = [
     ("bx dd count=", []),
     ("bx dd -J ", FILES),
 ]
-# Options, which zsh and fish list in their own way: of bash and fish alone.
+# Options, which zsh and fish list in their own way: of bash and fish alone. Those of one letter, and the longer ones.
+MOUNTED = ["--mounted"]
 OPTIONS = [
-    ("bx xxd -", "bcgilopsu"),
-    ("bx od -", "ANbcdjostvx"),
-    ("bx hexdump -", "Cnsv"),
-    ("bx strings -", "ant"),
-    ("bx revert -", "JUfps"),
-    ("bx undo -", "JUk"),
-    ("bx redo -", "JUk"),
-    ("bx log -", "JU"),
-    ("bx dd -", "JU"),
+    ("bx xxd -", "bcgilopsu", []),
+    ("bx od -", "ANbcdjostvx", []),
+    ("bx hexdump -", "Cnsv", []),
+    ("bx strings -", "ant", []),
+    ("bx revert -", "JUfps", MOUNTED),
+    ("bx undo -", "JUk", MOUNTED),
+    ("bx redo -", "JUk", MOUNTED),
+    ("bx log -", "JU", MOUNTED),
+    ("bx dd -", "JU", MOUNTED),
 ]
 
 
@@ -174,9 +175,9 @@ def differences(shell):
         for file in FILES:
             with open(os.path.join(work, file), "wb"):
                 pass
-        asked = [line for line, _ in CASES] + ([line for line, _ in OPTIONS] if shell != "zsh" else [])
+        asked = [line for line, _ in CASES] + ([line for line, _, _ in OPTIONS] if shell != "zsh" else [])
         given = offers(asked, source, work)
-    wanted = [set(words) for _, words in CASES] + [{f"-{letter}" for letter in letters} for _, letters in OPTIONS]
+    wanted = [set(words) for _, words in CASES] + [{f"-{letter}" for letter in letters} | set(longer) for _, letters, longer in OPTIONS]
     bad = 0
     for line, words, want in zip(asked, given, wanted):
         got = {value_of(word) for word in words} - {"-h", "--help", "-V", "--version"}
