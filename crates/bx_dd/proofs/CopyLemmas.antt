@@ -1,8 +1,8 @@
 -- What was read of an input, and what went out of it.
 use Rattle.std.proofs.Common.{◌≡◌, ℕ, ◌+◌, ◌-◌, ◌*◌, ◌/◌, ◌%◌, ◌^◌, ◌<◌, ◌≤◌, Bool, true, false, cond, List, [], ◌++◌, length, take, drop, Option, None, Some, refl, sym, ap, ◌∙◌, arith, append_assoc, append-nil, subst, ◌⊎◌, inl, inr}
-use Rattle.std.specs.Prelude.{◌||◌}
+use Rattle.std.specs.Prelude.{◌||◌, ◌==◌}
 use Rattle.std.proofs.Math.Nat.{div-add-mod, mod-eq_of_lt, mul-add-mod_self_left}
-use Rattle.std.proofs.lemmas.List.{length-append, length-drop, take-append-le, take_all, length-take-le, drop-append-le}
+use Rattle.std.proofs.lemmas.List.{length-append, length-drop, length-take, take-append-le, take_all, length-take-le, drop-append-le}
 use Rattle.std.proofs.Common.{drop_of_length-le}
 use Rattle.std.specs.Io.KnownBytes.{Appends, Consumes, IsAtEnd}
 use Rattle.bx_text.proofs.KnownLemmas.{Appends-nil, Consumes-nil, Consumes-trans}
@@ -18,12 +18,15 @@ use Rattle.bx_dd.specs.Plan.{form_of}
 use Rattle.bx_dd.specs.Transfer.{output_of, selected_by}
 use Rattle.bx_dd.specs.inner.Transfer.{IsReadOut, IsWithin, selected}
 use Rattle.bx_dd.specs.declared.convert.form.Form.{Form}
+use Rattle.bx_dd.specs.declared.convert.form.Shape.{Shape}
+use Rattle.bx_dd.specs.declared.convert.form.Shape.TheVariants.{Flat, Block, Unblock}
 use Rattle.bx_dd.specs.Output.{converted, cut_records, joined, shaped}
-use Rattle.bx_dd.specs.inner.Standing.{HasSizes}
-use Rattle.bx_dd.specs.Streaming.{IsCopy, IsCopyFault, StopsCopy}
-use Rattle.bx_dd.specs.inner.Streaming.{CopiesRest, Flows, Goes, Stage, StopsFlow, StopsPass, StopsSkip, StopsStage, most_of, unit_of}
+use Rattle.bx_dd.specs.inner.Output.{fitted, line_of}
+use Rattle.bx_dd.specs.inner.Standing.{HasSizes, last_of}
+use Rattle.bx_dd.specs.Streaming.{IsCopy, IsCopyAhead, IsCopyFault, StopsCopy}
+use Rattle.bx_dd.specs.inner.Streaming.{CopiesRest, Flows, Goes, Stage, StopsFlow, StopsPass, StopsSkip, StopsStage, most_of, unit_of, written_by}
 use Rattle.bx_dd.proofs.ConvertLemmas.{joined_none}
-use Rattle.bx_dd.proofs.RecordsLemmas.{Stands_none, cut_nil, shaped_nil, take_nil}
+use Rattle.bx_dd.proofs.RecordsLemmas.{Stands_last, Stands_none, cut_nil, shaped_nil, take_nil}
 use Rattle.bx_dd.proofs.TransferLemmas.{asked_skip, drop_read}
 use Rattle.bx_dd.proofs.StreamLemmas.{Goes-nil, front_more}
 use Rattle.bx_dd.proofs.FlowLemmas.{stands_front}
@@ -50,6 +53,40 @@ less_whole got n pos =
 pub drop_front : (n : ℕ) (xs ys : List ℕ) → length xs ≡ n → drop n (xs ++ ys) ≡ ys
 drop_front n xs ys e = drop-append-le n xs ys (omega arith) ∙ ap (λ l. l ++ ys) (drop_of_length-le xs (omega arith))
 
+-- what the end of the input gives of a record is no longer than that may be, but for a newline
+fitted_few : (n : ℕ) (line : List ℕ) → length (fitted n line) ≤ n
+unfolding fitted
+fitted_few n line = omega (arith, length-take {A = ℕ})
+
+line_few : (piece : List ℕ) → length (line_of piece) ≤ length piece + 1
+unfolding line_of
+line_few piece = omega (arith, length-append {A = ℕ}, length-take {A = ℕ})
+
+one_few : (b : Bool) (xs : List ℕ) (n : ℕ) → length xs ≤ n → length (cond b [] xs) ≤ n
+one_few true xs n few = omega arith
+one_few false xs n few = few
+
+last_few : (shape : Shape) (size : ℕ) (kept : List ℕ) → length kept ≤ size → length (last_of shape size kept) ≤ size + 1
+last_few Flat size kept few = omega arith
+last_few Block size kept few = one_few (length kept == 0) (fitted size kept) (size + 1) (omega (arith, fitted_few size kept))
+last_few Unblock size kept few = one_few (length kept == 0) (line_of kept) (size + 1) (omega (arith, line_few kept))
+
+-- reading is no more than these bytes ahead of a failed write
+pub ahead_of : (output : List ℕ → List ℕ) (input front last : List ℕ) (k : ℕ) (e : IoFault) → input ≡ front ++ last → length last ≤ 2 ^ 24 → length (output front) ≤ k + 2 ^ 25 → k ≤ written_by e →
+    IsCopyAhead output input e
+ahead_of output input front last k (WriteFailed n) is few near grows = (front, last, is, few, omega arith)
+ahead_of output input front last k NoMemory is few near grows = tt
+ahead_of output input front last k ReadFailed is few near grows = tt
+ahead_of output input front last k InputTooLong is few near grows = tt
+ahead_of output input front last k SkipPastEnd is few near grows = tt
+
+read_ahead : (output : List ℕ → List ℕ) (input : List ℕ) (e : IoFault) (wanted room n : ℕ) → IsReadCause e wanted room n → IsCopyAhead output input e
+read_ahead output input ReadFailed wanted room n p = tt
+read_ahead output input InputTooLong wanted room n p = tt
+read_ahead output input NoMemory wanted room n p = tt
+read_ahead output input (WriteFailed m) wanted room n p = absurd p
+read_ahead output input SkipPastEnd wanted room n p = tt
+
 -- nothing was read
 pub stage_start : (form : Form) (s : Option (List ℕ)) (waits kept : List ℕ) (k : ℕ) → HasSizes form → waits ≡ [] → kept ≡ [] → k ≡ 0 → Stage form s s [] [] waits k kept false 0
 stage_start form s waits kept k sizes a b e = rw (a, b, e) (record {
@@ -68,6 +105,14 @@ module _ {form : Form} {s n : Option (List ℕ)} {input pending waits kept : Lis
     whole = stage.whole;
     flows = stage.flows;
   }
+
+  -- what was written of the units is no less than what they give, but for what waits and the end of a record
+  pub stage_near : HasSizes form → length waits ≤ 131072 → length kept ≤ form.cbs → length (converted form stage.done) ≤ k + 2 ^ 25
+  stage_near sizes near room =
+      let goes = stage.flows.goes in
+      let end = last_of form.shape form.cbs kept in
+      let last = Stands_last form.shape form.cbs (joined form stage.done) stage.flows.text kept was_cut count sizes.some_cbs stage.flows.stands in
+      omega (arith, ap length last.0, length-append stage.flows.text end, ap length goes.all, length-append goes.out waits, goes.count, last_few form.shape form.cbs kept room, sizes.few_cbs)
 
   -- what waited went out
   pub stage_sent : (m : Option (List ℕ)) (next : List ℕ) (j : ℕ) → Goes s m next j stage.flows.text → Stage form s m input pending next j kept was_cut count
@@ -164,23 +209,25 @@ read_stops form r0 r1 r2 s n input pending waits kept k count most before wanted
       within = omega (arith, long, few, read_within e wanted room (length stop.0) stop.2);
       appended = let part : take (length out) (converted form whole) ≡ out = ap (take (length out)) is ∙ take-append-le (length out) out (waits ++ front.0) (omega arith) ∙ take_all (length out) out (omega arith) in rw part goes.went;
       cause = rw total (read_cause e wanted room (before + length input) (length stop.0) (length out) (length (converted form whole)) all stop.2);
+      ahead = read_ahead (converted form) whole e wanted room (length stop.0) stop.2;
     }
 
 -- a write failed
 pub write_stops : (form : Form) (r0 r1 s n : Option (List ℕ)) (input : List ℕ) (most before : ℕ) (e : IoFault) → Consumes r0 r1 input → length input ≤ most → before + length input ≤ 2 ^ 40 →
-    WritesFront 0 s n (converted form input) e → StopsPass form most before r0 r1 s n e
-write_stops form r0 r1 s n input most before (WriteFailed m) reads within few stop = record {
+    IsCopyAhead (converted form) input e → WritesFront 0 s n (converted form input) e → StopsPass form most before r0 r1 s n e
+write_stops form r0 r1 s n input most before (WriteFailed m) reads within few ahead stop = record {
   input = input;
   written = stop.0;
   consumed = reads;
   within = within;
   appended = stop.3;
   cause = (omega (arith, stop.1), stop.2, few);
+  ahead = ahead;
 }
-write_stops form r0 r1 s n input most before NoMemory reads within few stop = absurd stop
-write_stops form r0 r1 s n input most before ReadFailed reads within few stop = absurd stop
-write_stops form r0 r1 s n input most before InputTooLong reads within few stop = absurd stop
-write_stops form r0 r1 s n input most before SkipPastEnd reads within few stop = absurd stop
+write_stops form r0 r1 s n input most before NoMemory reads within few ahead stop = absurd stop
+write_stops form r0 r1 s n input most before ReadFailed reads within few ahead stop = absurd stop
+write_stops form r0 r1 s n input most before InputTooLong reads within few ahead stop = absurd stop
+write_stops form r0 r1 s n input most before SkipPastEnd reads within few ahead stop = absurd stop
 
 skip_cause : (fault : IoFault) (less wanted taken n : ℕ) → taken ≤ 2 ^ 40 → taken + less ≤ wanted → IsReadCause fault less (2 ^ 40 - taken) n → IsReadCause fault wanted (2 ^ 40) (taken + n)
 skip_cause ReadFailed less wanted taken n le most p = (omega (arith, p.0), omega (arith, p.1))
@@ -224,8 +271,29 @@ module _ {A : Type 0} (plan : Plan A) (skipped input : List ℕ) (len : length s
   chosen None fits = drop_read (plan.skip * plan.ibs) skipped input (inl len)
   chosen (Some n) fits = ap (take (n * plan.ibs)) (drop_read (plan.skip * plan.ibs) skipped input (inl len)) ∙ take_all (n * plan.ibs) input fits
 
+  chosen_by : selected_by plan (skipped ++ input) ≡ input
+  chosen_by = chosen plan.count few
+
+-- behind what was skipped, reading is as far ahead
+rest_ahead : {A : Type 0} (plan : Plan A) (skipped input : List ℕ) → length skipped ≡ plan.skip * plan.ibs → length input ≤ most_of plan.count plan.ibs →
+    (e : IoFault) → IsCopyAhead (converted (form_of plan)) input e → IsCopyAhead (output_of plan) (skipped ++ input) e
+rest_ahead plan skipped input len few (WriteFailed n) (front, last, is, small, near) =
+    let fits : length front ≤ most_of plan.count plan.ibs = omega (arith, few, ap length is, length-append front last) in
+    let same : converted (form_of plan) front ≡ output_of plan (skipped ++ front) = ap (converted (form_of plan)) (sym (chosen_by plan skipped front len fits)) in (
+      skipped ++ front,
+      last,
+      ap (λ l. skipped ++ l) is ∙ sym (append_assoc skipped front last),
+      small,
+      subst (λ (l : List ℕ). length l ≤ n + 2 ^ 25) same near,
+    )
+rest_ahead plan skipped input len few NoMemory p = tt
+rest_ahead plan skipped input len few ReadFailed p = tt
+rest_ahead plan skipped input len few InputTooLong p = tt
+rest_ahead plan skipped input len few SkipPastEnd p = tt
+
+module _ {A : Type 0} (plan : Plan A) (skipped input : List ℕ) (len : length skipped ≡ plan.skip * plan.ibs) (few : length input ≤ most_of plan.count plan.ibs) where
   selects : selected_by plan (skipped ++ input) ≡ input
-  selects = chosen plan.count few
+  selects = chosen_by plan skipped input len few
 
   asked : (count : Option ℕ) → length input ≤ most_of count plan.ibs → IsWithin plan.ibs plan.skip count (skipped ++ input)
   asked None fits = tt
@@ -253,14 +321,15 @@ module _ {A : Type 0} (plan : Plan A) (skipped input : List ℕ) (len : length s
 
   pub stopped : (r0 r1 r2 w0 w1 : Option (List ℕ)) (e : IoFault) (before written : ℕ) → before ≡ plan.skip * plan.ibs → Consumes r0 r1 skipped → Consumes r1 r2 input →
       Appends w0 w1 (take written (converted (form_of plan) input)) →
-      IsCopyFault e (before + length input) written (length (converted (form_of plan) input)) → StopsCopy plan r0 r2 w0 w1 e
-  stopped r0 r1 r2 w0 w1 e before written is skips reads put cause =
+      IsCopyFault e (before + length input) written (length (converted (form_of plan) input)) → IsCopyAhead (converted (form_of plan)) input e → StopsCopy plan r0 r2 w0 w1 e
+  stopped r0 r1 r2 w0 w1 e before written is skips reads put cause ahead =
       let total : before + length input ≡ length (skipped ++ input) = omega (arith, length-append skipped input, len, is) in record {
         read = (skipped ++ input, Consumes-trans r0 r1 r2 skipped input skips reads, asked plan.count few);
         written = written;
         appended = subst (λ (l : List ℕ). Appends w0 w1 (take written (converted (form_of plan) l))) (sym selects) put;
         cause = subst (λ (l : List ℕ). IsCopyFault e (length (skipped ++ input)) written (length (converted (form_of plan) l))) (sym selects)
             (subst (λ (t : ℕ). IsCopyFault e t written (length (converted (form_of plan) input))) total cause);
+        ahead = rest_ahead plan skipped input len few e ahead;
       }
 
 -- the input ended among the bytes that are skipped
@@ -306,6 +375,7 @@ stopped_skip plan r0 r1 w e stop = record {
   written = 0;
   appended = Appends-nil w;
   cause = skip_fault e (plan.skip * plan.ibs) (length stop.input) (length (output_of plan stop.input)) stop.cause;
+  ahead = read_ahead (output_of plan) stop.input e (plan.skip * plan.ibs) (2 ^ 40) (length stop.input) stop.cause;
 }
 
 -- the rest of an input, behind what was skipped
@@ -321,6 +391,7 @@ module _ {A : Type 0} (plan : Plan A) (form : Form) (most before : ℕ) (r0 r1 r
       stopped plan skipped stop.input len (subst (λ (m : ℕ). length stop.input ≤ m) is_most stop.within) r0 r1 r2 w0 w1 e before stop.written is_before skips stop.consumed
       (subst (λ (f : Form). Appends w0 w1 (take stop.written (converted f stop.input))) is_form stop.appended)
       (subst (λ (f : Form). IsCopyFault e (before + length stop.input) stop.written (length (converted f stop.input))) is_form stop.cause)
+      (subst (λ (f : Form). IsCopyAhead (converted f) stop.input e) is_form stop.ahead)
 
 -- want of memory, before anything is read
 pub stopped_none : {A : Type 0} (plan : Plan A) (r w : Option (List ℕ)) → StopsCopy plan r r w w NoMemory
@@ -329,4 +400,5 @@ stopped_none plan r w = record {
   written = 0;
   appended = Appends-nil w;
   cause = (refl, refl);
+  ahead = tt;
 }

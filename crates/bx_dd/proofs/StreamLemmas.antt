@@ -1,5 +1,5 @@
 -- Output that goes out part by part.
-use Rattle.std.proofs.Common.{◌≡◌, ℕ, ◌+◌, List, [], ◌++◌, length, take, Option, Some, refl, sym, ap, ◌∙◌, arith, append_assoc, append-nil}
+use Rattle.std.proofs.Common.{◌≡◌, ℕ, ◌+◌, ◌≤◌, Result, Ok, Err, List, [], ◌++◌, length, take, Option, Some, refl, sym, ap, ◌∙◌, arith, append_assoc, append-nil}
 use Rattle.std.proofs.Math.Seq.{take-append-add}
 use Rattle.std.proofs.lemmas.List.{length-append, take-append-le}
 use Rattle.std.specs.Io.KnownBytes.{Appends}
@@ -7,7 +7,7 @@ use Rattle.bx_text.proofs.KnownLemmas.{Appends-trans, Appends-nil}
 use Rattle.bx_text.specs.declared.fault.IoFault.{IoFault}
 use Rattle.bx_text.specs.declared.fault.IoFault.TheVariants.{NoMemory, ReadFailed, WriteFailed, InputTooLong, SkipPastEnd}
 use Rattle.bx_text.specs.Writing.{WritesFront}
-use Rattle.bx_dd.specs.inner.Streaming.{Goes}
+use Rattle.bx_dd.specs.inner.Streaming.{Goes, Grows, written_by}
 
 -- nothing was put yet
 pub Goes-nil : (s : Option (List ℕ)) → Goes s s [] 0 []
@@ -74,3 +74,15 @@ Goes-direct out waits k none is = record { out = out; went = refl; all = sym (ap
 
 pub Goes-landed : (now waits text : List ℕ) (k : ℕ) → waits ≡ [] → Goes (Some []) (Some now) waits k text → text ≡ now
 Goes-landed now waits text k none g = g.all ∙ ap (λ l. g.out ++ l) none ∙ append-nil g.out ∙ sym g.went
+
+-- a failed write counts what went out before it
+pub written_before : (k : ℕ) (s n : Option (List ℕ)) (bytes : List ℕ) (e : IoFault) → WritesFront k s n bytes e → k ≤ written_by e
+written_before k s n bytes (WriteFailed written) stop = omega (arith, stop.1)
+written_before k s n bytes NoMemory stop = absurd stop
+written_before k s n bytes ReadFailed stop = absurd stop
+written_before k s n bytes InputTooLong stop = absurd stop
+written_before k s n bytes SkipPastEnd stop = absurd stop
+
+pub Grows_then : {V : Type 0} (a b c : ℕ) (r : Result V IoFault) → a ≤ b → Grows b c r → Grows a c r
+Grows_then a b c (Ok v) le grows = omega arith
+Grows_then a b c (Err e) le grows = omega (arith, grows)

@@ -1,8 +1,9 @@
 -- What proofs alone need: what a copy to a writer reads and writes, and where it stands in between.
 -- ---- a whole copy
-use Rattle.std.specs.Prelude.{◌≡◌, ◌≢◌, ℕ, ◌+◌, ◌-◌, ◌*◌, ◌%◌, ◌^◌, ◌≤◌, ◌⊎◌, Bool, true, false, ◌||◌, if◌then◌else◌, List, [], ◌++◌, length, take, Option, None, Some}
+use Rattle.std.specs.Prelude.{◌≡◌, ◌≢◌, ℕ, ◌+◌, ◌-◌, ◌*◌, ◌%◌, ◌^◌, ◌≤◌, ◌⊎◌, Bool, true, false, ◌||◌, if◌then◌else◌, List, [], ◌++◌, length, take, Option, None, Some, Result, Ok, Err}
 use Rattle.std.specs.Io.KnownBytes.{Appends, Consumes, IsAtEnd}
 use Rattle.bx_text.specs.declared.fault.IoFault.{IoFault}
+use Rattle.bx_text.specs.declared.fault.IoFault.TheVariants.{WriteFailed}
 use Rattle.bx_text.specs.Stream.{IsReadCause}
 use Rattle.bx_text.specs.Writing.{WritesFront}
 use Rattle.bx_dd.specs.declared.stream.counts.Counts.{Counts}
@@ -13,9 +14,19 @@ use Rattle.bx_dd.specs.inner.Standing.{HasSizes}
 use Rattle.bx_dd.specs.Counting.{counts_of}
 use Rattle.bx_dd.specs.Output.{converted, joined, shaped}
 use Rattle.bx_dd.specs.Standing.{Stands}
-use Rattle.bx_dd.specs.Streaming.{IsCopyFault}
+use Rattle.bx_dd.specs.Streaming.{IsCopyAhead, IsCopyFault}
 
 -- ---- a copy under way
+
+-- how many bytes went out by what a failed write says
+abbrev pub written_by : IoFault → ℕ
+written_by (WriteFailed n) = n
+written_by fault = 0
+
+-- no fewer bytes went out than before, by what a failed write says, too
+abbrev pub Grows : {V : Type 0} → ℕ → ℕ → Result V IoFault → Type 0
+Grows before after (Ok v) = before ≤ after
+Grows before after (Err fault) = before ≤ written_by fault
 
 -- Of a text, a part went out, so many bytes, and the rest waits.
 pub record Goes (start now : Option (List ℕ)) (waits : List ℕ) (written : ℕ) (text : List ℕ) : Type 0 where
@@ -56,6 +67,7 @@ pub record IsFresh (form : Form) (limit : ℕ) (buf kept : List ℕ) (space : �
   pub sizes : HasSizes form
   pub most : limit ≡ 2 ^ 40
   pub inside : unit_of form ≤ length buf
+  pub few : length buf ≤ 2 ^ 24
   pub none : (kept ≡ []) × (waits ≡ []) × (written ≡ 0)
   pub room : form.shape ≢ Flat → form.cbs ≤ space
 
@@ -92,6 +104,7 @@ pub record StopsPass (form : Form) (most before : ℕ) (r0 r1 w0 w1 : Option (Li
   pub within : length input ≤ most
   pub appended : Appends w0 w1 (take written (converted form input))
   pub cause : IsCopyFault fault (before + length input) written (length (converted form input))
+  pub ahead : IsCopyAhead (converted form) input fault
 
 -- Bytes were skipped: all that were asked for, or fewer up to the input's end.
 pub record Skips (all : Bool) (count : ℕ) (r0 r1 : Option (List ℕ)) : Type 0 where

@@ -2,6 +2,7 @@
 ghost use Rattle.std.specs.Prelude.{◌≡◌, ◌≢◌, ℕ, ◌+◌, ◌-◌, ◌^◌, ◌<◌, ◌≤◌, [], ◌∷◌, ◌++◌, length, take, vec_capacity, IfOk, OnOk, false};
 ghost use Rattle.bx_dd.specs.inner.Output.{fitted, line_of};
 ghost use Rattle.bx_dd.specs.inner.Standing.{HoldsText, last_of};
+ghost use Rattle.bx_dd.specs.inner.Streaming.{Grows};
 ghost use Rattle.bx_dd.specs.inner.Paged.{EndsRecord, Pushes, PushesPieces, Puts, StopsPieces, StopsPush, StopsPut};
 ghost use Rattle.bx_dd.specs.declared.convert.form.Shape.TheVariants.{Flat, Block, Unblock};
 
@@ -39,6 +40,7 @@ pub fn push_shaped<W: Write, A: Allocator, B: Allocator>(
     ensures space { vec_capacity held.old ≤ vec_capacity held.new }
     ensures ok { Pushes shape size (W.contents w.old) (W.contents w.new) page.old page.new held.old.items held.new.items tail bytes.now result }
     ensures err { StopsPush shape size (W.contents w.old) (W.contents w.new) page.old held.old.items tail.over tail.cut bytes.now result }
+    ensures grows { Grows page.old.written page.new.written result }
 {
     match shape {
         Shape::Flat => match page.put(w, bytes) {
@@ -70,6 +72,7 @@ fn push_text<W: Write, A: Allocator, B: Allocator>(
     ensures space { vec_capacity held.old ≤ vec_capacity held.new }
     ensures ok { Pushes Block size (W.contents w.old) (W.contents w.new) page.old page.new held.old.items held.new.items tail bytes.now result }
     ensures err { StopsPush Block size (W.contents w.old) (W.contents w.new) page.old held.old.items tail.over tail.cut bytes.now result }
+    ensures grows { Grows page.old.written page.new.written result }
 {
     let mut over = tail.over;
     let mut cut = tail.cut;
@@ -134,6 +137,7 @@ fn end_record<W: Write, A: Allocator, B: Allocator>(
     ensures space { vec_capacity held.old ≤ vec_capacity held.new }
     ensures ok { EndsRecord size (W.contents w.old) (W.contents w.new) page.old page.new held.old.items held.new.items over cut result }
     ensures err { StopsPush Block size (W.contents w.old) (W.contents w.new) page.old held.old.items over cut (10 ∷ []) result }
+    ensures grows { Grows page.old.written page.new.written result }
 {
     match push_fitted(page, w, held.as_slice(), size) {
         Ok(()) => {}
@@ -153,6 +157,7 @@ fn push_fitted<W: Write, B: Allocator>(
     requires { length held.now ≤ size }
     ensures ok { Puts (W.contents w.old) (W.contents w.new) page.old page.new (fitted size held.now) result }
     ensures err { StopsPut (W.contents w.old) (W.contents w.new) page.old (fitted size held.now) result }
+    ensures grows { Grows page.old.written page.new.written result }
 {
     match page.put(w, held) {
         Ok(()) => page.put_spaces(w, size - held.len()),
@@ -174,6 +179,7 @@ fn push_pieces<W: Write, A: Allocator, B: Allocator>(
     ensures space { vec_capacity held.old ≤ vec_capacity held.new }
     ensures ok { PushesPieces Unblock size (W.contents w.old) (W.contents w.new) page.old page.new held.old.items held.new.items bytes.now result }
     ensures err { StopsPieces Unblock size (W.contents w.old) (W.contents w.new) page.old held.old.items bytes.now result }
+    ensures grows { Grows page.old.written page.new.written result }
 {
     let mut done = 0;
     while done < bytes.len() {
@@ -201,6 +207,7 @@ fn push_piece<W: Write, A: Allocator, B: Allocator>(
     ensures space { vec_capacity held.old ≤ vec_capacity held.new }
     ensures ok { PushesPieces Unblock size (W.contents w.old) (W.contents w.new) page.old page.new held.old.items held.new.items bytes.now result }
     ensures err { StopsPieces Unblock size (W.contents w.old) (W.contents w.new) page.old held.old.items bytes.now result }
+    ensures grows { Grows page.old.written page.new.written result }
 {
     keep(held, bytes);
     if held.len() < size {
@@ -223,6 +230,7 @@ fn push_line<W: Write, B: Allocator>(
 ) -> Result<(), IoFault>
     ensures ok { Puts (W.contents w.old) (W.contents w.new) page.old page.new (line_of held.now) result }
     ensures err { StopsPut (W.contents w.old) (W.contents w.new) page.old (line_of held.now) result }
+    ensures grows { Grows page.old.written page.new.written result }
 {
     let end = trimmed(held);
     match page.put(w, &held[..end]) {
@@ -253,6 +261,7 @@ pub fn push_rest<W: Write, B: Allocator>(
     requires { length held.now ≤ form.cbs }
     ensures ok { Puts (W.contents w.old) (W.contents w.new) page.old page.new (last_of form.shape form.cbs held.now) result }
     ensures err { StopsPut (W.contents w.old) (W.contents w.new) page.old (last_of form.shape form.cbs held.now) result }
+    ensures grows { Grows page.old.written page.new.written result }
 {
     if held.is_empty() {
         return Ok(());

@@ -5,7 +5,7 @@ ghost use Rattle.bx_dd.specs.Plan.{form_of};
 ghost use Rattle.bx_dd.specs.inner.Standing.{HasSizes};
 ghost use Rattle.bx_dd.specs.Streaming.{IsCopy, StopsCopy};
 ghost use Rattle.bx_dd.specs.inner.Paged.{CountsAll, Finishes, Flushes, GoesOn, PassesBy, StopsFinish, StopsFlush, StopsStageOf};
-ghost use Rattle.bx_dd.specs.inner.Streaming.{CopiesRest, IsFresh, StopsPass, Skips, StopsSkip, most_of, unit_of};
+ghost use Rattle.bx_dd.specs.inner.Streaming.{CopiesRest, Grows, IsFresh, StopsPass, Skips, StopsSkip, most_of, unit_of};
 ghost use Rattle.bx_dd.specs.declared.convert.form.Shape.TheVariants.{Flat, Unblock};
 
 use crate::convert::form::Form;
@@ -14,16 +14,13 @@ use crate::convert::room_for;
 use crate::convert::units::{move_front, turn_last, turn_units, unit_len};
 use crate::operands::plan::Plan;
 use crate::stream::counts::Counts;
-use crate::stream::page::Page;
+use crate::stream::page::{PAGE, Page};
 use bx_text::{IoFault, Meter, State};
 use std::alloc::{AllocError, Allocator};
 use std::io::{Read, Write};
 
 /// How many bytes are read at most, skipped ones included.
 const LIMIT: u64 = 1 << 40;
-
-/// The room for output, and for input where blocks are smaller.
-const PAGE: usize = 131072;
 
 /// The memory of a copy.
 #[derive(Drop)]
@@ -59,10 +56,11 @@ pub fn copy_out<R: Read, W: Write, A: Allocator + Clone, P: Allocator>(
     }
 }
 
-/// The memory of a copy, all that it needs.
+/// The memory of a copy, all that it needs. There is a page for output, and one for input where blocks are smaller.
 fn take_memory<A: Allocator + Clone>(alloc: A, form: Form) -> Result<Buffers<A>, AllocError>
     requires { HasSizes form }
     ensures input { IfOk result (λ b. unit_of form ≤ length b.input.items) }
+    ensures few { IfOk result (λ b. length b.input.items ≤ 2 ^ 24) }
     ensures held { IfOk result (λ b. b.held.items ≡ []) }
     ensures space { IfOk result (λ b. form.shape ≢ Flat → form.cbs ≤ vec_capacity b.held) }
     ensures page { IfOk result (λ b. (b.page.bytes.items ≡ []) × (b.page.written ≡ 0)) }
@@ -90,6 +88,7 @@ fn copy_with<R: Read, W: Write, A: Allocator, P: Allocator>(
     plan: &Plan<P>,
 ) -> Result<Counts, IoFault>
     requires input { unit_of (form_of plan.now) ≤ length buffers.input.items }
+    requires few { length buffers.input.items ≤ 2 ^ 24 }
     requires held { buffers.held.items ≡ [] }
     requires space { plan.now.shape ≢ Flat → plan.now.cbs ≤ vec_capacity buffers.held }
     requires page { (buffers.page.bytes.items ≡ []) × (buffers.page.written ≡ 0) }
@@ -223,6 +222,7 @@ fn pass<W: Write, A: Allocator, B: Allocator>(
     ensures space { vec_capacity held.old ≤ vec_capacity held.new }
     ensures ok { GoesOn form (W.contents w.old) (W.contents w.new) (take got buf.old) buf.new page.old page.new held.old.items held.new.items tail result }
     ensures err { StopsStageOf form (W.contents w.old) (W.contents w.new) (take got buf.old) page.old held.old.items tail result }
+    ensures grows { Grows page.old.written page.new.written result }
 {
     let whole = got - got % unit_len(form);
     turn_units(&mut buf[..whole], form);
@@ -251,6 +251,7 @@ fn pause<W: Write, B: Allocator>(page: &mut Page<B>, w: &mut W, paused: bool) ->
     ensures none { paused ≡ true → OnOk result (page.new.bytes.items ≡ []) }
     ensures ok { Flushes (W.contents w.old) (W.contents w.new) page.old page.new result }
     ensures err { StopsFlush (W.contents w.old) (W.contents w.new) page.old result }
+    ensures grows { Grows page.old.written page.new.written result }
 {
     if paused {
         return page.flush(w);
@@ -277,6 +278,7 @@ fn finish<W: Write, A: Allocator, B: Allocator>(
     ensures cut { IfOk result (λ t. t.cut ≤ 2 ^ 42) }
     ensures ok { Finishes form (W.contents w.old) (W.contents w.new) (take turn.have buf.old) page.old page.new held.old.items turn.tail result }
     ensures err { StopsFinish form (W.contents w.old) (W.contents w.new) (take turn.have buf.old) page.old held.old.items turn.tail result }
+    ensures grows { Grows page.old.written page.new.written result }
 {
     let n = turn_last(buf, turn.have, form);
     let tail = match push_shaped(

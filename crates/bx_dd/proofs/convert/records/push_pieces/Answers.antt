@@ -9,6 +9,7 @@ loop-done-preserved g c = record {
   inside = omega arith;
   room = c.in-Ok.ensures.within;
   space = omega (arith, c.in-Ok.ensures.space, c.loop-done.invariant.space);
+  grows = omega (arith, c.in-Ok.ensures.grows, c.loop-done.invariant.grows);
   so_far = λ z over cut start flows.
       rw (piece_taken z c.args.bytes.now c.loop-done.done c.min-n.result (c.loop-done.done + c.min-n.result - c.loop-done.done) (omega arith))
       at (c.in-Ok.ensures.ok (z ++ take c.loop-done.done c.args.bytes.now) over cut start (c.loop-done.invariant.so_far z over cut start flows));

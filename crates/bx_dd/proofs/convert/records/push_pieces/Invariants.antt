@@ -10,6 +10,7 @@ invariant-loop-done g l = record {
   inside : l.done ≤ length l.bytes;
   room : length l.held.items < l.size;
   space : vec_capacity l.initial.held ≤ vec_capacity l.held;
+  grows : l.initial.page.written ≤ l.page.written;
   so_far : (z : List ℕ) (over : Bool) (cut : ℕ) (start : Option (List ℕ)) →
       Flows Unblock l.size start (g.W.Write.contents l.initial.w) z l.initial.page.bytes.items l.initial.page.written l.initial.held.items over cut →
       Flows Unblock l.size start (g.W.Write.contents l.w) (z ++ take l.done l.bytes) l.page.bytes.items l.page.written l.held.items over cut;

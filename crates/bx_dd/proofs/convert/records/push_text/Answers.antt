@@ -31,6 +31,7 @@ loop-done-preserved g c =
       room = omega (arith, ap length ended.within.0);
       space = omega (arith, ended.space, c.hold-over_now-in-Some.ensures.space, c.loop-done.invariant.space);
       few = omega (arith, ended.within.1, c.loop-done.invariant.few);
+      grows = omega (arith, ended.grows, c.loop-done.invariant.grows);
       so_far = λ z start flows.
           let so_far = c.loop-done.invariant.so_far z start flows in
           rw (line_taken z c.args.bytes.now rest d n c.split_at.ensures.back found.0.high found.1)

@@ -11,6 +11,7 @@ invariant-loop-done g l = record {
   room : length l.held.items ≤ l.size;
   space : vec_capacity l.initial.held ≤ vec_capacity l.held;
   few : l.cut ≤ l.initial.cut + l.done;
+  grows : l.initial.page.written ≤ l.page.written;
   so_far : (z : List ℕ) (start : Option (List ℕ)) →
       Flows Block l.size start (g.W.Write.contents l.initial.w) z l.initial.page.bytes.items l.initial.page.written l.initial.held.items l.initial.over l.initial.cut →
       Flows Block l.size start (g.W.Write.contents l.w) (z ++ take l.done l.bytes) l.page.bytes.items l.page.written l.held.items l.over l.cut;

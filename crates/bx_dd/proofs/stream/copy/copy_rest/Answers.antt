@@ -1,5 +1,7 @@
-use Rattle.std.proofs.Common.{◌+◌, ◌≤◌, ◌^◌, length, arith}
-use Rattle.bx_dd.proofs.CopyLemmas.{write_stops}
+use Rattle.std.proofs.Common.{◌+◌, ◌≤◌, ◌^◌, length, take, arith}
+use Rattle.std.proofs.lemmas.List.{length-take}
+use Rattle.bx_dd.specs.Output.{converted}
+use Rattle.bx_dd.proofs.CopyLemmas.{ahead_of, stage_near, write_stops}
 use Rattle.bx_dd.proofs.stream.copy.copy_rest.Goals as goal
 
 pub returns-in-Ok-finish-clause-ok : goal.returns-in-Ok-finish-clause-ok
@@ -20,5 +22,12 @@ pub returns-in-Err-finish-clause-err : goal.returns-in-Err-finish-clause-err
 returns-in-Err-finish-clause-err g c =
     let p = c.in-Ok.ensures.ok in
     let few : c.args.meter.now.taken + length p.input ≤ 2 ^ 40 = omega (arith, p.taken, c.in-Ok.ensures.limit, c.copy_units.new.meter.within) in
-    write_stops c.args.form _ _ _ _ p.input c.args.most c.args.meter.now.taken c.in-Err-finish.fault p.consumed p.within few
+    let have = c.in-Ok.turn.have in
+    let pending = take have c.copy_units.new.buf in
+    let page = c.copy_units.new.page in
+    let within = c.in-Ok.ensures.within in
+    let last : length pending ≤ 2 ^ 24 = omega (arith, length-take have c.copy_units.new.buf, within.2, c.requires.fresh.inside, c.requires.fresh.few) in
+    let ahead = ahead_of (converted c.args.form) p.input p.stage.done pending page.written c.in-Err-finish.fault p.stage.parts last
+    (stage_near p.stage c.requires.fresh.sizes page.near within.0) c.in-Err-finish.ensures.grows in
+    write_stops c.args.form _ _ _ _ p.input c.args.most c.args.meter.now.taken c.in-Err-finish.fault p.consumed p.within few ahead
     (c.in-Err-finish.ensures.err p.input (g.W.Write.contents c.args.w.now) p.stage)

@@ -1,6 +1,6 @@
-use Rattle.std.proofs.Common.{◌≡◌, ◌+◌, ◌-◌, ◌≤◌, ◌++◌, [], ℕ, Option, length, take, drop, cond, sym, ap, ◌∙◌, arith, append-nil, subst}
+use Rattle.std.proofs.Common.{◌≡◌, ◌+◌, ◌^◌, ◌-◌, ◌≤◌, ◌++◌, [], ℕ, Option, append_assoc, length, take, drop, cond, sym, ap, ◌∙◌, arith, append-nil, subst}
 use Rattle.std.proofs.lemmas.Bool.{ne_eqb}
-use Rattle.std.proofs.lemmas.List.{length-drop, length-take-le}
+use Rattle.std.proofs.lemmas.List.{length-append, length-drop, length-take, length-take-le}
 use Rattle.std.specs.Prelude.{List}
 use Rattle.bx_text.proofs.KnownLemmas.{Consumes-nil, Consumes-trans, take-put_mid_more}
 use Rattle.bx_text.specs.Writing.{WritesFront}
@@ -8,8 +8,9 @@ use Rattle.bx_text.specs.declared.fault.IoFault.{IoFault}
 use Rattle.bx_text.specs.declared.stream.State.TheVariants.{Open, Ended}
 use Rattle.bx_dd.specs.declared.convert.form.Shape.TheVariants.{Flat, Unblock}
 use Rattle.bx_dd.specs.Output.{converted}
-use Rattle.bx_dd.specs.inner.Streaming.{StopsPass}
-use Rattle.bx_dd.proofs.CopyLemmas.{read_sizes, read_stops, stage_read, stage_sent, stage_start, stage_unsent, unit_some, write_stops}
+use Rattle.bx_dd.specs.Streaming.{IsCopyAhead}
+use Rattle.bx_dd.specs.inner.Streaming.{StopsPass, written_by}
+use Rattle.bx_dd.proofs.CopyLemmas.{ahead_of, read_sizes, read_stops, stage_near, stage_read, stage_sent, stage_start, stage_unsent, unit_some, write_stops}
 use Rattle.bx_dd.proofs.stream.copy.copy_units.Goals as goal
 use Rattle.bx_dd.proofs.stream.copy.copy_units.Goals.{In-Ok}
 
@@ -57,16 +58,29 @@ fits_in g c = omega (arith, c.min-want.ensures, c.loop-left.invariant.pending, c
 sizes_of : (g : _) (c : In-Ok g) → (length c.read.new.buf ≡ c.min-want.result) × (length (more_of g c) ≡ length c.loop-left.invariant.so_far.0 + c.in-Ok.n)
 sizes_of g c = read_sizes c.loop-left.buf c.read.new.buf c.loop-left.invariant.so_far.0 c.loop-left.turn.have c.min-want.result c.in-Ok.n (fits_in g c) c.read.auto.buf c.in-Ok.ensures.bound.0
 
+-- before it, what was written was near what was converted
+near_by : (g : _) (c : In-Ok g) (e : IoFault) → c.loop-left.page.written ≤ written_by e → IsCopyAhead (converted c.args.form) (more_of g c) e
+near_by g c e grows =
+    let before = c.loop-left.invariant in
+    let stage = before.so_far.5 in
+    let have = c.loop-left.turn.have in
+    let pending = take have c.loop-left.buf in
+    let chunk = take c.in-Ok.n c.read.new.buf in
+    let is : more_of g c ≡ stage.done ++ (pending ++ chunk) = ap (λ l. l ++ chunk) stage.parts ∙ append_assoc stage.done pending chunk in
+    let sizes = sizes_of g c in
+    let few : length (pending ++ chunk) ≤ 2 ^ 24 = omega (arith, length-append pending chunk, length-take have c.loop-left.buf, length-take c.in-Ok.n c.read.new.buf, sizes.0, fits_in g c, c.requires.fresh.few, c.loop-left.auto.buf) in
+    ahead_of (converted c.args.form) (more_of g c) stage.done (pending ++ chunk) c.loop-left.page.written e is few (stage_near stage c.requires.fresh.sizes c.loop-left.page.near before.room) grows
+
 -- a write of it failed
-unwritten : (g : _) (c : In-Ok g) (w : Option (List ℕ)) (e : IoFault) → WritesFront 0 (g.W.Write.contents c.args.w.now) w (converted c.args.form (more_of g c)) e
+unwritten : (g : _) (c : In-Ok g) (w : Option (List ℕ)) (e : IoFault) → c.loop-left.page.written ≤ written_by e → WritesFront 0 (g.W.Write.contents c.args.w.now) w (converted c.args.form (more_of g c)) e
     → StopsPass c.args.form c.args.most c.args.meter.now.taken (g.R.Read.remaining c.args.r.now) (g.R.Read.remaining c.read.new.reader) (g.W.Write.contents c.args.w.now) w e
-unwritten g c w e stop =
+unwritten g c w e grows stop =
     let before = c.loop-left.invariant in
     let now = before.so_far in
     let read = c.in-Ok.ensures in
     let sizes = sizes_of g c in
     write_stops c.args.form _ _ _ _ (more_of g c) c.args.most c.args.meter.now.taken e (Consumes-trans _ _ _ _ _ now.4 read.bytes)
-    (omega (arith, sizes.1, now.1, sizes.0, read.bound.0, c.min-want.ensures)) (omega (arith, sizes.1, now.2, read.taken, read.limit, before.limit, c.read.new.self.within)) stop
+    (omega (arith, sizes.1, now.1, sizes.0, read.bound.0, c.min-want.ensures)) (omega (arith, sizes.1, now.2, read.taken, read.limit, before.limit, c.read.new.self.within)) (near_by g c e grows) stop
 
 pub returns-in-Err-pass-clause-err : goal.returns-in-Err-pass-clause-err
 returns-in-Err-pass-clause-err g c =
@@ -76,7 +90,7 @@ returns-in-Err-pass-clause-err g c =
     let fits = fits_in g at in
     let stage = stage_read c.loop-left.invariant.so_far.5 (take c.in-Ok.n c.read.new.buf) _ (take-put_mid_more c.loop-left.buf c.read.new.buf have (have + c.min-want.result - have) c.in-Ok.n (omega (arith, fits)) c.in-Ok.ensures.bound.0) in
     let stop = c.in-Err-pass.ensures.err more (g.W.Write.contents c.args.w.now) stage [] in
-    unwritten g at _ c.in-Err-pass.fault
+    unwritten g at _ c.in-Err-pass.fault (omega (arith, c.in-Err-pass.ensures.grows))
     (subst (λ (l : List ℕ). WritesFront 0 (g.W.Write.contents c.args.w.now) (g.W.Write.contents c.pass.new.w) (converted c.args.form l) c.in-Err-pass.fault) (append-nil more) stop)
 
 pub returns-in-Err-pause-clause-err : goal.returns-in-Err-pause-clause-err
@@ -86,7 +100,7 @@ returns-in-Err-pause-clause-err g c =
     let fits = fits_in g at in
     let stage = c.in-Ok-pass.ensures.ok (more_of g at) (g.W.Write.contents c.args.w.now) (stage_read c.loop-left.invariant.so_far.5 (take c.in-Ok.n c.read.new.buf) _ (take-put_mid_more c.loop-left.buf c.read.new.buf have (have + c.min-want.result - have) c.in-Ok.n (omega (arith, fits)) c.in-Ok.ensures.bound.0)) in
     let stop = c.in-Err-pause.ensures.err (g.W.Write.contents c.args.w.now) stage.flows.text stage.flows.goes in
-    unwritten g at _ c.in-Err-pause.fault (stage_unsent stage _ c.in-Err-pause.fault c.requires.fresh.sizes stop)
+    unwritten g at _ c.in-Err-pause.fault (omega (arith, c.in-Ok-pass.ensures.grows, c.in-Err-pause.ensures.grows)) (stage_unsent stage _ c.in-Err-pause.fault c.requires.fresh.sizes stop)
 
 pub loop-left-preserved : goal.loop-left-preserved
 loop-left-preserved g c =

@@ -9,6 +9,7 @@ loop-done-preserved g c =
     let n = c.min-n.result in
     record {
       inside = omega (arith, c.min-n.ensures);
+      grows = omega (arith, c.in-Ok.ensures.grows, c.loop-done.invariant.grows);
       so_far = λ start text goes.
           let all = append_assoc text (replicate {A = ℕ} d 32) (replicate {A = ℕ} n 32) ∙ ap (λ l. text ++ l) (replicate-append-replicate {A = ℕ} d n 32) in
           rw (take-replicate {X = ℕ} n 1024 32 (omega (arith, c.min-n.ensures)), all) at (c.in-Ok.ensures.ok start (text ++ replicate {A = ℕ} d 32) (c.loop-done.invariant.so_far start text goes));
