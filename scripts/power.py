@@ -22,6 +22,9 @@ CALL = re.compile(r"^(?:\d+ +)?(\w+)\(\d+<([^>]*)>.*\) += (-?\d+)")
 
 # The letters of an order: the folder of the texts, the folder of the image, journal, image, redo file.
 PLACES = {"texts": "F", "images": "I", "texts/journal": "J", "images/image": "D", "texts/journal.redo": "R"}
+# The folders, which a command that may write syncs first.
+NAMED = "FI"
+
 # What a call that writes syncs first: all three, and a redo in the other direction.
 SETTLED, SETTLED_BACK = "JDR", "RDJ"
 
@@ -117,28 +120,28 @@ def unfinished(text):
 
 
 def steps(count, settled=SETTLED):
-    return "F" + settled + "JDRJ" * count
+    return NAMED + settled + "JDRJ" * count
 
 
 # What is there, the command, its status, and what it syncs in order.
 COUNTS = [
-    ("a change of a new image", nothing, "revert -f dump IMAGE", 0, "FI" + SETTLED + "JRDJ"),
-    ("a change", image, "revert -f dump IMAGE", 0, "F" + SETTLED + "JRDJ"),
-    ("a second change", changes(1), "revert -f dump IMAGE", 0, "F" + SETTLED + "JRDJ"),
-    ("a change that gives up what was undone", changes(2, 1), "revert -f dump IMAGE", 0, "F" + SETTLED + "JRDJ"),
-    ("a change by dd", image, "dd if=dump OF", 0, "F" + SETTLED + "JRDJ"),
-    ("a longer image by dd", image, "dd if=dump obs=1 seek=100 OF", 0, "F" + SETTLED + "JRDJ"),
+    ("a change of a new image", nothing, "revert -f dump IMAGE", 0, NAMED + SETTLED + "JRDJ"),
+    ("a change", image, "revert -f dump IMAGE", 0, NAMED + SETTLED + "JRDJ"),
+    ("a second change", changes(1), "revert -f dump IMAGE", 0, NAMED + SETTLED + "JRDJ"),
+    ("a change that gives up what was undone", changes(2, 1), "revert -f dump IMAGE", 0, NAMED + SETTLED + "JRDJ"),
+    ("a change by dd", image, "dd if=dump OF", 0, NAMED + SETTLED + "JRDJ"),
+    ("a longer image by dd", image, "dd if=dump obs=1 seek=100 OF", 0, NAMED + SETTLED + "JRDJ"),
     ("an undo of none", changes(1), "undo -k 0 IMAGE", 0, steps(0)),
     ("an undo", changes(1), "undo IMAGE", 0, steps(1)),
     ("an undo of three", changes(4), "undo -k 3 IMAGE", 0, steps(3)),
     ("a redo of none", changes(2, 1), "redo -k 0 IMAGE", 0, steps(0, SETTLED_BACK)),
     ("a redo", changes(1, 1), "redo IMAGE", 0, steps(1, SETTLED_BACK)),
     ("a redo of three", changes(4, 4), "redo -k 3 IMAGE", 0, steps(3, SETTLED_BACK)),
-    ("an entry that is dropped, and a refusal", unfinished(HEAD), "undo -k 9 IMAGE", 1, "F" + SETTLED + "RJ"),
-    ("a change that is taken back, and a refusal", unfinished(HEAD + SAVED), "undo -k 9 IMAGE", 1, "F" + SETTLED + "RDJ"),
-    ("a refused undo", changes(1), "undo -k 9 IMAGE", 1, "F"),
-    ("a refused redo", changes(1), "redo IMAGE", 1, "F"),
-    ("a bad dump", image, "revert -f bad IMAGE", 1, "F"),
+    ("an entry that is dropped, and a refusal", unfinished(HEAD), "undo -k 9 IMAGE", 1, NAMED + SETTLED + "RJ"),
+    ("a change that is taken back, and a refusal", unfinished(HEAD + SAVED), "undo -k 9 IMAGE", 1, NAMED + SETTLED + "RDJ"),
+    ("a refused undo", changes(1), "undo -k 9 IMAGE", 1, NAMED),
+    ("a refused redo", changes(1), "redo IMAGE", 1, NAMED),
+    ("a bad dump", image, "revert -f bad IMAGE", 1, NAMED),
     ("a log", changes(3), "log IMAGE", 0, ""),
     ("a dump", image, "xxd images/image", 0, ""),
     ("a copy to a stream", image, "dd if=images/image", 0, ""),

@@ -1,5 +1,4 @@
 //! The folders that the names of a session's files stand in.
-use crate::files::SessionFiles;
 use crate::stopped::Stopped;
 use bx_cli::Texts;
 use bx_text::Name;
@@ -32,22 +31,21 @@ fn sync<'a, R: Files<File = File>>(rt: &R, folder: &'a str) -> Result<(), Stoppe
     }
 }
 
-/// Puts the names of an image's texts on the disk, and that of an image that this run made. The texts' folder is synced
-/// always: a run that was killed may have made them, and their names be lost with the power.
+/// Puts the names of an image and its texts on the disk, whoever made them: a run that was killed may have, and their names be
+/// lost with the power.
 ///
 /// # Errors
 /// `OpenFailed` where a folder can't be opened or synced. One of a file system without such a sync, and one that this user may
 /// not read, is passed by.
 pub fn keep_names<'a, R: Files<File = File>>(
     rt: &R,
-    files: &SessionFiles,
     image: &'a Name,
     texts: &'a Texts,
 ) -> Result<(), Stopped<'a>> {
     let folder = folder_of(texts.journal.as_str());
     sync(rt, folder)?;
     let of_image = folder_of(image.as_str());
-    if files.made.image && of_image != folder {
+    if of_image != folder {
         sync(rt, of_image)?;
     }
     Ok(())

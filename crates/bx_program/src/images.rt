@@ -51,7 +51,7 @@ where
 {
     let files = trio(rt, image, texts, make, access.mounted)?;
     if access.durability == Durability::Synced {
-        if let Err(stopped) = keep_names(rt, &files, image, texts) {
+        if let Err(stopped) = keep_names(rt, image, texts) {
             files.unmake(rt, image, texts);
             return Err(stopped);
         }
