@@ -1,5 +1,7 @@
 -- How a call of a session ends: it is accepted, refused before its first write, or interrupted.
 use Rattle.std.proofs.Common.{◌≡◌, ◌∙◌, ℕ, Bool, true, false, List, sym, subst, Result, Ok, Err}
+use Rattle.std.specs.Prelude.{IfErr}
+use Rattle.bx_journal.specs.Calls.{AfterFault}
 use Rattle.bx_journal.specs.Fault.{DeviceFault}
 use Rattle.bx_journal.specs.Opening.{OneMoreOfThree, ThreeCounts}
 use Rattle.bx_journal.specs.Session.{FailsSafely, IsUnfailed}
@@ -11,6 +13,21 @@ use Rattle.bx_journal.specs.inner.Devices.{HaveStayed, StepsOn}
 -- a session that is whole isn't broken
 not_both : {A : Type 0} (b : Bool) → b ≡ false → b ≡ true → A
 not_both b whole broken = absurd (let e : false ≡ true = sym whole ∙ broken in cc)
+
+-- what holds behind each fault holds behind one that isn't an interruption
+pub any_fault : {V S : Type 0} (r : Result V SessionFault) → S → IfErr r (λ e. AfterFault e (Unit {0}) S)
+any_fault (Ok v) s = tt
+any_fault (Err NoMemory) s = s
+any_fault (Err TooLarge) s = s
+any_fault (Err DeviceFailed) s = s
+any_fault (Err (Damaged line)) s = s
+any_fault (Err (TooFew have)) s = s
+any_fault (Err JournalFull) s = s
+any_fault (Err Interrupted) s = tt
+any_fault (Err Broken) s = s
+any_fault (Err (LengthDiffers n)) s = s
+any_fault (Err (NothingToRedo have)) s = s
+any_fault (Err (RedoDamaged line)) s = s
 
 module _ {D T : Type 0} {honest : D → Type 0} {text_honest : T → Type 0} {image : D → List ℕ} {text : T → List ℕ} {failures : D → ℕ} {text_failures : T → ℕ} where
   pub accepts : {V R E : Type 0} {v : V} {r : R} {old new : SessionView D T} → old.is_broken ≡ false

@@ -1,11 +1,13 @@
 -- A session's three devices, behind calls that only looked at them.
 use Rattle.std.proofs.Common.{◌≡◌, ℕ, suc, List, length, drop, sym, ◌∙◌, subst, arith, Result}
+use Rattle.bx_image.proofs.Survivors.{NoMore_then}
 use Rattle.bx_entries.specs.Finished.{IsFinished}
 use Rattle.bx_entries.specs.Text.{Entry}
 use Rattle.bx_entries.specs.declared.read.types.EntryRead.{EntryRead}
 use Rattle.bx_journal.specs.Images.{Images}
 use Rattle.bx_journal.specs.Machine.{changes_of}
 use Rattle.bx_journal.specs.Phase.{IsAtRest}
+use Rattle.bx_journal.specs.Power.{FoundBefore}
 use Rattle.bx_journal.specs.Redo.{IsRedoOf}
 use Rattle.bx_journal.specs.Session.{HasUndone, IsReady}
 use Rattle.bx_journal.specs.SessionView.{SessionView}
@@ -40,6 +42,16 @@ module _ {D T : Type 0} {honest : D → Type 0} {text_honest : T → Type 0} {im
     image_same = stayed.image_same;
     text_same = stayed.other_same;
     other_same = stayed.text_same;
+  }
+
+  -- what is found behind two calls that only looked at the devices was found before both
+  pub found_then : {survives : D → List ℕ → Type 0} {text_survives : T → List ℕ → Type 0} {d d1 d2 : D} {t t1 t2 u u1 u2 : T}
+      → HaveStayed honest text_honest image text d t u d1 t1 u1 → FoundBefore honest text_honest survives text_survives d t u d1 t1 u1
+      → FoundBefore honest text_honest survives text_survives d1 t1 u1 d2 t2 u2 → FoundBefore honest text_honest survives text_survives d t u d2 t2 u2
+  found_then stayed first next = record {
+    device_before = λ h. NoMore_then _ _ _ (first.device_before h) (next.device_before (stayed.device_honesty.1 h));
+    text_before = λ h. NoMore_then _ _ _ (first.text_before h) (next.text_before (stayed.text_honesty.1 h));
+    other_before = λ h. NoMore_then _ _ _ (first.other_before h) (next.other_before (stayed.other_honesty.1 h));
   }
 
   pub none_failed : {failures : D → ℕ} {text_failures : T → ℕ} {d d_new : D} {t u t_new u_new : T} → HaveStayed honest text_honest image text d t u d_new t_new u_new

@@ -2,6 +2,7 @@
 use Rattle.std.specs.Prelude.{◌⊎◌, ◌≤◌, ℕ, List, [], Result, MatchResult}
 use Rattle.bx_image.specs.declared.change.Change.{Change}
 use Rattle.bx_image.specs.Change.{effect}
+use Rattle.bx_image.specs.Power.{NoMore}
 use Rattle.bx_entries.specs.Shown.{shown}
 use Rattle.bx_journal.specs.declared.session.fault.SessionFault.{SessionFault}
 use Rattle.bx_journal.specs.Calls.{AfterFault}
@@ -16,6 +17,18 @@ use Rattle.bx_journal.specs.Stack.{Recovers}
 pub record Found (text x redo : List ℕ) (s : Images) : Type 0 where
   pub recovers : Recovers (shown text) x s.stack
   pub undone : IsClean text → IsRedoOf redo x (changes_of s.stack) s.undone
+
+-- whatever is found of a device and two texts was found before
+pub record FoundBefore {D T : Type 0} (honest : D → Type 0) (text_honest : T → Type 0) (survives : D → List ℕ → Type 0) (text_survives : T → List ℕ → Type 0)
+    (d : D) (t u : T) (d_new : D) (t_new u_new : T) : Type 0 where
+  pub device_before : honest d → NoMore (survives d) (survives d_new)
+  pub text_before : text_honest t → NoMore (text_survives t) (text_survives t_new)
+  pub other_before : text_honest u → NoMore (text_survives u) (text_survives u_new)
+
+-- whatever is found of the session's three devices was found before
+abbrev pub NothingNew : {D T : Type 0} → (D → Type 0) → (T → Type 0) → (D → List ℕ → Type 0) → (T → List ℕ → Type 0) → SessionView D T → SessionView D T → Type 0
+NothingNew honest text_honest survives text_survives old new =
+    FoundBefore honest text_honest survives text_survives old.device old.store old.redo_text new.device new.store new.redo_text
 
 -- Of sessions whose device has an image and may be found with others, and whose stores have a text and may be found with others.
 module _ {D T : Type 0} (image : D → List ℕ) (survives : D → List ℕ → Type 0) (text : T → List ℕ) (text_survives : T → List ℕ → Type 0) where

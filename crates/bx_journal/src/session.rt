@@ -47,7 +47,8 @@ impl<D: Device, T: TextStore, A: Allocator> Model for Session<D, T, A> {
 
 impl<D: Device, T: TextStore, A: Allocator + Clone> Session<D, T, A> {
     ghost use Rattle.bx_journal.specs.Performing.{AppendsEntry, FindsOne, StaysReady, Steps, StopsPerform};
-    ghost use Rattle.bx_journal.specs.Power.{ChangeSurvives};
+    ghost use Rattle.bx_journal.specs.Calls.{AfterFault};
+    ghost use Rattle.bx_journal.specs.Power.{NothingNew, ChangeSurvives};
     ghost use Rattle.bx_journal.specs.Session.{FailsSafely, HasUndone};
     ghost use Rattle.bx_journal.specs.Standing.{PerformFault};
 
@@ -82,6 +83,9 @@ impl<D: Device, T: TextStore, A: Allocator + Clone> Session<D, T, A> {
         // So it is behind a loss of power inside the call; where it is accepted, the new images are on the disk.
         ensures survives { D.honest self.old.device → T.honest self.old.store → T.honest self.old.redo_text
             → ChangeSurvives D.image D.survives T.text T.survives change.now self.old self.new result }
+
+        // A refusal leaves nothing to be found after a loss of power that wasn't to be found before.
+        ensures found_before { IfErr result (λ e. AfterFault e (Unit {0}) (NothingNew D.honest T.honest D.survives T.survives self.old self.new)) }
 
         ensures kind { IfErr result PerformFault }
         ensures full { IsErrOf result SessionFault.JournalFull ↔ ((self.old.is_broken ≡ false) × (65535 ≤ self.old.count)) }

@@ -2,7 +2,7 @@
 ghost use Rattle.std.specs.Prelude.{◌≡◌, ◌<◌, ◌≤◌, [], map, length, IfOk, OnOk, IsErrOf, is_err};
 ghost use Rattle.bx_image.specs.Change.{effect, saved, restore, AllWithin, Covers, IsOf, IsAsGood};
 ghost use Rattle.bx_image.specs.Device.{GoesOn, has_failed};
-ghost use Rattle.bx_image.specs.Power.{Only};
+ghost use Rattle.bx_image.specs.Power.{NoMore, Only};
 ghost use Rattle.bx_entries.specs.Kept.{run_of, kept_of};
 ghost use Rattle.bx_journal.specs.inner.Fading.{AllAsGood, AllStayOpen, AllStayOpenFor};
 ghost use Rattle.bx_journal.specs.inner.Phase.{RecoversOpenFor, RecoversOpenOn, StaysOpen, StaysOpenFor};
@@ -21,6 +21,7 @@ pub fn save_image<D: Device, A: Allocator + Clone>(
     ensures kept { D.honest device.old → IfOk result (λ s. IsOf (kept_of s) (D.image device.old)) }
     ensures within { IfOk result (λ s. AllWithin s.len s.runs) }
     ensures image { D.honest device.old → D.image device.new ≡ D.image device.old }
+    ensures survives { D.honest device.old → NoMore (D.survives device.old) (D.survives device.new) }
     ensures never_too_large { IsErrOf result ImageFault.TooLarge → ⊥ }
     ensures goes_on { GoesOn D.honest D.room D.failures (has_failed result) device.old device.new }
 {

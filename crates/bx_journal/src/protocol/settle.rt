@@ -1,5 +1,6 @@
 //! What is on the disk before the first write.
 ghost use Rattle.std.specs.Prelude.{◌≡◌, ◌≤◌, OnOk};
+ghost use Rattle.bx_journal.specs.Power.{FoundBefore};
 ghost use Rattle.bx_journal.specs.inner.Devices.{AreBelow, StepsOn};
 ghost use Rattle.bx_journal.specs.inner.Written.{AreSettled};
 
@@ -18,6 +19,7 @@ pub fn settle<D: Device, T: TextStore>(
     ensures image { D.honest device.old → D.image device.new ≡ D.image device.old }
     ensures text { T.honest store.old → T.text store.new ≡ T.text store.old }
     ensures redo_same { T.honest redo.old → T.text redo.new ≡ T.text redo.old }
+    ensures found_before { FoundBefore D.honest T.honest D.survives T.survives device.old store.old redo.old device.new store.new redo.new }
     ensures room { D.room device.old ≤ D.room device.new }
     ensures store_room { T.room store.old ≤ T.room store.new }
     ensures redo_room { T.room redo.old ≤ T.room redo.new }

@@ -1,6 +1,7 @@
 //! A text that is counted in windows: so much of it is in memory at a time, however long it is.
 ghost use Rattle.std.specs.Prelude.{◌≡◌, ◌<◌, ◌≤◌, length, is_err, IfOk, IfErr, IfSome};
 ghost use Rattle.bx_image.specs.Device.{GoesOn};
+ghost use Rattle.bx_image.specs.Power.{NoMore};
 ghost use Rattle.bx_journal.specs.inner.Devices.{LooksAt};
 ghost use Rattle.bx_journal.specs.inner.Fault.{LacksOrFails};
 ghost use Rattle.bx_journal.specs.inner.Windows.{IsAllCounted, IsFrontCounted, IsPassed};
@@ -42,6 +43,7 @@ fn pass_window<T: TextStore>(
     requires below { at ≤ len }
     ensures passed { IfOk result (λ found. IfSome found (IsPassed (T.honest store.old) (T.text store.old) only_second at len tally)) }
     ensures text { T.honest store.old → T.text store.new ≡ T.text store.old }
+    ensures survives { T.honest store.old → NoMore (T.survives store.old) (T.survives store.new) }
     ensures goes_on { GoesOn T.honest T.room T.failures (is_err result) store.old store.new }
 {
     let more = (window.len() as u64).min(len - at) as usize;
@@ -71,6 +73,7 @@ fn count_windows<T: TextStore>(
     ensures counted { IfOk result (λ found. IfSome found (IsFrontCounted (T.honest store.old) (T.text store.old) only_second)) }
     ensures within { IfOk result (λ found. IfSome found (λ f. f.at ≤ len)) }
     ensures text { T.honest store.old → T.text store.new ≡ T.text store.old }
+    ensures survives { T.honest store.old → NoMore (T.survives store.old) (T.survives store.new) }
     ensures goes_on { GoesOn T.honest T.room T.failures (is_err result) store.old store.new }
 {
     let mut at: u64 = 0;
@@ -112,6 +115,7 @@ pub fn count_front<T: TextStore, A: Allocator + Clone>(
     ensures within { IfOk result (λ found. IfSome found (λ f. f.at ≤ len)) }
     ensures fault { IfErr result LacksOrFails }
     ensures looks { LooksAt T.honest T.text T.failures result store.old store.new }
+    ensures survives { T.honest store.old → NoMore (T.survives store.old) (T.survives store.new) }
 {
     let size = WINDOW.min(len) as usize;
     let mut window = vec![in alloc.clone()?; 0u8; size]?;

@@ -3,6 +3,7 @@ ghost use Rattle.std.specs.Prelude.{◌≡◌, ◌↔◌, ◌+◌, ◌<◌, ◌�
 ghost use Rattle.bx_image.specs.Change.{effect, saved, AllWithin, Fits, IsOf};
 ghost use Rattle.bx_entries.specs.Kept.{kept_of};
 ghost use Rattle.bx_entries.specs.Entry.{end_text};
+ghost use Rattle.bx_journal.specs.Power.{FoundBefore};
 ghost use Rattle.bx_journal.specs.inner.Devices.{AreCounted, AreUnfailed};
 ghost use Rattle.bx_journal.specs.inner.Standing.{PrepareFault};
 ghost use Rattle.bx_journal.specs.inner.Step.{HasEntryRoom};
@@ -57,6 +58,7 @@ pub fn prepare_change<D: Device, T: TextStore, A: Allocator + Clone>(
     ensures image { D.honest device.old → D.image device.new ≡ D.image device.old }
     ensures text { T.honest store.old → T.text store.new ≡ T.text store.old }
     ensures redo_same { T.honest redo.old → T.text redo.new ≡ T.text redo.old }
+    ensures found_before { FoundBefore D.honest T.honest D.survives T.survives device.old store.old redo.old device.new store.new redo.new }
     ensures device_honesty { D.honest device.new ↔ D.honest device.old }
     ensures store_honesty { T.honest store.new ↔ T.honest store.old }
     ensures redo_honesty { T.honest redo.new ↔ T.honest redo.old }

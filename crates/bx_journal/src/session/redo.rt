@@ -1,5 +1,6 @@
 //! Making undone changes again.
 ghost use Rattle.std.specs.Prelude.{◌≡◌, ◌↔◌, ◌+◌, ◌<◌, ◌≤◌, ℕ, length, true, false, IfOk, IfErr, OnOk, IsErrOf};
+ghost use Rattle.bx_image.specs.Power.{NoMore};
 ghost use Rattle.bx_journal.specs.Images.{redo_of};
 ghost use Rattle.bx_journal.specs.inner.Devices.{LooksAt};
 ghost use Rattle.bx_entries.specs.Text.{IsPrefix};
@@ -27,6 +28,7 @@ fn read_undone<T: TextStore, A: Allocator + Clone>(
     ensures few { IfOk result (λ o. j ≤ length o.entries.items) }
     ensures fault { IfErr result (RedoAgainFault (T.honest redo_text.old) (T.text redo_text.old) undone) }
     ensures looks { LooksAt T.honest T.text T.failures result redo_text.old redo_text.new }
+    ensures survives { T.honest redo_text.old → NoMore (T.survives redo_text.old) (T.survives redo_text.new) }
 {
     match read_last_of(alloc, redo_text, undone, j) {
         Ok(read) => Ok(read),
@@ -52,7 +54,8 @@ fn undone_left(undone: u32, made: u32) -> u32
 }
 
 impl<D: Device, T: TextStore, A: Allocator + Clone> Session<D, T, A> {
-    ghost use Rattle.bx_journal.specs.Power.{StepsSurvive};
+    ghost use Rattle.bx_journal.specs.Calls.{AfterFault};
+    ghost use Rattle.bx_journal.specs.Power.{NothingNew, StepsSurvive};
     ghost use Rattle.bx_journal.specs.Session.{FailsSafely};
     ghost use Rattle.bx_journal.specs.Performing.{FindsSome, RedoesImages, StaysRedone};
     ghost use Rattle.bx_journal.specs.Undoing.{HasCount, IsOutOfStep, LeavesFront, RedoFault};
@@ -89,6 +92,9 @@ impl<D: Device, T: TextStore, A: Allocator + Clone> Session<D, T, A> {
         // So it is behind a loss of power inside the call; where it is accepted, the images behind it are on the disk.
         ensures survives { D.honest self.old.device → T.honest self.old.store → T.honest self.old.redo_text
             → StepsSurvive D.image D.survives T.text T.survives redo_of j self.old self.new result }
+
+        // A refusal leaves nothing to be found after a loss of power that wasn't to be found before.
+        ensures found_before { IfErr result (λ e. AfterFault e (Unit {0}) (NothingNew D.honest T.honest D.survives T.survives self.old self.new)) }
 
         ensures kind { IfErr result (RedoFault self.old.undone) }
         ensures nothing { ((self.old.is_broken ≡ false) × (self.old.undone < j)) ↔ IsErrOf result (SessionFault.NothingToRedo self.old.undone) }

@@ -21,7 +21,8 @@ fn count_left(count: u32, undone: u32) -> u32
 }
 
 impl<D: Device, T: TextStore, A: Allocator + Clone> Session<D, T, A> {
-    ghost use Rattle.bx_journal.specs.Power.{StepsSurvive};
+    ghost use Rattle.bx_journal.specs.Calls.{AfterFault};
+    ghost use Rattle.bx_journal.specs.Power.{NothingNew, StepsSurvive};
     ghost use Rattle.bx_journal.specs.Session.{FailsSafely};
     ghost use Rattle.bx_journal.specs.Performing.{FindsSome, StaysReady, Steps, StopsUndo, UndoesImages};
     ghost use Rattle.bx_journal.specs.Undoing.{HasCount, IsOutOfStep, LeavesFront, UndoFault};
@@ -59,6 +60,9 @@ impl<D: Device, T: TextStore, A: Allocator + Clone> Session<D, T, A> {
         // So it is behind a loss of power inside the call; where it is accepted, the images behind it are on the disk.
         ensures survives { D.honest self.old.device → T.honest self.old.store → T.honest self.old.redo_text
             → StepsSurvive D.image D.survives T.text T.survives undo_of k self.old self.new result }
+
+        // A refusal leaves nothing to be found after a loss of power that wasn't to be found before.
+        ensures found_before { IfErr result (λ e. AfterFault e (Unit {0}) (NothingNew D.honest T.honest D.survives T.survives self.old self.new)) }
 
         ensures kind { IfErr result (UndoFault self.old.count) }
         ensures few { ((self.old.is_broken ≡ false) × (self.old.count < k)) ↔ IsErrOf result (SessionFault.TooFew self.old.count) }

@@ -1,6 +1,7 @@
 use Rattle.std.proofs.Common.{◌≡◌, ◌≤◌, ◌-◌, false, take, drop}
 use Rattle.std.specs.Prelude.{vec_len}
 use Rattle.bx_image.specs.Device.{GoesOn}
+use Rattle.bx_image.specs.Power.{NoMore}
 use Rattle.bx_image.proofs.record.read_run.Given as goal
 
 -- a front was read
@@ -11,6 +12,7 @@ invariant-loop-bytes g l =
       within : vec_len l.bytes ≤ l.len;
       bytes : device.honest l.fn.device → l.bytes.items ≡ take (vec_len l.bytes) (drop l.at (device.image l.fn.device));
       image : device.honest l.fn.device → device.image l.device ≡ device.image l.fn.device;
+      survives : device.honest l.fn.device → NoMore (device.survives l.fn.device) (device.survives l.device);
       goes_on : GoesOn device.honest device.room device.failures false l.fn.device l.device;
     }
 

@@ -4,6 +4,7 @@ use Rattle.bx_image.specs.declared.record.spans.Span.{Span}
 use Rattle.bx_image.proofs.Devices.{GoesOn_then}
 use Rattle.bx_image.proofs.Runs.{AreRunsOf-push, HaveBytes-push}
 use Rattle.bx_image.proofs.SpanLemmas.{StandOver-push}
+use Rattle.bx_image.proofs.Survivors.{NoMore_then}
 use Rattle.bx_image.proofs.record.read_runs.Goals as goal
 
 pub loop-span-preserved : goal.loop-span-preserved
@@ -18,5 +19,6 @@ loop-span-preserved g c =
       bytes = HaveBytes-push _ _ kept.bytes run.bytes;
       runs = λ honest. AreRunsOf-push _ _ _ (kept.runs honest) (rw (kept.image honest) at run.run (kept.goes_on.honesty.1 honest));
       image = λ honest. run.image (kept.goes_on.honesty.1 honest) ∙ kept.image honest;
+      survives = λ honest. NoMore_then _ _ _ (kept.survives honest) (run.survives (kept.goes_on.honesty.1 honest));
       goes_on = GoesOn_then _ _ _ _ _ _ _ kept.goes_on run.goes_on;
     })

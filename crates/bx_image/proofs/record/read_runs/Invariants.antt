@@ -1,6 +1,7 @@
 use Rattle.std.proofs.Common.{◌≡◌, false, take}
 use Rattle.bx_image.specs.Change.{HaveBytes}
 use Rattle.bx_image.specs.Device.{GoesOn}
+use Rattle.bx_image.specs.Power.{NoMore}
 use Rattle.bx_image.specs.Runs.{AreRunsOf}
 use Rattle.bx_image.specs.inner.Spans.{StandOver}
 use Rattle.bx_image.proofs.record.read_runs.Given as goal
@@ -14,5 +15,6 @@ invariant-loop-span g l =
       bytes : HaveBytes l.runs.items;
       runs : device.honest l.fn.device → AreRunsOf (device.image l.fn.device) l.runs.items;
       image : device.honest l.fn.device → device.image l.device ≡ device.image l.fn.device;
+      survives : device.honest l.fn.device → NoMore (device.survives l.fn.device) (device.survives l.device);
       goes_on : GoesOn device.honest device.room device.failures false l.fn.device l.device;
     }

@@ -2,6 +2,7 @@
 ghost use Rattle.std.specs.Prelude.{◌≡◌, ◌+◌, ◌-◌, ◌^◌, ◌<◌, ◌≤◌, [], length, drop, min, reverse, vec_capacity, All, IfOk, IfErr, OnOk};
 ghost use Rattle.bx_image.specs.Change.{AllWithin};
 ghost use Rattle.bx_journal.specs.Fault.{DeviceFault};
+ghost use Rattle.bx_journal.specs.Power.{FoundBefore};
 ghost use Rattle.bx_journal.specs.inner.Devices.{AreCounted, AreUnfailed, HaveStayed};
 ghost use Rattle.bx_journal.specs.inner.Written.{AreSettled};
 ghost use Rattle.bx_journal.specs.inner.Takens.{AreZeros, AreReady, AllShaped, IsZeros, length_at, entries_len as entries_long};
@@ -124,6 +125,7 @@ fn make_room<D: Device, T: TextStore, A: Allocator>(
     ensures roomed { OnOk result (min (to_len + more) (2 ^ 64 - 1) ≤ T.room to.new) }
     ensures limit { OnOk result (min (to_len + more) (2 ^ 64 - 1) ≤ 2 ^ 62) }
     ensures stayed { HaveStayed D.honest T.honest D.image T.text device.old from.old to.old device.new from.new to.new }
+    ensures found_before { FoundBefore D.honest T.honest D.survives T.survives device.old from.old to.old device.new from.new to.new }
     ensures failures { (D.failures device.new ≡ D.failures device.old) × (T.failures from.new ≡ T.failures from.old) × (T.failures to.new ≡ T.failures to.old) }
 {
     let first = read.entries.len() - k as usize;
@@ -155,6 +157,7 @@ fn take_records<D: Device, T: TextStore, A: Allocator + Clone>(
     ensures page_room { IfOk result (λ o. 82 ≤ vec_capacity o.page) }
     ensures kind { IfErr result DeviceFault }
     ensures stayed { HaveStayed D.honest T.honest D.image T.text device.old from.old to.old device.new from.new to.new }
+    ensures found_before { FoundBefore D.honest T.honest D.survives T.survives device.old from.old to.old device.new from.new to.new }
     ensures no_failure { AreUnfailed D.failures T.failures device.old from.old to.old device.new from.new to.new result }
     ensures counts { AreCounted D.failures T.failures device.old from.old to.old device.new from.new to.new result }
 {
@@ -197,6 +200,7 @@ pub fn prepare_takens<D: Device, T: TextStore, A: Allocator + Clone>(
         → OnOk result (AreSettled D.image T.text D.survives T.survives device.new from.new to.new) }
     ensures kind { IfErr result DeviceFault }
     ensures stayed { HaveStayed D.honest T.honest D.image T.text device.old from.old to.old device.new from.new to.new }
+    ensures found_before { FoundBefore D.honest T.honest D.survives T.survives device.old from.old to.old device.new from.new to.new }
     ensures no_failure { AreUnfailed D.failures T.failures device.old from.old to.old device.new from.new to.new result }
     ensures counts { AreCounted D.failures T.failures device.old from.old to.old device.new from.new to.new result }
 {

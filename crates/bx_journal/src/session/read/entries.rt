@@ -1,5 +1,6 @@
 //! The journal of an open session, read once more: all of it, or its last entries alone.
 ghost use Rattle.std.specs.Prelude.{◌≡◌, ◌<◌, ◌≤◌, List, ℕ, false, length, IfOk, IfErr, IfSome, IfNone};
+ghost use Rattle.bx_image.specs.Power.{NoMore};
 ghost use Rattle.bx_entries.specs.inner.Journal.{HasRead};
 ghost use Rattle.bx_journal.specs.inner.Devices.{LooksAt};
 ghost use Rattle.bx_journal.specs.Undoing.{AgainFault, HasCount};
@@ -61,6 +62,7 @@ pub fn read_again<T: TextStore, A: Allocator + Clone>(
     ensures read { IfOk result (λ o. IsReadFrom (T.honest store.old) (T.text store.old) o.len o.entries.items count) }
     ensures fault { IfErr result (AgainFault (T.honest store.old) (T.text store.old) count) }
     ensures looks { LooksAt T.honest T.text T.failures result store.old store.new }
+    ensures survives { T.honest store.old → NoMore (T.survives store.old) (T.survives store.new) }
 {
     let bytes = match store.read_all(alloc.clone()?) {
         Ok(bytes) => bytes,
@@ -93,6 +95,7 @@ fn read_window<T: TextStore, A: Allocator + Clone>(
     ensures read { IfOk result (λ found. IfSome found (IsReadOn (T.honest store.old) (T.text store.old) front len read)) }
     ensures fault { IfErr result LacksOrFails }
     ensures looks { LooksAt T.honest T.text T.failures result store.old store.new }
+    ensures survives { T.honest store.old → NoMore (T.survives store.old) (T.survives store.new) }
 {
     let at = read.at;
     let more = (window.len() as u64).min(len - at) as usize;
@@ -126,6 +129,7 @@ fn read_windows<T: TextStore, A: Allocator + Clone>(
     ensures all { IfOk result (λ found. IfSome found (λ r. r.at ≡ len)) }
     ensures fault { IfErr result LacksOrFails }
     ensures looks { LooksAt T.honest T.text T.failures result store.old store.new }
+    ensures survives { T.honest store.old → NoMore (T.survives store.old) (T.survives store.new) }
 {
     let mut read = nothing_read(alloc, front)?;
     while read.at < len {
@@ -182,7 +186,7 @@ fn read_from<T: TextStore, A: Allocator + Clone>(
     requires within { front.at ≤ len }
     requires long { T.honest store.old → len ≡ length (T.text store.old) }
     requires front { IsFrontCounted (T.honest store.old) (T.text store.old) false front }
-    ensures { LooksForLast T.honest T.text T.failures count k result store.old store.new }
+    ensures { LooksForLast T.honest T.text T.survives T.failures count k result store.old store.new }
 {
     let size = WINDOW.min(len - front.at) as usize;
     let mut window = vec![in alloc.clone()?; 0u8; size]?;
@@ -203,7 +207,7 @@ fn find_last<T: TextStore, A: Allocator + Clone>(
 ) -> Result<Option<FinishedRead<A>>, SessionFault>
     requires countable { T.failures store.old < u64.MAX }
     requires few { k ≤ count }
-    ensures { LooksForLast T.honest T.text T.failures count k result store.old store.new }
+    ensures { LooksForLast T.honest T.text T.survives T.failures count k result store.old store.new }
 {
     let len = store.len()?;
     let found = count_front(alloc, store, len, false, count - k)?;
@@ -227,6 +231,7 @@ pub fn read_last_of<T: TextStore, A: Allocator + Clone>(
     ensures few { IfOk result (λ o. k ≤ length o.entries.items) }
     ensures fault { IfErr result (AgainFault (T.honest store.old) (T.text store.old) count) }
     ensures looks { LooksAt T.honest T.text T.failures result store.old store.new }
+    ensures survives { T.honest store.old → NoMore (T.survives store.old) (T.survives store.new) }
 {
     let found = match find_last(alloc, store, count, k) {
         Ok(found) => found,

@@ -1,5 +1,6 @@
 use Rattle.std.proofs.Common.{◌∙◌, List, ℕ, subst, arith}
 use Rattle.std.specs.Prelude.{IfSome}
+use Rattle.bx_image.proofs.Survivors.{NoMore_then}
 use Rattle.bx_journal.specs.inner.Windows.{IsPassed}
 use Rattle.bx_journal.proofs.WindowLemmas.{counted_on, passed_from}
 use Rattle.bx_journal.proofs.recovery.windows.count_windows.Goals as goal
@@ -18,6 +19,7 @@ loop-at-preserved g c =
       lines = omega (arith, inv.lines, passed.lines);
       few = passed.few inv.few;
       text = λ h. now.text (inv.goes_on.honesty.1 h) ∙ inv.text h;
+      survives = λ h. NoMore_then _ _ _ (inv.survives h) (now.survives (inv.goes_on.honesty.1 h));
       goes_on = record {
         honesty = ((λ h. inv.goes_on.honesty.0 (now.goes_on.honesty.0 h)), λ h. now.goes_on.honesty.1 (inv.goes_on.honesty.1 h));
         no_less_room = omega (arith, inv.goes_on.no_less_room, now.goes_on.no_less_room);

@@ -1,5 +1,6 @@
 use Rattle.std.proofs.Common.{◌≡◌, ◌≤◌, ◌-◌, false}
 use Rattle.bx_image.specs.Device.{GoesOn}
+use Rattle.bx_image.specs.Power.{NoMore}
 use Rattle.bx_journal.specs.inner.Windows.{IsCountedTo}
 use Rattle.bx_journal.proofs.recovery.windows.count_windows.Given as goal
 
@@ -11,6 +12,7 @@ invariant-loop-at g l = record {
   lines : l.lines ≤ l.at;
   few : l.tally.count ≤ 65535;
   text : g.T.TextStore.honest l.fn.store → g.T.TextStore.text l.store ≡ g.T.TextStore.text l.fn.store;
+  survives : g.T.TextStore.honest l.fn.store → NoMore (g.T.TextStore.survives l.fn.store) (g.T.TextStore.survives l.store);
   goes_on : GoesOn g.T.TextStore.honest g.T.TextStore.room g.T.TextStore.failures false l.fn.store l.store;
 }
 

@@ -11,6 +11,7 @@ use Rattle.bx_journal.proofs.RedoText.{empty_is_redo}
 use Rattle.bx_journal.proofs.TurnLemmas.{change_stops}
 use Rattle.bx_journal.proofs.Performed.{appended, performs, top_of_stands}
 use Rattle.bx_journal.specs.inner.Devices.{HaveStayed}
+use Rattle.bx_journal.proofs.SafeLemmas.{any_fault}
 use Rattle.bx_journal.proofs.Stayed.{pair_stays, rest_step}
 use Rattle.bx_journal.specs.inner.Step.{WritesEntry}
 use Rattle.bx_journal.proofs.Ready.{IsPrepared, writes_entry, top_of_rest}
@@ -150,3 +151,7 @@ returns-in-Ok-clause-survives g c =
     let empty : IsRedoOf (g.T.TextStore.text c.write_entry.new.redo) (g.D.Device.image c.write_entry.new.device) (changes_of (effect c.args.change.now (top s.stack) ∷ s.stack)) [] =
     subst (λ r. IsRedoOf r (g.D.Device.image c.write_entry.new.device) (changes_of (effect c.args.change.now (top s.stack) ∷ s.stack)) []) (sym (c.in-Ok.ensures.redo u)) (empty_is_redo (g.D.Device.image c.write_entry.new.device) (changes_of (effect c.args.change.now (top s.stack) ∷ s.stack)) (omega (arith, ready.count))) in
     found_of _ _ _ _ (found_at_rest _ _ _ _ _ _ _ rest empty (settled.device y image_there) (settled.store new there) (settled.redo redo redo_there)))
+
+-- a refusal leaves nothing more to be found
+pub returns-in_err-ready-clause-found_before : goal.returns-in_err-ready-clause-found_before
+returns-in_err-ready-clause-found_before g c = rw (← c.self.view_is) (any_fault _ c.prepare_change.ensures.found_before)

@@ -8,8 +8,10 @@ use Rattle.bx_journal.proofs.AgainLemmas.{has_count}
 use Rattle.bx_journal.proofs.RedoingLemmas.{redo_in_step, redone}
 use Rattle.std.proofs.lemmas.Result.{err_from_is_err_and}
 use Rattle.bx_journal.specs.inner.Devices.{HaveStayed}
+use Rattle.bx_image.proofs.Survivors.{NoMore_then}
 use Rattle.bx_journal.proofs.DeviceLemmas.{one_more}
-use Rattle.bx_journal.proofs.SafeLemmas.{accepts, interrupts, refuses}
+use Rattle.bx_journal.specs.Power.{FoundBefore}
+use Rattle.bx_journal.proofs.SafeLemmas.{accepts, any_fault, interrupts, refuses}
 use Rattle.bx_journal.proofs.Stayed.{left_since, looked_at, none_failed, other_order, read_since, rest_step, standing_step}
 use Rattle.bx_journal.specs.Images.{redo_of}
 use Rattle.bx_journal.proofs.StepSurvivors.{found_at_rest, found_of, found_some}
@@ -137,3 +139,21 @@ returns-in-Ok-clause-survives g c =
     let done = rest_step before c.in-Ok.ensures.found dh th rh s ready has (omega (arith, ready.count)) in
     found_of _ _ _ _ (rw c.in_ok-taking.ensures.count at
     (found_at_rest _ _ _ _ _ _ (redo_of _ s) done.rest done.undone (settled.device y image_there) (settled.store new there) (settled.redo redo redo_there))))
+
+-- what a refusal leaves to be found was to be found before
+pub returns-in_err-read-clause-found_before : goal.returns-in_err-read-clause-found_before
+returns-in_err-read-clause-found_before g c =
+    let before : FoundBefore g.D.Device.honest g.T.TextStore.honest g.D.Device.survives g.T.TextStore.survives c.self.inside.device c.self.inside.store c.self.inside.redo_text c.self.inside.device c.self.inside.store c.read_undone.new.redo_text =
+    record { device_before = λ h x there. there; text_before = λ h x there. there; other_before = c.read_undone.ensures.survives } in
+    rw (← c.self.view_is) (any_fault _ before)
+
+pub returns-in_err-taking-clause-found_before : goal.returns-in_err-taking-clause-found_before
+returns-in_err-taking-clause-found_before g c =
+    let taken = c.prepare_takens.ensures.found_before in
+    let before : FoundBefore g.D.Device.honest g.T.TextStore.honest g.D.Device.survives g.T.TextStore.survives c.self.inside.device c.self.inside.store c.self.inside.redo_text c.prepare_takens.new.device c.prepare_takens.new.to c.prepare_takens.new.from =
+    record {
+      device_before = taken.device_before;
+      text_before = taken.other_before;
+      other_before = λ h. NoMore_then _ _ _ (c.read_undone.ensures.survives h) (taken.text_before (c.read_undone.ensures.looks.honesty.1 h));
+    } in
+    rw (← c.self.view_is) (any_fault _ before)

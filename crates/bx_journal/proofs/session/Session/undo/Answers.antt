@@ -8,8 +8,10 @@ use Rattle.bx_journal.proofs.AgainLemmas.{has_count, in_step}
 use Rattle.bx_journal.proofs.TakingLemmas.{changes_left}
 use Rattle.std.proofs.lemmas.Result.{err_from_is_err_and}
 use Rattle.bx_journal.specs.inner.Devices.{HaveStayed}
+use Rattle.bx_image.proofs.Survivors.{NoMore_then}
 use Rattle.bx_journal.proofs.DeviceLemmas.{one_more}
-use Rattle.bx_journal.proofs.SafeLemmas.{accepts, interrupts, refuses}
+use Rattle.bx_journal.specs.Power.{FoundBefore}
+use Rattle.bx_journal.proofs.SafeLemmas.{accepts, any_fault, interrupts, refuses}
 use Rattle.bx_journal.proofs.Stayed.{left_since, looked_at, none_failed, pair_step, read_since, rest_step, standing_step}
 use Rattle.bx_journal.specs.Images.{undo_of}
 use Rattle.bx_journal.proofs.LoopLemmas.{standing}
@@ -145,3 +147,21 @@ returns-in-Ok-clause-survives g c =
     let done = c.in-Ok.ensures.images d t u s (standing rest) has.counted in
     found_of _ _ _ _ (rw c.in_ok-taking.ensures.count at
     (found_at_rest _ _ _ _ _ _ (undo_of _ s) (c.in-Ok.ensures.ok d t s.stack rest.rest) done.1.undone (settled.device y image_there) (settled.store new there) (settled.redo redo redo_there))))
+
+-- what a refusal leaves to be found was to be found before
+pub returns-in_err-read-clause-found_before : goal.returns-in_err-read-clause-found_before
+returns-in_err-read-clause-found_before g c =
+    let before : FoundBefore g.D.Device.honest g.T.TextStore.honest g.D.Device.survives g.T.TextStore.survives c.self.inside.device c.self.inside.store c.self.inside.redo_text c.self.inside.device c.read_last_of.new.store c.self.inside.redo_text =
+    record { device_before = λ h x there. there; text_before = c.read_last_of.ensures.survives; other_before = λ h x there. there } in
+    rw (← c.self.view_is) (any_fault _ before)
+
+pub returns-in_err-taking-clause-found_before : goal.returns-in_err-taking-clause-found_before
+returns-in_err-taking-clause-found_before g c =
+    let taken = c.prepare_takens.ensures.found_before in
+    let before : FoundBefore g.D.Device.honest g.T.TextStore.honest g.D.Device.survives g.T.TextStore.survives c.self.inside.device c.self.inside.store c.self.inside.redo_text c.prepare_takens.new.device c.prepare_takens.new.from c.prepare_takens.new.to =
+    record {
+      device_before = taken.device_before;
+      text_before = λ h. NoMore_then _ _ _ (c.read_last_of.ensures.survives h) (taken.text_before (c.read_last_of.ensures.looks.honesty.1 h));
+      other_before = taken.other_before;
+    } in
+    rw (← c.self.view_is) (any_fault _ before)

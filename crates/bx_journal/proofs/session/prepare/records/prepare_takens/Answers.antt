@@ -1,5 +1,6 @@
 use Rattle.std.proofs.Common.{◌≡◌, ◌-◌, ◌∙◌, length, drop, ap, arith}
 use Rattle.bx_journal.proofs.DeviceLemmas.{both_ways}
+use Rattle.bx_journal.proofs.Stayed.{found_then}
 use Rattle.bx_journal.proofs.UndoLoop.{kept_more}
 use Rattle.bx_journal.proofs.session.prepare.records.prepare_takens.Goals as goal
 
@@ -26,3 +27,6 @@ returns-clause-stayed g c =
       text_same = λ h. last.text (first.text_honesty.1 h) ∙ first.text_same h;
       other_same = λ h. last.redo_same (first.other_honesty.1 h) ∙ first.other_same h;
     }
+
+pub returns-clause-found_before : goal.returns-clause-found_before
+returns-clause-found_before g c = found_then c.take_records.ensures.stayed c.take_records.ensures.found_before c.settle.ensures.found_before

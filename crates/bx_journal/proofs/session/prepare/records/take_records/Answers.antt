@@ -1,5 +1,6 @@
 use Rattle.std.proofs.Common.{◌≡◌, ◌-◌, ◌∙◌, length, drop, ap, subst, sym, arith}
 use Rattle.std.specs.Prelude.{reverse}
+use Rattle.bx_image.proofs.Survivors.{NoMore_then}
 use Rattle.bx_journal.specs.inner.Takens.{AreZeros, AreReady, entries_len}
 use Rattle.bx_journal.proofs.DeviceLemmas.{both_ways}
 use Rattle.bx_journal.proofs.UndoLoop.{kept_more}
@@ -42,4 +43,15 @@ returns-clause-stayed g c =
       image_same = λ h. c.fill_last.ensures.image (room.device_honesty.1 (first.1 h)) ∙ room.image_same (first.1 h) ∙ c.len.ensures.image h;
       text_same = room.text_same;
       other_same = λ h. room.other_same (other.1 h) ∙ c.len-2.ensures.text h;
+    }
+
+pub returns-clause-found_before : goal.returns-clause-found_before
+returns-clause-found_before g c =
+    let room = c.make_room.ensures in
+    let first = c.len.ensures.goes_on.honesty in
+    record {
+      device_before = λ h.
+          NoMore_then _ _ _ (c.len.ensures.survives h) (NoMore_then _ _ _ (room.found_before.device_before (first.1 h)) (c.fill_last.ensures.survives (room.stayed.device_honesty.1 (first.1 h))));
+      text_before = room.found_before.text_before;
+      other_before = λ h. NoMore_then _ _ _ (c.len-2.ensures.survives h) (room.found_before.other_before (c.len-2.ensures.goes_on.honesty.1 h));
     }

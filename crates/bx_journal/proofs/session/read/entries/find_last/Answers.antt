@@ -1,5 +1,6 @@
 use Rattle.std.proofs.Common.{false, ◌≤◌, length, ap, sym, ◌∙◌, subst, rules}
 use Rattle.std.specs.Prelude.{IfSome}
+use Rattle.bx_image.proofs.Survivors.{NoMore_then}
 use Rattle.bx_entries.specs.declared.read.types.Front.{Front}
 use Rattle.bx_journal.specs.inner.Windows.{IsFrontCounted}
 use Rattle.bx_journal.proofs.LastLemmas.{found_last_before}
@@ -28,4 +29,7 @@ returns g c = record {
   few = c.read_from.ensures.few;
   fault = c.read_from.ensures.fault;
   looks = search rules;
+  found_before = λ h.
+      let first = c.len.ensures.goes_on.honesty.1 h in
+      NoMore_then _ _ _ (c.len.ensures.survives h) (NoMore_then _ _ _ (c.count_front.ensures.survives first) (c.read_from.ensures.found_before (c.count_front.ensures.looks.honesty.1 first)));
 }

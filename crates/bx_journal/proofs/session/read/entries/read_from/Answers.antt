@@ -18,4 +18,5 @@ returns g c =
       few = c.last_of.ensures.few;
       fault = tt;
       looks = search rules;
+      found_before = c.read_windows.ensures.survives;
     }

@@ -1,5 +1,6 @@
 use Rattle.std.proofs.Common.{◌≤◌, length, subst}
 use Rattle.std.specs.Prelude.{IfSome}
+use Rattle.bx_image.proofs.Survivors.{NoMore_then}
 use Rattle.bx_journal.specs.declared.session.read.entries.FinishedRead.{FinishedRead}
 use Rattle.bx_journal.specs.inner.Undoing.{IsLastFrom}
 use Rattle.bx_journal.proofs.LastLemmas.{again_last, again_fault, few_of_all}
@@ -30,3 +31,6 @@ returns-in-None-clause-fault g c = again_behind c.in-Ok.ensures.looks c.args.cou
 
 pub returns-in-None-clause-looks : goal.returns-in-None-clause-looks
 returns-in-None-clause-looks g c = looks_before c.in-Ok.ensures.looks c.read_again.ensures.looks
+
+pub returns-in-None-clause-survives : goal.returns-in-None-clause-survives
+returns-in-None-clause-survives g c h = NoMore_then _ _ _ (c.in-Ok.ensures.found_before h) (c.read_again.ensures.survives (c.in-Ok.ensures.looks.honesty.1 h))

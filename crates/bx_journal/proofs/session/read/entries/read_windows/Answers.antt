@@ -1,5 +1,6 @@
 use Rattle.std.proofs.Common.{◌∙◌, List, ℕ, refl, subst, arith}
 use Rattle.std.specs.Prelude.{IfSome}
+use Rattle.bx_image.proofs.Survivors.{NoMore_then}
 use Rattle.bx_journal.specs.inner.Undoing.{IsReadOn}
 use Rattle.bx_journal.proofs.LastLemmas.{front_is, none_behind, read_on_from, behind_on}
 use Rattle.bx_journal.proofs.session.read.entries.read_windows.Goals as goal
@@ -15,6 +16,7 @@ loop-read-init g c =
       below = omega (arith, none.at, c.requires.within);
       text = λ h. refl;
       honesty = ((λ h. h), λ h. h);
+      survives = λ h text there. there;
       failures = refl;
     }
 
@@ -32,5 +34,6 @@ loop-read-preserved g c =
       below = on.within;
       text = λ h. now.looks.same (inv.honesty.1 h) ∙ inv.text h;
       honesty = ((λ h. inv.honesty.0 (now.looks.honesty.0 h)), λ h. now.looks.honesty.1 (inv.honesty.1 h));
+      survives = λ h. NoMore_then _ _ _ (inv.survives h) (now.survives (inv.honesty.1 h));
       failures = now.looks.no_failure ∙ inv.failures;
     }

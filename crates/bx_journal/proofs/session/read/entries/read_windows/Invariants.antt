@@ -1,5 +1,6 @@
 use Rattle.std.proofs.Common.{◌≡◌, ◌≤◌, ◌-◌}
 use Rattle.std.specs.Prelude.{◌↔◌}
+use Rattle.bx_image.specs.Power.{NoMore}
 use Rattle.bx_journal.specs.inner.Undoing.{IsReadBehind}
 use Rattle.bx_journal.proofs.session.read.entries.read_windows.Given as goal
 
@@ -10,6 +11,7 @@ invariant-loop-read g l = record {
   below : l.read.at ≤ l.len;
   text : g.T.TextStore.honest l.fn.store → g.T.TextStore.text l.store ≡ g.T.TextStore.text l.fn.store;
   honesty : g.T.TextStore.honest l.store ↔ g.T.TextStore.honest l.fn.store;
+  survives : g.T.TextStore.honest l.fn.store → NoMore (g.T.TextStore.survives l.fn.store) (g.T.TextStore.survives l.store);
   failures : g.T.TextStore.failures l.store ≡ g.T.TextStore.failures l.fn.store;
 }
 
