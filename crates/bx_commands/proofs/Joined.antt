@@ -56,7 +56,7 @@ perform_same c d old (Err JournalFull) after same step = step
 perform_same c d old (Err Interrupted) after same (inl before, fit) = (inl before, (same.same_fit (length (top old.stack)) MAX_LEN).0 fit)
 perform_same c d old (Err Interrupted) after same (inr changed, fit) =
     (inr (changed ∙ ap (λ x. Standing.Down (change_to x old)) (same.same_effect (top old.stack))), (same.same_fit (length (top old.stack)) MAX_LEN).0 fit)
-perform_same c d old (Err NoMemory) after same (is, fit) = (is, (same.same_fit (length (top old.stack)) MAX_LEN).0 fit)
+perform_same c d old (Err NoMemory) after same (is, room, fit) = (is, room, (same.same_fit (length (top old.stack)) MAX_LEN).0 fit)
 perform_same c d old (Err TooLarge) after same (is, (room, large, stack)) =
     (is, (room, λ fit. large ((same.same_fit (length (top old.stack)) MAX_LEN).1 fit), stack))
 perform_same c d old (Err (Damaged line)) after same step = step

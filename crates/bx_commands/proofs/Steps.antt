@@ -65,7 +65,10 @@ pub perform_stays : {D T A : Type 0} (hd : D → Type 0) (image : D → List ℕ
     → PerformFault e
     → hd old.device → (images : Images) → Shows image text old images → (e ≡ Interrupted → ⊥) → PerformUp c images (Err e) (Standing.Up images)
 perform_stays hd image text old c NoMemory broken full large fits kind device images shows whole =
-    (refl, fits_top hd image text old c images device shows (fits device refl))
+    let changes = changes_standing image text old images.stack shows.0 in
+    let none : 65535 ≤ old.count → ⊥ = λ many. let bad : refusal NoMemory ≡ Err JournalFull = full.1 (shows.0.whole, many) in absurd (cc) in
+    let room : changes_of images.stack < 65535 = omega arith in
+    (refl, room, fits_top hd image text old c images device shows (fits device refl))
 perform_stays hd image text old c TooLarge broken full large fits kind device images shows whole =
     let changes = changes_standing image text old images.stack shows.0 in
     let none : 65535 ≤ old.count → ⊥ = λ many. let bad : refusal TooLarge ≡ Err JournalFull = full.1 (shows.0.whole, many) in absurd (cc) in
@@ -94,7 +97,11 @@ pub undo_stays : {D T : Type 0} (ht : T → Type 0) (image : D → List ℕ) (te
     → UndoFault old.count e
     → (ht old.store → HasCount (text old.store) old.count → (line : ℕ) → e ≡ Damaged line → ⊥)
     → ht old.store → (images : Images) → Shows image text old images → (e ≡ Interrupted → ⊥) → UndoUp k images (Err e) (Standing.Up images)
-undo_stays ht image text old k NoMemory broken few kind undamaged store images shows whole = (refl, refl)
+undo_stays ht image text old k NoMemory broken few kind undamaged store images shows whole =
+    let changes = changes_standing image text old images.stack shows.0 in
+    let none : old.count < k → ⊥ = λ many. let bad : refusal NoMemory ≡ Err (TooFew old.count) = few.0 (shows.0.whole, many) in absurd (cc) in
+    let enough : k ≤ changes_of images.stack = omega arith in
+    (refl, (enough, refl))
 undo_stays ht image text old k (TooFew have) broken few kind undamaged store images shows whole =
     let changes = changes_standing image text old images.stack shows.0 in
     let told : have ≡ old.count = kind in
@@ -120,7 +127,11 @@ pub redo_stays : {D T : Type 0} (ht : T → Type 0) (image : D → List ℕ) (te
     → RedoFault old.undone e
     → (ht old.redo_text → HasCount (text old.redo_text) old.undone → (line : ℕ) → e ≡ RedoDamaged line → ⊥)
     → ht old.redo_text → (images : Images) → Shows image text old images → (e ≡ Interrupted → ⊥) → RedoUp j images (Err e) (Standing.Up images)
-redo_stays ht image text old j NoMemory broken nothing kind undamaged redo images shows whole = (refl, refl)
+redo_stays ht image text old j NoMemory broken nothing kind undamaged redo images shows whole =
+    let counted = shows.1.counted in
+    let none : old.undone < j → ⊥ = λ many. let bad : refusal NoMemory ≡ Err (NothingToRedo old.undone) = nothing.0 (shows.0.whole, many) in absurd (cc) in
+    let enough : j ≤ length images.undone = omega arith in
+    (refl, (enough, refl))
 redo_stays ht image text old j (NothingToRedo have) broken nothing kind undamaged redo images shows whole =
     let counted = shows.1.counted in
     let told : have ≡ old.undone = kind in

@@ -1,5 +1,5 @@
 -- Where a session stands, and what one call of it makes of that. Lists of images have the newest first.
-use Rattle.std.specs.Prelude.{◌≡◌, ◌⊎◌, ◌≤◌, ℕ, ◌+◌, true, Result, Ok, Err, List, [], length}
+use Rattle.std.specs.Prelude.{◌≡◌, ◌⊎◌, ◌<◌, ◌≤◌, ℕ, ◌+◌, true, Result, Ok, Err, List, [], length}
 use Rattle.bx_image.specs.declared.change.Change.{Change}
 use Rattle.bx_image.specs.declared.change.TheConstants.{MAX_LEN}
 use Rattle.bx_image.specs.Change.{effect, Fits}
@@ -35,12 +35,13 @@ abbrev pub Leads : {S X : Type 0} → (S → X → Type 0) → (X → X → Type
 Leads {X = X} Stands Step old new = (before : X) → Stands old before → (after : X) × Stands new after × Step before after
 
 -- A change gives up what was undone. A device that fails before the first write refuses it; one that fails later stops the
--- session, and opening finds the images before or after the change. Only a change that fits meets want of memory, or is stopped.
+-- session, and opening finds the images before or after the change. Only a change that fits meets want of memory, or is stopped;
+-- and a full journal comes before want of memory.
 abbrev pub PerformUp : {A : Type 0} → Change A → Images → Result ℕ SessionFault → Standing → Type 0
 PerformUp c old (Ok n) after = (new : Images) × (after ≡ Up new) × PerformStep old.stack c (Ok n) new.stack × (new.undone ≡ [])
 PerformUp c old (Err DeviceFailed) after = after ≡ Up old
 PerformUp c old (Err JournalFull) after = (65535 ≤ changes_of old.stack) × (after ≡ Up old)
-PerformUp c old (Err NoMemory) after = (after ≡ Up old) × Fits c (length (top old.stack)) MAX_LEN
+PerformUp c old (Err NoMemory) after = (after ≡ Up old) × (changes_of old.stack < 65535) × Fits c (length (top old.stack)) MAX_LEN
 PerformUp c old (Err Interrupted) after = ((after ≡ Down old) ⊎ (after ≡ Down (change_to (effect c (top old.stack)) old)))
     × Fits c (length (top old.stack)) MAX_LEN
 PerformUp c old (Err e) after = (after ≡ Up old) × PerformStep old.stack c (Err e) old.stack

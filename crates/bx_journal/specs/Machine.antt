@@ -20,24 +20,24 @@ changed c stack = effect c (top stack) ∷ stack
 abbrev pub changes_of : List (List ℕ) → ℕ
 changes_of stack = length stack - 1
 
--- a change: 42 comes before 30, and want of memory may take its place
+-- a change: 42 comes before 30, and want of memory may take the place of a change for which the journal has room
 abbrev pub PerformStep : {A : Type 0} → List (List ℕ) → Change A → Result ℕ SessionFault → List (List ℕ) → Type 0
 PerformStep old c (Ok n) new = (changes_of old < 65535) × Fits c (length (top old)) MAX_LEN × (n ≡ changes_of old + 1) × (new ≡ changed c old)
-PerformStep old c (Err NoMemory) new = new ≡ old
+PerformStep old c (Err NoMemory) new = (changes_of old < 65535) × (new ≡ old)
 PerformStep old c (Err JournalFull) new = (changes_of old ≡ 65535) × (new ≡ old)
 PerformStep old c (Err TooLarge) new = (changes_of old < 65535) × (Fits c (length (top old)) MAX_LEN → ⊥) × (new ≡ old)
 PerformStep old c (Err e) new = ⊥
 
--- an undo of k: the k newest images are taken off; 41 where there are fewer, and want of memory may take its place
+-- an undo of k: the k newest images are taken off; 41 where there are fewer, else want of memory may take its place
 abbrev pub UndoStep : List (List ℕ) → ℕ → Result ℕ SessionFault → List (List ℕ) → Type 0
 UndoStep old k (Ok left) new = (k ≤ changes_of old) × (left ≡ changes_of old - k) × (new ≡ drop k old)
 UndoStep old k (Err (TooFew have)) new = (changes_of old < k) × (have ≡ changes_of old) × (new ≡ old)
-UndoStep old k (Err NoMemory) new = new ≡ old
+UndoStep old k (Err NoMemory) new = (k ≤ changes_of old) × (new ≡ old)
 UndoStep old k (Err e) new = ⊥
 
 -- a redo: 46 only where there are too few to redo, and want of memory may take the place of a redo
 abbrev pub RedoStep : Images → ℕ → Result ℕ SessionFault → Images → Type 0
 RedoStep old j (Ok n) new = (j ≤ length old.undone) × (n ≡ changes_of old.stack + j) × (new ≡ redo_of j old)
 RedoStep old j (Err (NothingToRedo have)) new = (length old.undone < j) × (have ≡ length old.undone) × (new ≡ old)
-RedoStep old j (Err NoMemory) new = new ≡ old
+RedoStep old j (Err NoMemory) new = (j ≤ length old.undone) × (new ≡ old)
 RedoStep old j (Err e) new = ⊥
