@@ -17,6 +17,7 @@ use Rattle.bx_commands.specs.Standing.{Standing, PerformUp}
 use Rattle.bx_dd.specs.declared.stream.counts.Counts.{Counts}
 use Rattle.bx_dd.specs.declared.fault.DdFault.{DdFault}
 use Rattle.bx_commands.specs.declared.changes.DdChange.{DdChange}
+use Rattle.bx_commands.specs.Power.{images_of}
 use Rattle.bx_commands.specs.Run.{answered, ReadStep, DdStep, CommandStep, StackStep, StackRun}
 use Rattle.bx_commands.specs.inner.Run.{made_reply, ChangeStep, RedoUp, UndoUp}
 use Rattle.bx_commands.specs.Command.{dump_change, plain_change}
@@ -24,11 +25,6 @@ use Rattle.bx_read.specs.Plain.{plain_answer}
 use Rattle.bx_read.specs.Text.{dump_pieces}
 use Rattle.bx_commands.specs.Laws.{IsMade}
 use Rattle.bx_commands.proofs.Unfailed.{all_tail}
-
--- the images of a session
-abbrev images_of : Standing → Images
-images_of (Standing.Up images) = images
-images_of (Standing.Down images) = images
 
 -- one image more, on top
 abbrev OneMore : Images → Images → Type 0

@@ -8,5 +8,6 @@ pub mod Stands
 pub mod Joined
 pub mod Refusals
 pub mod Obeys
+pub mod Stopped
 pub mod SessionRuns
 pub mod Copying

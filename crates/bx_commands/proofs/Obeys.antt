@@ -1,5 +1,5 @@
 -- Commands that are refused before the session is called, and commands that the session answers, obey their steps.
-use Rattle.std.proofs.Common.{◌≡◌, ◌↔◌, ◌≤◌, ◌<◌, inl, inr, ℕ, Bool, true, false, cond, Option, Result, Ok, Err, List, [], ◌∷◌, drop, length, refl, sym, ◌∙◌, ap, subst, arith}
+use Rattle.std.proofs.Common.{◌≡◌, ◌↔◌, ◌≤◌, ◌<◌, ◌⊎◌, inl, inr, ℕ, Bool, true, false, cond, Option, Result, Ok, Err, List, [], ◌∷◌, drop, length, refl, sym, ◌∙◌, ap, subst, arith}
 use Rattle.std.specs.Result.{IsErrOf}
 use Rattle.bx_dd.specs.declared.stream.counts.Counts.{Counts}
 use Rattle.bx_dd.specs.declared.fault.DdFault.{DdFault}
@@ -10,6 +10,7 @@ use Rattle.bx_journal.specs.Calls.{AfterFault}
 use Rattle.bx_journal.specs.Images.{Images, change_to, redo_of, undo_of, undone_by}
 use Rattle.bx_journal.specs.Machine.{PerformStep, RedoStep, UndoStep, top}
 use Rattle.bx_journal.specs.Session.{FailsSafely, FindsEither, HasUndone, IsReady, IsRedoSame, IsSame, IsUnfailed, SessionCounts, SessionFinds}
+use Rattle.bx_journal.specs.Power.{Found, NothingNew, Survive}
 use Rattle.bx_journal.specs.SessionView.{SessionView}
 use Rattle.bx_journal.specs.Standing.{IsStanding, PerformFault}
 use Rattle.bx_journal.specs.Undoing.{HasCount, RedoFault, UndoFault}
@@ -20,10 +21,12 @@ use Rattle.bx_commands.specs.declared.command.Reply.{Reply}
 use Rattle.bx_commands.specs.declared.command.Reply.TheVariants.{Refused, Undone, Redone}
 use Rattle.bx_commands.specs.declared.fault.Fault.TheVariants.{Read, Dd, Session}
 use Rattle.bx_commands.specs.Obeys.{Obeys}
+use Rattle.bx_commands.specs.Power.{FindsEnd}
+use Rattle.bx_commands.specs.Refusal.{IsWholeRefusal}
 use Rattle.bx_commands.specs.Run.{answered, is_failure, CallStep, Unfailed, ReadStep, DdStep}
 use Rattle.bx_commands.specs.inner.Run.{made_reply, ChangeStep, RedoUp, RedoesStep, UndoUp, UndoesStep}
 use Rattle.bx_commands.specs.Standing.{CountsBy, HoldsAt, PerformUp, Shows, Standing}
-use Rattle.bx_commands.proofs.Refusals.{IsNoRefusal, after_same, both_after, is_interrupted, made_no_refusal, no_failure, no_own, no_whole, redo_same_here, same_here, unfailed_whole, whole_goes_on}
+use Rattle.bx_commands.proofs.Refusals.{IsNoRefusal, after_same, after_weaker, both_after, is_interrupted, is_stopped, nothing_new_here, made_no_refusal, no_failure, no_own, no_whole, redo_same_here, same_here, unfailed_whole, whole_goes_on}
 use Rattle.bx_commands.proofs.Stays.{holds_same, ready_shows, shows_same}
 use Rattle.bx_commands.proofs.Steps.{refusal, fits_top, perform_stays, redo_stays, undo_stays, counts_least, counts_rise}
 
@@ -37,7 +40,13 @@ called : (made : ℕ → Reply) (Call : Images → Result ℕ SessionFault → S
 called made Call (Standing.Up old) r reply after is from = (r, is, from)
 called made Call (Standing.Down old) r reply after is from = (is ∙ ap (answered made) from.0, from.1)
 
-module _ {D T : Type 0} (hd : D → Type 0) (ht : T → Type 0) (image : D → List ℕ) (text : T → List ℕ) (fd : D → ℕ) (ft : T → ℕ) where
+-- what is found of a change that was stopped is an end of its step
+either_found : {A : Type 0} (c : Change A) (images : Images) {t x r : List ℕ} → Found t x r images ⊎ Found t x r (change_to (effect c (top images.stack)) images)
+    → Fits c (length (top images.stack)) MAX_LEN → (found : Images) × PerformUp c images (Err Interrupted) (Standing.Down found) × Found t x r found
+either_found c images (inl before) fit = (images, (inl refl, fit), before)
+either_found c images (inr made) fit = (change_to (effect c (top images.stack)) images, (inr refl, fit), made)
+
+module _ {D T : Type 0} (hd : D → Type 0) (ht : T → Type 0) (image : D → List ℕ) (text : T → List ℕ) (sd : D → List ℕ → Type 0) (st : T → List ℕ → Type 0) (fd : D → ℕ) (ft : T → ℕ) where
   -- a reply that tells of no failure raises no count
   unfailed_counts : (old new : SessionView D T) (reply : Reply) → Unfailed reply → IsUnfailed fd ft old new → CountsBy fd ft old new (cond (is_failure reply) 1 0)
   unfailed_counts old new reply unfailed same =
@@ -60,12 +69,16 @@ module _ {D T : Type 0} (hd : D → Type 0) (ht : T → Type 0) (image : D → L
   -- a step that follows from another
   pub obeys_next : {Step Next : Standing → Reply → Standing → Type 0} {old new : SessionView D T} {reply : Reply}
       → ((before after : Standing) → Step before reply after → Next before reply after)
-      → Obeys hd ht image text fd ft old new reply Step → Obeys hd ht image text fd ft old new reply Next
+      → Obeys hd ht image text sd st fd ft old new reply Step → Obeys hd ht image text sd st fd ft old new reply Next
   obeys_next next obeys = record {
     step = λ before h. let made = obeys.step before h in (made.0, made.1, next before made.0 made.2);
     stands = λ device store redo unfailed images shows.
         let made = obeys.stands device store redo unfailed images shows in
         (made.0, made.1, next (Standing.Up images) (Standing.Up made.0) made.2);
+    finds = λ stopped before h new x redo there text_there redo_there.
+        let found = obeys.finds stopped before h new x redo there text_there redo_there in
+        (found.0, next before found.0 found.1, found.2, found.3);
+    found_before = obeys.found_before;
     device_honesty = obeys.device_honesty;
     store_honesty = obeys.store_honesty;
     redo_honesty = obeys.redo_honesty;
@@ -77,10 +90,12 @@ module _ {D T : Type 0} (hd : D → Type 0) (ht : T → Type 0) (image : D → L
 
   -- a refusal before the session is called
   obeys_refused : (Step : Standing → Reply → Standing → Type 0) (s : SessionView D T) (reply : Reply)
-      → Unfailed reply → ((before : Standing) → Step before reply before) → Obeys hd ht image text fd ft s s reply Step
-  obeys_refused Step s reply unfailed refuses = record {
+      → Unfailed reply → IsWholeRefusal reply → ((before : Standing) → Step before reply before) → Obeys hd ht image text sd st fd ft s s reply Step
+  obeys_refused Step s reply unfailed whole_reply refuses = record {
     step = λ before h. (before, h, refuses before);
     stands = λ device store redo whole images shows. (images, shows, refuses (Standing.Up images));
+    finds = λ stopped. absurd (stopped whole_reply);
+    found_before = λ whole. nothing_new_here hd ht sd st s;
     device_honesty = ((λ h. h), (λ h. h));
     store_honesty = ((λ h. h), (λ h. h));
     redo_honesty = ((λ h. h), (λ h. h));
@@ -92,12 +107,17 @@ module _ {D T : Type 0} (hd : D → Type 0) (ht : T → Type 0) (image : D → L
 
   -- a fault of the text, or of dd
   pub read_refused : {A B : Type 0} (change : B → Change A) (s : SessionView D T) (e : ReadFault)
-      → Obeys hd ht image text fd ft s s (Refused (Read e)) (λ before. ReadStep before change (Err e))
-  read_refused change s e = obeys_refused (λ before. ReadStep before change (Err e)) s (Refused (Read e)) refl (λ before. (refl, refl))
+      → Obeys hd ht image text sd st fd ft s s (Refused (Read e)) (λ before. ReadStep before change (Err e))
+  read_refused change s e = obeys_refused (λ before. ReadStep before change (Err e)) s (Refused (Read e)) refl (λ is. cc) (λ before. (refl, refl))
 
   pub dd_refused : (A : Type 0) (s : SessionView D T) (e : DdFault)
-      → Obeys hd ht image text fd ft s s (Refused (Dd e)) (λ before. DdStep {A = A} before (Err e))
-  dd_refused A s e = obeys_refused (λ before. DdStep {A = A} before (Err e)) s (Refused (Dd e)) refl (λ before. (refl, refl))
+      → Obeys hd ht image text sd st fd ft s s (Refused (Dd e)) (λ before. DdStep {A = A} before (Err e))
+  dd_refused A s e = obeys_refused (λ before. DdStep {A = A} before (Err e)) s (Refused (Dd e)) refl (λ is. cc) (λ before. (refl, refl))
+
+  -- whatever is found, it is the next images
+  abbrev AllFind : SessionView D T → SessionView D T → (Images → Images) → Type 0
+  AllFind old new next = hd old.device → ht old.store → ht old.redo_text → (images : Images) → IsReady image text old images.stack → HasUndone image text old images.undone
+      → Survive image sd text st new (λ t x r. Found t x r (next images))
 
   -- a call that was accepted, from where the session stood
   accepted_step : (From : Standing → Result ℕ SessionFault → Standing → Type 0) (next : Images → Images) (old new : SessionView D T) (n : ℕ)
@@ -116,6 +136,25 @@ module _ {D T : Type 0} (hd : D → Type 0) (ht : T → Type 0) (image : D → L
   accepted_step From next old new n accepted shows sound (Standing.Down images) h =
       let bad : Ok n ≡ Err Broken = accepted.broken.0 h.3.0 in absurd (cc)
 
+  -- what is found behind a call that was accepted
+  accepted_survives : (From : Standing → Result ℕ SessionFault → Standing → Type 0) (next : Images → Images) (old new : SessionView D T) (n : ℕ)
+      → FailsSafely hd ht image text fd ft old new (Ok n)
+      → ((images : Images) → hd old.device → ht old.store → ht old.redo_text → Shows image text old images
+      → Shows image text new (next images) × From (Standing.Up images) (Ok n) (Standing.Up (next images)))
+      → ((images : Images) → hd old.device → ht old.store → ht old.redo_text → IsReady image text old images.stack → HasUndone image text old images.undone
+      → IsReady image text new (next images).stack)
+      → AllFind old new next
+      → (before : Standing) → HoldsAt hd ht image text old before → FindsEnd hd ht image text sd st new (From before (Ok n))
+  accepted_survives From next old new n accepted shows sound lasts (Standing.Up images) h x t r there text_there redo_there =
+      let shown = shows images h.0 h.1 h.2 (ready_shows image text old images h.3) in (
+        Standing.Up (next images),
+        shown.1,
+        lasts h.0 h.1 h.2 images h.3.0 h.3.1 x t r there text_there redo_there,
+        (accepted.honesty.0.1 h.0, accepted.honesty.1.1 h.1, accepted.honesty.2.1 h.2, (sound images h.0 h.1 h.2 h.3.0 h.3.1, shown.0.1)),
+      )
+  accepted_survives From next old new n accepted shows sound lasts (Standing.Down images) h x t r there text_there redo_there =
+      let bad : Ok n ≡ Err Broken = accepted.broken.0 h.3.0 in absurd (cc)
+
   -- a call that was accepted
   call_accepted : (made : ℕ → Reply) (Call : Images → Result ℕ SessionFault → Standing → Type 0) (next : Images → Images)
       (old new : SessionView D T) (n : ℕ) (reply : Reply) → reply ≡ answered made (Ok n) → IsNoRefusal reply
@@ -124,14 +163,19 @@ module _ {D T : Type 0} (hd : D → Type 0) (ht : T → Type 0) (image : D → L
       → Shows image text new (next images) × Call images (Ok n) (Standing.Up (next images)))
       → ((images : Images) → hd old.device → ht old.store → ht old.redo_text → IsReady image text old images.stack → HasUndone image text old images.undone
       → IsReady image text new (next images).stack)
-      → Obeys hd ht image text fd ft old new reply (λ before. CallStep made Call before)
-  call_accepted made Call next old new n reply is no_refusal accepted shows sound = record {
+      → AllFind old new next
+      → Obeys hd ht image text sd st fd ft old new reply (λ before. CallStep made Call before)
+  call_accepted made Call next old new n reply is no_refusal accepted shows sound lasts = record {
     step = λ before h.
         let stands = accepted_step (CallFrom Call) next old new n accepted shows sound before h in
         (stands.0, stands.1, called made Call before (Ok n) reply stands.0 is stands.2);
     stands = λ device store redo unfailed images shown.
         let stands = shows images device store redo shown in
         (next images, stands.0, (Ok n, is, stands.1));
+    finds = λ stopped before h x t r there text_there redo_there.
+        let found = accepted_survives (CallFrom Call) next old new n accepted shows sound lasts before h x t r there text_there redo_there in
+        (found.0, called made Call before (Ok n) reply found.0 is found.1, found.2, found.3);
+    found_before = λ whole. absurd (no_whole reply no_refusal whole);
     device_honesty = accepted.honesty.0;
     store_honesty = accepted.honesty.1;
     redo_honesty = accepted.honesty.2;
@@ -181,6 +225,29 @@ module _ {D T : Type 0} (hd : D → Type 0) (ht : T → Type 0) (image : D → L
         subst Step (sym is) (down images),
       )
 
+  -- what a stop leaves to be found
+  abbrev StopFinds : SessionView D T → SessionView D T → SessionFault → (Images → Images → Type 0) → Type 0
+  StopFinds old new e Part = hd old.device → ht old.store → ht old.redo_text → (images : Images) → IsReady image text old images.stack → HasUndone image text old images.undone
+      → AfterFault e (Survive image sd text st new (λ t x r. (found : Images) × Part images found × Found t x r found)) (Unit {0})
+
+  refused_survives : (From : Standing → Result ℕ SessionFault → Standing → Type 0) (Part : Images → Images → Type 0) (old new : SessionView D T) (e : SessionFault)
+      → FailsSafely hd ht image text fd ft old new (refusal e)
+      → e ≡ Interrupted → StopFinds old new e Part
+      → ((images found : Images) → Part images found → From (Standing.Up images) (Err Interrupted) (Standing.Down found))
+      → (before : Standing) → HoldsAt hd ht image text old before → FindsEnd hd ht image text sd st new (From before (Err e))
+  refused_survives From Part old new e refused stopped lasts parts (Standing.Up images) h x t r there text_there redo_there =
+      let After : SessionFault → Type 0 = λ f. AfterFault f (Survive image sd text st new (λ t x r. (found : Images) × Part images found × Found t x r found)) (Unit {0}) in
+      let found = subst After stopped (lasts h.0 h.1 h.2 images h.3.0 h.3.1) x t r there text_there redo_there in
+      let Step : SessionFault → Type 0 = λ f. From (Standing.Up images) (Err f) (Standing.Down found.0) in (
+        Standing.Down found.0,
+        subst Step (sym stopped) (parts images found.0 found.1),
+        found.2,
+        subst (λ f. AfterFault f (new.is_broken ≡ true) (new.is_broken ≡ old.is_broken)) stopped refused.unmoved.2,
+      )
+  refused_survives From Part old new e refused stopped lasts parts (Standing.Down images) h x t r there text_there redo_there =
+      let is : refusal e ≡ Err Broken = refused.broken.0 h.3.0 in
+      let bad : refusal Interrupted ≡ Err Broken = sym (ap refusal stopped) ∙ is in absurd (cc)
+
   -- a call that was refused, or stopped
   call_refused : (made : ℕ → Reply) (Call : Images → Result ℕ SessionFault → Standing → Type 0) (Left : Images → Type 0)
       (old new : SessionView D T) (e : SessionFault)
@@ -190,8 +257,10 @@ module _ {D T : Type 0} (hd : D → Type 0) (ht : T → Type 0) (image : D → L
       → (hd old.device → ht old.store → ht old.redo_text → (images : Images) → IsReady image text old images.stack → HasUndone image text old images.undone
       → AfterFault e (Left images) (Unit {0}))
       → ((images : Images) → Left images → (found : Images) × SessionFinds image text new found × Call images (Err Interrupted) (Standing.Down found))
-      → Obeys hd ht image text fd ft old new (Refused (Session e)) (λ before. CallStep made Call before)
-  call_refused made Call Left old new e refused stays finds stops =
+      → StopFinds old new e (λ images found. Call images (Err Interrupted) (Standing.Down found))
+      → AfterFault e (Unit {0}) (NothingNew hd ht sd st old new)
+      → Obeys hd ht image text sd st fd ft old new (Refused (Session e)) (λ before. CallStep made Call before)
+  call_refused made Call Left old new e refused stays finds stops lasts nothing =
       record {
         step = λ before h.
             let stands = refused_step (CallFrom Call) Left old new e refused stays finds stops (λ images. (refl, refl)) before h in
@@ -201,6 +270,11 @@ module _ {D T : Type 0} (hd : D → Type 0) (ht : T → Type 0) (image : D → L
             let same = after_same (IsSame image text old new) e (refused.refused device store) whole in
             let redo_same = after_same (IsRedoSame text old new) e (refused.redo_same redo) whole in
             (images, shows_same image text old new images same redo_same shows, (Err e, refl, stays images device store redo shows whole));
+        finds = λ stopped before h x t r there text_there redo_there.
+            let found = refused_survives (CallFrom Call) (λ images found. Call images (Err Interrupted) (Standing.Down found)) old new e refused (is_stopped e stopped) lasts
+            (λ images found part. part) before h x t r there text_there redo_there in
+            (found.0, called made Call before (Err e) (Refused (Session e)) found.0 refl found.1, found.2, found.3);
+        found_before = λ whole. after_same (NothingNew hd ht sd st old new) e nothing (whole_goes_on e whole);
         device_honesty = refused.honesty.0;
         store_honesty = refused.honesty.1;
         redo_honesty = refused.honesty.2;
@@ -217,8 +291,9 @@ module _ {D T : Type 0} (hd : D → Type 0) (ht : T → Type 0) (image : D → L
       → PerformStep stack c (Ok n) (effect c (top stack) ∷ stack) × IsStanding image text new (effect c (top stack) ∷ stack))
       → (hd old.device → ht old.store → (stack : List (List ℕ)) → IsReady image text old stack → IsReady image text new (effect c (top stack) ∷ stack))
       → (ht old.redo_text → HasUndone image text new [])
-      → Obeys hd ht image text fd ft old new reply (λ before. ChangeStep before c counts)
-  perform_obeys old new c counts n reply is accepted makes sound undone =
+      → AllFind old new (λ s. change_to (effect c (top s.stack)) s)
+      → Obeys hd ht image text sd st fd ft old new reply (λ before. ChangeStep before c counts)
+  perform_obeys old new c counts n reply is accepted makes sound undone lasts =
       let next : Images → Images = λ images. change_to (effect c (top images.stack)) images in
       call_accepted (made_reply counts) (PerformUp c) next old new n reply is
       (subst IsNoRefusal (sym is) (made_no_refusal counts n)) accepted
@@ -226,6 +301,7 @@ module _ {D T : Type 0} (hd : D → Type 0) (ht : T → Type 0) (image : D → L
       let made = makes device store images.stack shows.0 in
       ((made.1, undone redo), (next images, refl, made.0, refl)))
       (λ images device store redo ready has. sound device store images.stack ready)
+      lasts
 
   -- changes that were taken back
   pub undo_obeys : (old new : SessionView D T) (k left : ℕ)
@@ -235,13 +311,15 @@ module _ {D T : Type 0} (hd : D → Type 0) (ht : T → Type 0) (image : D → L
       → (hd old.device → ht old.store → (stack : List (List ℕ)) → IsReady image text old stack → IsReady image text new (drop k stack))
       → (hd old.device → ht old.store → ht old.redo_text → (s : Images) → IsStanding image text old s.stack → HasUndone image text old s.undone
       → HasUndone image text new (undone_by k s.stack s.undone))
-      → Obeys hd ht image text fd ft old new (Undone left) (λ before. UndoesStep before k)
-  undo_obeys old new k left accepted makes sound keeps =
+      → AllFind old new (undo_of k)
+      → Obeys hd ht image text sd st fd ft old new (Undone left) (λ before. UndoesStep before k)
+  undo_obeys old new k left accepted makes sound keeps lasts =
       call_accepted Undone (UndoUp k) (undo_of k) old new left (Undone left) refl tt accepted
       (λ images device store redo shows.
       let made = makes device store images.stack shows.0 in
       ((made.1, keeps device store redo images shows.0 shows.1), (undo_of k images, refl, made.0, refl)))
       (λ images device store redo ready has. sound device store images.stack ready)
+      lasts
 
   -- undone changes that were made again
   pub redo_obeys : (old new : SessionView D T) (j n : ℕ)
@@ -250,13 +328,15 @@ module _ {D T : Type 0} (hd : D → Type 0) (ht : T → Type 0) (image : D → L
       → RedoStep s j (Ok n) (redo_of j s) × IsStanding image text new (redo_of j s).stack × HasUndone image text new (redo_of j s).undone)
       → (hd old.device → ht old.store → ht old.redo_text → (s : Images) → IsReady image text old s.stack → HasUndone image text old s.undone
       → IsReady image text new (redo_of j s).stack × HasUndone image text new (redo_of j s).undone)
-      → Obeys hd ht image text fd ft old new (Redone n) (λ before. RedoesStep before j)
-  redo_obeys old new j n accepted makes sound =
+      → AllFind old new (redo_of j)
+      → Obeys hd ht image text sd st fd ft old new (Redone n) (λ before. RedoesStep before j)
+  redo_obeys old new j n accepted makes sound lasts =
       call_accepted Redone (RedoUp j) (redo_of j) old new n (Redone n) refl tt accepted
       (λ images device store redo shows.
       let made = makes device store redo images shows.0 shows.1 in
       ((made.1, made.2), (redo_of j images, refl, made.0, refl)))
       (λ images device store redo ready has. (sound device store redo images ready has).0)
+      lasts
 
   -- a change that was refused, or stopped
   pub unperformed_obeys : {A : Type 0} (old new : SessionView D T) (c : Change A) (counts : Option Counts) (e : SessionFault)
@@ -268,20 +348,33 @@ module _ {D T : Type 0} (hd : D → Type 0) (ht : T → Type 0) (image : D → L
       → PerformFault e
       → (hd old.device → ht old.store → ht old.redo_text → (s : Images) → IsReady image text old s.stack → HasUndone image text old s.undone
       → AfterFault e (FindsEither image text new s (change_to (effect c (top s.stack)) s)) (Unit {0}))
-      → Obeys hd ht image text fd ft old new (Refused (Session e)) (λ before. ChangeStep before c counts)
-  unperformed_obeys old new c counts e refused full large fits fitted kind finds =
+      → (hd old.device → ht old.store → ht old.redo_text → (s : Images) → IsReady image text old s.stack → HasUndone image text old s.undone
+      → AfterFault e (Survive image sd text st new (λ t x r. Found t x r s ⊎ Found t x r (change_to (effect c (top s.stack)) s))) (Unit {0}))
+      → AfterFault e (Unit {0}) (NothingNew hd ht sd st old new)
+      → Obeys hd ht image text sd st fd ft old new (Refused (Session e)) (λ before. ChangeStep before c counts)
+  unperformed_obeys old new c counts e refused full large fits fitted kind finds lasts nothing =
       let Made : Images → Images = λ s. change_to (effect c (top s.stack)) s in
       let Left : Images → Type 0 = λ s. FindsEither image text new s (Made s) × Fits c (length (top s.stack)) MAX_LEN in
-      let Found : Images → Type 0 = λ s. (found : Images) × SessionFinds image text new found × PerformUp c s (Err Interrupted) (Standing.Down found) in
+      let Finds : Images → Type 0 = λ s. (found : Images) × SessionFinds image text new found × PerformUp c s (Err Interrupted) (Standing.Down found) in
+      let Fit : Images → Type 0 = λ s. Fits c (length (top s.stack)) MAX_LEN in
+      let stopped_fits : hd old.device → (images : Images) → IsReady image text old images.stack → HasUndone image text old images.undone → e ≡ Interrupted → Fit images =
+      λ device images ready has stopped. fits_top hd image text old c images device (ready_shows image text old images (ready, has)) (fitted device (ap refusal stopped)) in
       call_refused (made_reply counts) (PerformUp c) Left old new e refused
       (λ images device store redo shows whole. perform_stays hd image text old c e refused.broken full large fits kind device images shows whole)
       (λ device store redo images ready has.
       both_after (FindsEither image text new images (Made images)) (Fits c (length (top images.stack)) MAX_LEN) e (finds device store redo images ready has)
-      (λ stopped. fits_top hd image text old c images device (ready_shows image text old images (ready, has)) (fitted device (ap refusal stopped))))
-      (λ images left. elim left.0 as (λ _. Found images) [
+      (stopped_fits device images ready has))
+      (λ images left. elim left.0 as (λ _. Finds images) [
         | inl before ↦ (images, before, (inl refl, left.1))
         | inr made ↦ (Made images, made, (inr refl, left.1))
       ])
+      (λ device store redo images ready has.
+      let Either : List ℕ → List ℕ → List ℕ → Type 0 = λ t x r. Found t x r images ⊎ Found t x r (Made images) in
+      let Part : Images → Type 0 = λ found. PerformUp c images (Err Interrupted) (Standing.Down found) in
+      after_weaker (Survive image sd text st new Either × Fit images) (Survive image sd text st new (λ t x r. (found : Images) × Part found × Found t x r found))
+      (λ both x t r there text_there redo_there. either_found c images (both.0 x t r there text_there redo_there) both.1) e
+      (both_after (Survive image sd text st new Either) (Fit images) e (lasts device store redo images ready has) (stopped_fits device images ready has)))
+      nothing
 
   -- an undo that was refused, or stopped
   pub kept_obeys : (old new : SessionView D T) (k : ℕ) (e : SessionFault)
@@ -291,12 +384,22 @@ module _ {D T : Type 0} (hd : D → Type 0) (ht : T → Type 0) (image : D → L
       → (ht old.store → HasCount (text old.store) old.count → (line : ℕ) → e ≡ Damaged line → ⊥)
       → (hd old.device → ht old.store → ht old.redo_text → (s : Images) → IsReady image text old s.stack → HasUndone image text old s.undone
       → AfterFault e ((i : ℕ) × (i ≤ k) × SessionFinds image text new (undo_of i s)) (Unit {0}))
-      → Obeys hd ht image text fd ft old new (Refused (Session e)) (λ before. UndoesStep before k)
-  kept_obeys old new k e refused few kind undamaged finds =
+      → (hd old.device → ht old.store → ht old.redo_text → (s : Images) → IsReady image text old s.stack → HasUndone image text old s.undone
+      → AfterFault e (Survive image sd text st new (λ t x r. (i : ℕ) × (i ≤ k) × Found t x r (undo_of i s))) (Unit {0}))
+      → AfterFault e (Unit {0}) (NothingNew hd ht sd st old new)
+      → Obeys hd ht image text sd st fd ft old new (Refused (Session e)) (λ before. UndoesStep before k)
+  kept_obeys old new k e refused few kind undamaged finds lasts nothing =
       call_refused Undone (UndoUp k) (λ s. (i : ℕ) × (i ≤ k) × SessionFinds image text new (undo_of i s)) old new e refused
       (λ images device store redo shows whole. undo_stays ht image text old k e refused.broken few kind undamaged store images shows whole)
       finds
       (λ images left. (undo_of left.0 images, left.2, (left.0, left.1, refl)))
+      (λ device store redo images ready has.
+      after_weaker (Survive image sd text st new (λ t x r. (i : ℕ) × (i ≤ k) × Found t x r (undo_of i images)))
+      (Survive image sd text st new (λ t x r. (found : Images) × ((i : ℕ) × (i ≤ k) × (Standing.Down found ≡ Standing.Down (undo_of i images))) × Found t x r found))
+      (λ some x t r there text_there redo_there.
+      let part = some x t r there text_there redo_there in (undo_of part.0 images, (part.0, part.1, refl), part.2)) e
+      (lasts device store redo images ready has))
+      nothing
 
   -- a redo that was refused, or stopped
   pub unredone_obeys : (old new : SessionView D T) (j : ℕ) (e : SessionFault)
@@ -306,9 +409,19 @@ module _ {D T : Type 0} (hd : D → Type 0) (ht : T → Type 0) (image : D → L
       → (ht old.redo_text → HasCount (text old.redo_text) old.undone → (line : ℕ) → e ≡ RedoDamaged line → ⊥)
       → (hd old.device → ht old.store → ht old.redo_text → (s : Images) → IsReady image text old s.stack → HasUndone image text old s.undone
       → AfterFault e ((i : ℕ) × (i ≤ j) × SessionFinds image text new (redo_of i s)) (Unit {0}))
-      → Obeys hd ht image text fd ft old new (Refused (Session e)) (λ before. RedoesStep before j)
-  unredone_obeys old new j e refused nothing kind undamaged finds =
+      → (hd old.device → ht old.store → ht old.redo_text → (s : Images) → IsReady image text old s.stack → HasUndone image text old s.undone
+      → AfterFault e (Survive image sd text st new (λ t x r. (i : ℕ) × (i ≤ j) × Found t x r (redo_of i s))) (Unit {0}))
+      → AfterFault e (Unit {0}) (NothingNew hd ht sd st old new)
+      → Obeys hd ht image text sd st fd ft old new (Refused (Session e)) (λ before. RedoesStep before j)
+  unredone_obeys old new j e refused none kind undamaged finds lasts nothing =
       call_refused Redone (RedoUp j) (λ s. (i : ℕ) × (i ≤ j) × SessionFinds image text new (redo_of i s)) old new e refused
-      (λ images device store redo shows whole. redo_stays ht image text old j e refused.broken nothing kind undamaged redo images shows whole)
+      (λ images device store redo shows whole. redo_stays ht image text old j e refused.broken none kind undamaged redo images shows whole)
       finds
       (λ images left. (redo_of left.0 images, left.2, (left.0, left.1, refl)))
+      (λ device store redo images ready has.
+      after_weaker (Survive image sd text st new (λ t x r. (i : ℕ) × (i ≤ j) × Found t x r (redo_of i images)))
+      (Survive image sd text st new (λ t x r. (found : Images) × ((i : ℕ) × (i ≤ j) × (Standing.Down found ≡ Standing.Down (redo_of i images))) × Found t x r found))
+      (λ some x t r there text_there redo_there.
+      let part = some x t r there text_there redo_there in (redo_of part.0 images, (part.0, part.1, refl), part.2)) e
+      (lasts device store redo images ready has))
+      nothing

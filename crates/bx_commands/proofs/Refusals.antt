@@ -1,7 +1,8 @@
 -- What refused commands leave.
-use Rattle.std.proofs.Common.{◌≡◌, ◌∙◌, ◌⊎◌, inl, inr, ℕ, List, Option, None, Some, refl, ap, subst}
+use Rattle.std.proofs.Common.{◌≡◌, ◌↔◌, ◌∙◌, ◌⊎◌, inl, inr, ℕ, List, Option, None, Some, refl, ap, subst}
 use Rattle.bx_dd.specs.declared.stream.counts.Counts.{Counts}
 use Rattle.bx_journal.specs.Calls.{AfterFault}
+use Rattle.bx_journal.specs.Power.{NothingNew}
 use Rattle.bx_journal.specs.Session.{IsRedoSame, IsSame}
 use Rattle.bx_journal.specs.SessionView.{SessionView}
 use Rattle.bx_journal.specs.declared.session.fault.SessionFault.{SessionFault}
@@ -56,9 +57,29 @@ both_after X Y (LengthDiffers expected) left more = tt
 both_after X Y (NothingToRedo have) left more = tt
 both_after X Y (RedoDamaged line) left more = tt
 
+pub after_weaker : (X Y : Type 0) → (X → Y) → (e : SessionFault) → AfterFault e X (Unit {0}) → AfterFault e Y (Unit {0})
+after_weaker X Y next NoMemory left = tt
+after_weaker X Y next TooLarge left = tt
+after_weaker X Y next DeviceFailed left = tt
+after_weaker X Y next (Damaged line) left = tt
+after_weaker X Y next (TooFew have) left = tt
+after_weaker X Y next JournalFull left = tt
+after_weaker X Y next Interrupted left = next left
+after_weaker X Y next Broken left = tt
+after_weaker X Y next (LengthDiffers expected) left = tt
+after_weaker X Y next (NothingToRedo have) left = tt
+after_weaker X Y next (RedoDamaged line) left = tt
+
 -- a refusal that tells of no device in the middle of writing, and one that tells of no device at all, is no interruption
 pub whole_goes_on : (e : SessionFault) → IsWholeRefusal (Refused (Session e)) → e ≡ Interrupted → ⊥
 whole_goes_on e whole stopped = whole (ap Session stopped)
+
+-- a refusal that tells of one
+pub is_stopped : (e : SessionFault) → (IsWholeRefusal (Refused (Session e)) → ⊥) → e ≡ Interrupted
+is_stopped e stopped = elim (is_interrupted e) as (λ _. e ≡ Interrupted) [
+  | inl is ↦ is
+  | inr other ↦ absurd (stopped (λ is. other (cc)))
+]
 
 pub unfailed_whole : (e : SessionFault) → Unfailed (Refused (Session e)) → e ≡ Interrupted → ⊥
 unfailed_whole e unfailed stopped =
@@ -120,3 +141,17 @@ redo_same_on text first now next before after = record {
   text_same = after.text_same ∙ before.text_same;
   undone = after.undone ∙ before.undone;
 }
+
+-- nothing is found that wasn't to be found before
+module _ {D T : Type 0} (honest : D → Type 0) (text_honest : T → Type 0) (survives : D → List ℕ → Type 0) (text_survives : T → List ℕ → Type 0) where
+  pub nothing_new_here : (s : SessionView D T) → NothingNew honest text_honest survives text_survives s s
+  nothing_new_here s = record { device_before = λ h c there. there; text_before = λ h c there. there; other_before = λ h c there. there }
+
+  pub nothing_new_on : (first now next : SessionView D T) → (honest now.device ↔ honest first.device) → (text_honest now.store ↔ text_honest first.store)
+      → (text_honest now.redo_text ↔ text_honest first.redo_text) → NothingNew honest text_honest survives text_survives first now
+      → NothingNew honest text_honest survives text_survives now next → NothingNew honest text_honest survives text_survives first next
+  nothing_new_on first now next device store redo before after = record {
+    device_before = λ h c there. before.device_before h c (after.device_before (device.1 h) c there);
+    text_before = λ h c there. before.text_before h c (after.text_before (store.1 h) c there);
+    other_before = λ h c there. before.other_before h c (after.other_before (redo.1 h) c there);
+  }

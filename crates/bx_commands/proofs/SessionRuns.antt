@@ -1,22 +1,26 @@
 -- Runs of commands on a session: how a loop makes one, and what follows from one.
-use Rattle.std.proofs.Common.{◌≡◌, ◌∙◌, ◌<◌, ◌≤◌, ◌+◌, ℕ, zero, suc, Bool, true, false, cond, Option, List, [], ◌∷◌, ◌++◌, length, get_or, set, take, drop, refl, sym, ap, subst, arith, All}
+use Rattle.std.proofs.Common.{◌≡◌, ◌⊎◌, inl, inr, ◌∙◌, ◌<◌, ◌≤◌, ◌+◌, ℕ, zero, suc, Bool, true, false, cond, Option, List, [], ◌∷◌, ◌++◌, length, get_or, set, take, drop, refl, sym, ap, subst, arith, All}
 use Rattle.std.specs.Prelude.{count_by}
 use Rattle.std.proofs.lemmas.List.{append_assoc, append-nil, drop_more, drop-set-lt, take_all, drop_all, take_more_set}
 use Rattle.std.proofs.lemmas.List.Elements.{All-cons, All-nil}
 use Rattle.std.proofs.lemmas.List.Sums.{sum_by-cons}
+use Rattle.bx_journal.specs.Power.{Found, NothingNew, Survive}
 use Rattle.bx_journal.specs.Session.{IsRedoSame, IsUnfailed}
 use Rattle.bx_journal.specs.SessionView.{SessionView}
 use Rattle.bx_commands.specs.declared.command.Command.{Command}
 use Rattle.bx_commands.specs.declared.command.Command.TheVariants.{Revert, RevertPlain, Dd, Undo, Redo}
 use Rattle.bx_commands.specs.declared.command.Reply.{Reply}
 use Rattle.bx_commands.specs.Obeys.{Obeys}
+use Rattle.bx_commands.specs.Power.{FindsEnd, IsAt, RunFinds, images_of}
 use Rattle.bx_commands.specs.Refusal.{IsOwnRefusal, IsWholeRefusal, KeepsPair}
 use Rattle.bx_commands.specs.Run.{is_failure, CommandRun, CommandStep, StackRun, Unfailed}
 use Rattle.bx_commands.specs.inner.Run.{CountsOn}
 use Rattle.bx_commands.specs.SessionRun.{SessionRun, SessionStep}
-use Rattle.bx_commands.specs.Standing.{CountsBy, HoldsAt, Leads, Shows}
+use Rattle.bx_commands.specs.Standing.{CountsBy, HoldsAt, Leads, Shows, Standing}
 use Rattle.bx_commands.proofs.Obeys.{obeys_next}
-use Rattle.bx_commands.proofs.Refusals.{redo_same_here, redo_same_on, same_here, same_on}
+use Rattle.bx_commands.proofs.Refusals.{nothing_new_here, nothing_new_on, redo_same_here, redo_same_on, same_here, same_on}
+use Rattle.bx_commands.proofs.Steps.{true_is_not_false}
+use Rattle.bx_commands.proofs.Stopped.{all_whole_or, run_down, run_stays, step_stays, whole_or}
 use Rattle.bx_commands.proofs.Unfailed.{all_tail}
 
 module _ {S C : Type 0} (Step : S → C → C → Reply → S → Type 0) where
@@ -126,12 +130,26 @@ module _ {D T : Type 0} (fd : D → ℕ) (ft : T → ℕ) where
   pub counts_all : (first now : SessionView D T) (i n : ℕ) → i ≤ n → CountsOn fd ft first now i → CountsOn fd ft first now n
   counts_all first now i n within (failed, few, on) = (failed, omega arith, on)
 
-module _ {D T R A : Type 0} (hd : D → Type 0) (ht : T → Type 0) (image : D → List ℕ) (text : T → List ℕ) (fd : D → ℕ) (ft : T → ℕ) (remaining : R → Option (List ℕ)) where
+module _ {D T : Type 0} (hd : D → Type 0) (ht : T → Type 0) where
+  -- what is found behind commands that were all refused was to be found before them
+  abbrev Refuses : (D → List ℕ → Type 0) → (T → List ℕ → Type 0) → SessionView D T → List Reply → SessionView D T → Type 0
+  Refuses sd st old replies new = All IsWholeRefusal replies → NothingNew hd ht sd st old new
+
+  holds_honest : (image : D → List ℕ) (text : T → List ℕ) (s : SessionView D T) (standing : Standing) → HoldsAt hd ht image text s standing → AreHonest hd ht s
+  holds_honest image text s (Standing.Up images) h = (h.0, h.1, h.2)
+  holds_honest image text s (Standing.Down images) h = (h.0, h.1, h.2)
+
+  is_at : (image : D → List ℕ) (text : T → List ℕ) (sd : D → List ℕ → Type 0) (st : T → List ℕ → Type 0) (s : SessionView D T) (standing : Standing)
+      → HoldsAt hd ht image text s standing → IsAt hd ht image text sd st s standing
+  is_at image text sd st s (Standing.Up images) h = h
+  is_at image text sd st s (Standing.Down images) h = h.3.0
+
+module _ {D T R A : Type 0} (hd : D → Type 0) (ht : T → Type 0) (image : D → List ℕ) (text : T → List ℕ) (sd : D → List ℕ → Type 0) (st : T → List ℕ → Type 0) (fd : D → ℕ) (ft : T → ℕ) (remaining : R → Option (List ℕ)) where
   -- whatever is left of it, a command obeys its step
-  obeys_command : (old new : SessionView D T) (c left : Command R A) (reply : Reply) → SessionStep (Obeys hd ht image text fd ft) remaining old c left reply new
-      → Obeys hd ht image text fd ft old new reply (λ before. CommandStep remaining before c)
+  obeys_command : (old new : SessionView D T) (c left : Command R A) (reply : Reply) → SessionStep (Obeys hd ht image text sd st fd ft) remaining old c left reply new
+      → Obeys hd ht image text sd st fd ft old new reply (λ before. CommandStep remaining before c)
   obeys_command old new (Dd operands input) (Dd words rest) reply step =
-      obeys_next hd ht image text fd ft (λ before after dd. (remaining rest, (step.1.0, (step.1.1, dd)))) step.1.2
+      obeys_next hd ht image text sd st fd ft (λ before after dd. (remaining rest, (step.1.0, (step.1.1, dd)))) step.1.2
   obeys_command old new (Dd operands input) (Revert text_ offset) reply step = step.1
   obeys_command old new (Dd operands input) (RevertPlain text_ at_) reply step = step.1
   obeys_command old new (Dd operands input) (Undo k) reply step = step.1
@@ -142,7 +160,7 @@ module _ {D T R A : Type 0} (hd : D → Type 0) (ht : T → Type 0) (image : D �
   obeys_command old new (Redo j) left reply step = step.1
 
   abbrev Step : SessionView D T → Command R A → Command R A → Reply → SessionView D T → Type 0
-  Step old c left reply new = SessionStep (Obeys hd ht image text fd ft) remaining old c left reply new
+  Step old c left reply new = SessionStep (Obeys hd ht image text sd st fd ft) remaining old c left reply new
 
   abbrev Runs : SessionView D T → List (Command R A) → List (Command R A) → List Reply → SessionView D T → Type 0
   Runs old list left replies new = SessionRun Step old list left replies new
@@ -171,7 +189,7 @@ module _ {D T R A : Type 0} (hd : D → Type 0) (ht : T → Type 0) (image : D �
       let rest = later (obeys.device_honesty.1 honest.0, obeys.store_honesty.1 honest.1, obeys.redo_honesty.1 honest.2) (all_tail Unfailed p replies all) made.0 made.1 in
       (rest.0, rest.1, (made.0, (made.2, unfailed), rest.2)))
 
-  pub counts_once : (old new : SessionView D T) (c left : Command R A) (reply : Reply) → SessionStep (Obeys hd ht image text fd ft) remaining old c left reply new
+  pub counts_once : (old new : SessionView D T) (c left : Command R A) (reply : Reply) → SessionStep (Obeys hd ht image text sd st fd ft) remaining old c left reply new
       → CountsBy fd ft old new (weight reply)
   counts_once old new c left reply step = (obeys_command old new c left reply step).counts
 
@@ -215,3 +233,85 @@ module _ {D T R A : Type 0} (hd : D → Type 0) (ht : T → Type 0) (image : D �
       let obeys = obeys_command old now c left p step in
       redo_same_on text old now new (obeys.redo_same redo (all_head IsWholeRefusal p replies all))
       (later (obeys.redo_honesty.1 redo) (all_tail IsWholeRefusal p replies all)))
+
+  abbrev Finds : SessionView D T → List (Command R A) → List Reply → SessionView D T → Type 0
+  Finds old list replies new = RunFinds hd ht image text sd st remaining old list replies new
+
+  abbrev Goes : SessionView D T → List (Command R A) → List Reply → SessionView D T → Type 0
+  Goes old list replies new = Leads (HoldsAt hd ht image text) (λ start. CommandRun remaining start list replies) old new
+
+  -- behind a refusal
+  survives_refused : (old now new : SessionView D T) (c left : Command R A) (list : List (Command R A)) (p : Reply) (replies : List Reply) → Step old c left p now
+      → IsWholeRefusal p → Finds now list replies new → Finds old (c ∷ list) (p ∷ replies) new
+  survives_refused old now new c left list p replies step whole later before h first x t r there text_there redo_there =
+      let obeys = obeys_command old now c left p step in
+      let made = obeys.step before h in
+      let stays : made.0 ≡ before = step_stays remaining before made.0 c p whole made.2 in
+      let Holds : Standing → Type 0 = λ s. HoldsAt hd ht image text now s in
+      let Steps : Standing → Type 0 = λ s. CommandStep remaining before c p s in
+      let nothing = obeys.found_before whole in
+      let honest = holds_honest hd ht image text old before h in
+      let found = later before (subst Holds stays made.1)
+      (λ all y u s y_there u_there s_there.
+      first (All-cons IsWholeRefusal p replies whole all) y u s (nothing.device_before honest.0 y y_there) (nothing.text_before honest.1 u u_there) (nothing.other_before honest.2 s s_there))
+      x t r there text_there redo_there in
+      (found.0, (before, subst Steps stays made.2, found.1), found.2, found.3)
+
+  -- refusals keep the end of a command that was made, or stopped
+  ends_kept : (now new : SessionView D T) (place last : Standing) (list : List (Command R A)) (replies : List Reply) → All IsWholeRefusal replies → Goes now list replies new
+      → HoldsAt hd ht image text now place → IsAt hd ht image text sd st now last → CommandRun remaining last list replies last × IsAt hd ht image text sd st new last
+  ends_kept now new place (Standing.Up images) list replies all goes holds is_at =
+      let made = goes (Standing.Up images) is_at in
+      let stays = run_stays remaining (Standing.Up images) made.0 list replies all made.2 in
+      let Run : Standing → Type 0 = λ s. CommandRun remaining (Standing.Up images) list replies s in
+      let Holds : Standing → Type 0 = λ s. HoldsAt hd ht image text new s in
+      (subst Run stays made.2, subst Holds stays made.1)
+  ends_kept now new (Standing.Up found) (Standing.Down images) list replies all goes holds is_at = absurd (true_is_not_false (sym is_at ∙ holds.3.0.whole))
+  ends_kept now new (Standing.Down found) (Standing.Down images) list replies all goes holds is_at =
+      let made = goes (Standing.Down found) holds in
+      let down = run_down remaining found made.0 list replies made.2 in
+      let Holds : Standing → Type 0 = λ s. HoldsAt hd ht image text new s in
+      (down.1 images, (subst Holds down.0 made.1).3.0)
+
+  -- behind a command that was made, or stopped
+  survives_made : (old now new : SessionView D T) (c left : Command R A) (list : List (Command R A)) (p : Reply) (replies : List Reply) → Step old c left p now
+      → (IsWholeRefusal p → ⊥) → Goes now list replies new → Refuses hd ht sd st now replies new → Finds now list replies new → Finds old (c ∷ list) (p ∷ replies) new
+  survives_made old now new c left list p replies step stopped goes refuses later before h first x t r there text_there redo_there =
+      let obeys = obeys_command old now c left p step in
+      let made = obeys.step before h in
+      elim (all_whole_or replies) as (λ _. (after : Standing) × CommandRun remaining before (c ∷ list) (p ∷ replies) after × Found t x r (images_of after) × IsAt hd ht image text sd st new after) [
+        | inl all ↦
+            let nothing = refuses all in
+            let honest = holds_honest hd ht image text now made.0 made.1 in
+            let found = obeys.finds stopped before h x t r (nothing.device_before honest.0 x there) (nothing.text_before honest.1 t text_there) (nothing.other_before honest.2 r redo_there) in
+            let kept = ends_kept now new made.0 found.0 list replies all goes made.1 found.3 in
+            (found.0, (found.0, found.1, kept.0), found.2, kept.1)
+        | inr some ↦
+            let found = later made.0 made.1 (λ all. absurd (some all)) x t r there text_there redo_there in
+            (found.0, (made.0, made.2, found.1), found.2, found.3)
+      ]
+
+  abbrev All3 : SessionView D T → List (Command R A) → List Reply → SessionView D T → Type 0
+  All3 old list replies new = Goes old list replies new × Refuses hd ht sd st old replies new × Finds old list replies new
+
+  runs_survive : (old new : SessionView D T) (list left : List (Command R A)) (replies : List Reply) → Runs old list left replies new → All3 old list replies new
+  runs_survive = run_induction Step All3
+      (λ s. ((λ start h. (start, h, refl)), (λ all. nothing_new_here hd ht sd st s), (λ start h first x t r there text_there redo_there. (start, refl, first (All-nil IsWholeRefusal) x t r there text_there redo_there, is_at hd ht image text sd st s start h))))
+      (λ old now new c left list p replies step later.
+      let obeys = obeys_command old now c left p step in (
+        (λ start h.
+            let made = obeys.step start h in
+            let rest = later.0 made.0 made.1 in
+            (rest.0, rest.1, (made.0, made.2, rest.2))),
+        (λ all.
+            nothing_new_on hd ht sd st old now new obeys.device_honesty obeys.store_honesty obeys.redo_honesty (obeys.found_before (all_head IsWholeRefusal p replies all))
+            (later.1 (all_tail IsWholeRefusal p replies all))),
+        elim (whole_or p) as (λ _. Finds old (c ∷ list) (p ∷ replies) new) [
+          | inl whole ↦ survives_refused old now new c left list p replies step whole later.2
+          | inr stopped ↦ survives_made old now new c left list p replies step stopped later.0 later.1 later.2
+        ],
+      ))
+
+  -- whatever is found is an end of the run
+  pub survives_of : (old new : SessionView D T) (list left : List (Command R A)) (replies : List Reply) → Runs old list left replies new → Finds old list replies new
+  survives_of old new list left replies run = (runs_survive old new list left replies run).2

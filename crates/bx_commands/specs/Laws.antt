@@ -7,6 +7,7 @@ use Rattle.bx_commands.specs.declared.command.Command.TheVariants.{Undo, Redo}
 use Rattle.bx_commands.specs.declared.command.Reply.{Reply}
 use Rattle.bx_commands.specs.declared.command.Reply.TheVariants.{Changed, Copied, Undone, Redone, Refused}
 use Rattle.bx_commands.specs.Standing.{Standing}
+use Rattle.bx_commands.specs.Power.{FindsPart, images_of}
 use Rattle.bx_commands.specs.Run.{CommandRun, StackRun, StackStep, Unfailed}
 
 -- the runs of two lists, one from where the other ends, are a run of both
@@ -24,6 +25,11 @@ abbrev pub UnfailedRuns : (R A : Type 0) → (R → Option (List ℕ)) → Type 
 UnfailedRuns R A remaining = (start : Images) (after : Standing) (list : List (Command R A)) (replies : List Reply)
     → CommandRun remaining (Standing.Up start) list replies after → All Unfailed replies
     → (top : Images) × (after ≡ Standing.Up top) × StackRun remaining start list replies top
+
+-- a run ends at the images after the commands that were answered, or at a part of the one that was stopped
+abbrev pub StopsInPart : (R A : Type 0) → (R → Option (List ℕ)) → Type 0
+StopsInPart R A remaining = (start : Images) (after : Standing) (list : List (Command R A)) (replies : List Reply)
+    → CommandRun remaining (Standing.Up start) list replies after → FindsPart remaining start list replies (images_of after)
 
 -- the reply says that a change was made
 abbrev pub IsMade : Reply → Type 0

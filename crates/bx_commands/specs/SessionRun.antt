@@ -33,7 +33,8 @@ SessionRun {S = S} Step old (c ∷ list) (d ∷ left) (p ∷ replies) new = (now
 SessionRun Step old list left replies new = ⊥
 
 -- each command of a list, in order, is obeyed, with what is then left of it
-abbrev pub AllObey : {D T R A : Type 0} → (D → Type 0) → (T → Type 0) → (D → List ℕ) → (T → List ℕ) → (D → ℕ) → (T → ℕ) → (R → Option (List ℕ))
+abbrev pub AllObey : {D T R A : Type 0} → (D → Type 0) → (T → Type 0) → (D → List ℕ) → (T → List ℕ) → (D → List ℕ → Type 0) → (T → List ℕ → Type 0)
+    → (D → ℕ) → (T → ℕ) → (R → Option (List ℕ))
     → SessionView D T → List (Command R A) → List (Command R A) → List Reply → SessionView D T → Type 0
-AllObey honest text_honest image text failures text_failures remaining =
-    SessionRun (SessionStep (Obeys honest text_honest image text failures text_failures) remaining)
+AllObey honest text_honest image text survives text_survives failures text_failures remaining =
+    SessionRun (SessionStep (Obeys honest text_honest image text survives text_survives failures text_failures) remaining)

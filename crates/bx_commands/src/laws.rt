@@ -1,5 +1,5 @@
 //! Laws of commands, over their definitions alone.
-ghost use Rattle.bx_commands.specs.Laws.{RedoGivesBack, RunsJoin, StackRunsJoin, UndoGivesBack, UnfailedRuns};
+ghost use Rattle.bx_commands.specs.Laws.{RedoGivesBack, RunsJoin, StackRunsJoin, StopsInPart, UndoGivesBack, UnfailedRuns};
 
 use std::alloc::Allocator;
 use std::io::Read;
@@ -27,4 +27,11 @@ pub fn runs_join<R: Read, A: Allocator>()
 /// A run in which no device fails goes from whole images to whole images.
 pub fn unfailed_runs<R: Read, A: Allocator>()
     ensures { UnfailedRuns R A R.remaining }
+{}
+
+/// A command is done in whole, or in whole steps. Whatever moment the power is lost at, or a device fails at, the next opening finds
+/// the images after the last command that was answered; or, where one was stopped, those before it, those after it, or those with
+/// i of the k changes that it takes back or makes again. That what is found is an end of the run is said by `run_all`.
+pub fn stops_in_part<R: Read, A: Allocator>()
+    ensures { StopsInPart R A R.remaining }
 {}

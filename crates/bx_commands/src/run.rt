@@ -4,6 +4,7 @@ ghost use Rattle.bx_journal.specs.Session.{IsRedoSame, IsUnfailed};
 ghost use Rattle.bx_commands.specs.Obeys.{Obeys};
 ghost use Rattle.bx_commands.specs.Standing.{CountsBy, HoldsAt, Leads, RestsAt, Shows};
 ghost use Rattle.bx_commands.specs.Command.{IsNear};
+ghost use Rattle.bx_commands.specs.Power.{RunFinds};
 ghost use Rattle.bx_commands.specs.Refusal.{IsOwnRefusal, IsWholeRefusal, KeepsPair};
 ghost use Rattle.bx_commands.specs.Run.{is_failure, ReadStep, DdStep, CommandRun, Runs, Unfailed};
 ghost use Rattle.bx_commands.specs.inner.Run.{made_reply, CountsBelow, ChangeStep, UndoesStep, RedoesStep, DumpStep, PlainStep};
@@ -28,7 +29,8 @@ fn run_change<D: Device, T: TextStore, A: Allocator + Clone>(
     counts: Option<Counts>,
 ) -> Reply
     requires countable { CountsBelow u64.MAX D.failures T.failures session.old }
-    ensures obeys { Obeys D.honest T.honest D.image T.text D.failures T.failures session.old session.new result (λ s. ChangeStep s change.now counts) }
+    ensures obeys { Obeys D.honest T.honest D.image T.text D.survives T.survives D.failures T.failures
+        session.old session.new result (λ s. ChangeStep s change.now counts) }
 {
     match session.perform(change) {
         Ok(number) => made_reply(counts, number),
@@ -52,7 +54,8 @@ fn run_undo<D: Device, T: TextStore, A: Allocator + Clone>(
     k: u32,
 ) -> Reply
     requires countable { CountsBelow u64.MAX D.failures T.failures session.old }
-    ensures obeys { Obeys D.honest T.honest D.image T.text D.failures T.failures session.old session.new result (λ s. UndoesStep s k) }
+    ensures obeys { Obeys D.honest T.honest D.image T.text D.survives T.survives D.failures T.failures
+        session.old session.new result (λ s. UndoesStep s k) }
 {
     match session.undo(k) {
         Ok(left) => Reply::Undone { left },
@@ -66,7 +69,8 @@ fn run_redo<D: Device, T: TextStore, A: Allocator + Clone>(
     j: u32,
 ) -> Reply
     requires countable { CountsBelow u64.MAX D.failures T.failures session.old }
-    ensures obeys { Obeys D.honest T.honest D.image T.text D.failures T.failures session.old session.new result (λ s. RedoesStep s j) }
+    ensures obeys { Obeys D.honest T.honest D.image T.text D.survives T.survives D.failures T.failures
+        session.old session.new result (λ s. RedoesStep s j) }
 {
     match session.redo(j) {
         Ok(changes) => Reply::Redone { changes },
@@ -80,7 +84,8 @@ fn run_read<D: Device, T: TextStore, A: Allocator + Clone>(
     read: Result<Change<A>, ReadFault>,
 ) -> Reply
     requires countable { CountsBelow u64.MAX D.failures T.failures session.old }
-    ensures obeys { Obeys D.honest T.honest D.image T.text D.failures T.failures session.old session.new result (λ s. ReadStep s (λ c. c) read) }
+    ensures obeys { Obeys D.honest T.honest D.image T.text D.survives T.survives D.failures T.failures
+        session.old session.new result (λ s. ReadStep s (λ c. c) read) }
 {
     match read {
         Ok(change) => run_change(session, &change, None),
@@ -94,7 +99,8 @@ fn run_dd<D: Device, T: TextStore, A: Allocator + Clone>(
     made: Result<DdChange<A>, DdFault>,
 ) -> Reply
     requires countable { CountsBelow u64.MAX D.failures T.failures session.old }
-    ensures obeys { Obeys D.honest T.honest D.image T.text D.failures T.failures session.old session.new result (λ s. DdStep s made) }
+    ensures obeys { Obeys D.honest T.honest D.image T.text D.survives T.survives D.failures T.failures
+        session.old session.new result (λ s. DdStep s made) }
 {
     match made {
         Ok(made) => run_change(session, &made.change, Some(made.counts)),
@@ -111,7 +117,8 @@ fn run_dump<D: Device, T: TextStore, A: Allocator + Clone>(
 ) -> Reply
     requires countable { CountsBelow u64.MAX D.failures T.failures session.old }
     requires near { offset ≤ 2 ^ 62 }
-    ensures obeys { Obeys D.honest T.honest D.image T.text D.failures T.failures session.old session.new result (λ s. DumpStep A s text.old offset) }
+    ensures obeys { Obeys D.honest T.honest D.image T.text D.survives T.survives D.failures T.failures
+        session.old session.new result (λ s. DumpStep A s text.old offset) }
     ensures left { text.new ≡ [] }
 {
     let change = change_of_dump(alloc, text.as_slice(), offset);
@@ -127,7 +134,8 @@ fn run_plain<D: Device, T: TextStore, A: Allocator + Clone>(
     at: u64,
 ) -> Reply
     requires countable { CountsBelow u64.MAX D.failures T.failures session.old }
-    ensures obeys { Obeys D.honest T.honest D.image T.text D.failures T.failures session.old session.new result (λ s. PlainStep A s text.old at) }
+    ensures obeys { Obeys D.honest T.honest D.image T.text D.survives T.survives D.failures T.failures
+        session.old session.new result (λ s. PlainStep A s text.old at) }
     ensures left { text.new ≡ [] }
 {
     let change = change_of_plain(alloc, text.as_slice(), at);
@@ -160,7 +168,8 @@ fn run_one<D: Device, T: TextStore, R: Read, A: Allocator + Clone>(
 ) -> Reply
     requires countable { CountsBelow u64.MAX D.failures T.failures session.old }
     requires near { IsNear command.old }
-    ensures runs { SessionStep (Obeys D.honest T.honest D.image T.text D.failures T.failures) R.remaining session.old command.old command.new result session.new }
+    ensures runs { SessionStep (Obeys D.honest T.honest D.image T.text D.survives T.survives D.failures T.failures) R.remaining
+        session.old command.old command.new result session.new }
 {
     match command {
         Command::Revert { text, offset } => run_dump(alloc, session, text, *offset),
@@ -197,11 +206,16 @@ pub fn run_all<D: Device, T: TextStore, R: Read, A: Allocator + Clone>(
     // then each reply is the command's own fault or says that the session is broken.
     ensures run { IfOk result (λ p. Leads (HoldsAt D.honest T.honest D.image T.text) (λ s. CommandRun R.remaining s list.old p.items) session.old session.new) }
 
+    // Whatever moment the power was lost at, opening finds what a run with these replies ends in; where the session goes on, that
+    // is where it stands. Where all commands are refused, what is found is what was to be found before them.
+    ensures survives { IfOk result (λ p. RunFinds D.honest T.honest D.image T.text D.survives T.survives R.remaining session.old list.old p.items session.new) }
+
     // Each reply, in any list: a command that is refused for a fault of its own leaves the session as it was, and one that
     // is refused, but by no interruption, leaves image, journal and redo text, byte for byte. What another makes of the
     // session is its step. Of dd's input as much is read as its operands read, and nothing where they have a fault. The text of
     // a revert is left empty, whatever became of it.
-    ensures each { IfOk result (λ p. AllObey D.honest T.honest D.image T.text D.failures T.failures R.remaining session.old list.old list.new p.items session.new) }
+    ensures each { IfOk result (λ p. AllObey D.honest T.honest D.image T.text D.survives T.survives D.failures T.failures R.remaining
+        session.old list.old list.new p.items session.new) }
 
     // A device's failure raises its count, and as many replies tell of one as the three counts rose by.
     ensures told { IfOk result (λ replies. CountsBy D.failures T.failures session.old session.new (count_by is_failure replies.items)) }

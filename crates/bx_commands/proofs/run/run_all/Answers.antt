@@ -4,7 +4,7 @@ use Rattle.bx_commands.specs.Obeys.{Obeys}
 use Rattle.bx_commands.specs.SessionRun.{SessionStep}
 use Rattle.bx_commands.specs.Standing.{Standing, HoldsAt}
 use Rattle.bx_commands.proofs.Runs.{ahead_more}
-use Rattle.bx_commands.proofs.SessionRuns.{leads_none, leads_more, leads_all, run_of, stacks_of, told_of, unfailed_of, counts_none, counts_more, counts_once, counts_all, own_of, same_of, redo_same_of}
+use Rattle.bx_commands.proofs.SessionRuns.{leads_none, leads_more, leads_all, run_of, stacks_of, told_of, unfailed_of, counts_none, counts_more, counts_once, counts_all, own_of, same_of, redo_same_of, survives_of}
 use Rattle.bx_commands.proofs.Unfailed.{stands_at_top}
 use Rattle.bx_commands.proofs.run.run_all.Goals as goal
 
@@ -12,7 +12,7 @@ pub loop-command-init : goal.loop-command-init
 loop-command-init g c =
     let none : c.in_ok-replies.replies.items ≡ [] = search rules in
     record {
-      leads = rw none (leads_none (SessionStep (Obeys g.D.Device.honest g.T.TextStore.honest g.D.Device.image g.T.TextStore.text g.D.Device.failures g.T.TextStore.failures) g.R.Read.remaining)
+      leads = rw none (leads_none (SessionStep (Obeys g.D.Device.honest g.T.TextStore.honest g.D.Device.image g.T.TextStore.text g.D.Device.survives g.T.TextStore.survives g.D.Device.failures g.T.TextStore.failures) g.R.Read.remaining)
           c.args.session.now c.args.list.now);
       counted = counts_none g.D.Device.failures g.T.TextStore.failures c.args.session.now;
       ahead = λ k d above within. c.requires.near k d within;
@@ -26,10 +26,10 @@ loop-command-preserved g c =
     let within : c.loop-command.command-index < length c.loop-command.list = search rules in
     let kept = c.loop-command.invariant in
     record {
-      leads = rw pushed (leads_more (SessionStep (Obeys g.D.Device.honest g.T.TextStore.honest g.D.Device.image g.T.TextStore.text g.D.Device.failures g.T.TextStore.failures) g.R.Read.remaining)
+      leads = rw pushed (leads_more (SessionStep (Obeys g.D.Device.honest g.T.TextStore.honest g.D.Device.image g.T.TextStore.text g.D.Device.survives g.T.TextStore.survives g.D.Device.failures g.T.TextStore.failures) g.R.Read.remaining)
           _ c.loop-command.session _ _ c.loop-command.list _ c.loop-command.command-index c.command-item.result _ _ within c.run_one-reply.ensures.runs kept.leads);
       counted = counts_more g.D.Device.failures g.T.TextStore.failures _ c.loop-command.session _ c.loop-command.command-index c.run_one-reply.result kept.counted
-          (counts_once g.D.Device.honest g.T.TextStore.honest g.D.Device.image g.T.TextStore.text g.D.Device.failures g.T.TextStore.failures g.R.Read.remaining
+          (counts_once g.D.Device.honest g.T.TextStore.honest g.D.Device.image g.T.TextStore.text g.D.Device.survives g.T.TextStore.survives g.D.Device.failures g.T.TextStore.failures g.R.Read.remaining
           _ _ _ _ _ c.run_one-reply.ensures.runs);
       ahead = ahead_more IsNear c.loop-command.list c.loop-command.command-index _ kept.ahead;
       replied = search rules;
@@ -39,17 +39,22 @@ loop-command-preserved g c =
 pub returns-clause-each : goal.returns-clause-each
 returns-clause-each g c =
     let all : length c.loop-command.list ≤ c.loop-command.command-index = search rules in
-    leads_all (SessionStep (Obeys g.D.Device.honest g.T.TextStore.honest g.D.Device.image g.T.TextStore.text g.D.Device.failures g.T.TextStore.failures) g.R.Read.remaining)
+    leads_all (SessionStep (Obeys g.D.Device.honest g.T.TextStore.honest g.D.Device.image g.T.TextStore.text g.D.Device.survives g.T.TextStore.survives g.D.Device.failures g.T.TextStore.failures) g.R.Read.remaining)
     _ _ _ _ _ c.loop-command.command-index all c.loop-command.invariant.leads
 
 pub returns-clause-run : goal.returns-clause-run
 returns-clause-run g c =
-    run_of g.D.Device.honest g.T.TextStore.honest g.D.Device.image g.T.TextStore.text g.D.Device.failures g.T.TextStore.failures g.R.Read.remaining
+    run_of g.D.Device.honest g.T.TextStore.honest g.D.Device.image g.T.TextStore.text g.D.Device.survives g.T.TextStore.survives g.D.Device.failures g.T.TextStore.failures g.R.Read.remaining
+    _ _ _ _ _ (returns-clause-each g c)
+
+pub returns-clause-survives : goal.returns-clause-survives
+returns-clause-survives g c =
+    survives_of g.D.Device.honest g.T.TextStore.honest g.D.Device.image g.T.TextStore.text g.D.Device.survives g.T.TextStore.survives g.D.Device.failures g.T.TextStore.failures g.R.Read.remaining
     _ _ _ _ _ (returns-clause-each g c)
 
 pub returns-clause-told : goal.returns-clause-told
 returns-clause-told g c =
-    told_of g.D.Device.honest g.T.TextStore.honest g.D.Device.image g.T.TextStore.text g.D.Device.failures g.T.TextStore.failures g.R.Read.remaining
+    told_of g.D.Device.honest g.T.TextStore.honest g.D.Device.image g.T.TextStore.text g.D.Device.survives g.T.TextStore.survives g.D.Device.failures g.T.TextStore.failures g.R.Read.remaining
     _ _ _ _ _ (returns-clause-each g c)
 
 pub returns-clause-unfailed : goal.returns-clause-unfailed
@@ -70,22 +75,22 @@ returns-clause-sound g c = λ device store redo same start rests.
 
 pub returns-clause-headline : goal.returns-clause-headline
 returns-clause-headline g c = λ device store redo same.
-    stacks_of g.D.Device.honest g.T.TextStore.honest g.D.Device.image g.T.TextStore.text g.D.Device.failures g.T.TextStore.failures g.R.Read.remaining
+    stacks_of g.D.Device.honest g.T.TextStore.honest g.D.Device.image g.T.TextStore.text g.D.Device.survives g.T.TextStore.survives g.D.Device.failures g.T.TextStore.failures g.R.Read.remaining
     _ _ _ _ _ (returns-clause-each g c) (device, store, redo) (returns-clause-unfailed g c same)
 
 pub returns-clause-own : goal.returns-clause-own
 returns-clause-own g c =
-    own_of g.D.Device.honest g.T.TextStore.honest g.D.Device.image g.T.TextStore.text g.D.Device.failures g.T.TextStore.failures g.R.Read.remaining
+    own_of g.D.Device.honest g.T.TextStore.honest g.D.Device.image g.T.TextStore.text g.D.Device.survives g.T.TextStore.survives g.D.Device.failures g.T.TextStore.failures g.R.Read.remaining
     _ _ _ _ _ (returns-clause-each g c)
 
 pub returns-clause-same : goal.returns-clause-same
 returns-clause-same g c =
-    same_of g.D.Device.honest g.T.TextStore.honest g.D.Device.image g.T.TextStore.text g.D.Device.failures g.T.TextStore.failures g.R.Read.remaining
+    same_of g.D.Device.honest g.T.TextStore.honest g.D.Device.image g.T.TextStore.text g.D.Device.survives g.T.TextStore.survives g.D.Device.failures g.T.TextStore.failures g.R.Read.remaining
     _ _ _ _ _ (returns-clause-each g c)
 
 pub returns-clause-redo_same : goal.returns-clause-redo_same
 returns-clause-redo_same g c =
-    redo_same_of g.D.Device.honest g.T.TextStore.honest g.D.Device.image g.T.TextStore.text g.D.Device.failures g.T.TextStore.failures g.R.Read.remaining
+    redo_same_of g.D.Device.honest g.T.TextStore.honest g.D.Device.image g.T.TextStore.text g.D.Device.survives g.T.TextStore.survives g.D.Device.failures g.T.TextStore.failures g.R.Read.remaining
     _ _ _ _ _ (returns-clause-each g c)
 
 pub run_one-reply-requires-clause-near : goal.run_one-reply-requires-clause-near

@@ -6,7 +6,7 @@ pub returns : goal.returns
 returns g c =
     let change = c.change_of_dump-change in
     record {
-      obeys = obeys_next g.D.Device.honest g.T.TextStore.honest g.D.Device.image g.T.TextStore.text g.D.Device.failures g.T.TextStore.failures
+      obeys = obeys_next g.D.Device.honest g.T.TextStore.honest g.D.Device.image g.T.TextStore.text g.D.Device.survives g.T.TextStore.survives g.D.Device.failures g.T.TextStore.failures
           (λ before after. dump_step c.args.text.now c.args.offset change.result before after c.run_read.result
           (rw c.as_slice.ensures at change.ensures.change) (rw c.as_slice.ensures at change.ensures.fault))
           c.run_read.ensures.obeys;

@@ -5,16 +5,16 @@ pub returns-in-Ok : goal.returns-in-Ok
 returns-in-Ok g c =
     let e = c.in-Ok.ensures in
     record {
-      obeys = redo_obeys g.D.Device.honest g.T.TextStore.honest g.D.Device.image g.T.TextStore.text g.D.Device.failures g.T.TextStore.failures
+      obeys = redo_obeys g.D.Device.honest g.T.TextStore.honest g.D.Device.image g.T.TextStore.text g.D.Device.survives g.T.TextStore.survives g.D.Device.failures g.T.TextStore.failures
           c.args.session.now c.redo.new.self c.args.j c.in-Ok.changes
-          e.safe e.accepted e.sound;
+          e.safe e.accepted e.sound e.survives;
     }
 
 pub returns-in-Err : goal.returns-in-Err
 returns-in-Err g c =
     let e = c.in-Err.ensures in
     record {
-      obeys = unredone_obeys g.D.Device.honest g.T.TextStore.honest g.D.Device.image g.T.TextStore.text g.D.Device.failures g.T.TextStore.failures
+      obeys = unredone_obeys g.D.Device.honest g.T.TextStore.honest g.D.Device.image g.T.TextStore.text g.D.Device.survives g.T.TextStore.survives g.D.Device.failures g.T.TextStore.failures
           c.args.session.now c.redo.new.self c.args.j c.in-Err.fault
-          e.safe e.nothing e.kind e.undamaged e.finds;
+          e.safe e.nothing e.kind e.undamaged e.finds e.survives e.found_before;
     }

@@ -1,0 +1,52 @@
+-- What opening finds after commands and a loss of power.
+use Rattle.std.specs.Prelude.{◌≡◌, ◌⊎◌, ◌≤◌, ℕ, true, Option, List, [], ◌∷◌, All}
+use Rattle.bx_journal.specs.Images.{Images, change_to, redo_of, undo_of}
+use Rattle.bx_journal.specs.Power.{Found, Survive}
+use Rattle.bx_journal.specs.SessionView.{SessionView}
+use Rattle.bx_journal.specs.declared.session.fault.SessionFault.TheVariants.{Interrupted}
+use Rattle.bx_commands.specs.declared.command.Command.{Command}
+use Rattle.bx_commands.specs.declared.command.Command.TheVariants.{Undo, Redo}
+use Rattle.bx_commands.specs.declared.command.Reply.{Reply}
+use Rattle.bx_commands.specs.declared.command.Reply.TheVariants.{Refused}
+use Rattle.bx_commands.specs.declared.fault.Fault.TheVariants.{Session}
+use Rattle.bx_commands.specs.Refusal.{IsWholeRefusal}
+use Rattle.bx_commands.specs.Run.{CommandRun, CommandStep}
+use Rattle.bx_commands.specs.Standing.{HoldsAt, Standing}
+
+-- the images of a session that goes on, or those that opening finds of one that was stopped
+abbrev pub images_of : Standing → Images
+images_of (Standing.Up images) = images
+images_of (Standing.Down images) = images
+
+-- Of sessions whose device has an image and may be found with others, and whose stores have a text and may be found with others.
+module _ {D T : Type 0} (honest : D → Type 0) (text_honest : T → Type 0) (image : D → List ℕ) (text : T → List ℕ)
+    (survives : D → List ℕ → Type 0) (text_survives : T → List ℕ → Type 0) where
+  -- the session goes on and stands for these images, or it was stopped
+  abbrev pub IsAt : SessionView D T → Standing → Type 0
+  IsAt s (Standing.Up images) = HoldsAt honest text_honest image text s (Standing.Up images)
+  IsAt s (Standing.Down images) = s.is_broken ≡ true
+
+  -- Whatever is found of the session's devices, opening finds the images of an end that is allowed. Where the session goes on, it stands for them.
+  abbrev pub FindsEnd : SessionView D T → (Standing → Type 0) → Type 0
+  FindsEnd s Allowed = Survive image survives text text_survives s (λ new x redo.
+      (after : Standing) × Allowed after × Found new x redo (images_of after) × IsAt s after)
+
+  -- Whatever is found after a list of commands is an end of a run with these replies. Where all of them were refused, and none
+  -- was stopped in the middle of writing, that is so if before them nothing was found but the images for which the session stood.
+  abbrev pub RunFinds : {R A : Type 0} → (R → Option (List ℕ)) → SessionView D T → List (Command R A) → List Reply → SessionView D T → Type 0
+  RunFinds remaining old list replies new = (before : Standing) → HoldsAt honest text_honest image text old before
+      → (All IsWholeRefusal replies → Survive image survives text text_survives old (λ new x redo. Found new x redo (images_of before)))
+      → FindsEnd new (CommandRun remaining before list replies)
+
+-- what is found of a command that was stopped: nothing of it, its change, or i of the k that it takes back or makes again
+abbrev pub IsPart : {R A : Type 0} → Command R A → Images → Images → Type 0
+IsPart (Undo k) s found = (i : ℕ) × (i ≤ k) × (found ≡ undo_of i s)
+IsPart (Redo j) s found = (i : ℕ) × (i ≤ j) × (found ≡ redo_of i s)
+IsPart c s found = (found ≡ s) ⊎ ((x : List ℕ) × (found ≡ change_to x s))
+
+-- What is found after a list of commands, from the images before it: those after all that were answered, or a part of one that was stopped
+abbrev pub FindsPart : {R A : Type 0} → (R → Option (List ℕ)) → Images → List (Command R A) → List Reply → Images → Type 0
+FindsPart remaining s [] [] found = found ≡ s
+FindsPart remaining s (c ∷ list) (p ∷ replies) found = ((p ≡ Refused (Session Interrupted)) × IsPart c s found)
+    ⊎ ((now : Images) × CommandStep remaining (Standing.Up s) c p (Standing.Up now) × FindsPart remaining now list replies found)
+FindsPart remaining s list replies found = ⊥
