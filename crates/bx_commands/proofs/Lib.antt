@@ -9,5 +9,6 @@ pub mod Joined
 pub mod Refusals
 pub mod Obeys
 pub mod Stopped
+pub mod Tells
 pub mod SessionRuns
 pub mod Copying

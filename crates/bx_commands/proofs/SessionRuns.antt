@@ -16,6 +16,7 @@ use Rattle.bx_commands.specs.Refusal.{IsOwnRefusal, IsWholeRefusal, KeepsPair}
 use Rattle.bx_commands.specs.Run.{is_failure, CommandRun, CommandStep, StackRun, Unfailed}
 use Rattle.bx_commands.specs.inner.Run.{CountsOn}
 use Rattle.bx_commands.specs.SessionRun.{SessionRun, SessionStep}
+use Rattle.bx_commands.specs.Tells.{Tells}
 use Rattle.bx_commands.specs.Standing.{CountsBy, HoldsAt, Leads, Shows, Standing}
 use Rattle.bx_commands.proofs.Obeys.{obeys_next}
 use Rattle.bx_commands.proofs.Refusals.{nothing_new_here, nothing_new_on, redo_same_here, redo_same_on, same_here, same_on}
@@ -146,21 +147,21 @@ module _ {D T : Type 0} (hd : D → Type 0) (ht : T → Type 0) where
 
 module _ {D T R A : Type 0} (hd : D → Type 0) (ht : T → Type 0) (image : D → List ℕ) (text : T → List ℕ) (sd : D → List ℕ → Type 0) (st : T → List ℕ → Type 0) (fd : D → ℕ) (ft : T → ℕ) (remaining : R → Option (List ℕ)) where
   -- whatever is left of it, a command obeys its step
-  obeys_command : (old new : SessionView D T) (c left : Command R A) (reply : Reply) → SessionStep (Obeys hd ht image text sd st fd ft) remaining old c left reply new
+  obeys_command : (old new : SessionView D T) (c left : Command R A) (reply : Reply) → SessionStep (Obeys hd ht image text sd st fd ft) Tells remaining old c left reply new
       → Obeys hd ht image text sd st fd ft old new reply (λ before. CommandStep remaining before c)
   obeys_command old new (Dd operands input) (Dd words rest) reply step =
-      obeys_next hd ht image text sd st fd ft (λ before after dd. (remaining rest, (step.1.0, (step.1.1, dd)))) step.1.2
-  obeys_command old new (Dd operands input) (Revert text_ offset) reply step = step.1
-  obeys_command old new (Dd operands input) (RevertPlain text_ at_) reply step = step.1
-  obeys_command old new (Dd operands input) (Undo k) reply step = step.1
-  obeys_command old new (Dd operands input) (Redo j) reply step = step.1
-  obeys_command old new (Revert text_ offset) left reply step = step.1
-  obeys_command old new (RevertPlain text_ at_) left reply step = step.1
-  obeys_command old new (Undo k) left reply step = step.1
-  obeys_command old new (Redo j) left reply step = step.1
+      obeys_next hd ht image text sd st fd ft (λ before after dd. (remaining rest, (step.2.0, (step.2.1, dd)))) step.2.2
+  obeys_command old new (Dd operands input) (Revert text_ offset) reply step = step.2
+  obeys_command old new (Dd operands input) (RevertPlain text_ at_) reply step = step.2
+  obeys_command old new (Dd operands input) (Undo k) reply step = step.2
+  obeys_command old new (Dd operands input) (Redo j) reply step = step.2
+  obeys_command old new (Revert text_ offset) left reply step = step.2
+  obeys_command old new (RevertPlain text_ at_) left reply step = step.2
+  obeys_command old new (Undo k) left reply step = step.2
+  obeys_command old new (Redo j) left reply step = step.2
 
   abbrev Step : SessionView D T → Command R A → Command R A → Reply → SessionView D T → Type 0
-  Step old c left reply new = SessionStep (Obeys hd ht image text sd st fd ft) remaining old c left reply new
+  Step old c left reply new = SessionStep (Obeys hd ht image text sd st fd ft) Tells remaining old c left reply new
 
   abbrev Runs : SessionView D T → List (Command R A) → List (Command R A) → List Reply → SessionView D T → Type 0
   Runs old list left replies new = SessionRun Step old list left replies new
@@ -189,7 +190,7 @@ module _ {D T R A : Type 0} (hd : D → Type 0) (ht : T → Type 0) (image : D �
       let rest = later (obeys.device_honesty.1 honest.0, obeys.store_honesty.1 honest.1, obeys.redo_honesty.1 honest.2) (all_tail Unfailed p replies all) made.0 made.1 in
       (rest.0, rest.1, (made.0, (made.2, unfailed), rest.2)))
 
-  pub counts_once : (old new : SessionView D T) (c left : Command R A) (reply : Reply) → SessionStep (Obeys hd ht image text sd st fd ft) remaining old c left reply new
+  pub counts_once : (old new : SessionView D T) (c left : Command R A) (reply : Reply) → SessionStep (Obeys hd ht image text sd st fd ft) Tells remaining old c left reply new
       → CountsBy fd ft old new (weight reply)
   counts_once old new c left reply step = (obeys_command old new c left reply step).counts
 

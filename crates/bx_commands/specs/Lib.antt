@@ -5,6 +5,7 @@ pub mod Standing
 pub mod Run
 pub mod Power
 pub mod Obeys
+pub mod Tells
 pub mod SessionRun
 pub mod Refusal
 pub mod Laws

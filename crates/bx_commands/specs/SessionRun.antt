@@ -10,6 +10,7 @@ use Rattle.bx_commands.specs.Copy.{Makes}
 use Rattle.bx_commands.specs.Obeys.{Obeys}
 use Rattle.bx_commands.specs.Run.{CommandStep, DdStep}
 use Rattle.bx_commands.specs.Standing.{Standing}
+use Rattle.bx_commands.specs.Tells.{Tells}
 
 -- a command without the text that it reads, which is dropped before its change is made; of others all
 abbrev pub without_text : {R A : Type 0} → Command R A → Command R A
@@ -18,12 +19,14 @@ without_text (RevertPlain text at) = RevertPlain [] at
 without_text c = c
 
 -- One command on a session, and what is then left of the command: of dd the input that its operands left, of one that
--- reads a text all but that text, of another all. Session and reply are as the command's step says.
-abbrev pub SessionStep : {S R A : Type 0} → (S → S → Reply → (Standing → Reply → Standing → Type 0) → Type 0) → (R → Option (List ℕ))
+-- reads a text all but that text, of another all. Session and reply are as the command's step says, and the reply tells the counts.
+abbrev pub SessionStep : {S R A : Type 0} → (S → S → Reply → (Standing → Reply → Standing → Type 0) → Type 0)
+    → (Command R A → S → Reply → S → Type 0) → (R → Option (List ℕ))
     → S → Command R A → Command R A → Reply → S → Type 0
-SessionStep {A = A} Obey remaining old (Dd operands input) (Dd words left) reply new =
-    (words ≡ operands) × ((r : Result (DdChange A) DdFault) × Makes operands (remaining input) (remaining left) r × Obey old new reply (λ s. DdStep s r))
-SessionStep Obey remaining old c left reply new = (left ≡ without_text c) × Obey old new reply (λ s. CommandStep remaining s c)
+SessionStep {A = A} Obey Tell remaining old (Dd operands input) (Dd words left) reply new =
+    (words ≡ operands) × Tell (Dd operands input) old reply new
+    × ((r : Result (DdChange A) DdFault) × Makes operands (remaining input) (remaining left) r × Obey old new reply (λ s. DdStep s r))
+SessionStep Obey Tell remaining old c left reply new = (left ≡ without_text c) × Tell c old reply new × Obey old new reply (λ s. CommandStep remaining s c)
 
 -- A list of commands on a session, and what is then left of them: a chain of sessions, with one step for each reply, in
 -- order; it goes on after a refusal
@@ -32,9 +35,9 @@ SessionRun Step old [] [] [] new = new ≡ old
 SessionRun {S = S} Step old (c ∷ list) (d ∷ left) (p ∷ replies) new = (now : S) × Step old c d p now × SessionRun Step now list left replies new
 SessionRun Step old list left replies new = ⊥
 
--- each command of a list, in order, is obeyed, with what is then left of it
+-- each command of a list, in order, is obeyed, and its reply tells the counts, with what is then left of it
 abbrev pub AllObey : {D T R A : Type 0} → (D → Type 0) → (T → Type 0) → (D → List ℕ) → (T → List ℕ) → (D → List ℕ → Type 0) → (T → List ℕ → Type 0)
     → (D → ℕ) → (T → ℕ) → (R → Option (List ℕ))
     → SessionView D T → List (Command R A) → List (Command R A) → List Reply → SessionView D T → Type 0
 AllObey honest text_honest image text survives text_survives failures text_failures remaining =
-    SessionRun (SessionStep (Obeys honest text_honest image text survives text_survives failures text_failures) remaining)
+    SessionRun (SessionStep (Obeys honest text_honest image text survives text_survives failures text_failures) Tells remaining)

@@ -9,6 +9,7 @@ ghost use Rattle.bx_commands.specs.Refusal.{IsOwnRefusal, IsWholeRefusal, KeepsP
 ghost use Rattle.bx_commands.specs.Run.{is_failure, ReadStep, DdStep, CommandRun, Runs, Unfailed};
 ghost use Rattle.bx_commands.specs.inner.Run.{made_reply, CountsBelow, ChangeStep, UndoesStep, RedoesStep, DumpStep, PlainStep};
 ghost use Rattle.bx_commands.specs.SessionRun.{AllObey, SessionStep};
+ghost use Rattle.bx_commands.specs.Tells.{ChangeTells, RedoTells, Tells, UndoTells};
 
 use crate::changes::{DdChange, change_of_dd, change_of_dump, change_of_plain};
 use crate::{Command, Fault, Reply};
@@ -31,6 +32,7 @@ fn run_change<D: Device, T: TextStore, A: Allocator + Clone>(
     requires countable { CountsBelow u64.MAX D.failures T.failures session.old }
     ensures obeys { Obeys D.honest T.honest D.image T.text D.survives T.survives D.failures T.failures
         session.old session.new result (λ s. ChangeStep s change.now counts) }
+    ensures tells { ChangeTells session.old result session.new }
 {
     match session.perform(change) {
         Ok(number) => made_reply(counts, number),
@@ -56,6 +58,7 @@ fn run_undo<D: Device, T: TextStore, A: Allocator + Clone>(
     requires countable { CountsBelow u64.MAX D.failures T.failures session.old }
     ensures obeys { Obeys D.honest T.honest D.image T.text D.survives T.survives D.failures T.failures
         session.old session.new result (λ s. UndoesStep s k) }
+    ensures tells { UndoTells k session.old result session.new }
 {
     match session.undo(k) {
         Ok(left) => Reply::Undone { left },
@@ -71,6 +74,7 @@ fn run_redo<D: Device, T: TextStore, A: Allocator + Clone>(
     requires countable { CountsBelow u64.MAX D.failures T.failures session.old }
     ensures obeys { Obeys D.honest T.honest D.image T.text D.survives T.survives D.failures T.failures
         session.old session.new result (λ s. RedoesStep s j) }
+    ensures tells { RedoTells j session.old result session.new }
 {
     match session.redo(j) {
         Ok(changes) => Reply::Redone { changes },
@@ -86,6 +90,7 @@ fn run_read<D: Device, T: TextStore, A: Allocator + Clone>(
     requires countable { CountsBelow u64.MAX D.failures T.failures session.old }
     ensures obeys { Obeys D.honest T.honest D.image T.text D.survives T.survives D.failures T.failures
         session.old session.new result (λ s. ReadStep s (λ c. c) read) }
+    ensures tells { ChangeTells session.old result session.new }
 {
     match read {
         Ok(change) => run_change(session, &change, None),
@@ -101,6 +106,7 @@ fn run_dd<D: Device, T: TextStore, A: Allocator + Clone>(
     requires countable { CountsBelow u64.MAX D.failures T.failures session.old }
     ensures obeys { Obeys D.honest T.honest D.image T.text D.survives T.survives D.failures T.failures
         session.old session.new result (λ s. DdStep s made) }
+    ensures tells { ChangeTells session.old result session.new }
 {
     match made {
         Ok(made) => run_change(session, &made.change, Some(made.counts)),
@@ -120,6 +126,7 @@ fn run_dump<D: Device, T: TextStore, A: Allocator + Clone>(
     ensures obeys { Obeys D.honest T.honest D.image T.text D.survives T.survives D.failures T.failures
         session.old session.new result (λ s. DumpStep A s text.old offset) }
     ensures left { text.new ≡ [] }
+    ensures tells { ChangeTells session.old result session.new }
 {
     let change = change_of_dump(alloc, text.as_slice(), offset);
     drop_text(text);
@@ -137,6 +144,7 @@ fn run_plain<D: Device, T: TextStore, A: Allocator + Clone>(
     ensures obeys { Obeys D.honest T.honest D.image T.text D.survives T.survives D.failures T.failures
         session.old session.new result (λ s. PlainStep A s text.old at) }
     ensures left { text.new ≡ [] }
+    ensures tells { ChangeTells session.old result session.new }
 {
     let change = change_of_plain(alloc, text.as_slice(), at);
     drop_text(text);
@@ -168,7 +176,7 @@ fn run_one<D: Device, T: TextStore, R: Read, A: Allocator + Clone>(
 ) -> Reply
     requires countable { CountsBelow u64.MAX D.failures T.failures session.old }
     requires near { IsNear command.old }
-    ensures runs { SessionStep (Obeys D.honest T.honest D.image T.text D.survives T.survives D.failures T.failures) R.remaining
+    ensures runs { SessionStep (Obeys D.honest T.honest D.image T.text D.survives T.survives D.failures T.failures) Tells R.remaining
         session.old command.old command.new result session.new }
 {
     match command {
@@ -212,8 +220,8 @@ pub fn run_all<D: Device, T: TextStore, R: Read, A: Allocator + Clone>(
 
     // Each reply, in any list: a command that is refused for a fault of its own leaves the session as it was, and one that
     // is refused, but by no interruption, leaves image, journal and redo text, byte for byte. What another makes of the
-    // session is its step. Of dd's input as much is read as its operands read, and nothing where they have a fault. The text of
-    // a revert is left empty, whatever became of it.
+    // session is its step, and whatever the devices are, its numbers are the session's counts. Of dd's input as much is read
+    // as its operands read, and nothing where they have a fault. The text of a revert is left empty, whatever became of it.
     ensures each { IfOk result (λ p. AllObey D.honest T.honest D.image T.text D.survives T.survives D.failures T.failures R.remaining
         session.old list.old list.new p.items session.new) }
 

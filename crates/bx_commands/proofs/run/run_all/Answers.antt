@@ -2,6 +2,7 @@ use Rattle.std.proofs.Common.{rules, arith, ◌≡◌, ◌<◌, ◌≤◌, [], �
 use Rattle.bx_commands.specs.Command.{IsNear}
 use Rattle.bx_commands.specs.Obeys.{Obeys}
 use Rattle.bx_commands.specs.SessionRun.{SessionStep}
+use Rattle.bx_commands.specs.Tells.{Tells}
 use Rattle.bx_commands.specs.Standing.{Standing, HoldsAt}
 use Rattle.bx_commands.proofs.Runs.{ahead_more}
 use Rattle.bx_commands.proofs.SessionRuns.{leads_none, leads_more, leads_all, run_of, stacks_of, told_of, unfailed_of, counts_none, counts_more, counts_once, counts_all, own_of, same_of, redo_same_of, survives_of}
@@ -12,7 +13,7 @@ pub loop-command-init : goal.loop-command-init
 loop-command-init g c =
     let none : c.in_ok-replies.replies.items ≡ [] = search rules in
     record {
-      leads = rw none (leads_none (SessionStep (Obeys g.D.Device.honest g.T.TextStore.honest g.D.Device.image g.T.TextStore.text g.D.Device.survives g.T.TextStore.survives g.D.Device.failures g.T.TextStore.failures) g.R.Read.remaining)
+      leads = rw none (leads_none (SessionStep (Obeys g.D.Device.honest g.T.TextStore.honest g.D.Device.image g.T.TextStore.text g.D.Device.survives g.T.TextStore.survives g.D.Device.failures g.T.TextStore.failures) Tells g.R.Read.remaining)
           c.args.session.now c.args.list.now);
       counted = counts_none g.D.Device.failures g.T.TextStore.failures c.args.session.now;
       ahead = λ k d above within. c.requires.near k d within;
@@ -26,7 +27,7 @@ loop-command-preserved g c =
     let within : c.loop-command.command-index < length c.loop-command.list = search rules in
     let kept = c.loop-command.invariant in
     record {
-      leads = rw pushed (leads_more (SessionStep (Obeys g.D.Device.honest g.T.TextStore.honest g.D.Device.image g.T.TextStore.text g.D.Device.survives g.T.TextStore.survives g.D.Device.failures g.T.TextStore.failures) g.R.Read.remaining)
+      leads = rw pushed (leads_more (SessionStep (Obeys g.D.Device.honest g.T.TextStore.honest g.D.Device.image g.T.TextStore.text g.D.Device.survives g.T.TextStore.survives g.D.Device.failures g.T.TextStore.failures) Tells g.R.Read.remaining)
           _ c.loop-command.session _ _ c.loop-command.list _ c.loop-command.command-index c.command-item.result _ _ within c.run_one-reply.ensures.runs kept.leads);
       counted = counts_more g.D.Device.failures g.T.TextStore.failures _ c.loop-command.session _ c.loop-command.command-index c.run_one-reply.result kept.counted
           (counts_once g.D.Device.honest g.T.TextStore.honest g.D.Device.image g.T.TextStore.text g.D.Device.survives g.T.TextStore.survives g.D.Device.failures g.T.TextStore.failures g.R.Read.remaining
@@ -39,7 +40,7 @@ loop-command-preserved g c =
 pub returns-clause-each : goal.returns-clause-each
 returns-clause-each g c =
     let all : length c.loop-command.list ≤ c.loop-command.command-index = search rules in
-    leads_all (SessionStep (Obeys g.D.Device.honest g.T.TextStore.honest g.D.Device.image g.T.TextStore.text g.D.Device.survives g.T.TextStore.survives g.D.Device.failures g.T.TextStore.failures) g.R.Read.remaining)
+    leads_all (SessionStep (Obeys g.D.Device.honest g.T.TextStore.honest g.D.Device.image g.T.TextStore.text g.D.Device.survives g.T.TextStore.survives g.D.Device.failures g.T.TextStore.failures) Tells g.R.Read.remaining)
     _ _ _ _ _ c.loop-command.command-index all c.loop-command.invariant.leads
 
 pub returns-clause-run : goal.returns-clause-run

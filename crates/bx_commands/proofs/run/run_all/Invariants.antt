@@ -2,6 +2,7 @@ use Rattle.std.proofs.Common.{◌≡◌, ◌≤◌, length, take, drop, vec_capa
 use Rattle.bx_commands.specs.Command.{IsNear}
 use Rattle.bx_commands.specs.Obeys.{Obeys}
 use Rattle.bx_commands.specs.SessionRun.{SessionStep}
+use Rattle.bx_commands.specs.Tells.{Tells}
 use Rattle.bx_commands.specs.inner.Run.{CountsOn}
 use Rattle.bx_commands.proofs.Runs.{AllAhead}
 use Rattle.bx_commands.proofs.SessionRuns.{LeadsTo}
@@ -9,7 +10,7 @@ use Rattle.bx_commands.proofs.run.run_all.Given as goal
 
 abbrev pub invariant-loop-command : goal.invariant-loop-command
 invariant-loop-command g l = record {
-  leads : LeadsTo (SessionStep (Obeys g.D.Device.honest g.T.TextStore.honest g.D.Device.image g.T.TextStore.text g.D.Device.survives g.T.TextStore.survives g.D.Device.failures g.T.TextStore.failures) g.R.Read.remaining)
+  leads : LeadsTo (SessionStep (Obeys g.D.Device.honest g.T.TextStore.honest g.D.Device.image g.T.TextStore.text g.D.Device.survives g.T.TextStore.survives g.D.Device.failures g.T.TextStore.failures) Tells g.R.Read.remaining)
       l.fn.session l.fn.list (take l.command-index l.list) l.replies.items l.session (drop l.command-index l.list);
   counted : CountsOn g.D.Device.failures g.T.TextStore.failures l.fn.session l.session l.command-index;
   ahead : AllAhead IsNear l.command-index l.list;

@@ -1,4 +1,5 @@
 use Rattle.bx_commands.proofs.Obeys.{perform_obeys, unperformed_obeys}
+use Rattle.bx_commands.proofs.Tells.{change_tells, refused_change_tells}
 use Rattle.bx_commands.proofs.run.run_change.Goals as goal
 
 pub returns-in-Ok : goal.returns-in-Ok
@@ -8,6 +9,7 @@ returns-in-Ok g c =
       obeys = perform_obeys g.D.Device.honest g.T.TextStore.honest g.D.Device.image g.T.TextStore.text g.D.Device.survives g.T.TextStore.survives g.D.Device.failures g.T.TextStore.failures
           c.args.session.now c.perform.new.self c.args.change.now c.args.counts c.in-Ok.number c.made_reply.result c.made_reply.ensures
           e.safe e.accepted e.sound e.undone e.survives;
+      tells = change_tells c.args.session.now c.perform.new.self c.args.counts c.in-Ok.number c.made_reply.result c.made_reply.ensures (e.number.0, e.number.1, e.number.2);
     }
 
 pub returns-in-Err : goal.returns-in-Err
@@ -17,4 +19,5 @@ returns-in-Err g c =
       obeys = unperformed_obeys g.D.Device.honest g.T.TextStore.honest g.D.Device.image g.T.TextStore.text g.D.Device.survives g.T.TextStore.survives g.D.Device.failures g.T.TextStore.failures
           c.args.session.now c.perform.new.self c.args.change.now c.args.counts c.in-Err.fault
           e.safe e.full e.large e.fits e.fitted e.kind e.finds e.survives e.found_before;
+      tells = refused_change_tells c.args.session.now c.perform.new.self c.in-Err.fault e.kind e.full (e.safe.unmoved.0, e.safe.unmoved.1);
     }

@@ -2,18 +2,18 @@ use Rattle.std.proofs.Common.{refl}
 use Rattle.bx_commands.proofs.run.run_one.Goals as goal
 
 pub returns-in-Revert : goal.returns-in-Revert
-returns-in-Revert g c = record { runs = rw (c.in-Revert.is, c.run_dump.ensures.left) (refl, c.run_dump.ensures.obeys) }
+returns-in-Revert g c = record { runs = rw (c.in-Revert.is, c.run_dump.ensures.left) (refl, c.run_dump.ensures.tells, c.run_dump.ensures.obeys) }
 
 pub returns-in-RevertPlain : goal.returns-in-RevertPlain
-returns-in-RevertPlain g c = record { runs = rw (c.in-RevertPlain.is, c.run_plain.ensures.left) (refl, c.run_plain.ensures.obeys) }
+returns-in-RevertPlain g c = record { runs = rw (c.in-RevertPlain.is, c.run_plain.ensures.left) (refl, c.run_plain.ensures.tells, c.run_plain.ensures.obeys) }
 
 pub returns-in-Dd : goal.returns-in-Dd
 returns-in-Dd g c =
     let made = c.change_of_dd-made in
-    record { runs = rw c.in-Dd.is (refl, (made.result, made.ensures, c.run_dd.ensures.obeys)) }
+    record { runs = rw c.in-Dd.is (refl, c.run_dd.ensures.tells, (made.result, made.ensures, c.run_dd.ensures.obeys)) }
 
 pub returns-in-Undo : goal.returns-in-Undo
-returns-in-Undo g c = record { runs = rw c.in-Undo.is (refl, c.run_undo.ensures.obeys) }
+returns-in-Undo g c = record { runs = rw c.in-Undo.is (refl, c.run_undo.ensures.tells, c.run_undo.ensures.obeys) }
 
 pub returns-in-Redo : goal.returns-in-Redo
-returns-in-Redo g c = record { runs = rw c.in-Redo.is (refl, c.run_redo.ensures.obeys) }
+returns-in-Redo g c = record { runs = rw c.in-Redo.is (refl, c.run_redo.ensures.tells, c.run_redo.ensures.obeys) }

@@ -13,4 +13,5 @@ returns g c =
           (rw c.as_slice.ensures at change.ensures.change) (rw c.as_slice.ensures at change.ensures.fault))
           c.run_read.ensures.obeys;
       left = c.drop_text.ensures;
+      tells = c.run_read.ensures.tells;
     }

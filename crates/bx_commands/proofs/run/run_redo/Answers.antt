@@ -1,4 +1,5 @@
 use Rattle.bx_commands.proofs.Obeys.{redo_obeys, unredone_obeys}
+use Rattle.bx_commands.proofs.Tells.{refused_redo_tells}
 use Rattle.bx_commands.proofs.run.run_redo.Goals as goal
 
 pub returns-in-Ok : goal.returns-in-Ok
@@ -8,6 +9,7 @@ returns-in-Ok g c =
       obeys = redo_obeys g.D.Device.honest g.T.TextStore.honest g.D.Device.image g.T.TextStore.text g.D.Device.survives g.T.TextStore.survives g.D.Device.failures g.T.TextStore.failures
           c.args.session.now c.redo.new.self c.args.j c.in-Ok.changes
           e.safe e.accepted e.sound e.survives;
+      tells = (e.number.0, e.number.1, e.number.2);
     }
 
 pub returns-in-Err : goal.returns-in-Err
@@ -17,4 +19,5 @@ returns-in-Err g c =
       obeys = unredone_obeys g.D.Device.honest g.T.TextStore.honest g.D.Device.image g.T.TextStore.text g.D.Device.survives g.T.TextStore.survives g.D.Device.failures g.T.TextStore.failures
           c.args.session.now c.redo.new.self c.args.j c.in-Err.fault
           e.safe e.nothing e.kind e.undamaged e.finds e.survives e.found_before;
+      tells = refused_redo_tells c.args.session.now c.redo.new.self c.args.j c.in-Err.fault e.kind e.nothing (e.safe.unmoved.0, e.safe.unmoved.1);
     }

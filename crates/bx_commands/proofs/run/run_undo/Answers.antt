@@ -1,4 +1,5 @@
 use Rattle.bx_commands.proofs.Obeys.{undo_obeys, kept_obeys}
+use Rattle.bx_commands.proofs.Tells.{refused_undo_tells}
 use Rattle.bx_commands.proofs.run.run_undo.Goals as goal
 
 pub returns-in-Ok : goal.returns-in-Ok
@@ -8,6 +9,7 @@ returns-in-Ok g c =
       obeys = undo_obeys g.D.Device.honest g.T.TextStore.honest g.D.Device.image g.T.TextStore.text g.D.Device.survives g.T.TextStore.survives g.D.Device.failures g.T.TextStore.failures
           c.args.session.now c.undo.new.self c.args.k c.in-Ok.left
           e.safe e.accepted e.sound e.undone e.survives;
+      tells = (e.left.0, e.left.1);
     }
 
 pub returns-in-Err : goal.returns-in-Err
@@ -17,4 +19,5 @@ returns-in-Err g c =
       obeys = kept_obeys g.D.Device.honest g.T.TextStore.honest g.D.Device.image g.T.TextStore.text g.D.Device.survives g.T.TextStore.survives g.D.Device.failures g.T.TextStore.failures
           c.args.session.now c.undo.new.self c.args.k c.in-Err.fault
           e.safe e.few e.kind e.undamaged e.finds e.survives e.found_before;
+      tells = refused_undo_tells c.args.session.now c.undo.new.self c.args.k c.in-Err.fault e.kind e.few (e.safe.unmoved.0, e.safe.unmoved.1);
     }
