@@ -1,5 +1,5 @@
 -- What accepted changes put onto a stack, an undo of as many takes off.
-use Rattle.std.proofs.Common.{◌≡◌, ◌≤◌, inl, inr, ℕ, ◌+◌, zero, suc, Bool, true, false, if◌then◌else◌, nat_le, length-drop, Option, None, Some, Result, Ok, Err, List, [], ◌∷◌, length, drop, refl, sym, ap, ◌∙◌, subst, arith, All}
+use Rattle.std.proofs.Common.{◌≡◌, ◌≤◌, inl, inr, ℕ, ◌+◌, ◌-◌, zero, suc, Bool, true, false, if◌then◌else◌, nat_le, length-drop, Option, None, Some, Result, Ok, Err, List, [], ◌∷◌, length, drop, refl, sym, ap, ◌∙◌, subst, arith, All}
 use Rattle.std.proofs.lemmas.List.{drop-drop}
 use Rattle.bx_image.specs.declared.change.Change.{Change}
 use Rattle.bx_image.specs.declared.change.TheConstants.{MAX_LEN}
@@ -207,3 +207,46 @@ pub redo_gives_back : {R : Type 0} (A : Type 0) (remaining : R → Option (List 
     → (after ≡ start) × (changes ≡ changes_of start.stack)
 redo_gives_back A remaining start undone after k left changes undo redo =
     redo_puts_back k left changes start undone after undo.0.0 redo.0.0 undo.0.1 undo.0.2 redo.0.1 redo.0.2
+
+-- an undo of m and j is one of m, and then one of j
+undone_plus : (m j : ℕ) (stack undone : List (List ℕ)) → m ≤ length stack → undone_by (m + j) stack undone ≡ undone_by j (drop m stack) (undone_by m stack undone)
+undone_plus zero j stack undone within = let same : zero + j ≡ j = omega arith in ap (λ n. undone_by n stack undone) same
+undone_plus (suc m) j [] undone within = absurd (omega (arith, within))
+undone_plus (suc m) j (x ∷ stack) undone within =
+    let next : suc m + j ≡ suc (m + j) = omega arith in
+    ap (λ n. undone_by n (x ∷ stack) undone) next ∙ undone_plus m j stack (with_undone x undone) (omega (arith, within))
+
+-- a redo of the last j of m and j undone
+redo_puts_some : (m j : ℕ) (s : Images) → m + j ≤ length s.stack → j ≤ length (undo_of (m + j) s).undone → redo_of j (undo_of (m + j) s) ≡ undo_of m s
+redo_puts_some m j s within many =
+    let below = drop m s.stack in
+    let over = undone_by m s.stack s.undone in
+    let Made : List (List ℕ) → List (List ℕ) → Images = λ stack undone. record { stack = stack; undone = undone } in
+    let plus = undone_plus m j s.stack s.undone (omega (arith, within)) in
+    let fewer = length-drop m s.stack in
+    let back = comes_back j below over (omega (arith, within, fewer)) (subst (λ undone. j ≤ length undone) plus many) in
+    let dropped : drop (m + j) s.stack ≡ drop j below = sym (drop-drop j m s.stack) in
+    ap (λ stack. redo_of j (Made stack (undone_by (m + j) s.stack s.undone))) dropped ∙ ap (λ undone. redo_of j (Made (drop j below) undone)) plus
+    ∙ ap (λ stack. Made stack (drop j (undone_by j below over))) back.0 ∙ ap (Made below) back.1
+
+redo_of_part : (k j left changes : ℕ) (start now after : Images) (r s : Result ℕ SessionFault) → j ≤ k
+    → Undone left ≡ answered Undone r → UndoUp k start r (Standing.Up now)
+    → Redone changes ≡ answered Redone s → RedoUp j now s (Standing.Up after)
+    → after ≡ undo_of (k - j) start
+redo_of_part k j left changes start now after (Ok n) (Ok m) fewer undo_told p redo_told q =
+    let now_is : now ≡ undo_of k start = ap images_of p.1 ∙ p.3 in
+    let after_is : after ≡ redo_of j now = ap images_of q.1 ∙ q.2.2 in
+    let within : k ≤ changes_of start.stack = p.2.0 in
+    let all : k - j + j ≡ k = omega (arith, fewer) in
+    let same : now ≡ undo_of (k - j + j) start = now_is ∙ ap (λ n. undo_of n start) (sym all) in
+    let many : j ≤ length (undo_of (k - j + j) start).undone = subst (λ s. j ≤ length s.undone) same q.2.0 in
+    after_is ∙ ap (redo_of j) same ∙ redo_puts_some (k - j) j start (omega (arith, within, all)) many
+redo_of_part k j left changes start now after (Err e) s fewer undo_told p redo_told q = absurd (subst IsUndone undo_told tt)
+redo_of_part k j left changes start now after (Ok n) (Err e) fewer undo_told p redo_told q = absurd (subst IsRedone redo_told tt)
+
+pub redo_gives_part : {R : Type 0} (A : Type 0) (remaining : R → Option (List ℕ)) (start undone after : Images) (k j left changes : ℕ) → j ≤ k
+    → StackStep {R = R} {A = A} remaining start (Undo k) (Undone left) undone
+    → StackStep {R = R} {A = A} remaining undone (Redo j) (Redone changes) after
+    → after ≡ undo_of (k - j) start
+redo_gives_part A remaining start undone after k j left changes fewer undo redo =
+    redo_of_part k j left changes start undone after undo.0.0 redo.0.0 fewer undo.0.1 undo.0.2 redo.0.1 redo.0.2

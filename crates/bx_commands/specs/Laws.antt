@@ -1,6 +1,6 @@
 -- Laws of runs.
-use Rattle.std.specs.Prelude.{◌≡◌, ℕ, List, ◌++◌, length, Option, All}
-use Rattle.bx_journal.specs.Images.{Images}
+use Rattle.std.specs.Prelude.{◌≡◌, ◌≤◌, ◌-◌, ℕ, List, ◌++◌, length, Option, All}
+use Rattle.bx_journal.specs.Images.{Images, undo_of}
 use Rattle.bx_journal.specs.Machine.{changes_of}
 use Rattle.bx_commands.specs.declared.command.Command.{Command}
 use Rattle.bx_commands.specs.declared.command.Command.TheVariants.{Undo, Redo}
@@ -52,3 +52,10 @@ RedoGivesBack R A remaining = (start undone after : Images) (k left changes : �
     → StackStep {R = R} {A = A} remaining start (Undo k) (Undone left) undone
     → StackStep {R = R} {A = A} remaining undone (Redo k) (Redone changes) after
     → (after ≡ start) × (changes ≡ changes_of start.stack)
+
+-- an undo of k that is made, and a redo after it of no more than k, lead where an undo of the others does
+abbrev pub RedoGivesPart : (R A : Type 0) → (R → Option (List ℕ)) → Type 0
+RedoGivesPart R A remaining = (start undone after : Images) (k j left changes : ℕ) → j ≤ k
+    → StackStep {R = R} {A = A} remaining start (Undo k) (Undone left) undone
+    → StackStep {R = R} {A = A} remaining undone (Redo j) (Redone changes) after
+    → after ≡ undo_of (k - j) start

@@ -1,5 +1,5 @@
 //! Laws of commands, over their definitions alone.
-ghost use Rattle.bx_commands.specs.Laws.{RedoGivesBack, RunsJoin, StackRunsJoin, StopsInPart, UndoGivesBack, UnfailedRuns};
+ghost use Rattle.bx_commands.specs.Laws.{RedoGivesBack, RedoGivesPart, RunsJoin, StackRunsJoin, StopsInPart, UndoGivesBack, UnfailedRuns};
 
 use std::alloc::Allocator;
 use std::io::Read;
@@ -14,6 +14,12 @@ pub fn undo_gives_back<R: Read, A: Allocator>()
 /// and those that were undone before, so to the same image, its bytes and its length.
 pub fn redo_gives_back<R: Read, A: Allocator>()
     ensures { RedoGivesBack R A R.remaining }
+{}
+
+/// Redo goes in order: an undo of k that is made, and a redo of j after it that is made, where j is at most k, lead to the same
+/// images as an undo of k - j.
+pub fn redo_gives_part<R: Read, A: Allocator>()
+    ensures { RedoGivesPart R A R.remaining }
 {}
 
 /// The runs of two lists, one from where the other ends, are a run of both: so it does not matter whether the session
