@@ -25,7 +25,7 @@ where
 {
     match &dd.plan.input {
         Some(name) => copy_from(rt, dd, image, texts, name.as_str(), file(rt, job, name)?),
-        None => copy_from(rt, dd, image, texts, STANDARD_INPUT, standard(rt, job)?),
+        None => copy_from(rt, dd, image, texts, STANDARD_INPUT, standard(rt, job)),
     }
 }
 

@@ -1,43 +1,14 @@
-//! What a dump or a copy reads: FILE or standard input, moved by a seek behind the bytes that the job skips.
+//! What a dump or a copy reads: FILE, moved by a seek past the bytes that the job skips, or standard input.
 ghost use Rattle.std.specs.Prelude.{IfOk};
 ghost use Rattle.bx_cli.specs.JobBehind.{CanPass};
 
-use crate::stopped::{STANDARD_INPUT, Stopped};
+use crate::stopped::Stopped;
 use bx_cli::{Fault, Job};
 use bx_text::{IoFault, Name};
-use std::fs::{self, File, Metadata};
-use std::io::{self, ErrorKind, Read, Seek, SeekFrom};
+use std::fs::{File, Metadata};
+use std::io::{self, Seek, SeekFrom};
 use std::os::unix::fs::FileTypeExt;
 use std::rt::Files;
-
-/// The file of standard input, under a name.
-const DEVICE: &str = "/dev/stdin";
-
-/// Standard input, with a seek where it is a file. Its place is shared with the programs that read it before and after.
-#[derive(Drop)]
-pub struct StandardInput<I> {
-    reader: I,
-}
-
-impl<I: Read> Read for StandardInput<I> {
-    fn read(&mut self, buf: &mut [u8]) -> io::Result<usize> {
-        self.reader.read(buf)
-    }
-}
-
-impl<I> Seek for StandardInput<I> {
-    fn seek(&mut self, to: SeekFrom) -> io::Result<u64> {
-        let (offset, from) = match to {
-            SeekFrom::Start(at) => (at.cast_signed(), libc::SEEK_SET),
-            SeekFrom::End(offset) => (offset, libc::SEEK_END),
-            SeekFrom::Current(offset) => (offset, libc::SEEK_CUR),
-        };
-        match u64::try_from(libc::lseek(libc::STDIN_FILENO, offset, from)) {
-            Ok(at) => Ok(at),
-            Err(_) => Err(io::Error::from(ErrorKind::NotSeekable)),
-        }
-    }
-}
 
 /// Whether a file has a place for each of its bytes: a regular file or a block device.
 fn has_places(file: io::Result<Metadata>) -> bool {
@@ -77,17 +48,16 @@ pub fn file<'a, R: Files<File = File>>(
     place(file, job, name.as_str(), movable)
 }
 
-/// The same of standard input, from where it stands.
-pub fn standard<R>(rt: &R, job: &Job) -> Result<Placed<StandardInput<R::Reader>>, Stopped<'static>>
+/// Standard input, which has no seek: what the job skips is read.
+pub fn standard<R>(rt: &R, job: &Job) -> Placed<R::Reader>
 where
-    R: Files<File = File> + Input,
-    ensures { IfOk result (λ input. CanPass input.passed job.now) }
+    R: Input,
+    ensures { CanPass result.passed job.now }
 {
-    let reader = StandardInput {
+    Placed {
         reader: rt.reader(),
-    };
-    let movable = has_places(fs::metadata(rt, DEVICE));
-    place(reader, job, STANDARD_INPUT, movable)
+        passed: job.passable(0),
+    }
 }
 
 /// Places a reader, where it can be moved. A seek that fails on the way is a read that does.

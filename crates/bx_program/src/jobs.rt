@@ -292,7 +292,7 @@ where
 {
     let done = match named {
         Some(name) => dump_from(rt.alloc(), job, name.as_str(), file(rt, job, name)?, out)?,
-        None => dump_from(rt.alloc(), job, STANDARD_INPUT, standard(rt, job)?, out)?,
+        None => dump_from(rt.alloc(), job, STANDARD_INPUT, standard(rt, job), out)?,
     };
     match done {
         Done::Dumped(_) => Ok(None),
