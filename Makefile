@@ -83,9 +83,10 @@ hostile: all
 hints: all
 	scripts/hints.py --bx ./bx
 
-# The order in which the files of a command reach the disk, by strace.
+# The order in which the files of a command reach the disk, by strace; and losses of power, played on what bx wrote.
 power: all
 	scripts/power.py --counts --bx ./bx
+	scripts/power_replay.py --bx ./bx
 
 bench: all
 	bench/run.sh
