@@ -143,6 +143,7 @@ COUNTS = [
     ("a refused redo", changes(1), "redo IMAGE", 1, NAMED),
     ("a bad dump", image, "revert -f bad IMAGE", 1, NAMED),
     ("a log", changes(3), "log IMAGE", 0, ""),
+    ("a log that drops an entry", unfinished(HEAD), "log IMAGE", 0, NAMED + SETTLED + "RJ"),
     ("a dump", image, "xxd images/image", 0, ""),
     ("a copy to a stream", image, "dd if=images/image", 0, ""),
     ("a change, -U", nothing, "revert -U -f dump IMAGE", 0, ""),

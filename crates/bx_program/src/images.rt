@@ -79,6 +79,9 @@ where
     }
     look_at_all(rt, image, texts, false, !access.mounted).map_err(Stopped::unrecovered)?;
     let files = existing(rt, image, texts, Purpose::Change).map_err(Stopped::unrecovered)?;
+    if access.durability == Durability::Synced {
+        keep_names(rt, image, texts)?;
+    }
     session_of(rt, files, image, texts, access.durability)
 }
 
