@@ -9,7 +9,7 @@ zsh = $(DESTDIR)$(PREFIX)/share/zsh/$(if $(filter /usr,$(PREFIX)),vendor-complet
 all: bx
 
 bx: FORCE
-	scripts/prove.sh
+	scripts/prove.py
 	cd crates/bx && rt run -- --help > /dev/null
 	cp crates/bx/out/bx bx
 FORCE:

@@ -1,8 +1,8 @@
 #!/usr/bin/env python3
 """Which definitions the public contracts rest on, and whether docs/BELIEVE.md lists them.
 
-A public contract is a clause of an exported function, method, trait or type of the crates below. The names in its clauses
-are followed through specs/. What the contracts of calls meet is what a reader has to believe. A law is a public function that
+A public contract is a clause of an exported function, method, trait or type of bx_cli and of the crates that it stands on
+by crates.txt. The names in its clauses are followed through specs/. What the contracts of calls meet is what a reader has to believe. A law is a public function that
 takes nothing and does nothing, so its clauses are proved of definitions: what laws alone meet is a second reading of them, and
 stands in the page's part D. The page's headings give the order; below each, this script writes the definitions of that file
 with the sentence that stands above them in specs/.
@@ -12,7 +12,10 @@ import pathlib
 import re
 import sys
 
-CRATES = ["bx_text", "bx_read", "bx_image", "bx_store", "bx_dump", "bx_dd", "bx_entries", "bx_journal", "bx_commands", "bx_cli"]
+import crates
+
+# the crate whose calls and those below are public: bx_program only puts them in order
+TOP = "bx_cli"
 # whose calls no other crate exports: their definitions count where a public contract above names them
 INNER = ["bx_entries"]
 # the page's part of what laws alone name
@@ -71,9 +74,15 @@ def parts_of(text):
     return parts
 
 
+def crates_of(root):
+    """the crates whose contracts are public"""
+    listed_there = crates.read(root)
+    return [*crates.below(listed_there, TOP), TOP]
+
+
 def read_specs(root):
     definitions, imports = {}, {}
-    for crate in CRATES:
+    for crate in crates_of(root):
         folder = root / "crates" / crate / "specs"
         for path in sorted(folder.rglob("*.antt")):
             file = str(path.relative_to(folder))[: -len(".antt")].replace("/", ".")
@@ -237,7 +246,7 @@ def main():
     args = parser.parse_args()
     definitions, imports = read_specs(args.root)
     called, said = set(), set()
-    for crate in CRATES:
+    for crate in crates_of(args.root):
         if crate in INNER:
             continue
         of_calls, of_laws = public_names(args.root, crate)
