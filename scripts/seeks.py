@@ -17,6 +17,8 @@ import threading
 import time
 
 ENV = {**os.environ, "LC_ALL": "C"}
+# the greatest number that an operand of bx dd may have
+NUMBER = 2**40 - 1
 SMALL, HUGE, DISK = 5000, 2 * 2**40 + 5000, 64 * 2**20
 PLACES = [0, 512, SMALL - 1, SMALL, SMALL + 1, 5 * 10**9, 2**40 + 3, 2 * 2**40, HUGE - 16, HUGE - 1, HUGE, HUGE + 1]
 
@@ -48,6 +50,8 @@ def words_of(rng, tool, place):
     if tool == "hexdump":
         return ["hexdump", "-C", "-s", str(place), "-n", str(few)]
     ibs = rng.choice([1, 512, 4096, 65536])
+    if place // ibs > NUMBER:
+        ibs = 512
     return ["dd", f"ibs={ibs}", f"skip={place // ibs}", f"count={rng.choice([1, 2])}"]
 
 
