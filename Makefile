@@ -4,7 +4,7 @@ man = $(DESTDIR)$(PREFIX)/share/man/man1
 bash = $(DESTDIR)$(PREFIX)/share/bash-completion/completions
 fish = $(DESTDIR)$(PREFIX)/share/fish/vendor_completions.d
 zsh = $(DESTDIR)$(PREFIX)/share/zsh/$(if $(filter /usr,$(PREFIX)),vendor-completions,site-functions)
-.PHONY: all look test install uninstall package tour pictures check-docs compare record hostile hints power bench clean
+.PHONY: all look test check install uninstall package tour pictures check-docs compare record hostile hints power bench clean
 
 all: bx
 
@@ -44,6 +44,11 @@ check-package: all
 
 # What follows is run by hand and is no part of the gate.
 
+# All of it that says whether something is right, with a line for each: ok, failed, or skipped and why. Of a program that is
+# there already, nothing is built: make check BX=PATH.
+check: $(if $(BX),,all)
+	scripts/check.py --bx $(or $(BX),./bx)
+
 # The commands of README.md and of the recipes, and what they write.
 tour: all
 	scripts/tour.py --bx ./bx
@@ -54,10 +59,12 @@ pictures: all
 	scripts/picture.py --bx ./bx docs/pictures/session.txt docs/pictures/session.svg
 	scripts/states.py --bx ./bx docs/pictures/states.svg
 
-# The options of bx beside those of its help, man page, completions and README.md.
+# The options of bx beside those of its help, man page, completions and README.md; the definitions beside docs/BELIEVE.md; and
+# the phrases that are to go.
 check-docs: all
 	scripts/check-options.py --bx ./bx
 	scripts/believe.py
+	scripts/check-words.py
 
 # What bash, zsh and fish offer, where they are installed.
 check-completions:

@@ -1292,6 +1292,8 @@ failing_calls
 if [ "${RT_TRY:-1 10 40}" != no ] && command -v rt > /dev/null; then
     # shellcheck disable=SC2086
     under_try ${RT_TRY:-1 10 40}
+else
+    echo "left out: memory requests in the toolchain's checked build (no rt, or RT_TRY=no)"
 fi
 echo "$passed cases passed, $failed failed"
 [ "$failed" = 0 ]

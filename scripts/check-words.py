@@ -1,0 +1,95 @@
+#!/usr/bin/env python3
+"""Counts the phrases that are to go from documents and comments, and fails where one stands more often than it may.
+
+Usage: scripts/check-words.py [--where PHRASE] [--lower]
+
+Documents are the .md files and the man page, without code. Comments are those of the crates: of code (module heads and public
+documents too), and of definitions and proofs. The ceilings below may only fall: --lower writes them where a count is under
+its ceiling, with the change that removed the phrase. --where prints each place of a phrase ('..' is an ellipsis).
+"""
+import argparse
+import pathlib
+import re
+import sys
+
+ROOT = pathlib.Path(__file__).resolve().parent.parent
+PHRASES = {
+    "so many": r"\bso(?: |\n {0,3})many\b",
+    "of which": r"\bof(?: |\n {0,3})which\b",
+    "told": r"\btold\b",
+    "be it": r"\bbe(?: |\n {0,3})it\b",
+    "..": r"(?<![\w.)\]}/])\.\.(?![\w.=({/])",
+}
+# for each place the most that there may be of each phrase, in their order
+CEILINGS = {
+    "documents": (24, 22, 20, 2, 5),
+    "comments of code": (173, 43, 17, 0, 2),
+    "comments of definitions": (77, 41, 18, 3, 0),
+}
+
+
+def without_code(text):
+    """A document with its code blocks and code spans left out; lines stay where they are."""
+    text = re.sub(r"^(```+).*?^\1", lambda block: "\n" * block.group().count("\n"), text, flags=re.M | re.S)
+    text = re.sub(r"^(?: {4}|\.\\\").*$", "", text, flags=re.M)
+    return re.sub(r"`[^`\n]*`", "`", text)
+
+
+def comments(text, mark):
+    """The comments of a file, each on its line; all else is left out."""
+    found = (re.search(rf"(?:^|\s){mark}(?:\s(.*))?$", line) for line in text.split("\n"))
+    return re.sub(r"`[^`\n]*`", "`", "\n".join(match and match.group(1) or "" for match in found))
+
+
+def texts():
+    """Each place with its files, and of each what counts of it."""
+    pages = [*sorted(ROOT.glob("*.md")), *sorted((ROOT / "docs").rglob("*.md")), ROOT / "man" / "bx.1"]
+    sources = [path for path in sorted((ROOT / "crates").rglob("*")) if "out" not in path.parts]
+    places = {place: {} for place in CEILINGS}
+    for path in pages:
+        places["documents"][path] = without_code(path.read_text(encoding="utf-8"))
+    for path in sources:
+        if path.suffix == ".rt":
+            places["comments of code"][path] = comments(path.read_text(encoding="utf-8"), "//[/!]?")
+        elif path.suffix == ".antt":
+            places["comments of definitions"][path] = comments(path.read_text(encoding="utf-8"), "--")
+    return places
+
+
+def found_in(files, phrase):
+    """The file and the line of each place of a phrase."""
+    return [(path, text.count("\n", 0, match.start()) + 1) for path, text in files.items() for match in re.finditer(PHRASES[phrase], text, re.I)]
+
+
+def lower(place, counts):
+    """Writes the ceilings of a place in this script where they may fall."""
+    script = pathlib.Path(__file__)
+    lowest = tuple(min(most, count) for most, count in zip(CEILINGS[place], counts))
+    script.write_text(script.read_text(encoding="utf-8").replace(f'"{place}": {CEILINGS[place]}', f'"{place}": {lowest}'), encoding="utf-8")
+
+
+def main():
+    parser = argparse.ArgumentParser(description=__doc__.split("\n", maxsplit=1)[0])
+    parser.add_argument("--where", choices=PHRASES, metavar="PHRASE", help="prints each place of a phrase")
+    parser.add_argument("--lower", action="store_true", help="writes lower ceilings where counts have fallen")
+    options = parser.parse_args()
+    where, bad, total = options.where, [], 0
+    for place, files in texts().items():
+        counts = {phrase: len(found_in(files, phrase)) for phrase in PHRASES}
+        total += sum(counts.values())
+        print(f"{place}: " + ", ".join(f"'{phrase}' {count}" for phrase, count in counts.items()))
+        for (phrase, count), most in zip(counts.items(), CEILINGS[place]):
+            if count > most:
+                bad.append(f"{place}: '{phrase}' stands {count} times, and may {most} times; --where shows them")
+            elif count < most:
+                print(f"the ceiling of '{phrase}' in {place} may fall from {most} to {count}: --lower writes it")
+        if options.lower:
+            lower(place, counts.values())
+        for path, line in found_in(files, where) if where else []:
+            print(f"{path.relative_to(ROOT)}:{line}")
+    print("\n".join(bad) if bad else f"{total} phrases that are to go, none above its ceiling")
+    sys.exit(1 if bad else 0)
+
+
+if __name__ == "__main__":
+    main()
