@@ -4,7 +4,7 @@ man = $(DESTDIR)$(PREFIX)/share/man/man1
 bash = $(DESTDIR)$(PREFIX)/share/bash-completion/completions
 fish = $(DESTDIR)$(PREFIX)/share/fish/vendor_completions.d
 zsh = $(DESTDIR)$(PREFIX)/share/zsh/$(if $(filter /usr,$(PREFIX)),vendor-completions,site-functions)
-.PHONY: all look test check install uninstall package tour pictures check-docs compare record hostile hints power bench clean
+.PHONY: all look test check release install uninstall package tour pictures check-docs compare record hostile hints power bench clean
 
 all: bx
 
@@ -35,6 +35,10 @@ uninstall:
 # A Debian package, in the folder package.
 package: all
 	scripts/package.sh bx package
+
+# Whether version, CHANGELOG.md, man page, authors, package and tag agree; before the tag is made it fails by that alone.
+release: all
+	scripts/release.py --bx ./bx
 
 .PHONY: check-package check-completions
 

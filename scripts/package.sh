@@ -16,12 +16,14 @@ install -D -m 644 completions/_bx "$tree/usr/share/zsh/vendor-completions/_bx"
 install -D -m 644 completions/bx.fish "$tree/usr/share/fish/vendor_completions.d/bx.fish"
 install -D -m 644 man/bx.1 "$tree/usr/share/man/man1/bx.1"
 for page in README.md docs/FORMATS.md docs/RECIPES.md; do install -D -m 644 "$page" "$tree/usr/share/doc/bx/${page##*/}"; done
-date=$(date -R -d "@$(git log -1 --format=%ct)"); maintainer=$(git log -1 --format='%an <%ae>')
-changes=$(awk -v version="## $version" '/^## / { on = ($0 == version) } on && sub(/^- /, "  * ")' CHANGELOG.md |
+day=$(awk -v version="$version" '$1 == "##" && $2 == version { print $4 }' CHANGELOG.md)
+date=$(date -u -R -d "${day:-@$(git log -1 --format=%ct)}"); maintainer=$(git log -1 --format='%an <%ae>')
+changes=$(awk -v version="$version" '/^## / { on = ($2 == version) } on && sub(/^- /, "  * ")' CHANGELOG.md |
   sed 's/ *<!--.*-->//' | fold -s -w 74 | sed -e 's/^[^ ]/    &/' -e 's/ *$//')
 printf 'bx (%s) unstable; urgency=medium\n\n%s\n\n -- %s  %s\n' "$version" "${changes:-  * A version of its own.}" \
   "$maintainer" "$date" > "$tree/usr/share/doc/bx/changelog"
-{ printf 'Format: https://www.debian.org/doc/packaging-manuals/copyright-format/1.0/\n\nFiles: *\nCopyright: 2026 The bx authors\nLicense: Expat\n'
+{ printf 'Format: https://www.debian.org/doc/packaging-manuals/copyright-format/1.0/\n\nFiles: *\n'
+  sed -n 's/^Copyright (c) /Copyright: /p' LICENSE; echo 'License: Expat'
   sed -e '1,/^Copyright/d' -e 's/^$/./' -e 's/^/ /' LICENSE | sed '1{/^ \.$/d}'; } > "$tree/usr/share/doc/bx/copyright"
 gzip -9n "$tree/usr/share/doc/bx/changelog" "$tree/usr/share/man/man1/bx.1"
 
