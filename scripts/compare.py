@@ -3,7 +3,7 @@
 
 Usage: scripts/compare.py [--bx PATH] [--rounds N] [--seed N] [TOOL ...]
 
-Only options on which both tools agree are drawn; README.md lists the differences.
+Only options on which both tools agree are drawn; man/bx.1 lists the differences.
 It runs outside the gate and exits 1 where an output or a status class differs.
 """
 import argparse

@@ -10,7 +10,7 @@ length. dd converts each front of a text, and is run onto images too, as cases o
 of the files, and the head of each its tool and version. With --bx nothing is written, but the cases of words are run by
 a program bx that was built, and each difference is printed.
 
-The expected output, counts and success come from the real tool. What is drawn keeps to the options on which README.md
+The expected output, counts and success come from the real tool. What is drawn keeps to the options on which man/bx.1
 says that bx and the tool agree, by these rules:
 
 - all: each option once, one file at most, options in front of it; a negative number and a number with other bytes

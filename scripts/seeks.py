@@ -56,7 +56,7 @@ def words_of(rng, tool, place):
 
 
 def agrees(tool, place, length):
-    """Whether both tools say the same there: README.md lists where they don't."""
+    """Whether both tools say the same there: man/bx.1 lists where they don't."""
     return tool in ("od", "dd") or place < length
 
 
