@@ -132,7 +132,7 @@ CASES = [
     ("revert imgae", "0: 41\n", None, "imgae: it was missing, so it was made; its journal is imgae.bxj"),
     ("revert -J elsewhere imgae", "0: 41\n", None, "imgae: it was missing, so it was made; its journal is elsewhere"),
     ("revert img", "0: 41\n", None, None),
-    ("revert -", "0: 41\n", None, "-: it was missing, so it was made; its journal is -.bxj\nhint: " + DASH),
+    ("revert -", "0: 41\n", None, "-: it was missing, so it was made; its journal is -.bxj\nhint: - is a file's name here, of an image too"),
     ("revert none.bxj", "0: 41\n", None, "none.bxj: it was missing, so it was made; its journal is none.bxj.bxj\nhint: none.bxj" + TAKEN),
     ("log twin.bxj", "", None, "twin.bxj" + TAKEN),
     ("revert img", "00000000: 4142 7879                                ABxy\n", None, None),

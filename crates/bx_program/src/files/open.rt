@@ -55,21 +55,19 @@ where
 /// Locks a file, without waiting, up to its closing. A lock belongs to one opening, so a file that this run has open under
 /// another name is refused like one that another program holds. Those that only read hold one lock beside one another. Where
 /// the file system has no locks it goes on without.
-fn lock<'a>(file: &File, name: &'a str, purpose: Purpose) -> Result<(), Stopped<'a>> {
+fn lock(file: &File, purpose: Purpose) -> Result<(), TryLockError> {
     let outcome = match purpose {
         Purpose::Read => file.try_lock_shared(),
         Purpose::Change | Purpose::Make(_) => file.try_lock(),
     };
     match outcome {
-        Ok(()) => Ok(()),
         Err(TryLockError::Error(e)) if e.kind() == ErrorKind::Unsupported => Ok(()),
-        Err(TryLockError::Error(e)) => Err(Stopped::unopened(name, e)),
-        Err(TryLockError::WouldBlock) => Err(Stopped::refused(
-            name,
-            "another program has it locked, or it is one of the others by another name",
-        )),
+        outcome => outcome,
     }
 }
+
+/// What is said of a file that is locked.
+const HELD: &str = "another program has it locked, or it is one of the others by another name";
 
 /// Whether the open file is what it has to be, and, now that it is locked, still has its name: another run may have taken it
 /// away before.
@@ -102,14 +100,26 @@ impl<'a> Opened<'a> {
             Ok(opened) => opened,
             Err(error) => return Err(Stopped::unopened(name, error)),
         };
-        lock(&file, name, purpose)?;
         let opened = Opened { file, name, made };
+        opened.hold(rt, purpose)?;
         match is_in_place(rt, name, &opened.file, holds) {
             Ok(true) => Ok(opened),
             Ok(false) => Err(Stopped::refused(name, "another file has its name now")),
             Err(error) => {
                 opened.unmake(rt);
                 Err(Stopped::unopened(name, error))
+            }
+        }
+    }
+
+    /// Locks the file. One that was made and that another run has locked by now stays, since that run goes on with it.
+    fn hold<R: Files<File = File>>(&self, rt: &R, purpose: Purpose) -> Result<(), Stopped<'a>> {
+        match lock(&self.file, purpose) {
+            Ok(()) => Ok(()),
+            Err(TryLockError::WouldBlock) => Err(Stopped::refused(self.name, HELD)),
+            Err(TryLockError::Error(e)) => {
+                self.unmake(rt);
+                Err(Stopped::unopened(self.name, e))
             }
         }
     }

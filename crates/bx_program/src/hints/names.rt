@@ -3,7 +3,7 @@ use bx_cli::{Job, Texts};
 use bx_text::Name;
 
 /// What is said where a file is named as standard input is in other programs.
-pub const DASH: &str = "- is a file's name here; without a name standard input is read";
+const DASH: &str = "- is a file's name here; without a name standard input is read";
 
 /// What is said of an image that is named as texts of images are.
 const TEXT_NAME: &str = "its image has the name of a journal or a redo file";

@@ -1,5 +1,5 @@
 //! What a person may want to know after a success.
-use crate::hints::names::{DASH, image_of, is_of_text};
+use crate::hints::names::{image_of, is_of_text};
 use crate::hints::readers::tell_of_readers;
 use bx_cli::{Job, Texts, unlike_line};
 use bx_text::Name;
@@ -89,7 +89,7 @@ impl Remarks {
             );
         }
         if self.is_new && image == "-" {
-            let _ = eprintln!(rt; "hint: {DASH}");
+            let _ = eprintln!(rt; "hint: - is a file's name here, of an image too");
         }
         if is_of_text(image) {
             let _ = eprintln!(rt;
