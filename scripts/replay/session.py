@@ -49,14 +49,14 @@ class Session:
 
     def run(self, command, unsynced=False, until=None, left_out=None):
         """A command, killed before the call `until`. The sync `left_out` is left out of what is replayed. A sync is named by
-        its file and its number among those of the file, as J0, and a call that writes by its number alone, as W0."""
+        its file and its number among those of the file, as J:0, and a call that writes by its number alone, as W:0."""
         steps, self.fitting = command.steps(self.state), []
         calls = self.trace(command, unsynced)
         self.commands += 1
         seen = collections.Counter()
         for what, letter, *words in calls:
             kind = letter if what == "sync" else "N" if what == "name" else "W"
-            here = f"{kind}{seen[kind]}"
+            here = f"{kind}:{seen[kind]}"
             if here == until:
                 break
             if what == "sync" and not unsynced:
@@ -64,7 +64,7 @@ class Session:
             if here != left_out:
                 self.disk.play(what, letter, *words)
             seen[kind] += 1
-        if left_out and int(left_out[1:]) >= seen[left_out[0]]:
+        if left_out and int(left_out[2:]) >= seen[left_out[0]]:
             raise ValueError(f"{command.words}: no sync {left_out}")
         if until:
             self.kill(steps, seen["W"] > 0, unsynced)
