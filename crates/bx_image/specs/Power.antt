@@ -45,3 +45,7 @@ pub record FadesFrom (n : ℕ) (old new : List ℕ → Type 0) : Type 0 where
 -- whatever is found, each old byte that the change doesn't touch is there
 abbrev pub AllKeepUntouched : {A : Type 0} → Change A → List ℕ → (List ℕ → Type 0) → Type 0
 AllKeepUntouched c x survives = (y : List ℕ) → survives y → KeepsUntouched c x y
+
+-- from an image on the disk, so it is with whatever is found then
+abbrev pub KeepsOnDisk : {A : Type 0} → Change A → List ℕ → (List ℕ → Type 0) → (List ℕ → Type 0) → Type 0
+KeepsOnDisk c x old new = Only x old → AllKeepUntouched c x new

@@ -4,7 +4,7 @@ ghost use Rattle.bx_image.specs.Change.{effect, placed, saved, Restores, Restore
 ghost use Rattle.bx_image.specs.inner.Change.{cut_to, IsPartlyCutTo, KeepsBelowBase};
 ghost use Rattle.bx_image.specs.Device.{GoesOn};
 ghost use Rattle.bx_image.specs.Image.{end_of};
-ghost use Rattle.bx_image.specs.Power.{AllKeepUntouched, Follows, NoMore, Only};
+ghost use Rattle.bx_image.specs.Power.{AllKeepUntouched, Follows, KeepsOnDisk, NoMore, Only};
 
 use crate::{Device, DeviceFailed, TooLarge};
 use bx_text::{Piece, Pieces};
@@ -112,7 +112,7 @@ fn begin<D: Device, A: Allocator>(device: &mut D, change: &Change<A>) -> Result<
     requires room { length (effect change.now []) ≤ D.room device.old }
     ensures leads { D.honest device.old → OnOk result (placed change.now.writes (D.image device.new) ≡ effect change.now (D.image device.old)) }
     ensures kept { D.honest device.old → KeepsUntouched change.now (D.image device.old) (D.image device.new) }
-    ensures survives { D.honest device.old → Only (D.image device.old) (D.survives device.old) → AllKeepUntouched change.now (D.image device.old) (D.survives device.new) }
+    ensures survives { D.honest device.old → KeepsOnDisk change.now (D.image device.old) (D.survives device.old) (D.survives device.new) }
     ensures goes_on { GoesOn D.honest D.room D.failures (is_err result) device.old device.new }
 {
     if replaces_tail(device, change)? {
@@ -142,7 +142,7 @@ pub fn apply<D: Device, A: Allocator>(
     requires room { length (effect change.now []) ≤ D.room device.old }
     ensures ok { D.honest device.old → OnOk result (D.image device.new ≡ effect change.now (D.image device.old)) }
     ensures failed { D.honest device.old → OnErr result (KeepsUntouched change.now (D.image device.old) (D.image device.new)) }
-    ensures survives { D.honest device.old → Only (D.image device.old) (D.survives device.old) → AllKeepUntouched change.now (D.image device.old) (D.survives device.new) }
+    ensures survives { D.honest device.old → KeepsOnDisk change.now (D.image device.old) (D.survives device.old) (D.survives device.new) }
     ensures taken_back { D.honest device.old → IsAsGood (saved change.now (D.image device.old)) (D.image device.old) (D.image device.new) }
     ensures restores { D.honest device.old → RestoresBy change.now result (D.image device.old) (D.image device.new) }
     ensures again { D.honest device.old → (s : _) → Restores change.now s → Covers s (D.image device.old) → IsAsGood s (D.image device.old) (D.image device.new) }
