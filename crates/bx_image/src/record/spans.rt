@@ -1,9 +1,12 @@
 //! The addresses that a change touches, as ranges by rising address.
-ghost use Rattle.std.specs.Prelude.{◌≡◌, ◌<◌, ◌+◌, ◌&&◌, ◌||◌, ℕ, min, nat_lt, length, unwrap_or, IfOk, OnOk};
+ghost use Rattle.std.specs.Prelude.{◌≡◌, ◌<◌, ◌+◌, ◌&&◌, ◌||◌, ℕ, List, min, nat_lt, length, unwrap_or, IfOk, OnOk};
 ghost use Rattle.std.specs.List.Sorted.{IsPermutation, IsNonDecreasingBy};
+ghost use Rattle.bx_image.specs.Change.{saved};
+ghost use Rattle.bx_image.specs.Over.{saved_over};
 ghost use Rattle.bx_image.specs.inner.Change.{is_cut_off, is_covered};
 ghost use Rattle.bx_image.specs.inner.Spans.{are_over, with_span, LieWithin, AreApart};
 
+use crate::Change;
 use bx_text::Piece;
 use std::alloc::{AllocError, Allocator};
 
@@ -28,6 +31,18 @@ pub fn touched<A: Allocator + Clone>(
     let mut spans = collected(alloc.clone()?, base, writes, len)?;
     sort(&mut spans);
     merged(alloc, spans.as_slice(), len)
+}
+
+/// Where what `save` would read of an image of this length stands.
+pub fn touched_by<A: Allocator + Clone>(
+    alloc: A,
+    change: &Change<A>,
+    len: u64,
+) -> Result<Vec<Span, A>, AllocError>
+    ensures saved { IfOk result (λ spans. (x : List ℕ) → length x ≡ len → saved_over x spans.items ≡ saved change.now x) }
+    ensures within { IfOk result (λ spans. LieWithin len spans.items) }
+{
+    touched(alloc, change.base, change.writes.as_slice(), len)
 }
 
 // In the order of the base and the writes.
