@@ -1,10 +1,9 @@
 -- The bytes of an image in some ranges.
-use Rattle.std.proofs.Common.{◌≡◌, ℕ, suc, ◌+◌, ◌-◌, ◌<◌, ◌≤◌, List, [], ◌∷◌, length, map, take, drop, refl, sym, ◌∙◌, ap, arith, length-take, length-drop}
-use Rattle.bx_text.specs.declared.owned.pieces.Piece.{Piece}
+use Rattle.std.proofs.Common.{◌≡◌, ℕ, suc, ◌+◌, ◌-◌, ◌<◌, ◌≤◌, List, [], ◌∷◌, length, map, take, drop, refl, arith, length-take, length-drop}
 use Rattle.bx_image.specs.declared.record.spans.Span.{Span}
 use Rattle.bx_image.specs.Runs.{AreRunsOf}
-use Rattle.bx_image.specs.Over.{run_over}
-use Rattle.bx_image.specs.inner.Spans.{LieWithin, StandOver}
+use Rattle.bx_image.specs.Over.{run_over, LieWithin}
+use Rattle.bx_image.specs.inner.Spans.{StandOver}
 use Rattle.bx_image.proofs.Runs.{IsRunOf-read}
 
 run_long : (x : List ℕ) (s : Span) → s.at < s.end → s.end ≤ length x → s.at + length (take (s.end - s.at) (drop s.at x)) ≡ s.end

@@ -1,9 +1,9 @@
 -- What may be found after a loss of power, call by call.
-use Rattle.std.proofs.Common.{◌≡◌, ◌<◌, ◌≤◌, ℕ, ◌+◌, ◌-◌, ◌⊎◌, inl, inr, min, false, List, [], ◌∷◌, ◌++◌, length, take, drop, slice_index, ap, sym, subst, ◌∙◌, refl, arith}
+use Rattle.std.proofs.Common.{◌≡◌, ◌<◌, ◌≤◌, ℕ, ◌+◌, ◌-◌, ◌⊎◌, inl, inr, min, List, [], ◌∷◌, ◌++◌, length, take, drop, slice_index, ap, sym, subst, ◌∙◌, refl, arith}
 use Rattle.std.proofs.lemmas.Bool.{cases_lt}
-use Rattle.std.proofs.lemmas.List.{places, length-take, take_rest, append_assoc, take-append-drop}
+use Rattle.std.proofs.lemmas.List.{places, take_rest, append_assoc, take-append-drop}
 use Rattle.bx_image.specs.Image.{place, cut}
-use Rattle.bx_image.specs.Power.{Only, NoMore, Follows, KeepsOutside, KeepsBelow, IsFaded, AllFade, FadesBehind, FadesFrom}
+use Rattle.bx_image.specs.Power.{NoMore, Follows, KeepsOutside, KeepsBelow, IsFaded, AllFade, FadesBehind, FadesFrom}
 use Rattle.bx_image.proofs.Images.{same_image, length-place, length-cut, slice_index-cut, slice_index-place_within, slice_index-place_below, slice_index-place_above}
 
 pub NoMore_then : (P Q R : List ℕ → Type 0) → NoMore P Q → NoMore Q R → NoMore P R

@@ -1,8 +1,8 @@
 -- What a change doesn't touch is found after a loss of power.
-use Rattle.std.proofs.Common.{◌≡◌, ◌<◌, ◌≤◌, ℕ, false, min, Option, None, Some, List, length, get_or, slice_index, subst, ◌∙◌, refl, arith}
+use Rattle.std.proofs.Common.{◌≡◌, ◌<◌, ℕ, min, Option, None, Some, List, length, get_or, subst, ◌∙◌, refl, arith}
 use Rattle.bx_text.specs.declared.owned.pieces.Piece.{Piece}
 use Rattle.bx_image.specs.declared.change.Change.{Change}
-use Rattle.bx_image.specs.Change.{touches, KeepsUntouched}
+use Rattle.bx_image.specs.Change.{KeepsUntouched}
 use Rattle.bx_image.specs.Power.{Only, NoMore, Follows, KeepsOutside, KeepsBelow, AllKeepUntouched}
 use Rattle.bx_image.specs.inner.Change.{KeepsBelowBase}
 use Rattle.bx_image.proofs.Changes.{KeepsUntouched_refl, untouched_outside, untouched_below}

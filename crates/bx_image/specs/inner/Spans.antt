@@ -1,6 +1,6 @@
 -- Ranges of addresses.
-use Rattle.std.specs.Prelude.{◌<◌, ◌≤◌, ℕ, Bool, ◌&&◌, nat_le, nat_lt, ◌+◌, ◌≡◌, List, [], ◌∷◌, ◌++◌, length, if◌then◌else◌}
-use Rattle.std.specs.List.{list_any, All}
+use Rattle.std.specs.Prelude.{◌<◌, ℕ, Bool, ◌&&◌, nat_le, nat_lt, ◌+◌, ◌≡◌, List, [], ◌∷◌, ◌++◌, length, if◌then◌else◌}
+use Rattle.std.specs.List.{list_any}
 use Rattle.bx_text.specs.declared.owned.pieces.Piece.{Piece}
 use Rattle.bx_image.specs.declared.record.spans.Span.{Span}
 
@@ -15,14 +15,6 @@ are_over spans i = list_any (λ s. is_between s.at s.end i) spans
 -- the ranges and one more, if it has an address
 unfoldable pub with_span : ℕ → ℕ → List Span → List Span
 with_span at end spans = if nat_lt at end then spans ++ record { at = at; end = end } ∷ [] else spans
-
--- the range has an address, and ends within the length
-pub record IsWithin (len : ℕ) (s : Span) : Type 0 where
-  pub some : s.at < s.end
-  pub within : s.end ≤ len
-
-abbrev pub LieWithin : ℕ → List Span → Type 0
-LieWithin len spans = All (IsWithin len) spans
 
 -- the first range begins above an address
 abbrev pub BeginAfter : ℕ → List Span → Type 0

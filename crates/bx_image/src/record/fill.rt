@@ -6,7 +6,8 @@ ghost use Rattle.bx_image.specs.Device.{GoesOn};
 ghost use Rattle.bx_image.specs.Image.{zeros};
 ghost use Rattle.bx_image.specs.Power.{NoMore};
 ghost use Rattle.bx_image.specs.Runs.{IsRunOf, AreRunsOf, LieBelow, HaveShape, IsSavedAnew};
-ghost use Rattle.bx_image.specs.inner.Spans.{LieWithin, StandOver};
+ghost use Rattle.bx_image.specs.Over.{LieWithin};
+ghost use Rattle.bx_image.specs.inner.Spans.{StandOver};
 
 use crate::record::spans::{Span, touched};
 use crate::record::{Saved, are_bytes};

@@ -2,9 +2,9 @@
 ghost use Rattle.std.specs.Prelude.{◌≡◌, ◌<◌, ◌+◌, ◌&&◌, ◌||◌, ℕ, List, min, nat_lt, length, unwrap_or, IfOk, OnOk};
 ghost use Rattle.std.specs.List.Sorted.{IsPermutation, IsNonDecreasingBy};
 ghost use Rattle.bx_image.specs.Change.{saved};
-ghost use Rattle.bx_image.specs.Over.{saved_over};
+ghost use Rattle.bx_image.specs.Over.{saved_over, LieWithin};
 ghost use Rattle.bx_image.specs.inner.Change.{is_cut_off, is_covered};
-ghost use Rattle.bx_image.specs.inner.Spans.{are_over, with_span, LieWithin, AreApart};
+ghost use Rattle.bx_image.specs.inner.Spans.{are_over, with_span, AreApart};
 
 use crate::Change;
 use bx_text::Piece;
@@ -33,7 +33,11 @@ pub fn touched<A: Allocator + Clone>(
     merged(alloc, spans.as_slice(), len)
 }
 
-/// Where what `save` would read of an image of this length stands.
+/// The ranges that `save` would read of an image of `len` bytes: those that the change overwrites or cuts off. They rise by
+/// address, none is empty, and no two touch.
+///
+/// # Errors
+/// `AllocError` where a growth is refused.
 pub fn touched_by<A: Allocator + Clone>(
     alloc: A,
     change: &Change<A>,

@@ -1,6 +1,6 @@
 use Rattle.std.proofs.Common.{[], arith}
 use Rattle.bx_image.proofs.Changes.{base_le-effect, placed_onto, KeepsUntouched_base}
-use Rattle.bx_image.proofs.Untouched.{AllKeepUntouched_base, AllKeepUntouched_none}
+use Rattle.bx_image.proofs.Untouched.{AllKeepUntouched_base}
 use Rattle.bx_image.proofs.change.begin.Goals as goal
 
 pub set_base-requires-clause-room : goal.set_base-requires-clause-room

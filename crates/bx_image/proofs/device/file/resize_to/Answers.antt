@@ -1,7 +1,6 @@
-use Rattle.std.proofs.Common.{rules, ◌∙◌, ap, length, min}
+use Rattle.std.proofs.Common.{rules}
 use Rattle.bx_image.proofs.Files.{IsCutOnTheWay_none}
-use Rattle.bx_image.specs.Power.{KeepsBelow}
-use Rattle.bx_image.proofs.Survivors.{Follows_then, Follows_same, KeepsBelow_refl, KeepsBelow_then, FadesFrom_then, Follows_below}
+use Rattle.bx_image.proofs.Survivors.{FadesFrom_then, Follows_below}
 use Rattle.bx_image.proofs.device.file.resize_to.Goals as goal
 
 pub returns-clause-failed : goal.returns-clause-failed

@@ -1,4 +1,4 @@
-use Rattle.std.proofs.Common.{arith, sym, ◌+◌, ◌-◌, ◌≤◌, length, take, drop}
+use Rattle.std.proofs.Common.{arith, sym, length}
 use Rattle.std.proofs.lemmas.Grind.{common_steps}
 use Rattle.bx_image.proofs.Files.{placed_on, IsFrontPlaced_on}
 use Rattle.bx_image.proofs.Changes.{OnErr-known}

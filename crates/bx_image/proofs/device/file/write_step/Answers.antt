@@ -1,4 +1,4 @@
-use Rattle.std.proofs.Common.{rules, ◌≡◌, ◌↔◌, ◌∙◌, length, refl, arith}
+use Rattle.std.proofs.Common.{rules, length, refl}
 use Rattle.bx_image.proofs.Files.{IsFrontPlaced_none}
 use Rattle.bx_image.specs.Power.{KeepsOutside}
 use Rattle.bx_image.proofs.Survivors.{FadesBehind_same, Follows_then, Follows_same, KeepsOutside_refl, KeepsOutside_then, FadesBehind_of, FadesBehind_then}

@@ -4,7 +4,7 @@ use Rattle.std.proofs.lemmas.Grind.{common_steps}
 use Rattle.std.proofs.lemmas.List.{take_all}
 use Rattle.std.proofs.lemmas.List.Elements.{All-nil}
 use Rattle.bx_image.specs.declared.record.spans.Span.{Span}
-use Rattle.bx_image.specs.inner.Spans.{IsWithin}
+use Rattle.bx_image.specs.Over.{IsWithin}
 use Rattle.bx_image.proofs.SpanLemmas.{are_over-none, are_over-more, are_over-with_span, LieWithin-with_span, over_next, over_joined, apart_later, apart-next, apart-all}
 use Rattle.bx_image.proofs.record.spans.merged.Goals as goal
 use Rattle.bx_image.proofs.record.spans.merged.Goals.{then-has_gap+in_ok-push, else-has_gap}

@@ -1,7 +1,7 @@
 use Rattle.std.proofs.Common.{◌∙◌, Result, Ok, Err}
 use Rattle.std.specs.Prelude.{IfOk}
 use Rattle.std.proofs.lemmas.List.Sorted.{All-permutation}
-use Rattle.bx_image.specs.inner.Spans.{IsWithin}
+use Rattle.bx_image.specs.Over.{IsWithin}
 use Rattle.bx_image.proofs.SpanLemmas.{are_over-permutation}
 use Rattle.bx_image.proofs.record.spans.touched.Goals as goal
 

@@ -1,8 +1,7 @@
-use Rattle.std.proofs.Common.{◌≡◌, ◌∙◌, ◌&&◌, ap, List, ℕ, length, Result, Ok, Err, refl, sym, subst}
+use Rattle.std.proofs.Common.{◌∙◌, ◌&&◌, ap, ℕ, length, Result, Ok, Err, refl, sym, subst}
 use Rattle.std.specs.Prelude.{IfOk, nat_lt}
 use Rattle.bx_image.specs.Change.{touches}
-use Rattle.bx_image.specs.Over.{saved_over}
-use Rattle.bx_image.specs.inner.Spans.{LieWithin}
+use Rattle.bx_image.specs.Over.{saved_over, LieWithin}
 use Rattle.bx_image.proofs.OverLemmas.{stand_over, runs_over}
 use Rattle.bx_image.proofs.Runs.{saved-runs}
 use Rattle.bx_image.proofs.SpanLemmas.{over_change}
