@@ -39,3 +39,17 @@ fades_step b c d whole rest old mid p P Q R paged first next is more =
 pub fades_last : (b old mid p : List ℕ) (P Q R : List ℕ → Type 0) → IsPaged b old mid p → FadesBehind old b P Q → FadesBehind mid p Q R → FadesBehind old b P R
 fades_last b old mid p P Q R paged first next =
     fades_is old (b ++ []) b P R (append-nil b) (fades_behind b [] old mid p P Q R paged first (fades_is mid p (p ++ []) Q R (sym (append-nil p)) next))
+
+-- one page more, where it was known what all of the text is
+pub fades_within : (b rest whole old mid p : List ℕ) (P Q R : List ℕ → Type 0) → b ++ rest ≡ whole → IsPaged b old mid p → FadesBehind old whole P Q → FadesBehind mid p Q R
+    → FadesBehind old whole P R
+fades_within b rest whole old mid p P Q R is paged first next =
+    let put : mid ++ p ≡ old ++ b = ap (λ (l : List ℕ). l ++ p) paged.text_is ∙ append_assoc old paged.added p ∙ ap (λ (l : List ℕ). old ++ l) paged.bytes_are in
+    let all : mid ++ p ++ rest ≡ old ++ whole = ap (λ (l : List ℕ). l ++ rest) put ∙ append_assoc old b rest ∙ ap (λ (l : List ℕ). old ++ l) is in
+    record {
+      fade = λ n more.
+          let same : mid ++ p ++ (rest ++ more) ≡ old ++ whole ++ more = sym (append_assoc (mid ++ p) rest more) ∙ ap (λ (l : List ℕ). l ++ more) all in
+          let T : List ℕ → Type 0 = λ w. AllFade n w Q → AllFade n w R in
+          let after = subst T same (next.fade n (rest ++ more)) in
+          λ before. after (first.fade n more before);
+    }

@@ -16,6 +16,8 @@ pub mod LogLemmas
 pub mod Performed
 pub mod SavedBound
 pub mod PageLemmas
+pub mod LookLemmas
+pub mod RangeLemmas
 pub mod FadeLemmas
 pub mod StepSurvivors
 pub mod ImageLemmas

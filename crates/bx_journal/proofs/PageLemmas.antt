@@ -2,7 +2,7 @@
 use Rattle.std.proofs.Common.{◌≡◌, ℕ, ◌+◌, ◌≤◌, min, List, [], ◌++◌, length, map, take, drop, refl, ap, sym, ◌∙◌, arith, append_assoc, append-nil, length-append, subst, Result, Ok, Err}
 use Rattle.std.specs.Prelude.{OnErr}
 use Rattle.std.specs.List.{range_with_len}
-use Rattle.std.proofs.lemmas.List.{take-append-drop, take-append-le, take_min, take_at}
+use Rattle.std.proofs.lemmas.List.{take-append-drop, take-append-le, take_all, take_min, take_at}
 use Rattle.bx_store.specs.Store.{IsPartlyAppended}
 use Rattle.bx_entries.specs.Kept.{Run}
 use Rattle.bx_entries.specs.inner.Entry.{rows_text, row}
@@ -87,3 +87,7 @@ rows_grown text bytes run k n old new p q same is paged =
     let more : List ℕ = rows_text (map (row run) (range_with_len k n)) in
     let all : q ≡ p ++ more = is ∙ ap (λ b. p ++ rows_text (map (row (record { at = run.at; bytes = b })) (range_with_len k n))) same in
     paged_is _ _ _ _ _ (append_assoc text done more ∙ ap (λ t. text ++ t) (sym (rows_split run k n))) (paged_grown (text ++ done) more old new p q paged all)
+
+-- what was appended whole is a front of itself
+pub part_all : (b old new : List ℕ) → new ≡ old ++ b → IsPartlyAppended b old new
+part_all b old new is = (length b, is ∙ ap (λ t. old ++ t) (sym (take_all (length b) b (omega arith))))

@@ -1,4 +1,5 @@
 -- What no public contract names.
+pub mod Begun
 pub mod Calls
 pub mod Devices
 pub mod Entries
@@ -8,6 +9,7 @@ pub mod Judging
 pub mod Opening
 pub mod Page
 pub mod Phase
+pub mod Ranges
 pub mod Recovering
 pub mod Recovery
 pub mod Redo

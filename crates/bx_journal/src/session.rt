@@ -14,7 +14,7 @@ mod redo;
 mod undo;
 
 use crate::SessionFault;
-use crate::protocol::entry::write_entry;
+use crate::protocol::entry::write_change;
 use crate::protocol::redo_text::RedoCut;
 use crate::session::prepare::prepare_change;
 use bx_entries::MOST_CHANGES;
@@ -111,15 +111,19 @@ impl<D: Device, T: TextStore, A: Allocator + Clone> Session<D, T, A> {
             change,
             number,
         )?;
+        let ranges = ready.head.ranges.as_slice();
+        let window = ready.head.window.as_mut_slice();
         let line = ready.end.as_bytes();
-        match write_entry(
+        match write_change(
             &mut self.device,
             &mut self.store,
             &mut self.redo_text,
-            &mut ready.page,
+            &mut ready.head.page,
+            window,
+            ranges,
+            ready.head.place,
             change,
             number,
-            &ready.kept,
             line,
             RedoCut::All,
         ) {

@@ -1,9 +1,8 @@
 -- What the steps of a change start from.
-use Rattle.std.specs.Prelude.{◌≡◌, ◌⊎◌, ◌≤◌, ◌+◌, ℕ, List, ◌∷◌, length, Result, OnOk, OnErr}
+use Rattle.std.specs.Prelude.{◌≡◌, ◌⊎◌, ◌≤◌, ℕ, List, ◌∷◌, length, Result, OnOk, OnErr}
 use Rattle.bx_entries.specs.Kept.{Kept, kept_of}
 use Rattle.bx_image.specs.declared.change.Change.{Change}
 use Rattle.bx_image.specs.declared.change.TheConstants.{MAX_LEN}
-use Rattle.bx_image.specs.declared.record.Saved.{Saved}
 use Rattle.bx_image.specs.Change.{effect, saved, IsOf}
 use Rattle.bx_entries.specs.declared.format.version.Version.TheVariants.{Second}
 use Rattle.bx_entries.specs.Entry.{head_text, end_text}
@@ -50,10 +49,6 @@ pub record HasTail (text x : List ℕ) (stack : List (List ℕ)) (entries : List
   pub lengths : HaveLengths entries (image_at stage x)
   pub stack_is : stack_of entries (image_at stage x) ≡ stack
   pub mark : IsMark text n (record { entries = entries; stage = Between })
-
--- behind the text there is room for an entry's head and end
-abbrev pub HasEntryRoom : {A : Type 0} → List ℕ → ℕ → Saved A → List ℕ → ℕ → Type 0
-HasEntryRoom text number kept end_line room = length text + length (head_text number (kept_of kept)) + length end_line ≤ room
 
 -- with the head of an entry behind it a text at rest is open on what the head keeps
 abbrev pub HeadOpens : {V E : Type 0} → List ℕ → List ℕ → List ℕ → Result V E → Type 0

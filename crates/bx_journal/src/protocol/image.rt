@@ -1,32 +1,14 @@
-//! Saving and restoring, in the journal's own records.
-ghost use Rattle.std.specs.Prelude.{◌≡◌, ◌<◌, ◌≤◌, [], map, length, IfOk, OnOk, IsErrOf, is_err};
-ghost use Rattle.bx_image.specs.Change.{effect, saved, restore, AllWithin, Covers, IsOf, IsAsGood};
-ghost use Rattle.bx_image.specs.Device.{GoesOn, has_failed};
-ghost use Rattle.bx_image.specs.Power.{NoMore, Only};
+//! Changing and restoring the image.
+ghost use Rattle.std.specs.Prelude.{◌≡◌, ◌<◌, ◌≤◌, [], map, length, OnOk, is_err};
+ghost use Rattle.bx_image.specs.Change.{effect, saved, restore, AllWithin, Covers, IsAsGood};
+ghost use Rattle.bx_image.specs.Device.{GoesOn};
+ghost use Rattle.bx_image.specs.Power.{Only};
 ghost use Rattle.bx_entries.specs.Kept.{run_of, kept_of};
 ghost use Rattle.bx_journal.specs.inner.Fading.{AllAsGood, AllStayOpen, AllStayOpenFor};
 ghost use Rattle.bx_journal.specs.inner.Phase.{RecoversOpenFor, RecoversOpenOn, StaysOpen, StaysOpenFor};
 
-use bx_image::{Change, Device, DeviceFailed, ImageFault, Saved, apply, save};
+use bx_image::{Change, Device, DeviceFailed, Saved, apply};
 use std::alloc::Allocator;
-
-/// Reads what a change takes from the image.
-pub fn save_image<D: Device, A: Allocator + Clone>(
-    alloc: A,
-    device: &mut D,
-    change: &Change<A>,
-) -> Result<Saved<A>, ImageFault>
-    requires countable { D.failures device.old < u64.MAX }
-    ensures saved { D.honest device.old → IfOk result (λ s. kept_of s ≡ kept_of (saved change.now (D.image device.old))) }
-    ensures kept { D.honest device.old → IfOk result (λ s. IsOf (kept_of s) (D.image device.old)) }
-    ensures within { IfOk result (λ s. AllWithin s.len s.runs) }
-    ensures image { D.honest device.old → D.image device.new ≡ D.image device.old }
-    ensures survives { D.honest device.old → NoMore (D.survives device.old) (D.survives device.new) }
-    ensures never_too_large { IsErrOf result ImageFault.TooLarge → ⊥ }
-    ensures goes_on { GoesOn D.honest D.room D.failures (has_failed result) device.old device.new }
-{
-    save(alloc, device, change)
-}
 
 /// Changes the image, and puts it on the disk. Whatever it answers, what was saved gives the old image back, so a pair that is open on it
 /// stays open.

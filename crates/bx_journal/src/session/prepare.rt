@@ -1,34 +1,34 @@
 //! What a change takes before its first write.
-ghost use Rattle.std.specs.Prelude.{◌≡◌, ◌↔◌, ◌+◌, ◌<◌, ◌≤◌, [], length, vec_capacity, IfOk, IfErr, OnOk, IsErrOf};
-ghost use Rattle.bx_image.specs.Change.{effect, saved, AllWithin, Fits, IsOf};
-ghost use Rattle.bx_entries.specs.Kept.{kept_of};
+ghost use Rattle.std.specs.Prelude.{◌≡◌, ◌↔◌, ◌+◌, ◌<◌, ◌≤◌, [], length, IfOk, IfErr, OnOk, IsErrOf};
+ghost use Rattle.bx_image.specs.Change.{effect, Fits};
 ghost use Rattle.bx_entries.specs.Entry.{end_text};
 ghost use Rattle.bx_journal.specs.Power.{FoundBefore};
+ghost use Rattle.bx_journal.specs.inner.Begun.{BeginsEntry, IsHead};
 ghost use Rattle.bx_journal.specs.inner.Devices.{AreCounted, AreUnfailed};
+ghost use Rattle.bx_journal.specs.inner.Ranges.{rest_len};
 ghost use Rattle.bx_journal.specs.inner.Standing.{PrepareFault};
-ghost use Rattle.bx_journal.specs.inner.Step.{HasEntryRoom};
 ghost use Rattle.bx_journal.specs.inner.Written.{AreSettled};
 
+pub(crate) mod head;
 pub(crate) mod records;
 
 use crate::SessionFault;
-use crate::protocol::image::save_image;
 use crate::protocol::settle::settle;
-use bx_entries::{Words, entry_end, head_len, new_page};
-use bx_image::{Change, Device, MAX_LEN, Saved, check};
+use crate::session::prepare::head::{Head, begin_change};
+use bx_entries::{Words, entry_end};
+use bx_image::{Change, Device, MAX_LEN, check};
 use bx_store::TextStore;
 use std::alloc::{Allocator, Global};
 
-/// What was saved of the image, an empty page for the entry's text, and the line that ends the entry.
+/// The head of the entry, begun, and the line that ends the entry.
 #[derive(Drop)]
 pub struct Prepared<A: Allocator = Global> {
-    pub kept: Saved<A>,
-    pub page: Vec<u8, A>,
+    pub head: Head<A>,
     pub end: Words,
 }
 
-/// Checks a change, saves what it takes, and makes room for it and for its entry of this number, and
-/// puts on the disk what all three have. It changes nothing.
+/// Checks a change, looks at what it overwrites, makes room for it and for its entry of this number, begins the entry's text,
+/// and puts on the disk what all three have. It changes nothing.
 pub fn prepare_change<D: Device, T: TextStore, A: Allocator + Clone>(
     alloc: &A,
     device: &mut D,
@@ -40,16 +40,14 @@ pub fn prepare_change<D: Device, T: TextStore, A: Allocator + Clone>(
     requires device_countable { D.failures device.old < u64.MAX }
     requires store_countable { T.failures store.old < u64.MAX }
     requires redo_countable { T.failures redo.old < u64.MAX }
-    ensures saved { D.honest device.old → IfOk result (λ p. kept_of p.kept ≡ kept_of (saved change.now (D.image device.old))) }
-    ensures kept { D.honest device.old → IfOk result (λ p. IsOf (kept_of p.kept) (D.image device.old)) }
+    ensures head { IfOk result (λ p. IsHead p.head) }
+    ensures begins { D.honest device.old → IfOk result (λ p. BeginsEntry change.now (D.image device.old) number p.head) }
     ensures fits { D.honest device.old → IfOk result (λ p. Fits change.now (length (D.image device.old)) MAX_LEN) }
     ensures bound { D.honest device.old → IfOk result (λ p. length (effect change.now (D.image device.old)) ≤ MAX_LEN) }
     ensures end { D.honest device.old → IfOk result (λ p. p.end ≡ end_text number (length (effect change.now (D.image device.old)))) }
-    ensures within { IfOk result (λ p. AllWithin p.kept.len p.kept.runs) }
-    ensures empty { IfOk result (λ p. p.page.items ≡ []) }
-    ensures page_room { IfOk result (λ p. 82 ≤ vec_capacity p.page) }
     ensures image_room { OnOk result (length (effect change.now []) ≤ D.room device.new) }
-    ensures text_room { T.honest store.old → IfOk result (λ p. HasEntryRoom (T.text store.new) number p.kept p.end (T.room store.new)) }
+    ensures text_room { T.honest store.old → IfOk result
+        (λ p. length (T.text store.new) + length p.head.page.items + rest_len p.head.ranges.items p.head.place + 14 + length p.end ≤ T.room store.new) }
     ensures settled { D.honest device.old → T.honest store.old → T.honest redo.old
         → OnOk result (AreSettled D.image T.text D.survives T.survives device.new store.new redo.new) }
     ensures large { D.honest device.old → IsErrOf result SessionFault.TooLarge → Fits change.now (length (D.image device.old)) MAX_LEN → ⊥ }
@@ -67,16 +65,14 @@ pub fn prepare_change<D: Device, T: TextStore, A: Allocator + Clone>(
 {
     let len = device.len()?;
     let after = check(change, len)?;
-    let kept = save_image(alloc.clone()?, device, change)?;
-    let head = head_len(&kept);
+    let head = begin_change(alloc, device, change, number, len)?;
     let end = entry_end(number, after);
-    let page = new_page(alloc.clone()?, head)?;
     device.reserve(after)?;
     let text_len = store.len()?;
     let most = text_len
-        .saturating_add(head)
+        .saturating_add(head.len)
         .saturating_add(end.as_bytes().len() as u64);
     store.reserve(most)?;
     settle(device, store, redo)?;
-    Ok(Prepared { kept, page, end })
+    Ok(Prepared { head, end })
 }

@@ -43,7 +43,7 @@ pub fn put_head<T: TextStore, A: Allocator>(
 }
 
 /// Puts a line with its newline.
-fn put_words<T: TextStore, A: Allocator>(
+pub fn put_words<T: TextStore, A: Allocator>(
     store: &mut T,
     page: &mut Vec<u8, A>,
     line: Words,

@@ -1,5 +1,8 @@
-//! A change that is stopped between two pages of its entry.
-use crate::journal::reads::{Ask, Held, MemTrio, WHOLE, assert_held, found, held, reopened, sit};
+//! A change that is stopped before or between the pages of its entry.
+use crate::journal::reads::{
+    Ask, Held, MemTrio, NONE, WHOLE, assert_held, assert_refused, found, held, left_by, reopened,
+    sit,
+};
 use bx_image::Part;
 use bx_journal::{How, SessionFault};
 use bx_store::FuseText;
@@ -37,5 +40,41 @@ fn stopped_between_pages(rt: HostRuntime) -> Result<(), Fail> {
     assert!(rt; left.0.as_slice() == zeros.as_slice() && is_page(left.1.as_slice()));
     let opened = reopened(alloc, &rt, &left, found(How::Dropped, 1, 0))?;
     assert_held(&rt, &opened, (zeros.as_slice(), BEFORE, b""));
+    Ok(())
+}
+
+// Before its first write a change of two pages reads the image's length, all that it overwrites, and that again for the first page,
+// each time as many lines as surely fit in what is left of it: 3,196, 546, 93, 16, 2 and 1. Each is refused, and changes nothing.
+#[test]
+fn reads_before_pages_fail(rt: HostRuntime) -> Result<(), Fail> {
+    let alloc = rt.alloc();
+    let zeros = vec![in alloc; 0u8; WHOLE]?;
+    let refused = (Ask::Whole, Err(SessionFault::DeviceFailed));
+    for pass in 0..8 {
+        let start = (zeros.as_slice(), b"".as_slice(), b"".as_slice());
+        let clean = found(How::Clean, 0, 0);
+        assert_refused(alloc, &rt, start, (pass, NONE, NONE), clean, refused)?;
+    }
+    Ok(())
+}
+
+// The next read is made between the two pages: the image stays, and opening drops the first one.
+#[test]
+fn read_between_pages_fails(rt: HostRuntime) -> Result<(), Fail> {
+    let alloc = rt.alloc();
+    let zeros = vec![in alloc; 0u8; WHOLE]?;
+    let start = (zeros.as_slice(), BEFORE, b"".as_slice());
+    let stopped = (Ask::Whole, Err(SessionFault::Interrupted));
+    let left = left_by(
+        alloc,
+        &rt,
+        start,
+        (9, NONE, NONE),
+        found(How::Clean, 1, 0),
+        stopped,
+    )?;
+    assert!(rt; left.0.as_slice() == zeros.as_slice() && is_page(left.1.as_slice()));
+    let opened = reopened(alloc, &rt, &left, found(How::Dropped, 1, 0))?;
+    assert_held(&rt, &opened, start);
     Ok(())
 }

@@ -313,7 +313,7 @@ fn reads_of_moves_fail(rt: HostRuntime) -> Result<(), Fail> {
 /// An image without changes.
 const FIRST: Held<'static> = (b"ABCDEFGH", b"", b"");
 
-// A change reads the length of the image twice, what it overwrites or cuts off, and the length of the journal: each is refused,
+// A change reads the length of the image, twice what it overwrites or cuts off, and the length of the journal: each is refused,
 // and changes nothing. Opening asked for the length of both texts, which are empty.
 #[test]
 fn reads_of_changes_fail(rt: HostRuntime) -> Result<(), Fail> {

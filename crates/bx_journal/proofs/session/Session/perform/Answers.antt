@@ -1,8 +1,10 @@
-use Rattle.std.proofs.Common.{◌≡◌, ℕ, suc, ◌+◌, List, [], ◌∷◌, length, refl, ap, sym, ◌∙◌, subst, arith}
+use Rattle.std.proofs.Common.{◌≡◌, ℕ, suc, ◌+◌, ◌≤◌, List, [], ◌∷◌, length, refl, ap, sym, ◌∙◌, subst, arith}
 use Rattle.bx_image.specs.declared.change.TheConstants.{MAX_LEN}
-use Rattle.bx_entries.specs.Kept.{kept_of}
-use Rattle.bx_image.specs.Change.{effect, Fits}
-use Rattle.bx_entries.specs.Entry.{head_text}
+use Rattle.bx_entries.specs.Kept.{Kept, kept_of}
+use Rattle.bx_image.specs.Change.{effect, saved, Fits, IsOf}
+use Rattle.bx_entries.specs.Entry.{head_text, end_text}
+use Rattle.bx_journal.specs.inner.Begun.{BeginsEntry}
+use Rattle.bx_journal.specs.inner.Ranges.{kept_over}
 use Rattle.bx_journal.specs.Machine.{top, changes_of}
 use Rattle.bx_journal.specs.Phase.{IsAtRest}
 use Rattle.bx_journal.specs.Redo.{IsRedoOf}
@@ -17,18 +19,25 @@ use Rattle.bx_journal.specs.inner.Step.{WritesEntry}
 use Rattle.bx_journal.proofs.Ready.{IsPrepared, writes_entry, top_of_rest}
 use Rattle.bx_journal.proofs.StepSurvivors.{found_at_rest, found_either, found_of}
 use Rattle.bx_journal.proofs.session.Session.perform.Goals as goal
-use Rattle.bx_journal.proofs.session.Session.perform.Goals.{After-write_entry}
+use Rattle.bx_journal.proofs.session.Session.perform.Goals.{After-write_change}
 
 -- what was read and prepared before the first write
-module _ (g : _) (c : After-write_entry g) where
+module _ (g : _) (c : After-write_change g) where
   abbrev x : List ℕ
   x = g.D.Device.image c.prepare_change.new.device
 
   abbrev text : List ℕ
   text = g.T.TextStore.text c.prepare_change.new.store
 
+  abbrev kept : Kept
+  kept = kept_over x c.as_slice-ranges.result.now
+
   abbrev head : List ℕ
-  head = head_text (c.self.inside.count + 1) (kept_of c.in_ok-ready.ready.kept)
+  head = head_text (c.self.inside.count + 1) kept
+
+  -- what the entry begins with is of the image as it is now
+  begins : g.D.Device.honest c.self.inside.device → BeginsEntry c.args.change.now x (c.self.inside.count + 1) c.in_ok-ready.ready.head
+  begins dh = subst (λ y. BeginsEntry c.args.change.now y (c.self.inside.count + 1) c.in_ok-ready.ready.head) (sym (c.prepare_change.ensures.image dh)) (c.in_ok-ready.ensures.begins dh)
 
   stayed : HaveStayed g.D.Device.honest g.T.TextStore.honest g.D.Device.image g.T.TextStore.text c.self.inside.device c.self.inside.store c.self.inside.redo_text c.prepare_change.new.device c.prepare_change.new.store c.prepare_change.new.redo
   stayed =
@@ -42,20 +51,20 @@ module _ (g : _) (c : After-write_entry g) where
         other_same = taken.redo_same;
       }
 
-  prepared : g.D.Device.honest c.self.inside.device → IsPrepared c.args.change.now x c.self.inside.count (kept_of c.in_ok-ready.ready.kept) (length (effect c.args.change.now x)) head c.as_bytes-line.result.now
+  prepared : g.D.Device.honest c.self.inside.device → IsPrepared c.args.change.now x c.self.inside.count kept (length (effect c.args.change.now x)) head c.as_bytes-line.result.now
   prepared dh =
       let ready = c.in_ok-ready.ensures in
-      subst (λ y. IsPrepared c.args.change.now y c.self.inside.count (kept_of c.in_ok-ready.ready.kept) (length (effect c.args.change.now y)) head c.as_bytes-line.result.now) (sym (stayed.image_same dh))
-      (record {
+      let same = stayed.image_same dh in
+      record {
         few = omega arith;
-        long = (ready.fits dh).len_fits;
-        saved_is = ready.saved dh;
-        kept = ready.kept dh;
+        long = subst (λ y. length y ≤ MAX_LEN) (sym same) (ready.fits dh).len_fits;
+        saved_is = subst (λ r. kept_over x r ≡ kept_of (saved c.args.change.now x)) (sym c.as_slice-ranges.ensures.value) (begins dh).saved_is;
+        kept = subst (λ r. IsOf (kept_over x r) x) (sym c.as_slice-ranges.ensures.value) (begins dh).kept;
         after_is = refl;
-        fits = ready.bound dh;
+        fits = subst (λ y. length (effect c.args.change.now y) ≤ MAX_LEN) (sym same) (ready.bound dh);
         head_is = refl;
-        line_is = c.as_bytes-line.ensures.value ∙ ready.end dh;
-      })
+        line_is = c.as_bytes-line.ensures.value ∙ ready.end dh ∙ ap (λ y. end_text (c.self.inside.count + 1) (length (effect c.args.change.now y))) (sym same);
+      }
 
   writes : g.D.Device.honest c.self.inside.device → g.T.TextStore.honest c.self.inside.store → (stack : List (List ℕ)) → IsAtRest (g.T.TextStore.text c.self.inside.store) (g.D.Device.image c.self.inside.device) stack → length stack ≡ suc c.self.inside.count
       → WritesEntry c.args.change.now text x stack head c.as_bytes-line.result.now × (effect c.args.change.now x ≡ effect c.args.change.now (top stack))
@@ -65,14 +74,14 @@ module _ (g : _) (c : After-write_entry g) where
 pub returns-in-Ok-clause-accepted : goal.returns-in-Ok-clause-accepted
 returns-in-Ok-clause-accepted g c =
     rw (← c.self.view_is) (λ dh th stack standing.
-    let b = (goal.at.returns-in-Ok-clause-accepted g c).After-write_entry in
+    let b = (goal.at.returns-in-Ok-clause-accepted g c).After-write_change in
     let before = stayed g b in
     let d = before.device_honesty.1 dh in
     let stands = pair_stays (λ t y. StandsFor t y stack) before dh th standing.stands in
     let same : top stack ≡ g.D.Device.image c.self.inside.device = top_of_stands _ _ stack standing.stands in (
       (omega arith, subst (λ y. Fits c.args.change.now (length y) MAX_LEN) (sym same) (c.in_ok-ready.ensures.fits dh), omega arith, refl),
       record {
-        stands = performs (prepared g b dh) stands standing.count (c.in-Ok.ensures.image d) (c.in-Ok.ensures.back d) (c.in-Ok.ensures.text (before.text_honesty.1 th));
+        stands = performs (prepared g b dh) stands standing.count (c.in-Ok.ensures.image d) (c.in-Ok.ensures.back d) (c.in-Ok.ensures.text (before.device_honesty.1 dh) (before.text_honesty.1 th));
         count = omega arith;
         whole = standing.whole;
       },
@@ -81,7 +90,7 @@ returns-in-Ok-clause-accepted g c =
 pub returns-in-Ok-clause-sound : goal.returns-in-Ok-clause-sound
 returns-in-Ok-clause-sound g c =
     rw (← c.self.view_is) (λ dh th stack ready.
-    let b = (goal.at.returns-in-Ok-clause-sound g c).After-write_entry in
+    let b = (goal.at.returns-in-Ok-clause-sound g c).After-write_change in
     let before = stayed g b in
     let w = writes g b dh th stack ready.rest ready.count in
     record {
@@ -93,14 +102,14 @@ returns-in-Ok-clause-sound g c =
 pub returns-in-Ok-clause-entry : goal.returns-in-Ok-clause-entry
 returns-in-Ok-clause-entry g c =
     rw (← c.self.view_is) (λ dh th.
-    let b = (goal.at.returns-in-Ok-clause-entry g c).After-write_entry in
+    let b = (goal.at.returns-in-Ok-clause-entry g c).After-write_change in
     let before = stayed g b in
-    rw (← (before.text_same th), ← (before.image_same dh)) (appended (text g b) (prepared g b dh) (c.in-Ok.ensures.text (before.text_honesty.1 th))))
+    rw (← (before.text_same th), ← (before.image_same dh)) (appended (text g b) (prepared g b dh) (c.in-Ok.ensures.text (before.device_honesty.1 dh) (before.text_honesty.1 th))))
 
 pub returns-clause-fault : goal.returns-clause-fault
 returns-clause-fault g c =
     rw (← c.self.view_is) (λ dh th stack ready.
-    let b = (goal.at.returns-clause-fault g c).After-write_entry in
+    let b = (goal.at.returns-clause-fault g c).After-write_change in
     let before = stayed g b in
     let w = writes g b dh th stack ready.rest ready.count in
     rw w.1 at (c.in-Err.ensures.fault (before.device_honesty.1 dh) (before.text_honesty.1 th) stack w.0))
@@ -108,7 +117,7 @@ returns-clause-fault g c =
 pub returns-in-Ok-clause-undone : goal.returns-in-Ok-clause-undone
 returns-in-Ok-clause-undone g c =
     rw (← c.self.view_is) (λ rh.
-    let y : List ℕ = g.D.Device.image c.write_entry.new.device in
+    let y : List ℕ = g.D.Device.image c.write_change.new.device in
     record {
       redo = subst (λ t. IsRedoOf t y (c.self.inside.count + 1) []) (sym (c.in-Ok.ensures.redo (c.prepare_change.ensures.redo_honesty.1 rh))) (empty_is_redo y (c.self.inside.count + 1) (omega arith));
       counted = refl;
@@ -117,7 +126,7 @@ returns-in-Ok-clause-undone g c =
 pub returns-clause-finds : goal.returns-clause-finds
 returns-clause-finds g c =
     rw (← c.self.view_is) (λ dh th rh s ready undone.
-    let b = (goal.at.returns-clause-finds g c).After-write_entry in
+    let b = (goal.at.returns-clause-finds g c).After-write_change in
     let before = stayed g b in
     let w = writes g b dh th s.stack ready.rest ready.count in
     let rest = rest_step before (λ d t u i rest. rest) dh th rh s ready undone in
@@ -127,7 +136,7 @@ returns-clause-finds g c =
 pub returns-clause-survives : goal.returns-clause-survives
 returns-clause-survives g c =
     rw (← c.self.view_is) (λ dh th rh s ready undone y new redo image_there there redo_there.
-    let b = (goal.at.returns-clause-survives g c).After-write_entry in
+    let b = (goal.at.returns-clause-survives g c).After-write_change in
     let before = stayed g b in
     let w = writes g b dh th s.stack ready.rest ready.count in
     let rest = rest_step before (λ d t u i rest. rest) dh th rh s ready undone in
@@ -139,17 +148,17 @@ returns-clause-survives g c =
 pub returns-in-Ok-clause-survives : goal.returns-in-Ok-clause-survives
 returns-in-Ok-clause-survives g c =
     rw (← c.self.view_is) (λ dh th rh s ready undone y new redo image_there there redo_there.
-    let b = (goal.at.returns-in-Ok-clause-survives g c).After-write_entry in
+    let b = (goal.at.returns-in-Ok-clause-survives g c).After-write_change in
     let before = stayed g b in
     let d = before.device_honesty.1 dh in
     let t = before.text_honesty.1 th in
     let u = before.other_honesty.1 rh in
     let w = writes g b dh th s.stack ready.rest ready.count in
     let settled = c.in-Ok.ensures.settles d t u in
-    let rest : IsAtRest (g.T.TextStore.text c.write_entry.new.store) (g.D.Device.image c.write_entry.new.device) (effect c.args.change.now (top s.stack) ∷ s.stack) =
+    let rest : IsAtRest (g.T.TextStore.text c.write_change.new.store) (g.D.Device.image c.write_change.new.device) (effect c.args.change.now (top s.stack) ∷ s.stack) =
     rw w.1 at (c.in-Ok.ensures.ok d t s.stack w.0) in
-    let empty : IsRedoOf (g.T.TextStore.text c.write_entry.new.redo) (g.D.Device.image c.write_entry.new.device) (changes_of (effect c.args.change.now (top s.stack) ∷ s.stack)) [] =
-    subst (λ r. IsRedoOf r (g.D.Device.image c.write_entry.new.device) (changes_of (effect c.args.change.now (top s.stack) ∷ s.stack)) []) (sym (c.in-Ok.ensures.redo u)) (empty_is_redo (g.D.Device.image c.write_entry.new.device) (changes_of (effect c.args.change.now (top s.stack) ∷ s.stack)) (omega (arith, ready.count))) in
+    let empty : IsRedoOf (g.T.TextStore.text c.write_change.new.redo) (g.D.Device.image c.write_change.new.device) (changes_of (effect c.args.change.now (top s.stack) ∷ s.stack)) [] =
+    subst (λ r. IsRedoOf r (g.D.Device.image c.write_change.new.device) (changes_of (effect c.args.change.now (top s.stack) ∷ s.stack)) []) (sym (c.in-Ok.ensures.redo u)) (empty_is_redo (g.D.Device.image c.write_change.new.device) (changes_of (effect c.args.change.now (top s.stack) ∷ s.stack)) (omega (arith, ready.count))) in
     found_of _ _ _ _ (found_at_rest _ _ _ _ _ _ _ rest empty (settled.device y image_there) (settled.store new there) (settled.redo redo redo_there)))
 
 -- a refusal leaves nothing more to be found

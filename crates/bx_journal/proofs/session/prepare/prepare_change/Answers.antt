@@ -8,25 +8,15 @@ returns-clause-text_room g c th =
     let same : length (g.T.TextStore.text c.settle.new.store) ≡ length (g.T.TextStore.text c.args.store.now) =
     ap length (c.settle.ensures.text still ∙ c.reserve-2.ensures.text (c.len-2.ensures.goes_on.honesty.1 th) ∙ c.len-2.ensures.text th) in
     let line : length c.as_bytes.result.now ≡ length c.entry_end-end.result = ap length c.as_bytes.ensures.value in
-    omega (arith, c.in_ok-text_len.ensures.len th, same, line, c.head_len-head.ensures c.args.number, c.saturating_add.ensures, c.saturating_add-most.ensures, c.in_ok-reserve-2.ensures.ok, c.in_ok-reserve-2.ensures.limit, c.settle.ensures.store_room)
+    omega (arith, c.in_ok-text_len.ensures.len th, same, line, c.in_ok-head.ensures.head.long, c.saturating_add.ensures, c.saturating_add-most.ensures, c.in_ok-reserve-2.ensures.ok, c.in_ok-reserve-2.ensures.limit, c.settle.ensures.store_room)
 
 -- what a refusal leaves to be found was to be found before
-pub returns-in_err-clone-2-clause-found_before : goal.returns-in_err-clone-2-clause-found_before
-returns-in_err-clone-2-clause-found_before g c =
+pub returns-in_err-head-clause-found_before : goal.returns-in_err-head-clause-found_before
+returns-in_err-head-clause-found_before g c =
     record {
       device_before = λ h.
           let first = c.len.ensures.goes_on.honesty.1 h in
-          NoMore_then _ _ _ (c.len.ensures.survives h) (c.save_image.ensures.survives first);
-      text_before = λ h text there. there;
-      other_before = λ h text there. there;
-    }
-
-pub returns-in_err-page-clause-found_before : goal.returns-in_err-page-clause-found_before
-returns-in_err-page-clause-found_before g c =
-    record {
-      device_before = λ h.
-          let first = c.len.ensures.goes_on.honesty.1 h in
-          NoMore_then _ _ _ (c.len.ensures.survives h) (c.save_image.ensures.survives first);
+          NoMore_then _ _ _ (c.len.ensures.survives h) (c.begin_change.ensures.survives first);
       text_before = λ h text there. there;
       other_before = λ h text there. there;
     }
@@ -36,8 +26,8 @@ returns-in_err-reserve-clause-found_before g c =
     record {
       device_before = λ h.
           let first = c.len.ensures.goes_on.honesty.1 h in
-          let saved = c.save_image.ensures.goes_on.honesty.1 first in
-          NoMore_then _ _ _ (c.len.ensures.survives h) (NoMore_then _ _ _ (c.save_image.ensures.survives first) (c.reserve.ensures.survives saved));
+          let saved = c.begin_change.ensures.looks.honesty.1 first in
+          NoMore_then _ _ _ (c.len.ensures.survives h) (NoMore_then _ _ _ (c.begin_change.ensures.survives first) (c.reserve.ensures.survives saved));
       text_before = λ h text there. there;
       other_before = λ h text there. there;
     }
@@ -47,8 +37,8 @@ returns-in_err-text_len-clause-found_before g c =
     record {
       device_before = λ h.
           let first = c.len.ensures.goes_on.honesty.1 h in
-          let saved = c.save_image.ensures.goes_on.honesty.1 first in
-          NoMore_then _ _ _ (c.len.ensures.survives h) (NoMore_then _ _ _ (c.save_image.ensures.survives first) (c.reserve.ensures.survives saved));
+          let saved = c.begin_change.ensures.looks.honesty.1 first in
+          NoMore_then _ _ _ (c.len.ensures.survives h) (NoMore_then _ _ _ (c.begin_change.ensures.survives first) (c.reserve.ensures.survives saved));
       text_before = c.len-2.ensures.survives;
       other_before = λ h text there. there;
     }
@@ -58,8 +48,8 @@ returns-in_err-reserve-2-clause-found_before g c =
     record {
       device_before = λ h.
           let first = c.len.ensures.goes_on.honesty.1 h in
-          let saved = c.save_image.ensures.goes_on.honesty.1 first in
-          NoMore_then _ _ _ (c.len.ensures.survives h) (NoMore_then _ _ _ (c.save_image.ensures.survives first) (c.reserve.ensures.survives saved));
+          let saved = c.begin_change.ensures.looks.honesty.1 first in
+          NoMore_then _ _ _ (c.len.ensures.survives h) (NoMore_then _ _ _ (c.begin_change.ensures.survives first) (c.reserve.ensures.survives saved));
       text_before = λ h. NoMore_then _ _ _ (c.len-2.ensures.survives h) (c.reserve-2.ensures.survives (c.len-2.ensures.goes_on.honesty.1 h));
       other_before = λ h text there. there;
     }
@@ -70,9 +60,9 @@ returns-in_err-settle-clause-found_before g c =
     record {
       device_before = λ h.
           let first = c.len.ensures.goes_on.honesty.1 h in
-          let saved = c.save_image.ensures.goes_on.honesty.1 first in
+          let saved = c.begin_change.ensures.looks.honesty.1 first in
           let room = NoMore_then _ _ _ (c.reserve.ensures.survives saved) (all.device_before (c.reserve.ensures.goes_on.honesty.1 saved)) in
-          NoMore_then _ _ _ (c.len.ensures.survives h) (NoMore_then _ _ _ (c.save_image.ensures.survives first) room);
+          NoMore_then _ _ _ (c.len.ensures.survives h) (NoMore_then _ _ _ (c.begin_change.ensures.survives first) room);
       text_before = λ h.
           let first = c.len-2.ensures.goes_on.honesty.1 h in
           NoMore_then _ _ _ (c.len-2.ensures.survives h) (NoMore_then _ _ _ (c.reserve-2.ensures.survives first) (all.text_before (c.reserve-2.ensures.goes_on.honesty.1 first)));
@@ -85,9 +75,9 @@ returns-clause-found_before g c =
     record {
       device_before = λ h.
           let first = c.len.ensures.goes_on.honesty.1 h in
-          let saved = c.save_image.ensures.goes_on.honesty.1 first in
+          let saved = c.begin_change.ensures.looks.honesty.1 first in
           let room = NoMore_then _ _ _ (c.reserve.ensures.survives saved) (all.device_before (c.reserve.ensures.goes_on.honesty.1 saved)) in
-          NoMore_then _ _ _ (c.len.ensures.survives h) (NoMore_then _ _ _ (c.save_image.ensures.survives first) room);
+          NoMore_then _ _ _ (c.len.ensures.survives h) (NoMore_then _ _ _ (c.begin_change.ensures.survives first) room);
       text_before = λ h.
           let first = c.len-2.ensures.goes_on.honesty.1 h in
           NoMore_then _ _ _ (c.len-2.ensures.survives h) (NoMore_then _ _ _ (c.reserve-2.ensures.survives first) (all.text_before (c.reserve-2.ensures.goes_on.honesty.1 first)));
