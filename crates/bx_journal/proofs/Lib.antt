@@ -29,6 +29,7 @@ pub mod TurnLemmas
 pub mod StopLemmas
 pub mod Shapes
 pub mod TakenLemmas
+pub mod TakenText
 pub mod TakingLemmas
 pub mod DeviceLemmas
 pub mod Stayed

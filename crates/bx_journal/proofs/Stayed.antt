@@ -1,5 +1,5 @@
 -- A session's three devices, behind calls that only looked at them.
-use Rattle.std.proofs.Common.{◌≡◌, ℕ, suc, List, length, drop, sym, ◌∙◌, subst, arith, Result}
+use Rattle.std.proofs.Common.{◌≡◌, ℕ, suc, List, length, drop, ap, sym, ◌∙◌, subst, arith, Result}
 use Rattle.bx_image.proofs.Survivors.{NoMore_then}
 use Rattle.bx_entries.specs.Finished.{IsFinished}
 use Rattle.bx_entries.specs.Text.{Entry}
@@ -13,6 +13,7 @@ use Rattle.bx_journal.specs.Session.{HasUndone, IsReady}
 use Rattle.bx_journal.specs.SessionView.{SessionView}
 use Rattle.bx_journal.specs.Stack.{StandsFor}
 use Rattle.bx_journal.specs.Standing.{IsStanding}
+use Rattle.bx_journal.specs.Taken.{taken_by}
 use Rattle.bx_journal.specs.Undoing.{HasLeft}
 use Rattle.bx_journal.specs.declared.session.fault.SessionFault.{SessionFault}
 use Rattle.bx_journal.specs.inner.Devices.{HaveStayed, LooksAt}
@@ -90,6 +91,14 @@ module _ {D T : Type 0} {honest : D → Type 0} {text_honest : T → Type 0} {im
   standing_step stayed step dh th rh s standing has =
       step (stayed.device_honesty.1 dh) (stayed.text_honesty.1 th) (stayed.other_honesty.1 rh) s
       (record { stands = pair_stays (λ t x. StandsFor t x s.stack) stayed dh th standing.stands; undone = undone_stays s stayed dh rh standing.count has })
+
+  -- and which text it writes beside the one whose entries it takes
+  pub taken_step : {d d_new : D} {t u t_new u_new : T} {new : List ℕ} {k m : ℕ} (n : ℕ) → HaveStayed honest text_honest image text d t u d_new t_new u_new → m ≡ k
+      → (honest d_new → text_honest t_new → text_honest u_new → (es : List Entry) → IsFinished (text t_new) es → new ≡ taken_by m es (image d_new) n (text u_new))
+      → honest d → text_honest t → text_honest u → (es : List Entry) → IsFinished (text t) es → new ≡ taken_by k es (image d) n (text u)
+  taken_step {d = d} {u = u} {u_new = u_new} {m = m} n stayed count step dh th uh es finished =
+      step (stayed.device_honesty.1 dh) (stayed.text_honesty.1 th) (stayed.other_honesty.1 uh) es (subst (λ z. IsFinished z es) (sym (stayed.text_same th)) finished)
+      ∙ ap (λ x. taken_by m es x n (text u_new)) (stayed.image_same dh) ∙ ap (taken_by m es (image d) n) (stayed.other_same uh) ∙ ap (λ j. taken_by j es (image d) n (text u)) count
 
 -- what was read of a text before it was looked at again
 pub read_since : {A : Type 0} {before now : Type 0} {stored text : List ℕ} {len count : ℕ} {es : List (EntryRead A)} → (now → before) → (before → text ≡ stored) → IsLastFrom before stored len es count

@@ -7,6 +7,7 @@ pub mod Power
 pub mod SessionView
 pub mod Session
 pub mod Stack
+pub mod Taken
 pub mod Opened
 pub mod Opening
 pub mod Performing

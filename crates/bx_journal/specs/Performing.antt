@@ -1,9 +1,12 @@
 -- What a change, an undo and a redo answer and leave.
 use Rattle.std.specs.Prelude.{◌≡◌, ◌≤◌, ◌++◌, ℕ, List, length, drop, Result, Ok, IfOk, IfErr, OnOk}
 use Rattle.bx_image.specs.declared.change.Change.{Change}
+use Rattle.bx_image.specs.declared.change.TheConstants.{MAX_LEN}
 use Rattle.bx_image.specs.Change.{effect, saved}
 use Rattle.bx_entries.specs.Entry.{entry_text}
+use Rattle.bx_entries.specs.Finished.{IsFinished}
 use Rattle.bx_entries.specs.Kept.{kept_of}
+use Rattle.bx_entries.specs.Text.{Entry}
 use Rattle.bx_journal.specs.declared.session.fault.SessionFault.{SessionFault}
 use Rattle.bx_journal.specs.Calls.{AfterFault}
 use Rattle.bx_journal.specs.Images.{Images, change_to, redo_of, undo_of}
@@ -13,6 +16,7 @@ use Rattle.bx_journal.specs.Session.{FindsEither, HasUndone, IsReady, IsSame, Se
 use Rattle.bx_journal.specs.SessionView.{SessionView}
 use Rattle.bx_journal.specs.Stack.{Recovers}
 use Rattle.bx_journal.specs.Standing.{IsStanding}
+use Rattle.bx_journal.specs.Taken.{taken_by}
 
 -- Of sessions whose device has an image, told by `image`, and whose stores have a text, told by `text`.
 module _ {D T : Type 0} (image : D → List ℕ) (text : T → List ℕ) where
@@ -67,3 +71,13 @@ module _ {D T : Type 0} (image : D → List ℕ) (text : T → List ℕ) where
   abbrev pub StaysRedone : {V E : Type 0} → ℕ → SessionView D T → SessionView D T → Result V E → Type 0
   StaysRedone j old new result = (s : Images) → IsReady image text old s.stack → HasUndone image text old s.undone →
       OnOk result (IsReady image text new (redo_of j s).stack × HasUndone image text new (redo_of j s).undone)
+
+  -- behind an undo of k the redo text has what was taken for the newest k entries of the journal
+  abbrev pub KeepsTaken : {V E : Type 0} → ℕ → SessionView D T → SessionView D T → Result V E → Type 0
+  KeepsTaken k old new result = (entries : List Entry) → IsFinished (text old.store) entries →
+      OnOk result (text new.redo_text ≡ taken_by k entries (image old.device) old.undone (text old.redo_text))
+
+  -- behind a redo of j the journal has what was taken for the newest j entries of the redo text, of an image that an entry can tell
+  abbrev pub GrowsByTaken : {V E : Type 0} → ℕ → SessionView D T → SessionView D T → Result V E → Type 0
+  GrowsByTaken j old new result = (entries : List Entry) → IsFinished (text old.redo_text) entries → length (image old.device) ≤ MAX_LEN →
+      OnOk result (text new.store ≡ taken_by j entries (image old.device) old.count (text old.store))

@@ -1,9 +1,12 @@
 -- What undoing or redoing some entries leaves: as many as there are records of what is taken.
 use Rattle.std.specs.Prelude.{◌≡◌, ◌≤◌, ℕ, List, length, drop, Result, IfOk, OnOk, OnErr}
+use Rattle.bx_entries.specs.Finished.{IsFinished}
+use Rattle.bx_entries.specs.Text.{Entry}
 use Rattle.bx_journal.specs.Images.{Images, redo_of, undo_of}
 use Rattle.bx_journal.specs.Machine.{changes_of}
 use Rattle.bx_journal.specs.Phase.{IsAtRest}
 use Rattle.bx_journal.specs.Redo.{Finds}
+use Rattle.bx_journal.specs.Taken.{taken_by}
 use Rattle.bx_journal.specs.Stack.{Recovers, StandsFor}
 use Rattle.bx_entries.specs.Shown.{shown}
 use Rattle.bx_journal.specs.inner.Written.{AreSettled}
@@ -37,6 +40,12 @@ abbrev pub UndoSome : {D T B V E : Type 0} → (D → Type 0) → (D → List �
 UndoSome honest image text_honest text d t u d_new t_new u_new undone takens result =
     honest d → text_honest t → text_honest u → (s : Images) → AreAtRest (text t) (image d) (text u) s → undone ≡ length s.undone
     → OnErr result ((i : ℕ) × (i ≤ length takens) × Finds (text t_new) (image d_new) (text u_new) (undo_of i s))
+
+-- and the redo text has what was taken for the entries of a journal of finished ones alone
+abbrev pub UndoTakes : {D T B V E : Type 0} → (D → Type 0) → (D → List ℕ) → (T → Type 0) → (T → List ℕ) → D → T → T → T → ℕ → List B → Result V E → Type 0
+UndoTakes honest image text_honest text d t u u_new undone takens result =
+    honest d → text_honest t → text_honest u → (entries : List Entry) → IsFinished (text t) entries
+    → OnOk result (text u_new ≡ taken_by (length takens) entries (image d) undone (text u))
 
 -- where all three are honest and at rest, they are so behind the redo
 abbrev pub RedoRests : {D T B V E : Type 0} → (D → Type 0) → (D → List ℕ) → (T → Type 0) → (T → List ℕ) → D → T → T → D → T → T → ℕ → List B → Result V E

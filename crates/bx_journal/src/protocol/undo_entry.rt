@@ -7,7 +7,7 @@ ghost use Rattle.bx_image.specs.Power.{Only};
 ghost use Rattle.bx_entries.specs.inner.Parsed.{AllKept};
 ghost use Rattle.bx_journal.specs.inner.Devices.{AreBelow, ImageIsFirst, OneMore, StepsOn};
 ghost use Rattle.bx_journal.specs.Undoing.{LeavesFront};
-ghost use Rattle.bx_journal.specs.inner.Entries.{DropsRest, DropsSome, DropsStand, StaySettled, UndoAll, UndoSome, UndoSomeSurvives};
+ghost use Rattle.bx_journal.specs.inner.Entries.{DropsRest, DropsSome, DropsStand, StaySettled, UndoAll, UndoSome, UndoSomeSurvives, UndoTakes};
 ghost use Rattle.bx_journal.specs.inner.Phase.{RestoresAlike, StaysOpen};
 ghost use Rattle.bx_journal.specs.inner.Takens.{AreReady, AllShaped, entries_len};
 ghost use Rattle.bx_journal.specs.inner.Undone.{CanUndo, CutsFirst, LeftUndo, UndoRests, UndoStops, UndoSurvives, Undoes};
@@ -180,6 +180,7 @@ pub fn undo_entries<D: Device, T: TextStore, A: Allocator>(
         → DropsSome D.image T.text device.old store.old device.new store.new takens.old.items result }
     ensures images { UndoAll D.honest D.image T.honest T.text
         device.old store.old redo_text.old device.new store.new redo_text.new undone takens.old.items result }
+    ensures taken { UndoTakes D.honest D.image T.honest T.text device.old store.old redo_text.old redo_text.new undone takens.old.items result }
     ensures few { IfOk result (λ n. n ≤ undone + length takens.old.items) }
     ensures finds { UndoSome D.honest D.image T.honest T.text
         device.old store.old redo_text.old device.new store.new redo_text.new undone takens.old.items result }

@@ -24,7 +24,7 @@ impl<D: Device, T: TextStore, A: Allocator + Clone> Session<D, T, A> {
     ghost use Rattle.bx_journal.specs.Calls.{AfterFault};
     ghost use Rattle.bx_journal.specs.Power.{NothingNew, StepsSurvive};
     ghost use Rattle.bx_journal.specs.Session.{FailsSafely};
-    ghost use Rattle.bx_journal.specs.Performing.{FindsSome, StaysReady, Steps, StopsUndo, UndoesImages};
+    ghost use Rattle.bx_journal.specs.Performing.{FindsSome, KeepsTaken, StaysReady, Steps, StopsUndo, UndoesImages};
     ghost use Rattle.bx_journal.specs.Undoing.{HasCount, IsOutOfStep, LeavesFront, UndoFault};
 
     /// Takes the last k changes back, the newest first, and answers how many are left. Their images are then undone, and
@@ -51,6 +51,10 @@ impl<D: Device, T: TextStore, A: Allocator + Clone> Session<D, T, A> {
         // The images that were taken back are undone, above those that were.
         ensures undone { D.honest self.old.device → T.honest self.old.store → T.honest self.old.redo_text
             → UndoesImages D.image T.text k self.old self.new result }
+
+        // The redo text has them as entries, each with what its undo took of the image.
+        ensures kept { D.honest self.old.device → T.honest self.old.store → T.honest self.old.redo_text
+            → KeepsTaken D.image T.text k self.old self.new result }
 
         // An interruption leaves the stack without some of the images, and another fault leaves all as it was.
         ensures fault { D.honest self.old.device → T.honest self.old.store → StopsUndo D.image T.text k self.old self.new result }

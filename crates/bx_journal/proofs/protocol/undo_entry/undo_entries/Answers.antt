@@ -6,6 +6,7 @@ use Rattle.bx_entries.specs.Kept.{kept_of}
 use Rattle.bx_journal.specs.Images.{undo_of}
 use Rattle.bx_journal.specs.Phase.{IsAtRest}
 use Rattle.bx_journal.specs.Stack.{StandsFor}
+use Rattle.bx_journal.specs.Taken.{taken_by}
 use Rattle.bx_journal.specs.Undoing.{HasLeft}
 use Rattle.bx_journal.specs.inner.Takens.{AreFilled}
 use Rattle.bx_journal.specs.inner.Turns.{AreStanding}
@@ -13,7 +14,7 @@ use Rattle.bx_journal.proofs.DeviceLemmas.{always_err, filling_fails, goes_furth
 use Rattle.bx_journal.proofs.LoopLemmas.{IsTurn, turn_of, none_gone, one_gone, places, long_at, first_below, left_at, standing}
 use Rattle.bx_journal.proofs.Phases.{rest_recovers}
 use Rattle.bx_journal.proofs.Shapes.{entry_long}
-use Rattle.bx_journal.proofs.StandingLoop.{IsTakenBack, rest_stops, undo_stopped, rests_below, stood_below, undone_next, room_left}
+use Rattle.bx_journal.proofs.StandingLoop.{IsTakenBack, rest_stops, undo_stopped, rests_below, stood_below, undone_next, room_left, taken_next}
 use Rattle.bx_journal.proofs.TurnLemmas.{rest_is_found}
 use Rattle.bx_journal.proofs.StepSurvivors.{found_at_rest, looked_at, survive_err}
 use Rattle.bx_entries.specs.Shown.{shown}
@@ -133,6 +134,7 @@ loop-i-preserved g c =
           let here = inv.images dh th rh s stands count in
           let next = undone_next last done th dh rh s here.0 here.1 in
           (next.0, c.undone_with-undone.ensures ∙ next.1);
+      taken = λ dh th rh es finished. taken_next last done th dh rh c.undone_with-undone.ensures new filled.count es finished ∙ inv.taken dh th rh es finished;
     }
   where
     by_len : (b : Bool) (n m k l limit : ℕ) → m ≡ (if b then n + 1 else 0) → l ≡ k → n + (k + 1) ≤ limit → m + l ≤ limit
@@ -151,6 +153,7 @@ loop-i-init g c = record {
   rest = λ dh th stack rest. rest;
   stood = λ dh th stack stands. stands;
   images = λ dh th rh s stands count. (stands, count);
+  taken = λ dh th rh es finished. refl;
 }
 
 -- each record was taken
@@ -164,6 +167,13 @@ returns-clause-images g c dh th rh s stands count =
       here.1 ∙ ap (λ (k : ℕ). length (undo_of k s).undone) all,
       subst (λ k. AreStanding (g.T.TextStore.text c.loop-i.store) (g.D.Device.image c.loop-i.device) (g.T.TextStore.text c.loop-i.redo_text) (undo_of k s)) all here.0,
     )
+
+pub returns-clause-taken : goal.returns-clause-taken
+returns-clause-taken g c dh th rh es finished =
+    let inv = c.loop-i.invariant in
+    let all = all_taken g (goal.at.returns-clause-taken g c).After-loop-i in
+    let none : length c.loop-i.takens.items ≡ 0 = omega (arith, inv.left.more, all) in
+    ap (λ k. taken_by k (drop c.loop-i.i es) (g.D.Device.image c.loop-i.device) c.loop-i.undone (g.T.TextStore.text c.loop-i.redo_text)) (sym none) ∙ inv.taken dh th rh es finished
 
 pub returns-clause-ok : goal.returns-clause-ok
 returns-clause-ok g c dh th stack rest =

@@ -1,8 +1,11 @@
 use Rattle.std.proofs.Common.{◌≡◌, ◌+◌, ◌≤◌, ℕ, [], List, length, drop}
 use Rattle.std.specs.Prelude.{vec_capacity}
+use Rattle.bx_entries.specs.Finished.{IsFinished}
+use Rattle.bx_entries.specs.Text.{Entry}
 use Rattle.bx_journal.specs.Images.{Images, undo_of}
 use Rattle.bx_journal.specs.Phase.{IsAtRest}
 use Rattle.bx_journal.specs.Stack.{StandsFor}
+use Rattle.bx_journal.specs.Taken.{taken_by}
 use Rattle.bx_journal.specs.inner.Takens.{entries_len}
 use Rattle.bx_journal.specs.inner.Turns.{AreStanding}
 use Rattle.bx_journal.specs.inner.Written.{AreSettled}
@@ -29,4 +32,7 @@ invariant-loop-i g l = record {
   images : g.D.Device.honest l.fn.device → g.T.TextStore.honest l.fn.store → g.T.TextStore.honest l.fn.redo_text → (s : Images)
       → AreStanding (g.T.TextStore.text l.fn.store) (g.D.Device.image l.fn.device) (g.T.TextStore.text l.fn.redo_text) s → l.fn.undone ≡ length s.undone
       → AreStanding (g.T.TextStore.text l.store) (g.D.Device.image l.device) (g.T.TextStore.text l.redo_text) (undo_of l.i s) × (l.undone ≡ length (undo_of l.i s).undone);
+  taken : g.D.Device.honest l.fn.device → g.T.TextStore.honest l.fn.store → g.T.TextStore.honest l.fn.redo_text → (entries : List Entry) → IsFinished (g.T.TextStore.text l.fn.store) entries
+      → taken_by (length l.takens.items) (drop l.i entries) (g.D.Device.image l.device) l.undone (g.T.TextStore.text l.redo_text)
+      ≡ taken_by (length l.fn.takens.items) entries (g.D.Device.image l.fn.device) l.fn.undone (g.T.TextStore.text l.fn.redo_text);
 }

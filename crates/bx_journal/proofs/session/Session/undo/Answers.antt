@@ -12,7 +12,7 @@ use Rattle.bx_image.proofs.Survivors.{NoMore_then}
 use Rattle.bx_journal.proofs.DeviceLemmas.{one_more}
 use Rattle.bx_journal.specs.Power.{FoundBefore}
 use Rattle.bx_journal.proofs.SafeLemmas.{accepts, any_fault, interrupts, refuses}
-use Rattle.bx_journal.proofs.Stayed.{left_since, looked_at, none_failed, pair_step, read_since, rest_step, standing_step}
+use Rattle.bx_journal.proofs.Stayed.{left_since, looked_at, none_failed, pair_step, read_since, rest_step, standing_step, taken_step}
 use Rattle.bx_journal.specs.Images.{undo_of}
 use Rattle.bx_journal.proofs.LoopLemmas.{standing}
 use Rattle.bx_journal.proofs.StepSurvivors.{found_at_rest, found_of, found_some}
@@ -98,6 +98,10 @@ returns-in-Ok-clause-undone g c =
     let done = rw c.in_ok-taking.ensures.count at (standing_step before c.in-Ok.ensures.images dh th rh s standing has has.counted) in
     let left = changes_left s.stack c.self.inside.count c.args.k c.count_left-self-inside.result standing.count c.count_left-self-inside.ensures in
     record { redo = rw left at done.1.undone; counted = done.0 })
+
+pub returns-in-Ok-clause-kept : goal.returns-in-Ok-clause-kept
+returns-in-Ok-clause-kept g c =
+    rw (← c.self.view_is) (taken_step c.self.inside.undone (stayed g (goal.at.returns-in-Ok-clause-kept g c).After-prepare_takens) c.in_ok-taking.ensures.count c.in-Ok.ensures.taken)
 
 pub returns-clause-finds : goal.returns-clause-finds
 returns-clause-finds g c =
