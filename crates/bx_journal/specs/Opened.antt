@@ -24,6 +24,14 @@ use Rattle.bx_journal.specs.Standing.{IsStanding}
 abbrev pub IsPairSame : {D T : Type 0} → (D → List ℕ) → (T → List ℕ) → D → T → D → T → Type 0
 IsPairSame image text d t d_new t_new = (text t_new ≡ text t) × (image d_new ≡ image d)
 
+-- it holds of the reading that a text has, as far as it is shown
+abbrev pub AsRead : List ℕ → (Reading → Type 0) → Type 0
+AsRead text holds = (r : Reading) → Reads (shown text) r → holds r
+
+-- it holds of the stack that opening finds of a text and an image
+abbrev pub AsFound : List ℕ → List ℕ → (List (List ℕ) → Type 0) → Type 0
+AsFound text x holds = (stack : List (List ℕ)) → Recovers (shown text) x stack → holds stack
+
 -- what the session has stands for what a reading of the journal recovers, and the answer tells how
 abbrev pub OpensAs : {D T : Type 0} → (D → List ℕ) → (T → List ℕ) → D → T → Reading → SessionView D T → Recovered → Type 0
 OpensAs image text d t r s o = IsOpened (text t) (image d) r (text s.store) (image s.device) o.how o.changes

@@ -1,8 +1,7 @@
 //! Opening an image with its journal and its redo text.
 ghost use Rattle.std.specs.Prelude.{◌≡◌, ◌↔◌, ◌+◌, ◌<◌, [], List, ℕ, false, IfOk, IfErr, OnOk, MatchResult};
 ghost use Rattle.bx_entries.specs.Shown.{shown};
-ghost use Rattle.bx_entries.specs.Text.{IsAccepted, IsDamagedAt, Reading, Reads};
-ghost use Rattle.bx_journal.specs.Stack.{Recovers};
+ghost use Rattle.bx_entries.specs.Text.{IsAccepted, IsDamagedAt};
 
 use crate::recovery::unfinished_entry::recover;
 use crate::{How, Recovered, Session, SessionFault};
@@ -18,7 +17,7 @@ impl<D: Device, T: TextStore, A: Allocator + Clone> Session<D, T, A> {
     ghost use Rattle.bx_journal.specs.Session.{HasUndone, IsReady};
     ghost use Rattle.bx_journal.specs.Calls.{AfterFault, OpenFault};
     ghost use Rattle.bx_journal.specs.Fault.{DeviceFault};
-    ghost use Rattle.bx_journal.specs.Opened.{IsPairSame, IsReopened, Refinds, ShowImages, KeepsFound, KeepsImages, KeepsLengths, KeepsRedo, OpensAs, RefusesDiffering, RefusesRightly, RefusesUnfit, StandsRecovered};
+    ghost use Rattle.bx_journal.specs.Opened.{AsFound, AsRead, IsPairSame, IsReopened, Refinds, ShowImages, KeepsFound, KeepsImages, KeepsLengths, KeepsRedo, OpensAs, RefusesDiffering, RefusesRightly, RefusesUnfit, StandsRecovered};
     ghost use Rattle.bx_journal.specs.Opening.{ThreeCounts, RefusesText};
     ghost use Rattle.bx_journal.specs.Undoing.{HasLeft};
 
@@ -43,9 +42,9 @@ impl<D: Device, T: TextStore, A: Allocator + Clone> Session<D, T, A> {
         requires redo_countable { T.failures redo_text < u64.MAX }
 
         // What is found, whatever image it is: the pair that is left stands for the recovered stack.
-        ensures opened { D.honest device → T.honest store → (r : _) → Reads (shown (T.text store)) r → IfOk result (λ o. OpensAs D.image T.text device store r o.0 o.1) }
-        ensures standing { D.honest device → T.honest store → (r : _) → Reads (shown (T.text store)) r → IfOk result (λ o. StandsRecovered D.image T.text device r o.0) }
-        ensures left { T.honest store → (r : Reading) → Reads (shown (T.text store)) r → IfOk result (λ o. HasLeft (T.text store) (T.text o.0.store) r.entries) }
+        ensures opened { D.honest device → T.honest store → AsRead (T.text store) (λ r. IfOk result (λ o. OpensAs D.image T.text device store r o.0 o.1)) }
+        ensures standing { D.honest device → T.honest store → AsRead (T.text store) (λ r. IfOk result (λ o. StandsRecovered D.image T.text device r o.0)) }
+        ensures left { T.honest store → AsRead (T.text store) (λ r. IfOk result (λ o. HasLeft (T.text store) (T.text o.0.store) r.entries)) }
         ensures fresh { IfOk result (λ o. (o.0.count ≡ o.1.changes) × (o.0.undone ≡ o.1.undone) × (o.0.is_broken ≡ false)) }
         ensures clean { D.honest device → T.honest store
             → IfOk result (λ o. o.1.how ≡ How.Clean → IsPairSame D.image T.text device store o.0.device o.0.store) }
@@ -56,7 +55,7 @@ impl<D: Device, T: TextStore, A: Allocator + Clone> Session<D, T, A> {
         ensures unaccepted { T.honest store → (IsAccepted (shown (T.text store)) → ⊥) → MatchResult result (λ _. ⊥) (λ e. RefusesText e.3) }
 
         // A length differs exactly where the newest finished entry tells another one than that of the image below which it stands.
-        ensures faults { D.honest device → T.honest store → (r : Reading) → Reads (shown (T.text store)) r → IfErr result (λ e. OpenFault r (D.image device) e.3) }
+        ensures faults { D.honest device → T.honest store → AsRead (T.text store) (λ r. IfErr result (λ e. OpenFault r (D.image device) e.3)) }
         ensures differs { D.honest device → T.honest store → RefusesDiffering result (λ e. e.3) (shown (T.text store)) (D.image device) }
 
         // An interruption comes only where something was unfinished, and no fault of another call comes at all.
@@ -64,7 +63,7 @@ impl<D: Device, T: TextStore, A: Allocator + Clone> Session<D, T, A> {
         ensures kind { IfErr result (λ e. OpenKind e.3) }
 
         // From a sound pair the stack is kept, whatever it answers.
-        ensures keeps { D.honest device → T.honest store → (s : _) → Recovers (shown (T.text store)) (D.image device) s → IfOk result (λ o. IsReady D.image T.text o.0 s) }
+        ensures keeps { D.honest device → T.honest store → AsFound (T.text store) (D.image device) (λ s. IfOk result (λ o. IsReady D.image T.text o.0 s)) }
         ensures keeps_err { D.honest device → T.honest store → IfErr result (λ e. KeepsFound (T.text store) (D.image device) (T.text e.1) (D.image e.0)) }
         ensures lengths_kept { D.honest device → T.honest store → IfErr result (λ e. KeepsLengths (T.text store) (D.image device) e.3) }
         ensures refused { D.honest device → T.honest store
