@@ -29,9 +29,9 @@ module _ {D T : Type 0} where
       PerformFault e × ((e ≡ JournalFull) ↔ ((old.is_broken ≡ false) × (65535 ≤ old.count))) × CountsStay old new
   ChangeTells old (Refused e) new = CountsStay old new
 
-  -- the reply to an undo of k: how many changes are left, or a fault; it is 41 exactly where fewer than k stand
+  -- the reply to an undo of k: how many changes are left, and at most k more are undone, or a fault; it is 41 exactly where fewer than k stand
   abbrev pub UndoTells : ℕ → SessionView D T → Reply → SessionView D T → Type 0
-  UndoTells k old (Undone left) new = (left + k ≡ old.count) × (new.count ≡ left)
+  UndoTells k old (Undone left) new = (left + k ≡ old.count) × (new.count ≡ left) × (new.undone ≤ old.undone + k)
   UndoTells k old (Refused (Session e)) new =
       UndoFault old.count e × ((e ≡ TooFew old.count) ↔ ((old.is_broken ≡ false) × (old.count < k))) × CountsStay old new
   UndoTells k old p new = ⊥

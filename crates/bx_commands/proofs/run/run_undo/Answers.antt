@@ -9,7 +9,7 @@ returns-in-Ok g c =
       obeys = undo_obeys g.D.Device.honest g.T.TextStore.honest g.D.Device.image g.T.TextStore.text g.D.Device.survives g.T.TextStore.survives g.D.Device.failures g.T.TextStore.failures
           c.args.session.now c.undo.new.self c.args.k c.in-Ok.left
           e.safe e.accepted e.sound e.undone e.survives;
-      tells = (e.left.0, e.left.1);
+      tells = (e.left.0, e.left.1, e.few_undone);
     }
 
 pub returns-in-Err : goal.returns-in-Err
