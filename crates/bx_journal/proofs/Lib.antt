@@ -30,6 +30,7 @@ pub mod StopLemmas
 pub mod Shapes
 pub mod TakenLemmas
 pub mod TakenText
+pub mod ToldLemmas
 pub mod TakingLemmas
 pub mod DeviceLemmas
 pub mod Stayed

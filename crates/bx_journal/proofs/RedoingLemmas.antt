@@ -1,12 +1,14 @@
 -- A redo text that is read again, and what redoing leaves.
-use Rattle.std.proofs.Common.{◌≡◌, ℕ, zero, suc, ◌+◌, ◌≤◌, List, [], ◌∷◌, length, ◌∙◌, subst, inl, inr, arith, length-drop}
+use Rattle.std.proofs.Common.{◌≡◌, ℕ, zero, suc, ◌+◌, ◌≤◌, List, [], ◌∷◌, length, ap, sym, ◌∙◌, subst, inl, inr, arith, length-drop}
 use Rattle.bx_journal.specs.declared.session.fault.SessionFault.{SessionFault}
 use Rattle.bx_journal.specs.declared.session.fault.SessionFault.TheVariants.{NoMemory, TooLarge, DeviceFailed, Damaged, TooFew, JournalFull, Interrupted, Broken, LengthDiffers, NothingToRedo, RedoDamaged}
 use Rattle.bx_journal.specs.Images.{Images, redo_of, redone_by}
 use Rattle.bx_journal.specs.Machine.{changes_of}
 use Rattle.bx_journal.specs.Redo.{IsRedoOf}
 use Rattle.bx_journal.specs.inner.Devices.{FaultCounts}
-use Rattle.bx_entries.specs.Text.{Between}
+use Rattle.bx_entries.specs.Finished.{IsFinished}
+use Rattle.bx_entries.specs.Text.{Between, Entry}
+use Rattle.bx_journal.specs.Taken.{taken_by}
 use Rattle.bx_journal.specs.Undoing.{AgainFault, HasCount}
 use Rattle.bx_journal.specs.inner.Undoing.{RedoAgainFault}
 use Rattle.bx_journal.specs.inner.Fault.{redo_fault}
@@ -64,3 +66,9 @@ redone {redo = redo} {y = y} {n = n} j s stood had number rest is =
     let long : length (redo_of j s).stack ≡ suc n = omega (arith, length_redone j s few, stood, number) in
     let many : changes_of (redo_of j s).stack ≡ n = omega (arith, long) in
     (few, long, omega (arith, stood, number), subst (λ m. IsRedoOf redo y m (redo_of j s).undone) many is, omega (arith, length-drop j s.undone, had, rest))
+
+-- what a redo takes of image, journal and redo text that were looked at before
+pub grown_since : (count : ℕ) {x y text now redo seen new : List ℕ} {n k : ℕ} → n ≡ k → y ≡ x → now ≡ text → seen ≡ redo
+    → ((es : List Entry) → IsFinished seen es → new ≡ taken_by n es y count now) → (es : List Entry) → IsFinished redo es → new ≡ taken_by k es x count text
+grown_since count {x = x} {y = y} {text = text} {now = now} {n = n} {k = k} many image same looked grown es finished =
+    grown es (subst (λ t. IsFinished t es) (sym looked) finished) ∙ ap (λ m. taken_by m es y count now) many ∙ ap (λ z. taken_by k es z count now) image ∙ ap (taken_by k es x count) same

@@ -8,6 +8,7 @@ pub mod SessionView
 pub mod Session
 pub mod Stack
 pub mod Taken
+pub mod OnTop
 pub mod Opened
 pub mod Opening
 pub mod Performing

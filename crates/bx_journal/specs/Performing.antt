@@ -1,7 +1,6 @@
 -- What a change, an undo and a redo answer and leave.
 use Rattle.std.specs.Prelude.{◌≡◌, ◌≤◌, ◌++◌, ℕ, List, length, drop, Result, Ok, IfOk, IfErr, OnOk}
 use Rattle.bx_image.specs.declared.change.Change.{Change}
-use Rattle.bx_image.specs.declared.change.TheConstants.{MAX_LEN}
 use Rattle.bx_image.specs.Change.{effect, saved}
 use Rattle.bx_entries.specs.Entry.{entry_text}
 use Rattle.bx_entries.specs.Finished.{IsFinished}
@@ -14,6 +13,7 @@ use Rattle.bx_journal.specs.Machine.{RedoStep, changed, top}
 use Rattle.bx_journal.specs.Phase.{RecoversEither}
 use Rattle.bx_journal.specs.Session.{FindsEither, HasUndone, IsReady, IsSame, SessionFinds}
 use Rattle.bx_journal.specs.SessionView.{SessionView}
+use Rattle.bx_journal.specs.OnTop.{OnTop}
 use Rattle.bx_journal.specs.Stack.{Recovers}
 use Rattle.bx_journal.specs.Standing.{IsStanding}
 use Rattle.bx_journal.specs.Taken.{taken_by}
@@ -43,6 +43,19 @@ module _ {D T : Type 0} (image : D → List ℕ) (text : T → List ℕ) where
   abbrev pub StopsUndo : {V : Type 0} → ℕ → SessionView D T → SessionView D T → Result V SessionFault → Type 0
   StopsUndo k old new result = (stack : List (List ℕ)) → IsReady image text old stack →
       IfErr result (λ e. AfterFault e ((j : ℕ) × (j ≤ k) × Recovers (text new.store) (image new.device) (drop j stack)) (IsSame image text old new))
+
+  -- whatever the redo text gave, a session that stood for a stack stands for it with j images on top
+  abbrev pub StandsOnTop : {V E : Type 0} → ℕ → SessionView D T → SessionView D T → Result V E → Type 0
+  StandsOnTop j old new result = (stack : List (List ℕ)) → IsStanding image text old stack → OnOk result (OnTop j stack (IsStanding image text new))
+
+  -- and one that was ready with it is so with j images on top
+  abbrev pub StaysOnTop : {V E : Type 0} → ℕ → SessionView D T → SessionView D T → Result V E → Type 0
+  StaysOnTop j old new result = (stack : List (List ℕ)) → IsReady image text old stack → OnOk result (OnTop j stack (IsReady image text new))
+
+  -- an interruption of a redo leaves the stack with some images on top, and another fault leaves all as it was
+  abbrev pub StopsRedo : {V : Type 0} → ℕ → SessionView D T → SessionView D T → Result V SessionFault → Type 0
+  StopsRedo j old new result = (stack : List (List ℕ)) → IsReady image text old stack →
+      IfErr result (λ e. AfterFault e ((i : ℕ) × (i ≤ j) × OnTop i stack (Recovers (text new.store) (image new.device))) (IsSame image text old new))
 
   -- what opening finds behind an interruption, where the session was ready with these images
   abbrev pub FindsBehind : {V : Type 0} → SessionView D T → (Images → Type 0) → Result V SessionFault → Type 0
@@ -77,7 +90,7 @@ module _ {D T : Type 0} (image : D → List ℕ) (text : T → List ℕ) where
   KeepsTaken k old new result = (entries : List Entry) → IsFinished (text old.store) entries →
       OnOk result (text new.redo_text ≡ taken_by k entries (image old.device) old.undone (text old.redo_text))
 
-  -- behind a redo of j the journal has what was taken for the newest j entries of the redo text, of an image that an entry can tell
+  -- behind a redo of j the journal has what was taken for the newest j entries of the redo text
   abbrev pub GrowsByTaken : {V E : Type 0} → ℕ → SessionView D T → SessionView D T → Result V E → Type 0
-  GrowsByTaken j old new result = (entries : List Entry) → IsFinished (text old.redo_text) entries → length (image old.device) ≤ MAX_LEN →
+  GrowsByTaken j old new result = (entries : List Entry) → IsFinished (text old.redo_text) entries →
       OnOk result (text new.store ≡ taken_by j entries (image old.device) old.count (text old.store))

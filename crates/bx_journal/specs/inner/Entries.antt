@@ -7,6 +7,7 @@ use Rattle.bx_journal.specs.Machine.{changes_of}
 use Rattle.bx_journal.specs.Phase.{IsAtRest}
 use Rattle.bx_journal.specs.Redo.{Finds}
 use Rattle.bx_journal.specs.Taken.{taken_by}
+use Rattle.bx_journal.specs.OnTop.{OnTop}
 use Rattle.bx_journal.specs.Stack.{Recovers, StandsFor}
 use Rattle.bx_entries.specs.Shown.{shown}
 use Rattle.bx_journal.specs.inner.Written.{AreSettled}
@@ -66,6 +67,30 @@ abbrev pub RedoSome : {D T B V E : Type 0} → (D → Type 0) → (D → List �
 RedoSome honest image text_honest text d t u d_new t_new u_new count takens result =
     honest d → text_honest t → text_honest u → (s : Images) → AreAtRest (text t) (image d) (text u) s → count ≡ changes_of s.stack
     → OnErr result ((i : ℕ) × (i ≤ length takens) × Finds (text t_new) (image d_new) (text u_new) (redo_of i s))
+
+-- and the journal has what was taken for the entries of a redo text of finished ones alone
+abbrev pub RedoTakes : {D T B V E : Type 0} → (D → Type 0) → (D → List ℕ) → (T → Type 0) → (T → List ℕ) → D → T → T → T → ℕ → List B → Result V E → Type 0
+RedoTakes honest image text_honest text d t u t_new count takens result =
+    honest d → text_honest t → text_honest u → (entries : List Entry) → IsFinished (text u) entries
+    → OnOk result (text t_new ≡ taken_by (length takens) entries (image d) count (text t))
+
+-- whatever the redo text gave, a pair at rest for a stack is so for it with as many images on top
+abbrev pub RestsOnTop : {D T B V E : Type 0} → (D → Type 0) → (D → List ℕ) → (T → Type 0) → (T → List ℕ) → D → T → D → T → ℕ → List B → Result V E → Type 0
+RestsOnTop honest image text_honest text d t d_new t_new count takens result =
+    honest d → text_honest t → (stack : List (List ℕ)) → IsAtRest (text t) (image d) stack → count ≡ changes_of stack
+    → OnOk result (OnTop (length takens) stack (IsAtRest (text t_new) (image d_new)))
+
+-- and so is one that stands for it
+abbrev pub StandsOnTop : {D T B V E : Type 0} → (D → Type 0) → (D → List ℕ) → (T → Type 0) → (T → List ℕ) → D → T → D → T → ℕ → List B → Result V E → Type 0
+StandsOnTop honest image text_honest text d t d_new t_new count takens result =
+    honest d → text_honest t → (stack : List (List ℕ)) → StandsFor (text t) (image d) stack → count ≡ changes_of stack
+    → OnOk result (OnTop (length takens) stack (StandsFor (text t_new) (image d_new)))
+
+-- and where it is stopped opening finds the stack with some of them on top
+abbrev pub StopsOnTop : {D T B V E : Type 0} → (D → Type 0) → (D → List ℕ) → (T → Type 0) → (T → List ℕ) → D → T → D → T → ℕ → List B → Result V E → Type 0
+StopsOnTop honest image text_honest text d t d_new t_new count takens result =
+    honest d → text_honest t → (stack : List (List ℕ)) → IsAtRest (text t) (image d) stack → count ≡ changes_of stack
+    → OnErr result ((i : ℕ) × (i ≤ length takens) × OnTop i stack (Recovers (text t_new) (image d_new)))
 
 -- where image and both texts were on the disk, they are so behind the steps
 abbrev pub StaySettled : {D T V E : Type 0} → (D → Type 0) → (D → List ℕ) → (D → List ℕ → Type 0) → (T → Type 0) → (T → List ℕ) → (T → List ℕ → Type 0)

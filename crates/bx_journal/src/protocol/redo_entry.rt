@@ -3,7 +3,7 @@ ghost use Rattle.std.specs.Prelude.{◌≡◌, ◌+◌, ◌-◌, ◌<◌, ◌≤
 ghost use Rattle.bx_entries.specs.inner.Parsed.{AllKept};
 ghost use Rattle.bx_journal.specs.inner.Devices.{AreBelow, StepsOn};
 ghost use Rattle.bx_journal.specs.Undoing.{LeavesFront};
-ghost use Rattle.bx_journal.specs.inner.Entries.{RedoAll, RedoRests, RedoSome, RedoSomeSurvives, StaySettled};
+ghost use Rattle.bx_journal.specs.inner.Entries.{RedoAll, RedoRests, RedoSome, RedoSomeSurvives, RedoTakes, RestsOnTop, StandsOnTop, StaySettled, StopsOnTop};
 ghost use Rattle.bx_journal.specs.inner.Takens.{AreReady, AllShaped, entries_len};
 ghost use Rattle.bx_entries.specs.Text.{IsPrefix};
 ghost use Rattle.bx_journal.specs.inner.Undoing.{AreReadFrom};
@@ -12,7 +12,7 @@ use crate::protocol::entry::write_entry;
 use crate::protocol::fill::{fill_last, take_last};
 use crate::protocol::redo_text::RedoCut;
 use bx_entries::{EntryRead, entry_end};
-use bx_image::{Device, DeviceFailed, Saved};
+use bx_image::{Device, DeviceFailed, MAX_LEN, Saved};
 use bx_store::TextStore;
 use std::alloc::Allocator;
 
@@ -34,6 +34,7 @@ pub fn redo_entries<D: Device, T: TextStore, A: Allocator>(
     requires read { AreReadFrom (T.honest redo_text.old) (T.text redo_text.old) entries.old.items }
     requires shaped { AllShaped takens.old.items }
     requires ready { D.honest device.old → AreReady (D.image device.old) (reverse entries.old.items) (reverse takens.old.items) }
+    requires told { D.honest device.old → 0 < length takens.old.items → length (D.image device.old) ≤ MAX_LEN }
     requires fits { T.honest store.old → length (T.text store.old) + entries_len takens.old.items ≤ T.room store.old }
     requires empty { page.old.items ≡ [] }
     requires page_room { 82 ≤ vec_capacity page.old }
@@ -41,6 +42,10 @@ pub fn redo_entries<D: Device, T: TextStore, A: Allocator>(
         device.old store.old redo_text.old device.new store.new redo_text.new count takens.old.items result }
     ensures images { RedoAll D.honest D.image T.honest T.text
         device.old store.old redo_text.old device.new store.new redo_text.new count takens.old.items result }
+    ensures rests { RestsOnTop D.honest D.image T.honest T.text device.old store.old device.new store.new count takens.old.items result }
+    ensures stands { StandsOnTop D.honest D.image T.honest T.text device.old store.old device.new store.new count takens.old.items result }
+    ensures fault { StopsOnTop D.honest D.image T.honest T.text device.old store.old device.new store.new count takens.old.items result }
+    ensures taken { RedoTakes D.honest D.image T.honest T.text device.old store.old redo_text.old store.new count takens.old.items result }
     ensures number { IfOk result (λ n. n ≡ count + length takens.old.items) }
     ensures left { T.honest redo_text.old → LeavesFront (T.text redo_text.old) (length takens.old.items) (T.text redo_text.new) result }
     ensures front { T.honest store.old → OnOk result (IsPrefix (T.text store.old) (T.text store.new)) }

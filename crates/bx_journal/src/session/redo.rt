@@ -8,7 +8,7 @@ ghost use Rattle.bx_journal.specs.inner.Undoing.{IsLastFrom, RedoAgainFault};
 
 use crate::protocol::redo_entry::redo_entries;
 use crate::session::fault::of_redo;
-use crate::session::prepare::records::prepare_takens;
+use crate::session::prepare::records::prepare_redo;
 use crate::session::read::entries::{FinishedRead, read_last_of};
 use crate::{Session, SessionFault};
 use bx_image::Device;
@@ -57,7 +57,7 @@ impl<D: Device, T: TextStore, A: Allocator + Clone> Session<D, T, A> {
     ghost use Rattle.bx_journal.specs.Calls.{AfterFault};
     ghost use Rattle.bx_journal.specs.Power.{NothingNew, StepsSurvive};
     ghost use Rattle.bx_journal.specs.Session.{FailsSafely};
-    ghost use Rattle.bx_journal.specs.Performing.{FindsSome, RedoesImages, StaysRedone};
+    ghost use Rattle.bx_journal.specs.Performing.{FindsSome, GrowsByTaken, RedoesImages, StandsOnTop, StaysOnTop, StaysRedone, StopsRedo};
     ghost use Rattle.bx_journal.specs.Undoing.{HasCount, IsOutOfStep, LeavesFront, RedoFault};
     ghost use Rattle.bx_journal.specs.declared.session.fault.SessionFault.TheVariants.{RedoDamaged};
 
@@ -66,8 +66,9 @@ impl<D: Device, T: TextStore, A: Allocator + Clone> Session<D, T, A> {
     /// All memory is taken before the first write: it is in proportion to the bytes that the last j entries of the redo text
     /// saved, and to those that the j changes overwrite. The faults come in this order: `Broken`, `NothingToRedo`,
     /// `DeviceFailed` and `NoMemory` of reading, `RedoDamaged` where the redo text was changed by others, `DeviceFailed`
-    /// of the lengths, `NoMemory`, `DeviceFailed` of reading the image, and `Interrupted` from the first write on. Each
-    /// but the last changes nothing.
+    /// of the lengths, `NoMemory`, `DeviceFailed` of reading the image, `NoMemory` of an image that an entry can't tell, and
+    /// `Interrupted` from the first write on. Each but the last changes nothing. A redo text that is the session's own never
+    /// leads to an image that is too long.
     pub fn redo(&mut self, j: u32) -> Result<u32, SessionFault>
         requires device_countable { D.failures self.old.device < u64.MAX }
         requires store_countable { T.failures self.old.store < u64.MAX }
@@ -81,8 +82,15 @@ impl<D: Device, T: TextStore, A: Allocator + Clone> Session<D, T, A> {
         ensures number { IfOk result (λ n. (n ≡ self.old.count + j) × (self.new.count ≡ n)
             × (self.new.undone + j ≡ self.old.undone) × (self.new.is_broken ≡ false)) }
 
-        // The redo text is then that of the other entries, and the journal goes on with new ones.
+        // Whatever the redo text gives, the old stack still stands, with j images on top, behind an interruption with some.
+        ensures stands { D.honest self.old.device → T.honest self.old.store → StandsOnTop D.image T.text j self.old self.new result }
+        ensures ready { D.honest self.old.device → T.honest self.old.store → StaysOnTop D.image T.text j self.old self.new result }
+        ensures fault { D.honest self.old.device → T.honest self.old.store → StopsRedo D.image T.text j self.old self.new result }
+
+        // The redo text is then that of the other entries, and the journal goes on with what each of the j took of the image.
         ensures text { T.honest self.old.redo_text → LeavesFront (T.text self.old.redo_text) j (T.text self.new.redo_text) result }
+        ensures grown { D.honest self.old.device → T.honest self.old.store → T.honest self.old.redo_text
+            → GrowsByTaken D.image T.text j self.old self.new result }
         ensures front { T.honest self.old.store → OnOk result (IsPrefix (T.text self.old.store) (T.text self.new.store)) }
 
         // An interruption leaves the old stack with some of the images made again, and another fault leaves all as it was.
@@ -116,7 +124,7 @@ impl<D: Device, T: TextStore, A: Allocator + Clone> Session<D, T, A> {
             return Err(SessionFault::NothingToRedo { have: self.undone });
         }
         let mut read = read_undone(&self.alloc, &mut self.redo_text, self.undone, j)?;
-        let mut taking = prepare_takens(
+        let mut taking = prepare_redo(
             &self.alloc,
             &mut self.device,
             &mut self.redo_text,

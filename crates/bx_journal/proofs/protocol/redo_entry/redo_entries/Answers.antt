@@ -1,4 +1,4 @@
-use Rattle.std.proofs.Common.{◌≡◌, ◌∙◌, ◌+◌, ◌∷◌, [], ◌<◌, ◌≤◌, ℕ, List, length, drop, sym, subst, arith, append-nil}
+use Rattle.std.proofs.Common.{◌≡◌, ◌∙◌, ◌+◌, ◌∷◌, ◌++◌, [], ◌<◌, ◌≤◌, ℕ, List, length, drop, refl, ap, sym, subst, arith, append-nil}
 use Rattle.std.proofs.lemmas.Result.{err_from_is_err_and}
 use Rattle.bx_image.specs.Change.{effect, saved, IsAsGood}
 use Rattle.bx_entries.specs.Kept.{kept_of}
@@ -6,12 +6,16 @@ use Rattle.bx_entries.specs.Entry.{head_text}
 use Rattle.bx_entries.proofs.KeptLemmas.{within_out}
 use Rattle.bx_journal.specs.Images.{redo_of}
 use Rattle.bx_journal.specs.Phase.{IsAtRest}
+use Rattle.bx_journal.specs.Taken.{taken_by}
+use Rattle.bx_journal.specs.OnTop.{OnTop}
+use Rattle.bx_journal.specs.Stack.{StandsFor}
 use Rattle.bx_journal.specs.Undoing.{HasLeft}
 use Rattle.bx_journal.specs.inner.Takens.{AreFilled}
 use Rattle.bx_journal.specs.inner.Turns.{AreAtRest, AreStanding}
 use Rattle.bx_journal.proofs.DeviceLemmas.{always_err, filling_fails, goes_further, none_yet, step_fails}
 use Rattle.bx_journal.proofs.LoopLemmas.{IsTurn, turn_of, none_gone, one_gone, places, long_at, first_below, left_at, standing}
-use Rattle.bx_journal.proofs.RedoLoop.{IsRedoBy, IsMadeAgain, restored, entry_fits, redo_stopped, rests_again, redone_next, room_behind, prefix_more}
+use Rattle.bx_journal.proofs.Phases.{rest_recovers}
+use Rattle.bx_journal.proofs.RedoLoop.{IsRedoBy, IsMadeAgain, restored, entry_fits, redo_stopped, stopped_on, some_stands, rests_again, rests_on, stands_on, told_again, redone_next, grown_next, room_behind, prefix_more}
 use Rattle.bx_journal.proofs.TurnLemmas.{rest_is_found}
 use Rattle.bx_journal.proofs.StepSurvivors.{found_at_rest, looked_at, survive_err}
 use Rattle.bx_entries.specs.Shown.{shown}
@@ -75,6 +79,16 @@ returns-in_err-write_entry-clause-finds g c dh th rh s rest count =
     always_err _ (redo_stopped (turn g at.After-take_last-entry) (by g at.After-as_bytes) rh dh less s (record { rest = inv.rest dh th rh s rest count; undone = here.0.undone }) here.1
     (c.in_err-write_entry.ensures.left (inv.steps_on.device_honesty.1 dh) (inv.steps_on.store_honesty.1 th) (inv.steps_on.redo_honesty.1 rh)))
 
+-- before a turn some record is left, so the image's length is one that an entry can tell, and so is the entry's number
+pub returns-in_err-write_entry-clause-fault : goal.returns-in_err-write_entry-clause-fault
+returns-in_err-write_entry-clause-fault g c dh th stack rest count =
+    let inv = c.loop-i.invariant in
+    let at = goal.at.returns-in_err-write_entry-clause-fault g c in
+    let last = turn g at.After-take_last-entry in
+    let less : c.loop-i.i < length c.args.takens.now.items = omega (arith, c.loop-i-test.true, c.len-k.ensures) in
+    always_err _ (stopped_on last (by g at.After-as_bytes) dh (inv.told dh (omega (arith, last.most))) (omega (arith, last.most, inv.bound)) less inv.made stack (some_stands _ _ stack rest.stands) count (inv.on_top dh th stack rest count)
+    (c.in_err-write_entry.ensures.fault (inv.steps_on.device_honesty.1 dh) (inv.steps_on.store_honesty.1 th)))
+
 pub fill_last-requires-clause-range : goal.fill_last-requires-clause-range
 fill_last-requires-clause-range g c now =
     let on = c.loop-i.invariant.steps_on in
@@ -100,6 +114,18 @@ returns-in_err-fill_last-clause-finds g c dh th rh s rest count =
           (record { rest = rests_again last again done rh dh th s (record { rest = inv.rest dh th rh s rest count; undone = here.0.undone }) here.1; undone = next.0.undone }),
     )
 
+pub returns-in_err-fill_last-clause-fault : goal.returns-in_err-fill_last-clause-fault
+returns-in_err-fill_last-clause-fault g c dh th stack rest count =
+    let inv = c.loop-i.invariant in
+    let at = goal.at.returns-in_err-fill_last-clause-fault g c in
+    let last = turn g at.After-take_last-entry in
+    let on = rests_on last (by g at.After-as_bytes) (made g at.After-fill_last) dh th (inv.told dh (omega (arith, last.most))) (omega (arith, last.most, inv.bound)) inv.made stack (some_stands _ _ stack rest.stands) count (inv.on_top dh th stack rest count) in
+    always_err c.from_residual-in_err-fill_last.result (
+      c.loop-i.i + 1,
+      omega (arith, c.loop-i-test.true, c.len-k.ensures),
+      (on.0, on.1, rest_recovers (g.T.TextStore.text c.write_entry.new.store) (g.D.Device.image c.fill_last.new.device) (on.0 ++ stack) on.2),
+    )
+
 pub loop-i-preserved : goal.loop-i-preserved
 loop-i-preserved g c =
     let inv = c.loop-i.invariant in
@@ -123,6 +149,11 @@ loop-i-preserved g c =
           let here = inv.steps_on in
           let d = here.device_honesty.1 dh in
           looked_at _ _ _ _ _ _ _ _ (filled.image (wrote.steps_on.device_honesty.1 d)) (filled.survives (wrote.steps_on.device_honesty.1 d)) (wrote.settles d (here.store_honesty.1 th) (here.redo_honesty.1 rh));
+      told = λ dh some. told_again last again done dh;
+      on_top = λ dh th stack rest count.
+          rests_on last again done dh th (inv.told dh (omega (arith, last.most))) (omega (arith, last.most, inv.bound)) inv.made stack (some_stands _ _ stack rest.stands) count (inv.on_top dh th stack rest count);
+      stood = λ dh th stack stands count.
+          stands_on last again done dh th (inv.told dh (omega (arith, last.most))) (omega (arith, last.most, inv.bound)) inv.made stack (some_stands _ _ stack stands) count (inv.stood dh th stack stands count);
       empty = wrote.emptied;
       page_room = omega (arith, inv.page_room, wrote.page_kept);
       rest = λ dh th rh s rest count.
@@ -131,6 +162,7 @@ loop-i-preserved g c =
       images = λ dh th rh s stands count.
           let here = inv.images dh th rh s stands count in
           redone_next last again done rh dh th s here.0 here.1;
+      taken = λ dh th rh es finished. grown_next last again done rh dh th (inv.told dh (omega (arith, last.most))) new filled.count es finished ∙ inv.taken dh th rh es finished;
     }
 
 pub loop-i-init : goal.loop-i-init
@@ -142,10 +174,14 @@ loop-i-init g c = record {
   steps_on = none_yet;
   fits = c.requires.fits;
   settled = λ dh th rh on. on;
+  told = c.requires.told;
+  on_top = λ dh th stack rest count. ([], refl, rest);
+  stood = λ dh th stack stands count. ([], refl, stands);
   empty = c.requires.empty;
   page_room = c.requires.page_room;
   rest = λ dh th rh s rest count. rest.rest;
   images = λ dh th rh s stands count. (stands, count);
+  taken = λ dh th rh es finished. refl;
 }
 
 -- each record was taken
@@ -162,6 +198,21 @@ pub returns-clause-images : goal.returns-clause-images
 returns-clause-images g c dh th rh s stands count =
     subst (λ k. AreStanding (g.T.TextStore.text c.loop-i.store) (g.D.Device.image c.loop-i.device) (g.T.TextStore.text c.loop-i.redo_text) (redo_of k s)) (all_taken g (goal.at.returns-clause-images g c).After-loop-i)
     (c.loop-i.invariant.images dh th rh s stands count).0
+
+pub returns-clause-rests : goal.returns-clause-rests
+returns-clause-rests g c dh th stack rest count =
+    subst (λ k. OnTop k stack (IsAtRest (g.T.TextStore.text c.loop-i.store) (g.D.Device.image c.loop-i.device))) (all_taken g (goal.at.returns-clause-rests g c).After-loop-i) (c.loop-i.invariant.on_top dh th stack rest count)
+
+pub returns-clause-stands : goal.returns-clause-stands
+returns-clause-stands g c dh th stack stands count =
+    subst (λ k. OnTop k stack (StandsFor (g.T.TextStore.text c.loop-i.store) (g.D.Device.image c.loop-i.device))) (all_taken g (goal.at.returns-clause-stands g c).After-loop-i) (c.loop-i.invariant.stood dh th stack stands count)
+
+pub returns-clause-taken : goal.returns-clause-taken
+returns-clause-taken g c dh th rh es finished =
+    let inv = c.loop-i.invariant in
+    let all = all_taken g (goal.at.returns-clause-taken g c).After-loop-i in
+    let none : length c.loop-i.takens.items ≡ 0 = omega (arith, inv.left.more, all) in
+    ap (λ k. taken_by k (drop c.loop-i.i es) (g.D.Device.image c.loop-i.device) c.loop-i.count (g.T.TextStore.text c.loop-i.store)) (sym none) ∙ inv.taken dh th rh es finished
 
 pub returns-clause-number : goal.returns-clause-number
 returns-clause-number g c = omega (arith, c.loop-i.invariant.made, all_taken g (goal.at.returns-clause-number g c).After-loop-i)

@@ -1,10 +1,15 @@
-use Rattle.std.proofs.Common.{◌≡◌, ◌+◌, ◌≤◌, [], length}
+use Rattle.std.proofs.Common.{◌≡◌, ◌+◌, ◌<◌, ◌≤◌, ℕ, List, [], length, drop}
+use Rattle.bx_image.specs.declared.change.TheConstants.{MAX_LEN}
+use Rattle.bx_entries.specs.Finished.{IsFinished}
+use Rattle.bx_journal.specs.Taken.{taken_by}
+use Rattle.bx_journal.specs.OnTop.{OnTop}
+use Rattle.bx_journal.specs.Stack.{StandsFor}
 use Rattle.std.specs.Prelude.{vec_capacity}
 use Rattle.bx_journal.specs.Images.{Images, redo_of}
 use Rattle.bx_journal.specs.Machine.{changes_of}
 use Rattle.bx_journal.specs.Phase.{IsAtRest}
 use Rattle.bx_journal.specs.inner.Takens.{entries_len}
-use Rattle.bx_entries.specs.Text.{IsPrefix}
+use Rattle.bx_entries.specs.Text.{Entry, IsPrefix}
 use Rattle.bx_journal.specs.inner.Turns.{AreAtRest, AreStanding}
 use Rattle.bx_journal.specs.inner.Written.{AreSettled}
 use Rattle.bx_journal.proofs.DeviceLemmas.{HaveGoneOn}
@@ -23,6 +28,11 @@ invariant-loop-i g l = record {
   settled : g.D.Device.honest l.fn.device → g.T.TextStore.honest l.fn.store → g.T.TextStore.honest l.fn.redo_text
       → AreSettled g.D.Device.image g.T.TextStore.text g.D.Device.survives g.T.TextStore.survives l.fn.device l.fn.store l.fn.redo_text
       → AreSettled g.D.Device.image g.T.TextStore.text g.D.Device.survives g.T.TextStore.survives l.device l.store l.redo_text;
+  told : g.D.Device.honest l.fn.device → 0 < length l.takens.items → length (g.D.Device.image l.device) ≤ MAX_LEN;
+  on_top : g.D.Device.honest l.fn.device → g.T.TextStore.honest l.fn.store → (stack : List (List ℕ)) → IsAtRest (g.T.TextStore.text l.fn.store) (g.D.Device.image l.fn.device) stack
+      → l.fn.count ≡ changes_of stack → OnTop l.i stack (IsAtRest (g.T.TextStore.text l.store) (g.D.Device.image l.device));
+  stood : g.D.Device.honest l.fn.device → g.T.TextStore.honest l.fn.store → (stack : List (List ℕ)) → StandsFor (g.T.TextStore.text l.fn.store) (g.D.Device.image l.fn.device) stack
+      → l.fn.count ≡ changes_of stack → OnTop l.i stack (StandsFor (g.T.TextStore.text l.store) (g.D.Device.image l.device));
   empty : l.page.items ≡ [];
   page_room : 82 ≤ vec_capacity l.page;
   rest : g.D.Device.honest l.fn.device → g.T.TextStore.honest l.fn.store → g.T.TextStore.honest l.fn.redo_text → (s : Images)
@@ -31,4 +41,7 @@ invariant-loop-i g l = record {
   images : g.D.Device.honest l.fn.device → g.T.TextStore.honest l.fn.store → g.T.TextStore.honest l.fn.redo_text → (s : Images)
       → AreStanding (g.T.TextStore.text l.fn.store) (g.D.Device.image l.fn.device) (g.T.TextStore.text l.fn.redo_text) s → l.fn.count ≡ changes_of s.stack
       → AreStanding (g.T.TextStore.text l.store) (g.D.Device.image l.device) (g.T.TextStore.text l.redo_text) (redo_of l.i s) × (l.count ≡ changes_of (redo_of l.i s).stack);
+  taken : g.D.Device.honest l.fn.device → g.T.TextStore.honest l.fn.store → g.T.TextStore.honest l.fn.redo_text → (entries : List Entry) → IsFinished (g.T.TextStore.text l.fn.redo_text) entries
+      → taken_by (length l.takens.items) (drop l.i entries) (g.D.Device.image l.device) l.count (g.T.TextStore.text l.store)
+      ≡ taken_by (length l.fn.takens.items) entries (g.D.Device.image l.fn.device) l.fn.count (g.T.TextStore.text l.fn.store);
 }

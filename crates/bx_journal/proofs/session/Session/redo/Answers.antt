@@ -1,27 +1,30 @@
-use Rattle.std.proofs.Common.{◌≡◌, ℕ, refl, ◌∙◌, subst, arith}
+use Rattle.std.proofs.Common.{◌≡◌, ℕ, length-append, refl, ◌∙◌, subst, arith}
 use Rattle.std.proofs.lemmas.Grind.{common_steps}
 use Rattle.bx_journal.specs.declared.session.fault.SessionFault.TheVariants.{RedoDamaged}
 use Rattle.bx_entries.specs.Text.{IsPrefix}
+use Rattle.bx_journal.specs.Machine.{changes_of}
+use Rattle.bx_journal.specs.Phase.{IsAtRest}
+use Rattle.bx_journal.specs.Stack.{StandsFor}
 use Rattle.bx_journal.specs.Undoing.{IsOutOfStep}
 use Rattle.bx_journal.specs.inner.Undoing.{RedoAgainFault}
 use Rattle.bx_journal.proofs.AgainLemmas.{has_count}
-use Rattle.bx_journal.proofs.RedoingLemmas.{redo_in_step, redone}
+use Rattle.bx_journal.proofs.RedoingLemmas.{grown_since, redo_in_step, redone}
 use Rattle.std.proofs.lemmas.Result.{err_from_is_err_and}
 use Rattle.bx_journal.specs.inner.Devices.{HaveStayed}
 use Rattle.bx_image.proofs.Survivors.{NoMore_then}
 use Rattle.bx_journal.proofs.DeviceLemmas.{one_more}
 use Rattle.bx_journal.specs.Power.{FoundBefore}
 use Rattle.bx_journal.proofs.SafeLemmas.{accepts, any_fault, interrupts, refuses}
-use Rattle.bx_journal.proofs.Stayed.{left_since, looked_at, none_failed, other_order, read_since, rest_step, standing_step}
+use Rattle.bx_journal.proofs.Stayed.{left_since, looked_at, none_failed, other_order, pair_step, read_since, rest_step, standing_step}
 use Rattle.bx_journal.specs.Images.{redo_of}
 use Rattle.bx_journal.proofs.StepSurvivors.{found_at_rest, found_of, found_some}
 use Rattle.bx_journal.proofs.session.Session.redo.Goals as goal
-use Rattle.bx_journal.proofs.session.Session.redo.Goals.{After-prepare_takens}
+use Rattle.bx_journal.proofs.session.Session.redo.Goals.{After-prepare_redo}
 
 -- what was read and taken before the first write
-stayed : (g : _) (c : After-prepare_takens g)
-    → HaveStayed g.D.Device.honest g.T.TextStore.honest g.D.Device.image g.T.TextStore.text c.self.inside.device c.self.inside.store c.self.inside.redo_text c.prepare_takens.new.device c.prepare_takens.new.to c.prepare_takens.new.from
-stayed g c = other_order (looked_at c.read_undone.ensures.looks c.prepare_takens.ensures.stayed)
+stayed : (g : _) (c : After-prepare_redo g)
+    → HaveStayed g.D.Device.honest g.T.TextStore.honest g.D.Device.image g.T.TextStore.text c.self.inside.device c.self.inside.store c.self.inside.redo_text c.prepare_redo.new.device c.prepare_redo.new.to c.prepare_redo.new.from
+stayed g c = other_order (looked_at c.read_undone.ensures.looks c.prepare_redo.ensures.stayed)
 
 pub returns-in_err-read-clause-undamaged : goal.returns-in_err-read-clause-undamaged
 returns-in_err-read-clause-undamaged g c =
@@ -43,21 +46,49 @@ redo_entries-requires-clause-kept g c =
 
 pub redo_entries-requires-clause-read : goal.redo_entries-requires-clause-read
 redo_entries-requires-clause-read g c =
-    let before = stayed g (goal.at.redo_entries-requires-clause-read g c).After-prepare_takens in
+    let before = stayed g (goal.at.redo_entries-requires-clause-read g c).After-prepare_redo in
     read_since before.other_honesty.0 before.other_same c.in_ok-read.ensures.read
 
 pub redo_entries-requires-clause-ready : goal.redo_entries-requires-clause-ready
 redo_entries-requires-clause-ready g c dh =
-    let taken = c.prepare_takens.ensures.stayed in
+    let taken = c.prepare_redo.ensures.stayed in
     let before = taken.device_honesty.0 dh in rw (taken.image_same before) (c.in_ok-taking.ensures.filled before)
 
 pub redo_entries-requires-clause-fits : goal.redo_entries-requires-clause-fits
-redo_entries-requires-clause-fits g c th = c.in_ok-taking.ensures.roomed (c.prepare_takens.ensures.stayed.other_honesty.0 th)
+redo_entries-requires-clause-fits g c th = c.in_ok-taking.ensures.roomed (c.prepare_redo.ensures.stayed.other_honesty.0 th)
+
+pub redo_entries-requires-clause-told : goal.redo_entries-requires-clause-told
+redo_entries-requires-clause-told g c dh some =
+    let taken = c.prepare_redo.ensures.stayed in
+    let before = taken.device_honesty.0 dh in rw (taken.image_same before) (c.in_ok-taking.ensures.told before (rw c.in_ok-taking.ensures.count at some))
+
+pub returns-in-Ok-clause-stands : goal.returns-in-Ok-clause-stands
+returns-in-Ok-clause-stands g c =
+    rw (← c.self.view_is) (λ dh th stack standing.
+    let before = stayed g (goal.at.returns-in-Ok-clause-stands g c).After-prepare_redo in
+    let many : c.self.inside.count ≡ changes_of stack = omega (arith, standing.count) in
+    let on = rw c.in_ok-taking.ensures.count at (pair_step (λ t x. StandsFor t x stack) before (λ d t stands. c.in-Ok.ensures.stands d t stack stands many) dh th standing.stands) in
+    (on.0, on.1, record { stands = on.2; count = omega (arith, length-append on.0 stack, on.1, standing.count, c.in-Ok.ensures.number, c.in_ok-taking.ensures.count); whole = standing.whole }))
+
+pub returns-in-Ok-clause-ready : goal.returns-in-Ok-clause-ready
+returns-in-Ok-clause-ready g c =
+    rw (← c.self.view_is) (λ dh th stack ready.
+    let before = stayed g (goal.at.returns-in-Ok-clause-ready g c).After-prepare_redo in
+    let many : c.self.inside.count ≡ changes_of stack = omega (arith, ready.count) in
+    let on = rw c.in_ok-taking.ensures.count at (pair_step (λ t x. IsAtRest t x stack) before (λ d t rest. c.in-Ok.ensures.rests d t stack rest many) dh th ready.rest) in
+    (on.0, on.1, record { rest = on.2; count = omega (arith, length-append on.0 stack, on.1, ready.count, c.in-Ok.ensures.number, c.in_ok-taking.ensures.count); whole = ready.whole }))
+
+pub returns-clause-fault : goal.returns-clause-fault
+returns-clause-fault g c =
+    rw (← c.self.view_is) (λ dh th stack ready.
+    let before = stayed g (goal.at.returns-clause-fault g c).After-prepare_redo in
+    let many : c.self.inside.count ≡ changes_of stack = omega (arith, ready.count) in
+    rw c.in_ok-taking.ensures.count at (pair_step (λ t x. IsAtRest t x stack) before (λ d t rest. c.in-Err.ensures.fault d t stack rest many) dh th ready.rest))
 
 pub returns-in-Ok-clause-accepted : goal.returns-in-Ok-clause-accepted
 returns-in-Ok-clause-accepted g c =
     rw (← c.self.view_is) (λ dh th rh s standing has.
-    let before = stayed g (goal.at.returns-in-Ok-clause-accepted g c).After-prepare_takens in
+    let before = stayed g (goal.at.returns-in-Ok-clause-accepted g c).After-prepare_redo in
     let found = rw c.in_ok-taking.ensures.count at (standing_step before c.in-Ok.ensures.images dh th rh s standing has (omega (arith, standing.count))) in
     let left = redone c.args.j s standing.count has.counted (rw c.in_ok-taking.ensures.count at c.in-Ok.ensures.number) c.undone_left-self-inside.ensures found.undone in (
       (left.0, omega (arith, left.2), refl),
@@ -68,7 +99,7 @@ returns-in-Ok-clause-accepted g c =
 pub returns-in-Ok-clause-sound : goal.returns-in-Ok-clause-sound
 returns-in-Ok-clause-sound g c =
     rw (← c.self.view_is) (λ dh th rh s ready has.
-    let before = stayed g (goal.at.returns-in-Ok-clause-sound g c).After-prepare_takens in
+    let before = stayed g (goal.at.returns-in-Ok-clause-sound g c).After-prepare_redo in
     let found = rw c.in_ok-taking.ensures.count at (rest_step before c.in-Ok.ensures.found dh th rh s ready has (omega (arith, ready.count))) in
     let left = redone c.args.j s ready.count has.counted (rw c.in_ok-taking.ensures.count at c.in-Ok.ensures.number) c.undone_left-self-inside.ensures found.undone in (
       record { rest = found.rest; count = left.1; whole = ready.whole },
@@ -83,18 +114,25 @@ returns-in-Ok-clause-whole g c =
 pub returns-in-Ok-clause-text : goal.returns-in-Ok-clause-text
 returns-in-Ok-clause-text g c =
     rw (← c.self.view_is) (λ rh.
-    let before = stayed g (goal.at.returns-in-Ok-clause-text g c).After-prepare_takens in
+    let before = stayed g (goal.at.returns-in-Ok-clause-text g c).After-prepare_redo in
     left_since (before.other_same rh) c.in_ok-taking.ensures.count (c.in-Ok.ensures.left (before.other_honesty.1 rh)))
+
+pub returns-in-Ok-clause-grown : goal.returns-in-Ok-clause-grown
+returns-in-Ok-clause-grown g c =
+    rw (← c.self.view_is) (λ dh th rh es finished.
+    let before = stayed g (goal.at.returns-in-Ok-clause-grown g c).After-prepare_redo in
+    grown_since c.self.inside.count c.in_ok-taking.ensures.count (before.image_same dh) (before.text_same th) (before.other_same rh)
+    (c.in-Ok.ensures.taken (before.device_honesty.1 dh) (before.text_honesty.1 th) (before.other_honesty.1 rh)) es finished)
 
 pub returns-in-Ok-clause-front : goal.returns-in-Ok-clause-front
 returns-in-Ok-clause-front g c =
     rw (← c.self.view_is) (λ th.
-    subst (λ t. IsPrefix t (g.T.TextStore.text c.redo_entries.new.store)) (c.prepare_takens.ensures.stayed.other_same th) (c.in-Ok.ensures.front (c.prepare_takens.ensures.stayed.other_honesty.1 th)))
+    subst (λ t. IsPrefix t (g.T.TextStore.text c.redo_entries.new.store)) (c.prepare_redo.ensures.stayed.other_same th) (c.in-Ok.ensures.front (c.prepare_redo.ensures.stayed.other_honesty.1 th)))
 
 pub returns-clause-finds : goal.returns-clause-finds
 returns-clause-finds g c =
     rw (← c.self.view_is) (λ dh th rh s ready has.
-    let before = stayed g (goal.at.returns-clause-finds g c).After-prepare_takens in
+    let before = stayed g (goal.at.returns-clause-finds g c).After-prepare_redo in
     rw c.in_ok-taking.ensures.count at (rest_step before c.in-Err.ensures.finds dh th rh s ready has (omega (arith, ready.count))))
 
 pub returns-in_err-taking-clause-safe : goal.returns-in_err-taking-clause-safe
@@ -103,24 +141,24 @@ returns-in_err-taking-clause-safe g c =
     let found = err_from_is_err_and c.from_residual-in_err-taking.result c.from_residual-in_err-taking.ensures.1 in
     rw (← c.self.view_is) (
     refuses c.from_residual-in_err-taking.result c.in_err-taking.field-0.0 (grind (arith, common_steps, found.1, found.2)) c.in_err-taking.ensures.kind c.if-self.false refl refl refl
-    (stayed g (goal.at.returns-in_err-taking-clause-safe g c).After-prepare_takens) c.in_err-taking.ensures.counts
+    (stayed g (goal.at.returns-in_err-taking-clause-safe g c).After-prepare_redo) c.in_err-taking.ensures.counts
     (λ h. (h.0, h.2, omega (arith, h.1, read.no_failure), omega (arith, h.3, read.no_failure))) (λ h. (h.0, h.2, h.1 ∙ read.no_failure)))
 
 pub returns-in-Ok-clause-safe : goal.returns-in-Ok-clause-safe
 returns-in-Ok-clause-safe g c =
     let same = c.in_ok-taking.ensures.no_failure in
-    rw (← c.self.view_is) (accepts c.if-self.false (one_more _ (none_failed (stayed g (goal.at.returns-in-Ok-clause-safe g c).After-prepare_takens) (same.0, same.2, same.1 ∙ c.in_ok-read.ensures.looks.no_failure)) c.in-Ok.ensures.steps_on))
+    rw (← c.self.view_is) (accepts c.if-self.false (one_more _ (none_failed (stayed g (goal.at.returns-in-Ok-clause-safe g c).After-prepare_redo) (same.0, same.2, same.1 ∙ c.in_ok-read.ensures.looks.no_failure)) c.in-Ok.ensures.steps_on))
 
 pub returns-clause-safe : goal.returns-clause-safe
 returns-clause-safe g c =
     let same = c.in_ok-taking.ensures.no_failure in
-    rw (← c.self.view_is) (interrupts c.if-self.false refl refl refl (one_more _ (none_failed (stayed g (goal.at.returns-clause-safe g c).After-prepare_takens) (same.0, same.2, same.1 ∙ c.in_ok-read.ensures.looks.no_failure)) c.in-Err.ensures.steps_on))
+    rw (← c.self.view_is) (interrupts c.if-self.false refl refl refl (one_more _ (none_failed (stayed g (goal.at.returns-clause-safe g c).After-prepare_redo) (same.0, same.2, same.1 ∙ c.in_ok-read.ensures.looks.no_failure)) c.in-Err.ensures.steps_on))
 
 -- what is found behind an interruption
 pub returns-clause-survives : goal.returns-clause-survives
 returns-clause-survives g c =
     rw (← c.self.view_is) (λ dh th rh s ready has y new redo image_there there redo_there.
-    let before = stayed g (goal.at.returns-clause-survives g c).After-prepare_takens in
+    let before = stayed g (goal.at.returns-clause-survives g c).After-prepare_redo in
     let on = c.in_ok-taking.ensures.settled dh (c.in_ok-read.ensures.looks.honesty.1 rh) th in
     let rest = rest_step before (λ d t u i rest. rest) dh th rh s ready has in
     found_some _ _ _ redo_of _ _ (rw c.in_ok-taking.ensures.count at
@@ -130,7 +168,7 @@ returns-clause-survives g c =
 pub returns-in-Ok-clause-survives : goal.returns-in-Ok-clause-survives
 returns-in-Ok-clause-survives g c =
     rw (← c.self.view_is) (λ dh th rh s ready has y new redo image_there there redo_there.
-    let before = stayed g (goal.at.returns-in-Ok-clause-survives g c).After-prepare_takens in
+    let before = stayed g (goal.at.returns-in-Ok-clause-survives g c).After-prepare_redo in
     let d = before.device_honesty.1 dh in
     let t = before.text_honesty.1 th in
     let u = before.other_honesty.1 rh in
@@ -149,8 +187,8 @@ returns-in_err-read-clause-found_before g c =
 
 pub returns-in_err-taking-clause-found_before : goal.returns-in_err-taking-clause-found_before
 returns-in_err-taking-clause-found_before g c =
-    let taken = c.prepare_takens.ensures.found_before in
-    let before : FoundBefore g.D.Device.honest g.T.TextStore.honest g.D.Device.survives g.T.TextStore.survives c.self.inside.device c.self.inside.store c.self.inside.redo_text c.prepare_takens.new.device c.prepare_takens.new.to c.prepare_takens.new.from =
+    let taken = c.prepare_redo.ensures.found_before in
+    let before : FoundBefore g.D.Device.honest g.T.TextStore.honest g.D.Device.survives g.T.TextStore.survives c.self.inside.device c.self.inside.store c.self.inside.redo_text c.prepare_redo.new.device c.prepare_redo.new.to c.prepare_redo.new.from =
     record {
       device_before = taken.device_before;
       text_before = taken.other_before;
