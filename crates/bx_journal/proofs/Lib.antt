@@ -31,6 +31,8 @@ pub mod Shapes
 pub mod TakenLemmas
 pub mod TakenText
 pub mod ToldLemmas
+pub mod AgainTaken
+pub mod WrittenAgain
 pub mod TakingLemmas
 pub mod DeviceLemmas
 pub mod Stayed

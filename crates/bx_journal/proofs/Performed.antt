@@ -46,7 +46,7 @@ entry_whole n s after =
     let is : entry_text n s after ≡ (head_text n s ++ line) ++ 10 ∷ [] = ap (λ t. head_text n s ++ t) last ∙ sym (append_assoc (head_text n s) line (10 ∷ [])) in
     ap (λ t. (split t).rest) is ∙ (ends_whole (head_text n s ++ line)).rest
 
-restored_same : (e : Entry) (s : Kept) (after : ℕ) (y : List ℕ) → HasBytes e s after → restore e.saved y ≡ restore s y
+pub restored_same : (e : Entry) (s : Kept) (after : ℕ) (y : List ℕ) → HasBytes e s after → restore e.saved y ≡ restore s y
 restored_same e s after y has =
     restore_same e.saved.len e.saved.runs s.runs y has.bytes ∙ ap (λ n. restore (record { len = n; runs = s.runs }) y) has.len
 

@@ -41,7 +41,7 @@ runs_in A f g at (suc n) same =
     by_byte (Some b) rs ss is = with_byte_in at b rs ∙ ap (with_byte at b) is
 
 -- the change with no allocator
-abbrev plain : {A : Type 0} → Change A → Change (Unit {0})
+abbrev pub plain : {A : Type 0} → Change A → Change (Unit {0})
 plain c = record { base = c.base; writes = map run_of c.writes }
 
 any_in : {A : Type 0} (ws : List (Piece A)) (i : ℕ) → list_any (λ (w : Piece A). is_within w.at w.bytes i) ws ≡ list_any (λ (w : Run). is_within w.at w.bytes i) (map run_of ws)
@@ -52,11 +52,14 @@ touches_in : {A : Type 0} (c : Change A) (i : ℕ) → touches c i ≡ touches (
 unfolding touches
 touches_in c i = ap (λ b. option_map_or (λ n. nat_le n i) c.base false || b) (any_in c.writes i)
 
+pub kept_byte_in : {A : Type 0} (c : Change A) (x : List ℕ) (i : ℕ) → kept_byte c x i ≡ kept_byte (plain c) x i
+kept_byte_in c x i = ap (λ b. if nat_lt i (length x) && b then Some (slice_index x i) else None) (touches_in c i)
+
 pub saved_in : {A : Type 0} (c : Change A) (x : List ℕ) → kept_of (saved c x) ≡ saved (plain c) x
 unfolding saved
 saved_in {A = A} c x =
     let with_runs : List Run → Kept = λ rs. record { len = length x; runs = rs } in
-    ap with_runs (runs_in A (kept_byte c x) (kept_byte (plain c) x) 0 (length x) (λ i. ap (λ b. if nat_lt i (length x) && b then Some (slice_index x i) else None) (touches_in c i)))
+    ap with_runs (runs_in A (kept_byte c x) (kept_byte (plain c) x) 0 (length x) (kept_byte_in c x))
 
 -- One turn: a text of n entries behind restoring the record of e, of which t was taken
 abbrev pub turned : {A : Type 0} → ℕ → List Entry → EntryRead A → Saved A → List ℕ → ℕ → List ℕ → List ℕ

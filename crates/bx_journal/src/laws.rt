@@ -1,6 +1,10 @@
 //! Laws over the definitions alone.
 ghost use Rattle.bx_journal.specs.Laws.{WrittenIsRead, StandsForOne, DamagedAtOne, EmptyIsSound};
-ghost use Rattle.bx_journal.specs.RedoLaws.{EmptyIsRedo, RedoIsOne, RedoLineOne};
+ghost use Rattle.bx_journal.specs.RedoLaws.{EmptyIsRedo, IsWrittenAgain, RedoIsOne, RedoLineOne};
+
+use bx_image::Device;
+use bx_store::TextStore;
+use std::alloc::Allocator;
 
 /// The entry that is written is read again, and gives its number, its record and its length.
 pub fn written_entry_is_read()
@@ -35,4 +39,9 @@ pub fn one_undone()
 /// A redo text is refused at one line, and only where it isn't one.
 pub fn one_redo_line()
     ensures { RedoLineOne }
+{}
+
+/// Behind a change that was made, an undo that is made and a redo that is made leave the very text of the journal.
+pub fn entry_is_written_again<D: Device, T: TextStore, A: Allocator>()
+    ensures { IsWrittenAgain A D.image T.text }
 {}
