@@ -1,16 +1,15 @@
 -- What an undo of a change takes, and a redo of it: the redo saves again what the change saved.
-use Rattle.std.proofs.Common.{◌≡◌, ℕ, zero, suc, ◌+◌, ◌<◌, ◌≤◌, ◌||◌, Bool, true, false, Option, None, Some, List, [], ◌∷◌, ◌++◌, length, map, refl, ap, sym, ◌∙◌, subst, inl, inr, arith, slice_index}
+use Rattle.std.proofs.Common.{◌≡◌, ℕ, zero, suc, ◌+◌, ◌<◌, ◌≤◌, ◌||◌, Bool, true, false, Option, None, Some, List, [], ◌∷◌, length, refl, ap, sym, ◌∙◌, inl, inr, arith, slice_index}
 use Rattle.std.specs.Prelude.{nat_le, nat_lt, is_some, ◌&&◌, ◌==◌, if◌then◌else◌}
 use Rattle.std.specs.Option.{unwrap_or, option_map_or}
-use Rattle.std.specs.List.{list_any}
-use Rattle.std.proofs.lemmas.Bool.{cases_Bool, cases_lt}
+use Rattle.std.proofs.lemmas.Bool.{cases_Bool}
 use Rattle.std.proofs.lemmas.Bool.Decides.{nat_tests}
 use Rattle.bx_text.specs.declared.owned.pieces.Piece.{Piece}
 use Rattle.bx_image.specs.declared.change.Change.{Change}
-use Rattle.bx_image.specs.Change.{byte_in, effect, kept_byte, restore, runs_from, saved, touches, with_byte, AllWithin, AreBytes, HaveBytes, AreMaximalRuns, IsOf, KeepsUntouched}
-use Rattle.bx_image.specs.Image.{end_of, is_within}
+use Rattle.bx_image.specs.Change.{byte_in, effect, kept_byte, restore, runs_from, saved, touches, with_byte, AllWithin, AreBytes, HaveBytes, IsOf, KeepsUntouched}
+use Rattle.bx_image.specs.Image.{end_of}
 use Rattle.bx_image.proofs.Changes.{KeepsUntouched_refl}
-use Rattle.bx_image.proofs.Records.{byte_in_untouched, is_some-byte_in, kept_byte_touched, kept_byte_untouched, KeepsUntouched-effect, len-saved, length-restore, or_false, restore-saved, saved-maximal, saved-same, slice_index-restore}
+use Rattle.bx_image.proofs.Records.{byte_in_untouched, is_some-byte_in, KeepsUntouched-effect, len-saved, length-restore, or_false, restore-saved, saved-maximal, saved-same, slice_index-restore}
 use Rattle.bx_entries.specs.Kept.{Kept, kept_of}
 use Rattle.bx_journal.specs.Taken.{taken}
 use Rattle.bx_journal.proofs.TakenText.{kept_byte_in, plain, saved_in}

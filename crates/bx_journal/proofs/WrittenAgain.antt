@@ -1,13 +1,12 @@
 -- Behind a change, an undo and a redo leave the very text of the journal.
 use Rattle.std.proofs.Common.{◌≡◌, ℕ, zero, suc, ◌+◌, ◌<◌, ◌≤◌, List, [], ◌∷◌, ◌++◌, length, drop, take, refl, ap, sym, ◌∙◌, subst, inl, inr, arith, Some, None, append-nil}
 use Rattle.std.specs.Prelude.{nat_le, true, if◌then◌else◌}
-use Rattle.std.specs.Option.{option_and_then}
 use Rattle.std.proofs.lemmas.Bool.{cases_lt}
 use Rattle.std.proofs.lemmas.Bool.Decides.{nat_tests}
 use Rattle.std.proofs.lemmas.List.{take-append-drop, take_all}
 use Rattle.bx_image.specs.declared.change.Change.{Change}
 use Rattle.bx_image.specs.declared.change.TheConstants.{MAX_LEN}
-use Rattle.bx_image.specs.Change.{byte_in, effect, kept_byte, restore, saved, AreBytes, IsOf}
+use Rattle.bx_image.specs.Change.{effect, restore, saved, AreBytes, IsOf}
 use Rattle.bx_image.proofs.Records.{KeepsUntouched-effect, len-saved, restore-saved, saved-maximal}
 use Rattle.bx_entries.specs.Kept.{Kept, kept_of, with_run}
 use Rattle.bx_entries.specs.Entry.{entry_text}
@@ -22,7 +21,7 @@ use Rattle.bx_entries.proofs.Splits.{split-append}
 use Rattle.bx_journal.specs.Laws.{HasBytes}
 use Rattle.bx_journal.specs.Redo.{IsRedoOf}
 use Rattle.bx_journal.specs.RedoLaws.{IsWrittenAgain}
-use Rattle.bx_journal.specs.Stack.{StandsFor, stack_of}
+use Rattle.bx_journal.specs.Stack.{StandsFor}
 use Rattle.bx_journal.specs.Taken.{taken, taken_by}
 use Rattle.bx_journal.specs.Undoing.{HasLeft}
 use Rattle.bx_journal.proofs.AgainTaken.{back_of, saved_is_of, taken_again, taken_back}
@@ -187,4 +186,4 @@ is_written_again A image text c x older stack undone old mid new left n behind h
     written
     (λ es finished. keeps es finished ∙ ap (λ y. taken_by 1 es y old.undone (text old.redo_text)) behind.changed ∙ ap (λ k. taken_by 1 es (effect c x) k (text old.redo_text)) has.counted)
     leaves
-    (λ es finished. grows es finished (subst (λ y. length y ≤ MAX_LEN) (sym image_is) behind.fits.0) ∙ ap (λ y. taken_by 1 es y mid.count (text mid.store)) image_is)
+    (λ es finished. grows es finished ∙ ap (λ y. taken_by 1 es y mid.count (text mid.store)) image_is)
