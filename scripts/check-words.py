@@ -22,9 +22,9 @@ PHRASES = {
 }
 # for each place the most that there may be of each phrase, in their order
 CEILINGS = {
-    "documents": (21, 17, 14, 2, 5),
-    "comments of code": (173, 43, 17, 0, 2),
-    "comments of definitions": (77, 41, 18, 3, 0),
+    "documents": (6, 4, 11, 2, 5),
+    "comments of code": (5, 5, 5, 0, 2),
+    "comments of definitions": (5, 5, 5, 1, 0),
 }
 
 

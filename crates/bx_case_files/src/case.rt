@@ -17,11 +17,11 @@ pub struct Records {
 /// What opening a pair finds.
 #[derive(Clone, Copy, Debug, PartialEq, Eq)]
 pub enum Opening {
-    /// So many changes, and nothing behind them; so many that were undone can be made again.
+    /// This many changes, and nothing behind them; that many that were undone can be made again.
     Clean { changes: u32, undone: u32 },
-    /// An unfinished change behind so many, of which the image has nothing.
+    /// An unfinished change behind this many, which has not touched the image.
     Dropped { changes: u32 },
-    /// An unfinished change of this number behind so many, which was taken back.
+    /// An unfinished change of this number behind that many, which was taken back.
     Restored { number: u32, changes: u32 },
 }
 

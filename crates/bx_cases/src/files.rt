@@ -59,7 +59,7 @@ fn play_file(rt: &HostRuntime, folder: &str, name: &str) -> bool {
     }
 }
 
-/// Reads a case file. Where it is bad, its line is told.
+/// Reads a case file. Where it is bad, its line is reported.
 fn read_file(rt: &HostRuntime, folder: &str, name: &str) -> Option<CaseFile> {
     let alloc = rt.alloc();
     let path = format!(in alloc; "{folder}/{name}").ok()?;

@@ -7,5 +7,5 @@ pub(crate) mod open;
 pub(crate) mod places;
 pub(crate) mod standing;
 
-/// No play comes near so many failed calls.
+/// No play comes near this many failed calls.
 pub const MANY: u64 = 100_000;

@@ -70,7 +70,7 @@ fn texts_of(case: &TextCase) -> Texts<'_> {
     }
 }
 
-/// What is told, or what was there before.
+/// What the case says, or what was there before.
 fn or_before<'a>(told: &'a Option<Vec<u8>>, before: &'a Vec<u8>) -> &'a [u8] {
     match told {
         Some(bytes) => bytes.as_slice(),

@@ -37,7 +37,7 @@ pub static SWEEPS: [&str; 12] = [
 /// The last sweep of cases that give a sum in place of the output.
 const BYTE_BY_BYTE: usize = 2;
 
-/// No play makes so many calls.
+/// No play makes this many calls.
 const MOST_CALLS: u32 = 100_000;
 
 /// Plays a case in one way. Tells how often.

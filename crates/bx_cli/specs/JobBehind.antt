@@ -1,4 +1,4 @@
--- What running a dump does of an input of which some bytes were passed, as a seek passes them.
+-- What running a dump does of an input behind bytes that were passed, as a seek passes them.
 use Rattle.std.specs.Prelude.{◌≡◌, ℕ, ◌+◌, ◌-◌, ◌*◌, ◌/◌, ◌%◌, ◌^◌, ◌≤◌, min, Option, None, Some, List}
 use Rattle.bx_dd.specs.declared.operands.plan.Plan.{Plan}
 use Rattle.bx_dd.specs.Behind.{IsRest}
@@ -20,7 +20,7 @@ use Rattle.bx_cli.specs.declared.job.Job.TheVariants.{Od, Xxd, Hexdump, Dd}
 -- ---- which bytes can be passed
 
 -- Of the bytes to skip, as many as the input has, but for the last of them, which is read: an input that is shorter by then ends there.
--- Addresses, of which the first is given, stay in their range.
+-- Addresses from a first one on stay in their range.
 abbrev pub passable_of : ℕ → ℕ → ℕ → ℕ
 passable_of skip first length = min (min skip length - 1) (2 ^ 62 - first)
 
@@ -32,7 +32,7 @@ passable (Hexdump job) length = passable_of job.options.skip job.options.first l
 passable (Dd job) length = min job.plan.skip (length / job.plan.ibs) * job.plan.ibs
 passable job length = 0
 
--- so many bytes are among those that the job skips, of dd's whole blocks, and addresses stay in their range
+-- this many bytes are among those that the job skips, of dd's whole blocks, and addresses stay in their range
 abbrev pub CanPass : ℕ → Job → Type 0
 CanPass n (Od job) = (n ≤ job.options.skip) × (job.options.first + n ≤ 2 ^ 62)
 CanPass n (Xxd job) = (n ≤ job.options.seek) × (job.options.shift + n ≤ 2 ^ 62)

@@ -26,7 +26,7 @@ pub enum XxdLook {
 /// `od`: how and what it dumps.
 #[derive(Drop)]
 pub struct OdJob {
-    /// How values and addresses are written, and of which bytes.
+    /// How values and addresses are written, and the bytes that are dumped.
     pub options: OdOptions,
     /// The input's name; none is standard input.
     pub file: Option<Name>,
@@ -192,7 +192,7 @@ impl Job {
         }
     }
 
-    /// How many of the bytes that the job skips a seek can pass, in an input of which `length` bytes are left; of dd's whole
+    /// How many of the bytes that the job skips a seek can pass, in an input with `length` bytes left; of dd's whole
     /// blocks. `run_dump_behind` takes it.
     pub fn passable(&self, length: u64) -> u64
         ensures value { result ≡ passable self.now length }

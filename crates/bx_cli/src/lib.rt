@@ -1,4 +1,13 @@
 //! From the words of a command line to a job, and lists of commands run on a session.
+//!
+//! A list of commands, which `run_all` runs on a session with a reply for each:
+//!
+//! ```
+//! list.push(Command::RevertPlain { text, at })?;
+//! list.push(Command::Undo { k: 1 })?;
+//! ```
+//!
+//! `docs/CALLING.md` has the whole caller, which the gate proves and runs.
 #![tactic(auto)]
 
 mod behind;

@@ -276,7 +276,7 @@ fn with_rows<'a>(
     Ok(command)
 }
 
-/// A group of which at most one option may be given.
+/// A group: at most one option of it may be given.
 fn group_of<'a>(
     alloc: Global,
     id: &'static str,

@@ -164,7 +164,7 @@ counts_least (LengthDiffers expected) d t u d_new t_new u_new c = (omega arith, 
 counts_least (NothingToRedo have) d t u d_new t_new u_new c = (omega arith, omega arith, omega arith)
 counts_least (RedoDamaged line) d t u d_new t_new u_new c = (omega arith, omega arith, omega arith)
 
--- one of them fails where a device's failure is told, and none else
+-- one of them fails where a device's failure is reported, and none else
 pub counts_rise : (e : SessionFault) (d t u d_new t_new u_new : ℕ) → ThreeCounts e d t u d_new t_new u_new
     → d_new + t_new + u_new ≡ d + t + u + cond (is_failure (Refused (Session e))) 1 0
 counts_rise NoMemory d t u d_new t_new u_new c = omega arith

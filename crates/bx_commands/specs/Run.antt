@@ -83,7 +83,7 @@ StackStep remaining before c reply after = CommandStep remaining (Standing.Up be
 abbrev pub StackRun : {R A : Type 0} → (R → Option (List ℕ)) → Images → List (Command R A) → List Reply → Images → Type 0
 StackRun remaining before list replies after = Chain (StackStep remaining) before list replies after
 
--- From honest devices of which no call fails: wherever the first session stands, by `Stands`, the replies are a run to images
+-- From honest devices, none of whose calls fails: wherever the first session stands, by `Stands`, the replies are a run to images
 -- that the last one stands for
 abbrev pub Runs : {D T R A : Type 0} → (D → Type 0) → (T → Type 0) → (D → ℕ) → (T → ℕ) → (SessionView D T → Images → Type 0) → (R → Option (List ℕ))
     → SessionView D T → List (Command R A) → List Reply → SessionView D T → Type 0

@@ -54,7 +54,7 @@ MovesUp Step moved k old (Err DeviceFailed) after = after ≡ Up old
 MovesUp Step moved k old (Err Interrupted) after = (i : ℕ) × (i ≤ k) × (after ≡ Down (moved i old))
 MovesUp Step moved k old (Err e) after = (after ≡ Up old) × Step old k (Err e) old
 
--- No count of failed calls falls, and the three together rise by exactly so many
+-- No count of failed calls falls, and the three together rise by exactly this many
 pub record CountsBy {D T : Type 0} (failures : D → ℕ) (text_failures : T → ℕ) (old new : SessionView D T) (failed : ℕ) : Type 0 where
   pub device_least : failures old.device ≤ failures new.device
   pub store_least : text_failures old.store ≤ text_failures new.store

@@ -27,9 +27,9 @@ pub enum Reply {
     Changed { number: u32 },
     /// dd's change was made, and has this number; the counts are dd's.
     Copied { number: u32, counts: Counts },
-    /// So many changes are left.
+    /// This many changes are left.
     Undone { left: u32 },
-    /// So many changes then stand.
+    /// This many changes then stand.
     Redone { changes: u32 },
     /// Nothing was done, unless the fault says otherwise.
     Refused(Fault),

@@ -23,7 +23,7 @@ use core::mem::replace_with;
 use std::alloc::Allocator;
 use std::io::Read;
 
-/// Makes the change; the counts are told beside its number.
+/// Makes the change; the reply has the counts beside its number.
 fn run_change<D: Device, T: TextStore, A: Allocator + Clone>(
     session: &mut Session<D, T, A>,
     change: &Change<A>,

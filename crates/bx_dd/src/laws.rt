@@ -33,8 +33,8 @@ pub fn words_are_asked_for()
     ensures { WordsAreAskedFor }
 {}
 
-/// Says that what the rest of a plan makes of the bytes behind some others, and counts, is what the whole plan makes of them
-/// all, of which it skips those.
+/// Says that what the rest of a plan makes of the bytes behind some others, and counts, is what the whole plan, which skips
+/// those, makes of them all.
 pub fn rest_copies_behind<A: Allocator>()
     ensures { RestCopiesBehind A }
 {}

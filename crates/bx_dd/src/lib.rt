@@ -1,4 +1,14 @@
 //! dd: operands, and blocks of a stream, converted and counted.
+//!
+//! What dd makes of bytes in memory, and its counts:
+//!
+//! ```
+//! let plan = parse(alloc.clone()?, operands)?;
+//! let mut rest = input;
+//! transfer(alloc, &mut rest, &plan)
+//! ```
+//!
+//! `docs/CALLING.md` has the whole caller, which the gate proves and runs.
 #![tactic(auto)]
 
 mod convert;

@@ -100,7 +100,7 @@ module _ (base : ℕ) (big : 2 ≤ base) where
       power zero = omega (arith, pow-zero base)
       power (suc k) = rw (pow-suc base k) (mul-pos (power k) (let p : 0 < base = omega arith in p))
 
-  -- digits of a number in two parts, of which the front isn't 0
+  -- digits of a number in two parts; the front isn't 0
   pub digits_parts : (k j i a r : ℕ) → i ≡ 64 → k + j ≡ i → r < base ^ k → 0 < k → 0 < a → a < base ^ j →
       digits base false (a * base ^ k + r) ≡ digits base false a ++ left_filled 48 k (digits base false r)
   digits_parts k j i a r e all small some front few =
@@ -161,7 +161,7 @@ module _ (base : ℕ) (big : 2 ≤ base) where
       let first = digits_some 64 63 (n / p) refl refl in
       omega (arith, ap length text, length-append (digits base false (n / p)) (left_filled 48 k (digits base false (n % p))), long, first)
 
--- an address of so many digits needs no zeros, and a shorter one gets 7 characters
+-- an address of this many digits needs no zeros, and a shorter one gets 7 characters
 pub address_filled : (w at : ℕ) → 7 ≤ w → w ≤ 10 → at < 8 ^ w → (7 < w → 8 ^ (w - 1) ≤ at) → left_filled 48 w (digits 8 false at) ≡ left_filled 48 7 (digits 8 false at)
 address_filled w at least most fits all =
     ⊎_elim

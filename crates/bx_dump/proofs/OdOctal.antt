@@ -56,7 +56,7 @@ pub both_are : (low high : ℕ) (v : List ℕ) → length v ≡ 16 →
 both_are low high v long =
     subst (λ l. pick_l 0 (map (λ b. 48 + b / 2 ^ low % 8) l ++ map (λ b. 48 + b / 2 ^ high % 8) l) both_places ≡ by_twos (λ a b. (48 + a / 2 ^ low % 8) ∷ (48 + b / 2 ^ high % 8) ∷ []) l) (pick_l_whole 0 v 16 long) refl
 
--- the digit of which both bytes have a part
+-- the digit that both bytes have a part of
 abbrev pub part_places : List ℕ
 part_places = 1 ∷ 16 ∷ 3 ∷ 16 ∷ 5 ∷ 16 ∷ 7 ∷ 16 ∷ 9 ∷ 16 ∷ 11 ∷ 16 ∷ 13 ∷ 16 ∷ 15 ∷ 16 ∷ []
 

@@ -15,7 +15,7 @@ use Rattle.bx_dump.proofs.ScanLemmas.{both, ends_quiet}
 pub count_most : (n done r : ℕ) (xs : List ℕ) → r ≡ prefix_len is_printable (take n (drop done xs)) → r ≤ n
 count_most n done r xs is = omega (arith, is, prefix_len-le-length is_printable (take n (drop done xs)), length-take n (drop done xs))
 
--- one load of n bytes, of which not all print, or all
+-- one load of n bytes: not all print, or all
 pub count_stops : (n done r : ℕ) (xs : List ℕ) → n ≤ length (drop done xs) → r ≡ prefix_len is_printable (take n (drop done xs)) → r < n →
     prefix_len is_printable (drop done xs) ≡ r
 count_stops n done r xs room is short =

@@ -182,7 +182,7 @@ quiet_run run b (c ∷ bs) quiet = elim (both (is_printable b)) [
   | inr fails ↦ rw fails (quiet_run [] c bs quiet)
 ]
 
--- at most as many bytes as a run needs, of which the last doesn't print, make none known
+-- at most as many bytes as a run needs make none known, where the last doesn't print
 window_quiet : (least : ℕ) (o : Address) (at : ℕ) (run : List ℕ) (b : ℕ) (bs : List ℕ) → EndsQuiet (b ∷ bs) → length run + length (b ∷ bs) ≤ least →
     scan_text least o at run (b ∷ bs) ≡ []
 unfolding scan_text

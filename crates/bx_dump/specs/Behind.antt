@@ -17,7 +17,7 @@ text_of d input = d.text (part_of d.skip d.limit input)
 abbrev pub behind : ℕ → Dump → Dump
 behind n d = record { text = d.text; skip = d.skip - n; limit = d.limit }
 
--- The dump of what stands behind some bytes is the dump of the whole input, of which those are skipped.
+-- The dump of what stands behind some bytes is the dump of the whole input that skips them.
 abbrev pub DumpsBehind : Type 0
 DumpsBehind = (d : Dump) (front input : List ℕ) → length front ≤ d.skip → text_of (behind (length front) d) input ≡ text_of d (front ++ input)
 

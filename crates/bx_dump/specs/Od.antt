@@ -14,7 +14,7 @@ use Rattle.bx_dump.specs.declared.od.options.Size.TheVariants.{One, Two, Four, E
 use Rattle.bx_dump.specs.declared.od.options.Kind.{Kind}
 use Rattle.bx_dump.specs.declared.od.options.Kind.TheVariants.{Chars, Number}
 
--- the value of bytes of which the lowest comes first; those that are absent count as 0
+-- the value of bytes, the lowest first (little-endian); those that are absent count as 0
 abbrev pub value_of : List ℕ → ℕ
 value_of [] = 0
 value_of (b ∷ bs) = b + 256 * value_of bs

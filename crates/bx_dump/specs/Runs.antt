@@ -5,7 +5,7 @@ use Rattle.bx_dump.specs.declared.od.options.Address.{Address}
 use Rattle.bx_text.specs.Ascii.{is_printable}
 use Rattle.bx_dump.specs.Strings.{place_text, strings_text}
 
--- the bytes from place a up to b print, those beside them don't, and they are at least so many
+-- the bytes from place a up to b print, those beside them don't, and they are at least this many
 pub record IsPrintableRun (least : ℕ) (x : List ℕ) (a b : ℕ) : Type 0 where
   pub long : a + least ≤ b
   pub within : b ≤ length x

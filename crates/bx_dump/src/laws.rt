@@ -21,12 +21,12 @@ pub fn items_are_bytes()
     ensures { ItemsAreBytes }
 {}
 
-/// Says that the items of a C array stand on lines of two spaces and `cols` items, of which each but the last ends in a comma.
+/// Says that the items of a C array stand on lines of two spaces and `cols` items; each line but the last ends in a comma.
 pub fn items_are_lines()
     ensures { ItemsAreLines }
 {}
 
-/// Says that the dump of what stands behind some bytes of an input is that of the whole input, of which those are skipped.
+/// Says that the dump of what stands behind some bytes of an input is that of the whole input that skips them.
 pub fn dumps_behind()
     ensures { DumpsBehind }
 {}

@@ -1,4 +1,14 @@
 //! Dumps of whole streams.
+//!
+//! A dump of bytes into a `Vec`:
+//!
+//! ```
+//! let mut input = bytes;
+//! let mut out = Vec::new(alloc);
+//! xxd(&mut input, &mut out, XxdStyle::Normal, &options)?;
+//! ```
+//!
+//! `docs/CALLING.md` has the whole caller, which the gate proves and runs.
 #![tactic(auto)]
 
 mod driver;

@@ -62,7 +62,7 @@ told_most Second n line told e =
     let some = map_some Some (at_most MAX_LEN (option_and_then (number_of 16) (behind (end_head Second n) line))) told e in
     subst (λ o. IfSome o (λ a. a ≤ MAX_LEN)) some.2 (most_of MAX_LEN (option_and_then (number_of 16) (behind (end_head Second n) line)) some.0 some.1)
 
--- each told length is one that a line can tell
+-- each recorded length is one that a line can record
 abbrev pub AreTold : List Entry → Type 0
 AreTold [] = Unit {0}
 AreTold (e ∷ es) = IfSome e.after (λ a. a ≤ MAX_LEN) × AreTold es

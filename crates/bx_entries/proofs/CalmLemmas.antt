@@ -46,7 +46,7 @@ begins_line (a ∷ front) (b ∷ l) more plain is =
     let parts = and_parts (eqb b a) (begins_with front (l ++ 10 ∷ more)) is in
     and_from (eqb b a) (begins_with front l) parts.0 (begins_line front l more plain.1 parts.1)
 
--- lines of which none begins with the word
+-- lines that do not begin with the word
 abbrev pub AllUnended : List (List ℕ) → Type 0
 AllUnended [] = Unit {0}
 AllUnended (l ∷ ls) = (begins_with word l ≡ false) × AllUnended ls

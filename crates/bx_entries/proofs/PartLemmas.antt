@@ -43,7 +43,7 @@ behind_not front line apart = by (bytes_eq (take (length front) line) front) ref
     by false is = refl
     by true is = absurd (apart (drop (length front) line) (sym (take-append-drop (length front) line) ∙ ap (λ s. s ++ drop (length front) line) (same_bytes (take (length front) line) front is)))
 
--- a line in four parts, of which three are to be a word, a number and a space
+-- a line in four parts: three are to be a word, a number and a space
 module _ (word number line a r b s c rest : List ℕ) (first : line ≡ a ++ r) (second : r ≡ b ++ s) (third : s ≡ c ++ rest) (la : length a ≡ length word) (lb : length b ≡ length number) where
   is : line ≡ a ++ (b ++ (c ++ rest))
   is = first ∙ ap (λ x. a ++ x) (second ∙ ap (λ x. b ++ x) third)

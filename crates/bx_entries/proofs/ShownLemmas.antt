@@ -306,7 +306,7 @@ has_end_end t i long = rw (drop_past t i long) refl
 pub plus_one : (t : List ℕ) (i : ℕ) → drop (i + 1) t ≡ drop (suc i) t
 plus_one t i = ap (λ k. drop k t) (let e : i + 1 ≡ suc i = omega arith in e)
 
--- a text of which a loss of power left zeros, and of which a loss of power leaves less
+-- a text whose end a loss of power left as zeros, and another one leaves less of it
 same_faded : (t : List ℕ) → AreFaded t t
 same_faded [] = tt
 same_faded (b ∷ t) = (inl refl, same_faded t)

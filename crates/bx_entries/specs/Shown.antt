@@ -32,7 +32,7 @@ has_end (b ∷ text) = (b == 10 && begins_with (codes "done") text && ends_line 
 abbrev pub is_text_byte : ℕ → Bool
 is_text_byte b = b == 10 || is_printable b
 
--- and such a byte of which a loss of power left a zero
+-- and such a byte, or the zero that a loss of power left in its place
 abbrev pub is_left : ℕ → Bool
 is_left b = b == 0 || is_text_byte b
 

@@ -107,7 +107,7 @@ pub record Reads (text : List ℕ) (r : Reading) : Type 0 where
 abbrev pub IsAccepted : List ℕ → Type 0
 IsAccepted text = (r : Reading) × Reads text r
 
--- the first m lines of a text, the last of which may have no newline
+-- the first m lines of a text; the last one may have no newline
 abbrev pub first_lines : ℕ → List ℕ → List ℕ
 first_lines m text = if nat_le m (length (split text).lines) then joined (take m (split text).lines) else text
 

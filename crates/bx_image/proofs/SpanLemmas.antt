@@ -92,7 +92,7 @@ over_base base len i = are_over-with_span (unwrap_or base len) len [] i ∙ rw (
     go None = is_between_none len len i (omega arith) ∙ never (nat_lt i len)
     go (Some n) = turned (nat_le n i) (nat_lt i len)
 
--- ranges with gaps, one of which is the last
+-- ranges with gaps; one is the last
 pub apart_later : (spans : List Span) (a b : Span) → AreApart (spans ++ a ∷ []) → a.at ≤ b.at → AreApart (spans ++ b ∷ [])
 apart_later [] a b apart later = (tt, tt)
 apart_later (s ∷ []) a b apart later = (omega (arith, apart.0), apart_later [] a b apart.1 later)

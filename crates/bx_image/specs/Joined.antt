@@ -11,7 +11,7 @@ IsInFront {A = A} piece later runs =
     ⊎ ((bytes : List ℕ) × (rest : List (Piece A)) × (later ≡ record { at = piece.at + length piece.bytes; bytes = bytes } ∷ rest)
     × (runs ≡ record { at = piece.at; bytes = piece.bytes ++ bytes } ∷ rest))
 
--- The runs are the pieces in their order, some neighbours joined of which one begins where the one before ends.
+-- The runs are the pieces in their order; some neighbours are joined, where one begins at the end of the one before.
 abbrev pub AreJoined : {A : Type 0} → List (Piece A) → List (Piece A) → Type 0
 AreJoined runs [] = runs ≡ []
 AreJoined {A = A} runs (piece ∷ pieces) = (later : List (Piece A)) × AreJoined later pieces × IsInFront piece later runs

@@ -1,4 +1,13 @@
 //! Images of bytes on devices, and changes to them that can be taken back.
+//!
+//! A change that is made on a device, and taken back by the undo record that `save` read before it:
+//!
+//! ```
+//! apply(device, change)?;
+//! apply(device, &saved.into_change())?;
+//! ```
+//!
+//! `docs/CALLING.md` has the whole caller, which the gate proves and runs.
 #![tactic(auto)]
 
 mod change;

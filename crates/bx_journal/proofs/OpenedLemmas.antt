@@ -89,7 +89,7 @@ found_unclean H text j i h clean =
     let here : IsClean i.text = subst IsClean (i.is h) clean in
     unfinished_apart i.text j (subst (λ t. HasRead t j) (clean_shown i.text here.0 here.1) i.read) i.unfinished here
 
--- so many changes fit in a journal
+-- this many changes fit in a journal
 pub found_few : {A : Type 0} → (H : Type 0) (text x : List ℕ) (stack : List (List ℕ)) (j : JournalRead A) → IsUnfinishedIn H text j → H → Recovers (shown text) x stack → changes_of stack ≤ 65535
 found_few H text x stack j i h rec =
     omega (arith, counted_of (shown text) (shown i.text) x stack j i.read (ap shown (i.is h)) rec, marked_few (shown i.text) [] j.entries.items j.stage j.whole i.read.places.marked)

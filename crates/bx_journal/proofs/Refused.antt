@@ -15,7 +15,7 @@ use Rattle.bx_journal.specs.Redo.{IsRedoOf, BeginsAt, HasTailAt, IsTooManyAt, Is
 use Rattle.bx_journal.specs.RedoLaws.{RedoLineOne}
 use Rattle.bx_journal.proofs.RedoText.{one_reading, one_list}
 
--- so many lines and more
+-- this many lines and more
 further : (es : List Entry) (ls : List (List ℕ)) (a b : ℕ) → a ≤ b → b ≤ length ls → after_lines start (take a ls) ≡ Some (record { entries = es; stage = Between }) → after_lines start (take b ls) ≡ Some (record { entries = es; stage = Between }) → b ≤ a
 further es ls a b le within p q =
     let count : b ≡ a + (b - a) = omega arith in

@@ -55,7 +55,7 @@ module _ {D T : Type 0} {honest : D → Type 0} {text_honest : T → Type 0} {im
     counts = steps.failure;
   }
 
-  -- a fault before the first write, where the counts of failed calls are told of the devices in any order
+  -- a fault before the first write, where the counts of failed calls are given of the devices in any order
   pub refuses : {V : Type 0} {old new : SessionView D T} {a b c a_new b_new c_new : ℕ} (r : Result V SessionFault) (e : SessionFault) → r ≡ Err e → DeviceFault e → old.is_broken ≡ false
       → new.count ≡ old.count → new.undone ≡ old.undone → new.is_broken ≡ old.is_broken
       → HaveStayed honest text_honest image text old.device old.store old.redo_text new.device new.store new.redo_text

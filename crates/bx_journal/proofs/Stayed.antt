@@ -34,7 +34,7 @@ module _ {D T : Type 0} {honest : D → Type 0} {text_honest : T → Type 0} {im
     other_same = stayed.other_same;
   }
 
-  -- told of the texts in the other order
+  -- given of the texts in the other order
   pub other_order : {d d_new : D} {t u t_new u_new : T} → HaveStayed honest text_honest image text d u t d_new u_new t_new → HaveStayed honest text_honest image text d t u d_new t_new u_new
   other_order stayed = record {
     device_honesty = stayed.device_honesty;

@@ -131,7 +131,7 @@ tail_survives text x c stack es stage n t whole same fades =
     let shows = shown_front n text c calm fades in
     tail_fault text (shown c) x stack es stage n t same (partly_cut text (shown c) n shows.count shows.least shows.most shows.is)
 
--- what is left of a text with zeros, of which what is unfinished is cut off
+-- what is left of a text with zeros, whose unfinished end is cut off
 pub tail_left : (text x c : List ℕ) (stack : List (List ℕ)) (es : List Entry) (stage : Stage) (n : ℕ) → HasTail (shown text) x stack es stage n → image_at stage x ≡ x → IsFaded n text c → Recovers (shown c) x stack
 tail_left text x c stack es stage n t same fades =
     let q : Reading = record { entries = es; stage = stage } in

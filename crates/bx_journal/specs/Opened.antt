@@ -1,4 +1,4 @@
--- What opening leaves and answers, told of the devices that it is given.
+-- What opening leaves and answers, of the devices that it is given.
 use Rattle.std.specs.Prelude.{◌≡◌, ℕ, List, [], Result, MatchResult}
 use Rattle.bx_journal.specs.declared.session.answers.How.{How}
 use Rattle.bx_journal.specs.declared.session.answers.How.TheVariants.{Clean}
@@ -49,15 +49,15 @@ RefusesDiffering result fault text x = (r : Reading) (n : ℕ) → Reads text r 
 abbrev pub KeepsFound : List ℕ → List ℕ → List ℕ → List ℕ → Type 0
 KeepsFound text x new y = (stack : List (List ℕ)) → Recovers (shown text) x stack → Recovers (shown new) y stack
 
--- of a pair of which opening finds a stack no length differs
+-- no length differs of a pair in which opening finds a stack
 abbrev pub KeepsLengths : List ℕ → List ℕ → SessionFault → Type 0
 KeepsLengths text x e = (stack : List (List ℕ)) → Recovers (shown text) x stack → (n : ℕ) → e ≡ LengthDiffers n → ⊥
 
--- a line that is told of the redo text is one at which it is refused
+-- a line that is reported of the redo text is one at which it is refused
 abbrev pub RefusesRightly : {D T : Type 0} → (D → List ℕ) → (T → List ℕ) → D → T → T → SessionFault → Type 0
 RefusesRightly image text d t u e = (line : ℕ) → e ≡ RedoDamaged line → RefusesRedoAt (text t) (image d) (text u) line
 
--- where the redo text is refused at a line, that line is told, unless another fault came before
+-- where the redo text is refused at a line, that line is reported, unless another fault came before
 abbrev pub RefusesUnfit : {V E : Type 0} → Result V E → (E → SessionFault) → List ℕ → List ℕ → List ℕ → Type 0
 RefusesUnfit result fault text x redo = (line : ℕ) → RefusesRedoAt text x redo line → MatchResult result (λ v. ⊥) (λ e. RefusesRedo line (fault e))
 
@@ -70,7 +70,7 @@ abbrev pub Refinds : {D T : Type 0} → (D → List ℕ) → (T → List ℕ) �
 Refinds image text d t u d_new t_new u_new e = (s : Images) → Found (text t) (image d) (text u) s →
     AfterFault e (Found (text t_new) (image d_new) (text u_new) (record { stack = s.stack; undone = [] })) (Found (text t_new) (image d_new) (text u_new) s)
 
--- a redo text of which opening finds images is never refused
+-- a redo text in which opening finds images is never refused
 abbrev pub KeepsRedo : {D T : Type 0} → (D → List ℕ) → (T → List ℕ) → D → T → T → SessionFault → Type 0
 KeepsRedo image text d t u e = (s : Images) → Found (text t) (image d) (text u) s → (line : ℕ) → e ≡ RedoDamaged line → ⊥
 

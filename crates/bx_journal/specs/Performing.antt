@@ -18,7 +18,7 @@ use Rattle.bx_journal.specs.Stack.{Recovers}
 use Rattle.bx_journal.specs.Standing.{IsStanding}
 use Rattle.bx_journal.specs.Taken.{taken_by}
 
--- Of sessions whose device has an image, told by `image`, and whose stores have a text, told by `text`.
+-- Of sessions whose device has an image, given by `image`, and whose stores have a text, given by `text`.
 module _ {D T : Type 0} (image : D → List ℕ) (text : T → List ℕ) where
   -- where it is accepted, the machine makes its step from the stack for which the session stands
   abbrev pub Steps : {X : Type 0} → SessionView D T → SessionView D T → (List (List ℕ) → X → Result ℕ SessionFault → List (List ℕ) → Type 0) → X

@@ -1,4 +1,4 @@
--- What opening finds after a loss of power.
+-- What opening (recovery) finds after a loss of power.
 use Rattle.std.specs.Prelude.{◌⊎◌, ◌≤◌, ℕ, List, [], Result, MatchResult}
 use Rattle.bx_image.specs.declared.change.Change.{Change}
 use Rattle.bx_image.specs.Change.{effect}

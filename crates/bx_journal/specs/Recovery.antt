@@ -1,4 +1,4 @@
--- What opening finds in a journal's text, and what it leaves of the redo text.
+-- Recovery: what opening finds in a journal's text, and what it leaves of the redo text.
 use Rattle.bx_journal.specs.declared.session.fault.SessionFault.{SessionFault}
 use Rattle.bx_journal.specs.declared.session.fault.SessionFault.TheVariants.{Damaged, Interrupted, LengthDiffers, RedoDamaged}
 use Rattle.bx_journal.specs.Fault.{DeviceFault}

@@ -1,4 +1,4 @@
--- The stack of images that a text and an image stand for. Stacks and entries have the newest first.
+-- The stack of images that a text and an image stand for (the abstraction relation). Stacks and entries have the newest first.
 use Rattle.std.specs.Prelude.{◌≡◌, ℕ, List, [], ◌∷◌, length, IfSome, IsTrue}
 use Rattle.std.specs.List.{list_all}
 use Rattle.bx_image.specs.Change.{restore, Covers}

@@ -1,4 +1,4 @@
--- A session whose pair stands for a stack, be it sound or not.
+-- A session whose pair stands for a stack, whether or not it is sound (well-formed for recovery).
 use Rattle.std.specs.Prelude.{◌≡◌, ℕ, suc, false, List, length}
 use Rattle.bx_journal.specs.declared.session.fault.SessionFault.{SessionFault}
 use Rattle.bx_journal.specs.declared.session.fault.SessionFault.TheVariants.{TooLarge, JournalFull}

@@ -1,4 +1,14 @@
-//! A journal of changes to an image, by which they are taken back.
+//! A journal of changes to an image, a write-ahead undo log by which they are taken back.
+//!
+//! On a session that `Session::open` answered, a change, its undo and its redo:
+//!
+//! ```
+//! session.perform(change)?;
+//! session.undo(1)?;
+//! session.redo(1)
+//! ```
+//!
+//! `docs/CALLING.md` has the whole caller, which the gate proves and runs.
 #![tactic(auto)]
 
 pub mod laws;

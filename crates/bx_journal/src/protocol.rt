@@ -1,4 +1,5 @@
-//! The steps that write to an image, its journal and its redo text, and how what is unfinished is taken back.
+//! The steps that write to an image, its journal (the undo record before the image, the commit mark after it) and its redo text,
+//! and the rollback of an unfinished entry.
 pub(crate) mod entry;
 pub(crate) mod fill;
 pub(crate) mod image;

@@ -1,4 +1,4 @@
-//! Opening: what the three texts hold, and what is done about what is unfinished.
+//! Recovery, which opening begins with: what image, journal and redo text hold, and how an unfinished entry is discarded or rolled back.
 mod finished_journal;
 mod journal;
 mod judge;

@@ -1,4 +1,4 @@
-//! A session: changes to an image, each with its entry in the journal.
+//! A session: changes to an image, each with its entry in the journal, a write-ahead undo log.
 ghost use Rattle.std.specs.Prelude.{◌≡◌, ◌↔◌, ◌+◌, ◌<◌, ◌≤◌, [], length, true, false, IfOk, IfErr, OnOk, IsErrOf};
 ghost use Rattle.bx_image.specs.Change.{Fits};
 ghost use Rattle.bx_journal.specs.Machine.{PerformStep, changed};

@@ -5,7 +5,7 @@ use std::alloc::{AllocError, Global};
 use std::process::Abort;
 use std::test::Fail;
 
-/// Whether these are runs at these addresses, of so many bytes.
+/// Whether these are runs at these addresses, of this many bytes.
 fn are(found: &[Piece], wanted: &[(u64, usize)]) -> bool {
     if found.len() != wanted.len() {
         return false;
@@ -26,7 +26,7 @@ fn assert_runs(rt: &impl Abort, alloc: Global, text: &str, wanted: &[(u64, usize
     assert!(rt; right, "of {text}");
 }
 
-/// So many full lines from 0 on.
+/// This many full lines from 0 on.
 fn full_lines(alloc: Global, count: u32) -> Result<String, AllocError> {
     let mut text = String::new(alloc);
     for i in 0..count {

@@ -7,7 +7,7 @@ pub fn assert_bytes(rt: &impl Abort, found: &[u8], wanted: &[u8]) {
     assert!(rt; found == wanted);
 }
 
-/// The first so many bytes, or all.
+/// The first this many bytes, or all.
 pub fn front(bytes: &[u8], count: usize) -> &[u8] {
     &bytes[..count.min(bytes.len())]
 }

@@ -13,7 +13,7 @@ pub struct Slow {
 }
 
 impl Slow {
-    /// A file of which each call is interrupted so often before it goes through.
+    /// A file; each of its calls is interrupted this often before it goes through.
     pub fn new(interruptions: u32) -> Self {
         Slow {
             bytes: *b"0123456789abcdef",

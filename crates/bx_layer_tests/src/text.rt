@@ -9,7 +9,7 @@ use std::io::{self, ErrorKind, Read, Write};
 use std::process::Abort;
 use std::test::Fail;
 
-/// A reader that is interrupted so many times in a row before each read.
+/// A reader that is interrupted this many times in a row before each read.
 #[derive(Drop)]
 struct Interrupted<'a> {
     bytes: &'a [u8],
@@ -38,7 +38,7 @@ impl Read for Broken {
     }
 }
 
-/// A writer that takes so many bytes, and then fails.
+/// A writer that takes this many bytes, and then fails.
 #[derive(Drop)]
 struct Short {
     room: usize,

@@ -121,7 +121,7 @@ where
     Ok(())
 }
 
-/// Runs a job, and answers what dd counted, unless that is told.
+/// Runs a job, and answers what dd counted, unless that is reported.
 fn run_job<'a, R, W: Write>(
     rt: &R,
     job: &'a Job,
@@ -300,7 +300,7 @@ where
     }
 }
 
-/// Dumps or copies an input, of which this is the name, behind the bytes that were passed.
+/// Dumps or copies an input of this name, behind the bytes that were passed.
 fn dump_from<'a, I: Read + Drop, W: Write>(
     alloc: Global,
     job: &Job,

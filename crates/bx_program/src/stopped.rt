@@ -24,14 +24,14 @@ pub enum Reason {
     System(i32),
     /// In words.
     Told(&'static str),
-    /// The file has so many bytes and can't grow, and the change wants it to have `wanted`.
+    /// The file has this many bytes and can't grow, and the change wants it to have `wanted`.
     Fixed {
         /// How many it has.
         has: u64,
         /// How many it would have.
         wanted: u64,
     },
-    /// The file has so many bytes, and should have as many as `expected`.
+    /// The file has this many bytes, and should have as many as `expected`.
     Lengths {
         /// How many it has.
         has: u64,
@@ -210,7 +210,7 @@ impl<'a> Devices<'a> {
         }
     }
 
-    /// The first device of which a call failed.
+    /// The first device that had a failed call.
     fn failed(&self, fault: Fault) -> Stopped<'a> {
         let (image, journal, redo) = &self.trio;
         if image.faults() > 0 {
@@ -262,7 +262,7 @@ pub struct Noted<I> {
 }
 
 impl<I: Read> Noted<I> {
-    /// A reader of which no read failed yet.
+    /// A reader; no read of it has failed yet.
     pub fn new(input: I) -> Noted<I> {
         Noted { input, error: None }
     }

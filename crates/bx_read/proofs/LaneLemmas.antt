@@ -155,7 +155,7 @@ last_group a b c d v h =
     ∙ ap (option_map (λ bytes. pair_value a b ∷ bytes)) (pairs_of-last c d two.0 ∙ two.1 ∙ sym more.1)
     ∙ sym (ap (λ t. cond t (option_map (λ bytes. pair_value a b ∷ bytes) (hex_bytes (c ∷ d ∷ []))) None) one.0) ∙ h
 
--- the digits of eight groups, of which all but the last have a space behind them
+-- the digits of eight groups; all but the last have a space behind them
 module _ (hex : List ℕ) (spaces : (k : ℕ) → k < 7 → get_or hex (5 * k + 4) 0 ≡ 32) where
   abbrev cell : ℕ → ℕ
   cell k = get_or hex k 0

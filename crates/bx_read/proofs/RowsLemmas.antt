@@ -1,4 +1,4 @@
--- Texts of written lines, each of which gives a piece.
+-- Texts of written lines; each line gives a piece.
 use Rattle.std.proofs.Common.{◌≡◌, ◌≢◌, ℕ, zero, suc, ◌+◌, ◌<◌, ◌≤◌, List, [], ◌∷◌, ◌++◌, map, refl, arith, ap, ◌∙◌, append_assoc, inr}
 use Rattle.std.specs.List.{All, flat_map, range_with_len}
 use Rattle.bx_read.specs.Grammar.{IsLine, GivesPieces}

@@ -6,7 +6,7 @@ abbrev pub with_piece : ℕ × List ℕ → List (ℕ × List ℕ) → List (ℕ
 with_piece piece [] = piece ∷ []
 with_piece piece (run ∷ runs) = if run.0 == piece.0 + length piece.1 then (piece.0, piece.1 ++ run.1) ∷ runs else piece ∷ run ∷ runs
 
--- The runs of pieces: neighbours of which one begins where the one before ends are one.
+-- The runs of pieces: neighbours are one run where one begins at the end of the one before.
 abbrev pub joined : List (ℕ × List ℕ) → List (ℕ × List ℕ)
 joined [] = []
 joined (piece ∷ pieces) = with_piece piece (joined pieces)

@@ -1,4 +1,15 @@
 //! The strict reader of dumps.
+//!
+//! The pieces of a dump, each with its address and its bytes:
+//!
+//! ```
+//! let pieces = read_dump(alloc, dump.as_bytes())?;
+//! for piece in pieces.as_slice() {
+//!     count = count.saturating_add(piece.bytes.as_slice().len());
+//! }
+//! ```
+//!
+//! `docs/CALLING.md` has the whole caller, which the gate proves and runs.
 #![tactic(auto)]
 
 mod digits;

@@ -12,8 +12,8 @@ use crate::lines::DumpLines;
 use bx_text::{Bytes, Piece};
 use std::alloc::{Allocator, Global};
 
-/// Reads the text of a dump as `read_dump` does, but neighbours of which one begins where the one before ends are one
-/// piece. A line out of order, one that overlaps the line before it and one behind a gap each begin a piece of their own.
+/// Reads the text of a dump as `read_dump` does, but neighbours are one piece where one begins at the end of the one
+/// before. A line out of order, one that overlaps the line before it and one behind a gap each begin a piece of their own.
 pub fn read_runs<A: Allocator + Clone>(alloc: A, text: &[u8]) -> Result<Vec<Piece<A>, A>, ReadFault>
     // The runs of the pieces, or the fault that reading them gives.
     ensures exact { IfOk result (λ v. (pieces : List (ℕ × List ℕ)) × (dump_pieces text.now ≡ Ok pieces) × (contents v.items ≡ joined pieces)) }
@@ -104,7 +104,7 @@ struct TakenRun<'a, A: Allocator = Global> {
     next: Option<DumpLine<'a>>,
 }
 
-/// The run that a line begins, with room for so many bytes at first.
+/// The run that a line begins, with room for this many bytes at first.
 fn take_run<'a, A: Allocator>(
     alloc: A,
     lines: &mut DumpLines<'a>,
@@ -147,7 +147,7 @@ fn grow<'a, A: Allocator>(
     Ok(None)
 }
 
-/// Whether what begins at `next` goes on with so many bytes at `at`.
+/// Whether what begins at `next` goes on with this many bytes at `at`.
 #[inline]
 pub fn goes_on(at: u64, count: usize, next: u64) -> bool
     ensures { result ≡ (next == at + count) }

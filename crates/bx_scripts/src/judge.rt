@@ -62,7 +62,7 @@ struct Reading {
 pub enum Ending {
     /// Behind a finished entry, or before the first.
     Clean,
-    /// In an entry of which the image has nothing, or in zeros that a loss of power left.
+    /// In an entry whose change has not touched the image, or in zeros that a loss of power left.
     Dropped,
     /// In the entry of this number, which is taken back.
     Restored { number: u32 },
@@ -106,7 +106,7 @@ fn any_digit(byte: u8) -> Option<u64> {
     digit(byte.to_ascii_lowercase())
 }
 
-/// Lower-case digits, so many.
+/// This many lower-case digits.
 fn number(text: &[u8], width: usize) -> Option<u64> {
     if text.len() != width {
         return None;
@@ -159,7 +159,7 @@ fn width_of(second: bool) -> usize {
     if second { 16 } else { 8 }
 }
 
-/// A line that begins as it is told, and goes on as another one.
+/// A line that begins as is given, and goes on as another one.
 fn completed(alloc: Global, front: &[u8], least: &[u8]) -> Result<Vec<u8>, AllocError> {
     let mut line = front.to_vec(alloc)?;
     let (_, behind) = least.split_at(front.len().min(least.len()));
@@ -483,7 +483,7 @@ fn first_form_line(entries: &[Entry]) -> Option<u64> {
     Some(entry.line)
 }
 
-/// The first line of the first entry that is one too many beside so many changes.
+/// The first line of the first entry that is one too many beside this many changes.
 fn excess_line(entries: &[Entry], changes: u32) -> Option<u64> {
     let most = MOST_ENTRIES.saturating_sub(changes as usize);
     Some(entries.get(most)?.line)
@@ -506,7 +506,7 @@ fn refused_line(reading: &Reading, image: &[u8], rest: &[u8], changes: u32) -> O
         .or(off_line(reading, image))
 }
 
-/// How many undone images opening is to find beside so many changes, where image and journal are in order.
+/// How many undone images opening is to find beside this many changes, where image and journal are in order.
 fn judge_redo(
     alloc: Global,
     image: &[u8],

@@ -37,10 +37,10 @@ impl<F: RandomAccess> FileText<F> {
     }
 }
 
-// So many bytes are filled with zeros and then read, while they are still at hand.
+// This many bytes are filled with zeros and then read, while they are still at hand.
 const PART: usize = 262_144;
 
-// Reads so many bytes more, behind those that were read.
+// Reads this many bytes more, behind those that were read.
 fn read_more<F: RandomAccess, A: Allocator>(
     file: &mut F,
     bytes: &mut Vec<u8, A>,

@@ -1,4 +1,4 @@
-//! A text store that fails on purpose, for tests.
+//! A text store that fails on purpose, for tests (fault injection).
 ghost use Rattle.std.specs.Prelude.{◌≡◌, ◌↔◌, ◌+◌, ◌-◌, ◌/◌, ◌<◌, ◌≤◌, length, is_err, if◌then◌else◌, ◌++◌, OnOk, take};
 ghost use Rattle.bx_image.specs.inner.Fuse.{part_of, reached};
 ghost use Rattle.bx_image.specs.declared.device.fuse.Part.TheVariants.{Half};
@@ -21,7 +21,7 @@ fn failed(failures: &mut u64) -> DeviceFailed
     DeviceFailed
 }
 
-// An append of which only a part takes effect.
+// An append that takes effect only in part.
 fn append_partly<T: TextStore>(store: &mut T, bytes: &[u8], part: Part) -> Result<(), DeviceFailed>
     requires countable { T.failures store.old < u64.MAX }
     requires fits { T.honest store.old → length (T.text store.old) + length bytes.now ≤ T.room store.old }
@@ -37,7 +37,7 @@ fn append_partly<T: TextStore>(store: &mut T, bytes: &[u8], part: Part) -> Resul
     }
 }
 
-// A cut of which only the half takes effect.
+// A cut that goes only half the way.
 fn cut_half<T: TextStore>(store: &mut T, n: u64) -> Result<(), DeviceFailed>
     requires countable { T.failures store.old < u64.MAX }
     requires within { T.honest store.old → n ≤ length (T.text store.old) }
@@ -54,7 +54,7 @@ fn cut_half<T: TextStore>(store: &mut T, n: u64) -> Result<(), DeviceFailed>
     }
 }
 
-// A cut of which only a part takes effect.
+// A cut that goes only a part of the way.
 fn cut_partly<T: TextStore>(store: &mut T, n: u64, part: Part) -> Result<(), DeviceFailed>
     requires countable { T.failures store.old < u64.MAX }
     requires within { T.honest store.old → n ≤ length (T.text store.old) }

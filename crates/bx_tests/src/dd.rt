@@ -12,7 +12,7 @@ use std::io::{ErrorKind, Read};
 use std::process::Abort;
 use std::test::Fail;
 
-/// A reader that is interrupted so often, then gives at most so many bytes a call, and fails once so many bytes were given.
+/// A reader that is interrupted so often, then gives at most this many bytes a call, and fails once this many bytes were given.
 #[derive(Drop)]
 pub struct Trickle<'a> {
     pub rest: &'a [u8],
@@ -61,7 +61,7 @@ fn assert_counts(rt: &impl Abort, found: Counts, wanted: Counts) {
     assert_eq!(rt; found, wanted);
 }
 
-// One block of three bytes more: so many were then taken, and so many are held.
+// One block of three bytes more: this many were then taken, and that many are held.
 fn next_block(
     rt: &impl Abort,
     convert: Convert,

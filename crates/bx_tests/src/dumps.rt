@@ -6,7 +6,7 @@ use std::io::{self, Read};
 use std::process::Abort;
 use std::test::Fail;
 
-/// A reader that gives so many bytes, then so many, and then the rest.
+/// A reader that gives this many bytes, then that many, and then the rest.
 #[derive(Drop)]
 struct Pieces<'a> {
     bytes: &'a [u8],

@@ -33,7 +33,7 @@ with_suffix style base text = let n = digit_count base text in option_map (λ un
 abbrev pub some_digits : SizeStyle → ℕ → List ℕ → Option ℕ
 some_digits style base text = if digit_count base text == 0 then None else with_suffix style base text
 
--- what follows a leading 0: x and hexadecimal digits, or octal digits, of which there may be none
+-- what follows a leading 0: x and hexadecimal digits, or octal digits, perhaps none
 abbrev pub after_zero : SizeStyle → List ℕ → Option ℕ
 after_zero style text = if slice_index text 0 == 120 || slice_index text 0 == 88 then some_digits style 16 (drop 1 text) else with_suffix style 8 text
 

@@ -5,7 +5,7 @@ use Rattle.std.specs.Str.Parse.{digits_value}
 use Rattle.bx_text.specs.declared.number.size.SizeStyle.{SizeStyle}
 use Rattle.bx_text.specs.Number.{units_of, prefixed}
 
--- At least so many digits of a base, all that stand in front, and what multiplies them: nothing, or a suffix of the style.
+-- At least this many digits of a base, all that stand in front, and what multiplies them: nothing, or a suffix of the style.
 pub record IsAmount (style : SizeStyle) (base least : ℕ) (text : List ℕ) (n : ℕ) : Type 0 where
   pub digits : List ℕ
   pub suffix : List ℕ

@@ -2,7 +2,7 @@
 ghost use Rattle.bx_text.specs.NumberGrammar.{NumberHasForm};
 ghost use Rattle.bx_text.specs.SizeGrammar.{SizeHasForm};
 
-/// Says that a text reads as a number exactly where it is decimal, hexadecimal behind `0x` or octal behind `0`, at least so
+/// Says that a text reads as a number exactly where it is decimal, hexadecimal behind `0x` or octal behind `0`, at least this
 /// many digits of that base and all that stand in front, then nothing or a suffix of its style, and that the number is theirs.
 pub fn number_has_form()
     ensures { NumberHasForm }

@@ -1,4 +1,13 @@
 //! Bytes and words that the crates of `bx` hand to one another, texts of known form, and bytes read and written in full.
+//!
+//! A number that is read, and a line of xxd with two bytes at that address:
+//!
+//! ```
+//! let at = read_size(address.as_bytes(), SizeStyle::Count)?;
+//! let line = xxd_line(at, b"bx");
+//! ```
+//!
+//! `docs/CALLING.md` has the whole caller, which the gate proves and runs.
 #![tactic(auto)]
 
 mod fault;

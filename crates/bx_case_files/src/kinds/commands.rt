@@ -32,11 +32,11 @@ pub enum Ask {
         operands: Words,
         input: Vec<u8>,
     },
-    /// Takes so many changes back.
+    /// Takes this many changes back.
     Undo(u32),
-    /// Makes so many changes again.
+    /// Makes this many changes again.
     Redo(u32),
-    /// Cuts the image to so many bytes, or leaves it, and then writes.
+    /// Cuts the image to this many bytes, or leaves it, and then writes.
     Change {
         base: Option<u64>,
         writes: Vec<Write>,
@@ -57,7 +57,7 @@ pub enum Answer {
     Refused(String),
 }
 
-/// What a command leaves. Where something is none, it isn't told.
+/// What a command leaves. Where something is none, the case doesn't say it.
 #[derive(Drop)]
 pub struct Left {
     pub image: Vec<u8>,

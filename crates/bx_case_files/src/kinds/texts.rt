@@ -20,7 +20,7 @@ pub struct Outcome {
     pub image: Option<Vec<u8>>,
     pub journal: Option<Vec<u8>>,
     pub redo: Option<Vec<u8>>,
-    /// The image once all that stands is undone, where it is told.
+    /// The image once all that stands is undone, where the case says it.
     pub first: Option<Vec<u8>>,
 }
 

@@ -34,13 +34,13 @@ pub struct WordsCase {
     pub output: Vec<u8>,
     /// The sum of what is written, in its place.
     pub sum: Option<Sum>,
-    /// How many bytes are dumped, where it is told.
+    /// How many bytes are dumped, where the case says it.
     pub count: Option<u64>,
-    /// What dd counts, where it is told.
+    /// What dd counts, where the case says it.
     pub records: Option<Records>,
     /// What stops it, if anything does.
     pub fault: Option<Refusal>,
-    /// The name of the job, and fields of it, where they are told.
+    /// The name of the job, and fields of it, where the case says them.
     pub job: Option<Words>,
 }
 

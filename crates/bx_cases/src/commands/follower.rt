@@ -10,9 +10,9 @@ use std::alloc::{AllocError, Global};
 /// What was stopped in the middle.
 #[derive(Clone, Copy)]
 enum Stop<'a> {
-    /// Undoing so many.
+    /// Undoing this many.
     Undo(usize),
-    /// Making so many again.
+    /// Making this many again.
     Redo(usize),
     /// A change that was to leave this image.
     Change(&'a [u8]),
@@ -175,7 +175,7 @@ impl<'a> Follower<'a> {
         }
     }
 
-    /// The images that are expected where opening finds this, and so many changes stand. Where something unfinished was
+    /// The images that are expected where opening finds this, and this many changes stand. Where something unfinished was
     /// found, what was undone is given up.
     pub fn expected(
         &self,

@@ -40,7 +40,7 @@ pub fn play_growths(alloc: Global, case: &CommandsCase) -> Result<u32, Failure> 
     Ok(growths)
 }
 
-/// So many growths, and more.
+/// This many growths, and more.
 fn add(growths: u32, more: Result<u32, Wrong>) -> Result<u32, Failure> {
     match more {
         Ok(more) => Ok(growths.saturating_add(more)),
@@ -48,7 +48,7 @@ fn add(growths: u32, more: Result<u32, Wrong>) -> Result<u32, Failure> {
     }
 }
 
-/// A row behind so many growths that were refused.
+/// A row behind this many growths that were refused.
 fn next_row(
     alloc: Global,
     standing: Standing<MemImage, MemText>,
@@ -106,7 +106,7 @@ impl Call for Listing<'_> {
     }
 }
 
-/// Lists the changes of a session with so many bytes, and where that is too little again with enough.
+/// Lists the changes of a session with this many bytes, and where that is too little again with enough.
 fn listed<'a>(
     alloc: Global,
     bump: &'a Bump,
@@ -191,7 +191,7 @@ fn asked_with<'a>(
     Ok(Asked { reply, devices })
 }
 
-/// One command with so many bytes, and where that is too little again with enough. Tells how many it had taken when it was
+/// One command with this many bytes, and where that is too little again with enough. Tells how many it had taken when it was
 /// refused, if it was.
 fn squeezed<'a>(
     alloc: Global,

@@ -80,7 +80,7 @@ fn same_held(alloc: Global, row: &Row, before: &Held, held: &Held) -> Result<(),
     }
 }
 
-/// The text that is wanted, where it is told or stays.
+/// The text that is wanted, where the case says it, or it stays.
 fn wanted_text<'a>(told: &'a Option<Vec<u8>>, before: &'a Vec<u8>, kept: bool) -> Option<&'a [u8]> {
     match told {
         Some(text) => Some(text.as_slice()),

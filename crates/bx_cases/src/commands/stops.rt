@@ -78,7 +78,7 @@ fn too_many(alloc: Global, least: usize, most: usize, changes: usize) -> Wrong {
     }
 }
 
-/// Opens what a run left: so many changes stand. Answers the images that it stands for.
+/// Opens what a run left: this many changes stand. Answers the images that it stands for.
 fn follows<'a>(alloc: Global, left: &Held, follower: &Follower<'a>) -> Result<Images<'a>, Wrong> {
     let (session, found) = recovered(alloc, left.texts())?;
     let changes = session.changes() as usize;
@@ -96,7 +96,7 @@ fn first_of(alloc: Global, case: &CommandsCase) -> Result<History, Wrong> {
     history_of(alloc, begun(alloc, &Memory, case)?)
 }
 
-/// One run of a case on devices of which one fails, and what it leaves opened again. Tells how often it was stopped: never
+/// One run of a case on devices, one of them failing, and what it leaves opened again. Tells how often it was stopped: never
 /// where no call failed, and else once; with openings also how often these were.
 fn one_stop(
     alloc: Global,
@@ -130,7 +130,7 @@ fn reopened(
     Ok(1)
 }
 
-/// Stops a case in one way at each call, or one in so many. Tells how often.
+/// Stops a case in one way at each call, or one in this many. Tells how often.
 fn stop_kind(
     alloc: Global,
     case: &CommandsCase,
@@ -152,7 +152,7 @@ fn stop_kind(
     Ok(stops)
 }
 
-/// Of the calls of a case one in so many fails.
+/// Of the calls of a case one in this many fails.
 fn step_of(case: &CommandsCase, with_openings: bool) -> u64 {
     if with_openings {
         opening_step(case)

@@ -1,9 +1,9 @@
-//! What is counted and told.
+//! What is counted and reported.
 use crate::report::compare::Wrong;
 use bx_case_files::Case;
 use std::alloc::{AllocError, Global};
 
-/// A play that isn't right: at which call of which sweep.
+/// A play that isn't right: the call and its sweep.
 #[derive(Drop)]
 pub struct Failure {
     pub call: u32,
@@ -20,7 +20,7 @@ fn tell_case(rt: &HostRuntime, file: &str, line: u64, name: &str) {
     let _ = print!(rt; "{file}:{line}: {name}: ");
 }
 
-/// Behind it: which call of which sweep.
+/// Behind it: the call and its sweep.
 fn tell_call(rt: &HostRuntime, sweep: &str, call: u32) {
     let _ = print!(rt; "{sweep} {call}: ");
 }
@@ -68,7 +68,7 @@ impl<'a> Tally<'a> {
         })
     }
 
-    /// So many plays of a sweep were right.
+    /// This many plays of a sweep were right.
     pub fn add(&mut self, sweep: usize, plays: u32) {
         if let Some(count) = self.plays.get_mut(sweep) {
             *count = count.saturating_add(plays as u64);

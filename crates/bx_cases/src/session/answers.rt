@@ -39,7 +39,7 @@ pub fn same_refusal(alloc: Global, wanted: &Found, fault: Fault) -> Result<(), W
     }
 }
 
-/// Of an opening this text was told: that of the fault.
+/// The text that an opening reported: that of the fault.
 fn same_told(alloc: Global, wanted: &str, fault: Fault) -> Result<(), Wrong> {
     let found = fault_text(alloc, fault)?;
     same_text(alloc, "opening", wanted, found.as_str())

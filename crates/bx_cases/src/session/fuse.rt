@@ -1,4 +1,4 @@
-//! Devices of which one fails, and the ways in which it does.
+//! Devices, one of which fails, and the ways in which it does.
 use crate::report::compare::Wrong;
 use crate::session::devices::{Devices, Held, Texts, held_of, in_memory};
 use bx_image::{FuseImage, MemImage, Part};
@@ -14,7 +14,7 @@ pub const OPENING_KINDS: u32 = 4 * DEVICES;
 
 pub const KINDS: u32 = 7 * DEVICES;
 
-/// The device that fails behind so many calls.
+/// The device that fails behind this many calls.
 pub fn fuse_at(kind: u32, pass: u64) -> Fused {
     let way = kind / DEVICES;
     Fused {
@@ -30,7 +30,7 @@ pub fn fuse_at(kind: u32, pass: u64) -> Fused {
     }
 }
 
-/// Which calls of a device fail: its reads, or else its writes; those behind so many, or the one behind them alone; and how
+/// Which calls of a device fail: its reads, or else its writes; those behind this many, or the one behind them alone; and how
 /// much of a write takes effect.
 #[derive(Clone, Copy)]
 pub struct Fused {
@@ -41,7 +41,7 @@ pub struct Fused {
     pub pass: u64,
 }
 
-/// Devices in memory, of which one may fail.
+/// Devices in memory; one may fail.
 pub type FusedDevices = Devices<FuseImage<MemImage>, FuseText<MemText>>;
 
 pub type FusedSession = Session<FuseImage<MemImage>, FuseText<MemText>>;
@@ -68,7 +68,7 @@ fn fused_text(text: MemText, device: u32, fused: Fused) -> FuseText<MemText> {
     }
 }
 
-/// Devices in memory that hold this, one of which fails.
+/// Devices in memory that hold this; one fails.
 pub fn in_fused(alloc: Global, texts: Texts<'_>, fused: Fused) -> Result<FusedDevices, Wrong> {
     let Devices {
         image,

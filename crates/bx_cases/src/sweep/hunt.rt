@@ -6,7 +6,7 @@ use std::alloc::Global;
 
 /// A call that takes memory.
 pub trait Call {
-    /// Makes the call in an arena that hands out so many bytes from then on, and where that is too little again with enough.
+    /// Makes the call in an arena that hands out this many bytes from then on, and where that is too little again with enough.
     /// Tells how many it had taken when it was refused, if it was.
     fn squeezed<'a>(
         &self,
@@ -19,7 +19,7 @@ pub trait Call {
 /// No growth is smaller.
 const STEP: usize = 8;
 
-/// No search takes so many tries.
+/// No search takes this many tries.
 const MOST_TRIES: u32 = 100_000;
 
 /// What is known of a run that is tried with more and more bytes: with `low` the last growth that was found is refused.
@@ -28,14 +28,14 @@ struct Hunt {
     taken: usize,
     low: usize,
     gap: usize,
-    /// Another growth is refused with so many bytes, or none is; and what was taken then.
+    /// Another growth is refused with this many bytes, or none is; and what was taken then.
     high: Option<(usize, Option<usize>)>,
     /// How many growths were found.
     growths: u32,
 }
 
 impl Hunt {
-    /// With no bytes the first growth is refused, when so many were taken.
+    /// With no bytes the first growth is refused, when this many were taken.
     fn new(taken: usize) -> Self {
         Hunt {
             taken,
@@ -57,7 +57,7 @@ impl Hunt {
         }
     }
 
-    /// What came of so many bytes: how many were taken when a growth was refused, if one was. Tells whether any is left.
+    /// What came of this many bytes: how many were taken when a growth was refused, if one was. Tells whether any is left.
     fn goes_on(&mut self, bytes: usize, taken: Option<usize>) -> bool {
         if taken == Some(self.taken) {
             self.low = bytes;
@@ -71,7 +71,7 @@ impl Hunt {
         }
     }
 
-    /// With so many bytes the next growth is the first to be refused, or none is.
+    /// With this many bytes the next growth is the first to be refused, or none is.
     fn leap(&mut self, high: usize, found: Option<usize>) -> bool {
         match found {
             Some(taken) => {
@@ -87,7 +87,7 @@ impl Hunt {
     }
 }
 
-/// The call with so many bytes, in an arena of its own.
+/// The call with this many bytes, in an arena of its own.
 fn once<C: Call>(alloc: Global, call: &C, bytes: usize) -> Result<Option<usize>, Wrong> {
     let bump = arena(alloc)?;
     call.squeezed(alloc, &bump, bytes)

@@ -13,7 +13,7 @@ use bx_cli::{Fault, Reply};
 use bx_journal::SessionFault;
 use std::alloc::Global;
 
-/// No play makes so many calls, and none leaves so much that is opened.
+/// No play makes this many calls, and none leaves so much that is opened.
 pub const MOST_CALLS: u64 = 10_000;
 
 /// Makes the change again that was undone last.

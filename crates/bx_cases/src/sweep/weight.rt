@@ -1,31 +1,31 @@
 //! How many places of a dear sweep are taken, by the size of what is played.
 use bx_case_files::{Ask, CommandsCase, Row};
 
-/// A command weighs as much as so many bytes.
+/// A command weighs as much as this many bytes.
 const COMMAND: usize = 8;
 
-/// Of each so many bytes of a case, one more call is passed over between two that fail.
+/// Of each this many bytes of a case, one more call is passed over between two that fail.
 const BYTES_A_STOP: usize = 64;
 
-/// Cases of at most so many bytes have all that their stops leave opened and stopped again.
+/// Cases of at most this many bytes have all that their stops leave opened and stopped again.
 const LIGHT: usize = 64;
 
-/// Of each so many bytes of others, one more stop is passed over.
+/// Of each this many bytes of others, one more stop is passed over.
 const BYTES_AN_OPENING: usize = 2;
 
-/// Of each so many rows of a case, one more is passed over between two that are swept alone.
+/// Of each this many rows of a case, one more is passed over between two that are swept alone.
 const ROWS: usize = 16;
 
-/// Of the changes of a text's bytes about so many are made.
+/// Of the changes of a text's bytes about this many are made.
 const CHANGES: usize = 400;
 
-/// Texts of at most so many bytes are cut off and changed at each place.
+/// Texts of at most this many bytes are cut off and changed at each place.
 const LONG_TEXT: usize = 8_192;
 
-/// Longer ones at so many places.
+/// Longer ones at this many places.
 const PLACES: usize = 32;
 
-/// Runs of words whose input and output have at most so many bytes have their growths refused.
+/// Runs of words whose input and output have at most this many bytes have their growths refused.
 const SMALL: usize = 4;
 
 /// Cases whose image has more bytes than this, or what a command of theirs is given and leaves, are large.
@@ -65,13 +65,13 @@ pub fn weight(case: &CommandsCase) -> usize {
     sum
 }
 
-/// Of the calls of a case, one in so many fails.
+/// Of the calls of a case, one in this many fails.
 pub fn stop_step(case: &CommandsCase) -> u64 {
     let step = weight(case) / BYTES_A_STOP;
     (step as u64).saturating_add(1)
 }
 
-/// Of the calls of a case, one in so many fails where what is left is stopped again.
+/// Of the calls of a case, one in this many fails where what is left is stopped again.
 pub fn opening_step(case: &CommandsCase) -> u64 {
     let bytes = weight(case);
     if bytes <= LIGHT {
@@ -81,13 +81,13 @@ pub fn opening_step(case: &CommandsCase) -> u64 {
     (step as u64).saturating_add(1)
 }
 
-/// Whether this row of a case is one of those that are swept alone: of so many rows one in so many, and the first.
+/// Whether this row of a case is one of those that are swept alone: of this many rows one in this many, and the first.
 pub fn is_swept(row: usize, rows: usize) -> bool {
     let step = (rows / ROWS).saturating_add(1);
     row.checked_rem(step) == Some(0)
 }
 
-/// Of the 255 changes of each byte of a text of this length, one in so many is made.
+/// Of the 255 changes of each byte of a text of this length, one in this many is made.
 pub fn change_step(len: usize) -> usize {
     let step = len.saturating_mul(255) / CHANGES;
     step.saturating_add(1).min(255)

@@ -34,7 +34,7 @@ impl Call for OpeningOf<'_> {
     }
 }
 
-/// Opening with so many bytes, and where that is too little again with enough. Tells how many it had taken when it was
+/// Opening with this many bytes, and where that is too little again with enough. Tells how many it had taken when it was
 /// refused, if it was.
 fn squeezed_opening<'a>(
     alloc: Global,
@@ -67,7 +67,7 @@ fn answered(
     Ok(None)
 }
 
-/// What an opening with so many bytes came to, and how many were taken. Behind it there is room.
+/// What an opening with this many bytes came to, and how many were taken. Behind it there is room.
 fn opened_with<'a>(
     bump: &'a Bump,
     texts: Texts<'_>,

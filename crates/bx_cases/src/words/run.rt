@@ -23,7 +23,7 @@ pub struct Ran {
     pub came: bool,
 }
 
-/// Runs a job on its input, or, where the length of the whole input is told, on what stands behind a seek.
+/// Runs a job on its input, or, where the length of the whole input is given, on what stands behind a seek.
 pub fn dumped<R: Read, W: Write, A: Allocator + Clone>(
     alloc: A,
     job: &Job,
@@ -58,7 +58,7 @@ pub fn run_freely(alloc: Global, job: &Job, length: Option<u64>, input: &[u8], e
     run(alloc, job, length, from, to)
 }
 
-/// How many bytes of so many go through in one call.
+/// How many bytes of this many go through in one call.
 fn each_of(len: usize, least: usize) -> usize {
     least.max(len / FEW_CALLS)
 }

@@ -117,7 +117,7 @@ StopsFinish form w0 w1 pending page0 kept0 tail outcome =
     (input : List ℕ) (start : Option (List ℕ)) → StageBy form start w0 input pending page0 kept0 tail →
     IfErr outcome (WritesFront 0 start w1 (converted form input))
 
--- These are the counts of whatever input is so long, gives so long an output, and has so many records cut.
+-- These are the counts of whatever input is so long, gives so long an output, and has this many records cut.
 abbrev pub CountsAll : Form → ℕ → ℕ → Tail → Counts → Type 0
 CountsAll form read written tail counts =
     (input : List ℕ) → read ≡ length input → written ≡ length (converted form input) →

@@ -28,7 +28,7 @@ abbrev pub Grows : {V : Type 0} → ℕ → ℕ → Result V IoFault → Type 0
 Grows before after (Ok v) = before ≤ after
 Grows before after (Err fault) = before ≤ written_by fault
 
--- Of a text, a part went out, so many bytes, and the rest waits.
+-- Of a text, a part went out, this many bytes, and the rest waits.
 pub record Goes (start now : Option (List ℕ)) (waits : List ℕ) (written : ℕ) (text : List ℕ) : Type 0 where
   pub out : List ℕ
   pub went : Appends start now out
@@ -71,7 +71,7 @@ pub record IsFresh (form : Form) (limit : ℕ) (buf kept : List ℕ) (space : �
   pub none : (kept ≡ []) × (waits ≡ []) × (written ≡ 0)
   pub room : form.shape ≢ Flat → form.cbs ≤ space
 
--- The rest of an input was read after so many bytes, at most so many of it, and stands converted.
+-- The rest of an input was read after this many bytes, at most this many of it, and stands converted.
 pub record Passes (form : Form) (most before after : ℕ) (r0 r1 start now : Option (List ℕ)) (pending waits : List ℕ)
     (written : ℕ) (kept : List ℕ) (was_cut : Bool) (count : ℕ) : Type 0 where
   pub input : List ℕ
@@ -81,7 +81,7 @@ pub record Passes (form : Form) (most before after : ℕ) (r0 r1 start now : Opt
   pub taken : after ≡ before + length input
   pub stage : Stage form start now input pending waits written kept was_cut count
 
--- The rest of an input was read after so many bytes, at most so many of it, and all that is made of it was written and counted.
+-- The rest of an input was read after this many bytes, at most this many of it, and all that is made of it was written and counted.
 pub record CopiesRest (form : Form) (most before : ℕ) (r0 r1 w0 w1 : Option (List ℕ)) (counts : Counts) : Type 0 where
   pub input : List ℕ
   pub consumed : Consumes r0 r1 input
@@ -91,12 +91,12 @@ pub record CopiesRest (form : Form) (most before : ℕ) (r0 r1 w0 w1 : Option (L
   pub appended : Appends w0 w1 (converted form input)
   pub counted : counts ≡ counts_of form input
 
--- how many bytes are copied at most, where these are so many blocks
+-- how many bytes are copied at most, where these are this many blocks
 abbrev pub most_of : Option ℕ → ℕ → ℕ
 most_of None ibs = 2 ^ 64 - 1
 most_of (Some count) ibs = count * ibs
 
--- Some of the rest of an input was read after so many bytes, at most so many of it, and a front of what is made of it was written.
+-- Some of the rest of an input was read after this many bytes, at most this many of it, and a front of what is made of it was written.
 pub record StopsPass (form : Form) (most before : ℕ) (r0 r1 w0 w1 : Option (List ℕ)) (fault : IoFault) : Type 0 where
   pub input : List ℕ
   pub written : ℕ

@@ -130,7 +130,7 @@ fn most_of(count: Option<u64>, ibs: u64) -> u64
     }
 }
 
-/// Copies the rest of an input, at most so many bytes of it.
+/// Copies the rest of an input, at most this many bytes of it.
 fn copy_rest<R: Read, W: Write, A: Allocator, B: Allocator>(
     meter: &mut Meter,
     r: &mut R,
@@ -157,7 +157,7 @@ fn copy_rest<R: Read, W: Write, A: Allocator, B: Allocator>(
     }
 }
 
-/// The counts of so many bytes, read and written.
+/// The counts of this many bytes, read and written.
 fn counts(form: Form, read: u64, written: u64, tail: Tail) -> Counts
     requires sizes { HasSizes form }
     requires few { tail.cut ≤ 2 ^ 42 }
@@ -172,7 +172,7 @@ fn counts(form: Form, read: u64, written: u64, tail: Tail) -> Counts
     }
 }
 
-/// Reads bytes and forgets them, and tells whether there were so many.
+/// Reads bytes and forgets them, and tells whether there were this many.
 fn skip_bytes<R: Read>(
     meter: &mut Meter,
     r: &mut R,
@@ -303,7 +303,7 @@ fn finish<W: Write, A: Allocator, B: Allocator>(
     }
 }
 
-/// Reads at most so many bytes, and converts their whole units. Where fewer come than were asked for, what was converted goes out before more are.
+/// Reads at most this many bytes, and converts their whole units. Where fewer come than were asked for, what was converted goes out before more are.
 fn copy_units<R: Read, W: Write, A: Allocator, B: Allocator>(
     meter: &mut Meter,
     r: &mut R,

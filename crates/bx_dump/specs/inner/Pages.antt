@@ -8,7 +8,7 @@ use Rattle.bx_dump.specs.Pages.{part_of}
 use Rattle.bx_dump.specs.inner.Dumped.{IsDumpFault, KeepsUp}
 use Rattle.bx_dump.specs.declared.driver.pages.Part.{Part}
 
--- at most so many of the bytes
+-- at most this many of the bytes
 abbrev pub capped : Option ℕ → List ℕ → List ℕ
 capped limit bytes = option_map_or (λ most. take most bytes) limit bytes
 

@@ -30,7 +30,7 @@ unfoldable pub scan_run : List ℕ → List ℕ → List ℕ
 scan_run run [] = run
 scan_run run (b ∷ bs) = if is_printable b then scan_run (run ++ b ∷ []) bs else scan_run [] bs
 
--- bytes that all print, and bytes of which none does
+-- bytes that all print, and bytes that all do not
 abbrev pub AllPrint : List ℕ → Type 0
 AllPrint [] = Unit {0}
 AllPrint (b ∷ bs) = (is_printable b ≡ true) × AllPrint bs

@@ -106,7 +106,7 @@ pub struct FoldedPages<F: Form> {
 }
 
 impl<F: Form> FoldedPages<F> {
-    /// Lines of which none was put.
+    /// Lines; none was put yet.
     pub fn new(form: F, all: bool, start: u64) -> Self
         requires { start ≤ 2 ^ 63 }
         ensures form { result.form ≡ form }

@@ -56,7 +56,7 @@ pub struct Part {
     pub written: u64,
 }
 
-/// Reads bytes away, and answers whether there were so many.
+/// Reads bytes away, and answers whether there were this many.
 pub fn skip<R: Read>(
     meter: &mut Meter,
     r: &mut R,

@@ -36,7 +36,7 @@ fn digits_of_both(bytes: u8x16, low: u8, high: u8) -> u8x16
     )
 }
 
-/// The third digit of each value from its end, of which both bytes have a part, and the fourth.
+/// The third digit of each value from its end, which both bytes have a part of, and the fourth.
 #[inline(always)]
 fn middle_digits(bytes: u8x16) -> u8x16
     ensures { result ≡ by_twos (λ a b. (48 + (a / 64 % 8 + 4 * (b % 2))) ∷ (48 + b / 2 % 8) ∷ []) bytes }

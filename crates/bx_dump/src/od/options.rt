@@ -25,7 +25,7 @@ pub enum NumForm {
     Hexadecimal,
 }
 
-/// The bytes of a number, of which the lowest comes first.
+/// The bytes of a number, the lowest first (little-endian).
 #[derive(Clone, Copy, Debug, PartialEq, Eq)]
 pub enum Size {
     One,

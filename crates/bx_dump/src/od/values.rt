@@ -10,7 +10,7 @@ use crate::od::hexadecimal::put_hexadecimal_line;
 use crate::od::octal_lanes::put_octal_twos;
 use crate::od::options::{Kind, NumForm, Size};
 
-/// The value of bytes of which the lowest comes first.
+/// The value of bytes, the lowest first (little-endian).
 #[inline(always)]
 fn value_of(bytes: &[u8]) -> u64
     requires { length bytes.now ≤ 8 }
@@ -79,7 +79,7 @@ fn put_values(text: &mut [u8], kind: Kind, bytes: &[u8]) -> usize
     used
 }
 
-/// Puts the value of which all bytes are there, from place `begin` on, and answers how long its text is.
+/// Puts the value whose bytes are all there, from place `begin` on, and answers how long its text is.
 #[inline(always)]
 fn put_exact(text: &mut [u8], kind: Kind, bytes: &[u8], begin: usize) -> usize
     requires room { field_width kind + 1 ≤ length text.old }

@@ -250,7 +250,7 @@ impl Runs {
 }
 
 impl Runs {
-    /// Puts what is known with the bytes in front that all print, or of which none does.
+    /// Puts what is known with the bytes in front that all print, or all do not.
     fn step(&mut self, page: &mut [u8], at: u64, bytes: &[u8]) -> Step
         requires least { 0 < self.old.least }
         requires few { self.old.least ≤ 4096 }

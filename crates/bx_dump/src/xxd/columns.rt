@@ -65,7 +65,7 @@ impl Columns {
 }
 
 impl Columns {
-    /// How many whole groups there are among so many bytes.
+    /// How many whole groups there are among this many bytes.
     #[inline]
     fn groups_in(&self, len: usize) -> usize
         ensures { result ≡ len / self.now.group }

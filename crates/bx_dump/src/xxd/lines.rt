@@ -1,4 +1,4 @@
-//! Lines of so many bytes, one after another.
+//! Lines of this many bytes, one after another.
 ghost use Rattle.std.specs.Prelude.{◌≡◌, ℕ, ◌+◌, ◌-◌, ◌*◌, ◌/◌, ◌^◌, ◌<◌, ◌≤◌, List, length, take, drop, min};
 ghost use Rattle.std.specs.List.{flat_map};
 ghost use Rattle.bx_dump.specs.Lines.{in_lines};

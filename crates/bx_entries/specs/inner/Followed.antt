@@ -14,12 +14,12 @@ pub record IsFullSaved (len at : ℕ) (text bytes : List ℕ) : Type 0 where
   pub ended : text ≡ take 67 text ++ 10 ∷ drop 68 text
   pub saved : saved_in len (take 67 text) ≡ Some (record { at = at; bytes = bytes })
 
--- the text is read up to a place among the saved lines of an entry, of which `line` is the number of the next one
+-- the text is read up to a place among the saved lines of an entry; `line` is the number of the next one
 pub record IsSavingTo (text : List ℕ) (entries : List Entry) (v : Version) (len : ℕ) (runs : List Run) (at line : ℕ) : Type 0 where
   pub mark : IsMark text at (record { entries = entries; stage = Saving v (record { len = len; runs = runs }) })
   pub counted : line ≡ suc (length (split (take at text)).lines)
 
--- so many full lines, with which a text goes on, lead from these runs to those
+-- this many full lines, with which a text goes on, lead from these runs to those
 pub record GoesOnBy (len : ℕ) (rest : List ℕ) (old new : List Run) (count : ℕ) : Type 0 where
   pub within : 68 * count ≤ length rest
   pub leads : (text : List ℕ) (entries : List Entry) (v : Version) (at line : ℕ) → rest ≡ drop at text → IsSavingTo text entries v len old at line
@@ -33,7 +33,7 @@ with_last front at bytes = front ++ record { at = at; bytes = bytes } ∷ []
 abbrev pub RunGoesOnBy : ℕ → List ℕ → ℕ → List ℕ → List ℕ → ℕ → Type 0
 RunGoesOnBy len rest at old new count = (front : List Run) → GoesOnBy len rest (with_last front at old) (with_last front at new) count
 
--- So many full lines of a window from a place on go on with any run of this address and size: their bytes stand at the
+-- This many full lines of a window from a place on go on with any run of this address and size: their bytes stand at the
 -- window's beginning, and what is behind the lines stays
 pub record IsGathered (len at size from : ℕ) (old new : List ℕ) (count : ℕ) : Type 0 where
   pub within : from + 68 * count ≤ length old

@@ -59,13 +59,13 @@ abbrev pub KeepsMarks : {A : Type 0} → List ℕ → List Entry → List (Entry
 KeepsMarks text older es after None = Unit {0}
 KeepsMarks text older es after (Some s) = IsMark text after (reading_onto older es s) → IsMarked text older es s after
 
--- the text is read up to a place behind a whole line, of which `line` is the number of the next one, and of the entries those behind `older`
+-- the text is read up to a place behind a whole line; `line` is the number of the next one, and the entries are those behind `older`
 pub record IsReadTo {A : Type 0} (text : List ℕ) (older : List Entry) (es : List (EntryRead A)) (stage : StageRead A) (at line : ℕ) : Type 0 where
   pub mark : IsMark text at (reading_onto older es stage)
   pub marked : IsMarked text older es stage at
   pub counted : line ≡ suc (length (split (take at text)).lines)
 
--- so many full lines, with which a text goes on, lead from one stage to another and count among its lines, whatever entries are before
+-- this many full lines, with which a text goes on, lead from one stage to another and count among its lines, whatever entries are before
 abbrev pub ReadingGoesOnBy : {A : Type 0} → List ℕ → StageRead A → StageRead A → ℕ → Type 0
 ReadingGoesOnBy {A = A} rest old new count =
     (text : List ℕ) (older : List Entry) (es : List (EntryRead A)) (at line : ℕ) → IsReadTo text older es old at line → rest ≡ drop at text

@@ -1,4 +1,4 @@
--- Entries of which the rows of a log are made, and which are not kept.
+-- Entries that are read for the rows of a log, and not kept.
 use Rattle.std.specs.Prelude.{◌≡◌, ℕ, Some, List, [], ◌∷◌, length, map, sum}
 use Rattle.bx_entries.specs.declared.read.count.Place.{Place}
 use Rattle.bx_entries.specs.declared.read.count.Place.TheVariants.{Between as BetweenPlace, Saving as SavingPlace, Ending as EndingPlace}
@@ -24,7 +24,7 @@ saved_at es Between = last_saved es
 saved_at es (Saving v s) = s
 saved_at es (Ending v s) = s
 
--- a reading of which a tally is left, and of the newest entry a length and a sum
+-- a reading, of it only a tally is left, and of the newest entry a length and a sum
 abbrev pub summed_of : Reading → Summed
 summed_of r = record { tally = tally_of r; len = (saved_at r.entries r.stage).len; saved = saved_length (saved_at r.entries r.stage) }
 

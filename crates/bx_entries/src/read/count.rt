@@ -1,4 +1,4 @@
-//! One more line of a journal's text whose entries are counted, and of which nothing else is kept.
+//! One more line of a journal's text whose entries are counted, and nothing else of it is kept.
 ghost use Rattle.std.specs.Prelude.{◌≡◌, ◌+◌, ◌<◌, ◌≤◌, ◌++◌, ◌∷◌, List, suc, length, take, drop, is_some, IsTrue, Some, IfSome, IfNone};
 ghost use Rattle.bx_entries.specs.Kept.{Kept as Record};
 ghost use Rattle.bx_entries.specs.Line.{after_in as after_at};

@@ -1,4 +1,4 @@
-//! One more line of a journal's text of which the rows of a log are made: what an entry saves is summed, and not kept.
+//! One more line of a journal's text that is read for a log: what an entry saves is summed, and not kept.
 ghost use Rattle.std.specs.Prelude.{◌≡◌, IfSome};
 ghost use Rattle.bx_entries.specs.inner.Rows.{HasAdded, SumsTo, summed_of};
 ghost use Rattle.bx_entries.specs.Text.{Reading, start};

@@ -1,4 +1,4 @@
-//! How much of a text is read, where a loss of power may have left zeros in it.
+//! How much of a text is read, where a loss of power may have torn its end into zeros.
 ghost use Rattle.std.specs.Prelude.{◌≡◌, ◌&&◌, length, take, codes};
 ghost use Rattle.std.specs.List.{list_all};
 ghost use Rattle.bx_entries.specs.Shown.{before_zero, begins_with, ends_line, has_end, is_left, shown};

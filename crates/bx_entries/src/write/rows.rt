@@ -8,7 +8,7 @@ ghost use Rattle.bx_entries.specs.Text.{ended};
 use bx_text::{LineText, put_full_line, xxd_line};
 use std::alloc::Allocator;
 
-/// So many rows are written at once, at most.
+/// At most this many rows are written at once.
 const ROWS: usize = 128;
 
 /// Writes rows from this one on into the page: as many as it has room for, at most `ROWS`, and not the last of the run. The

@@ -1,4 +1,4 @@
-//! A device that fails on purpose, for tests.
+//! A device that fails on purpose, for tests (fault injection).
 ghost use Rattle.std.specs.Prelude.{◌≡◌, ◌↔◌, ◌+◌, ◌-◌, ◌/◌, ◌<◌, ◌≤◌, ℕ, length, min, max, is_err, if◌then◌else◌, OnOk, take};
 ghost use Rattle.bx_image.specs.Device.{GoesOn, IsPartlyWritten, IsPartlyCut};
 ghost use Rattle.bx_image.specs.Fuse.{is_blown, after_call};
@@ -25,9 +25,9 @@ pub enum Part {
 pub enum Fuse {
     /// None of them.
     Never,
-    /// All but the first so many.
+    /// All but the first ones, as many as the number says.
     After(u64),
-    /// The one after the first so many.
+    /// The one after the first ones, as many as the number says.
     Once(u64),
 }
 
@@ -76,7 +76,7 @@ fn failed(failures: &mut u64) -> DeviceFailed
     DeviceFailed
 }
 
-// A write of which only a part takes effect.
+// A write that takes effect only in part.
 fn write_partly<D: Device>(
     device: &mut D,
     at: u64,
@@ -110,7 +110,7 @@ fn half_way(from: u64, to: u64) -> u64
     }
 }
 
-// A change of the length of which only the half takes effect.
+// A change of the length that goes only half the way.
 fn cut_half<D: Device>(device: &mut D, n: u64) -> Result<(), DeviceFailed>
     requires countable { D.failures device.old < u64.MAX }
     requires room { n ≤ D.room device.old }
@@ -124,7 +124,7 @@ fn cut_half<D: Device>(device: &mut D, n: u64) -> Result<(), DeviceFailed>
     device.set_len(target)
 }
 
-// A change of the length of which only a part takes effect.
+// A change of the length that goes only a part of the way.
 fn cut_partly<D: Device>(device: &mut D, n: u64, part: Part) -> Result<(), DeviceFailed>
     requires countable { D.failures device.old < u64.MAX }
     requires room { n ≤ D.room device.old }

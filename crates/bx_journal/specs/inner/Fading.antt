@@ -38,13 +38,13 @@ CutSurvives text saved survives =
     (x : List ℕ) (below : List (List ℕ)) (v : Version) (e : Entry) (begins : ℕ) → TakesBack text x below v e begins saved → (c : List ℕ) → survives c
     → Recovers (shown c) x (x ∷ below) ⊎ RecoversOpen (shown c) x below
 
--- of a text whose whole lines behind an entry's begin are cut off, of which the image was not changed: opening finds the same stack
+-- of a text whose whole lines behind an entry's begin are cut off, beside an image that was not changed: opening finds the same stack
 abbrev pub TailSurvives : List ℕ → ℕ → (List ℕ → Type 0) → Type 0
 TailSurvives text begins survives =
     (x : List ℕ) (stack : List (List ℕ)) (es : List Entry) (stage : Stage) → HasTail text x stack es stage begins → (split text).rest ≡ [] → image_at stage x ≡ x
     → (c : List ℕ) → survives c → Recovers (shown c) x stack
 
--- the same of a text that may have a rest, and of which a loss of power may have left zeros: what is read of it has the tail
+-- the same of a text that may have a rest, and zeros that a loss of power left: what is read of it has the tail
 abbrev pub RestSurvives : List ℕ → ℕ → (List ℕ → Type 0) → Type 0
 RestSurvives read begins survives =
     (x : List ℕ) (stack : List (List ℕ)) (es : List Entry) (stage : Stage) → HasTail read x stack es stage begins → image_at stage x ≡ x → (c : List ℕ) → survives c → Recovers (shown c) x stack
@@ -63,7 +63,7 @@ abbrev pub PairSurvives : List ℕ → List ℕ → (List ℕ → Type 0) → (L
 PairSurvives text x survives text_survives =
     (stack : List (List ℕ)) → Recovers (shown text) x stack → (y c : List ℕ) → survives y → text_survives c → Recovers (shown c) y stack
 
--- with the redo text, of which nothing is left: opening finds the stack, and that nothing is undone
+-- with the redo text, which is empty: opening finds the stack, and that nothing is undone
 abbrev pub OpeningSurvives : List ℕ → List ℕ → List ℕ → (List ℕ → Type 0) → (List ℕ → Type 0) → (List ℕ → Type 0) → Type 0
 OpeningSurvives text x redo survives text_survives redo_survives =
     (s : Images) → Found text x redo s → (y new r : List ℕ) → survives y → text_survives new → redo_survives r → Found new y r (record { stack = s.stack; undone = [] })

@@ -9,17 +9,17 @@ use Rattle.bx_entries.specs.Finished.{AllTell, IsFinished}
 use Rattle.bx_journal.specs.Redo.{IsNoRedoAt, IsRefusedAt, IsTooManyAt}
 use Rattle.bx_entries.specs.Text.{Entry, split}
 
--- why a text isn't a redo text beside so many changes, whatever the image is
+-- why a text isn't a redo text beside this many changes, whatever the image is
 abbrev pub IsUnfitAt : List ℕ → ℕ → ℕ → Type 0
 IsUnfitAt text changes line = IsNoRedoAt text line ⊎ IsTooManyAt text changes line
 
--- finished entries alone, each of which tells its length, and with so many changes not too many
+-- finished entries alone, each with its length, and with this many changes not too many
 pub record IsFit (text : List ℕ) (changes : ℕ) (entries : List Entry) : Type 0 where
   pub finished : IsFinished text entries
   pub tell : AllTell entries
   pub few : changes + length entries ≤ 65535
 
--- such a text has so many entries, and the newest tells this length
+-- such a text has this many entries, and the newest tells this length
 pub record IsRedoCounted (text : List ℕ) (changes count : ℕ) (told : Option ℕ) : Type 0 where
   pub entries : List Entry
   pub fit : IsFit text changes entries

@@ -26,7 +26,7 @@ Opens image text d t d_new t_new result =
 abbrev pub OpensRead : {D T A E : Type 0} → JournalRead A → (D → List ℕ) → (T → List ℕ) → D → T → D → T → Result Recovered E → Type 0
 OpensRead j image text d t d_new t_new result = HasLengths j (image d) → IfOk result (IsOpenedOf j (text t) (image d) (text t_new) (image d_new))
 
--- as many changes are told as the stack has that opening finds
+-- as many changes are reported as the stack has that opening finds
 abbrev pub CountsStack : {E : Type 0} → List ℕ → List ℕ → Result Recovered E → Type 0
 CountsStack text x result = (stack : List (List ℕ)) → Recovers text x stack → IfOk result (λ o. length stack ≡ suc o.changes)
 
@@ -38,17 +38,17 @@ SparesPair image text d t d_new t_new result = IfErr result (λ e. AfterFault e 
 abbrev pub SparesClean : {D T E : Type 0} → (D → List ℕ) → (T → List ℕ) → D → T → D → T → Result Recovered E → Type 0
 SparesClean image text d t d_new t_new result = IfOk result (λ o. o.how ≡ Clean → IsPairSame image text d t d_new t_new)
 
--- so many undone images are told as the redo text and the image that are left stand for, where all were honest
+-- this many undone images are reported as the redo text and the image that are left stand for, where all were honest
 abbrev pub TellsUndone : {D T E : Type 0} → (D → Type 0) → (D → List ℕ) → (T → Type 0) → (T → List ℕ) → D → T → T → D → T → Result Recovered E → Type 0
 TellsUndone honest image text_honest text d t u d_new u_new result =
     honest d → text_honest t → text_honest u → IfOk result (λ o. HasUndoneCount (text u_new) (image d_new) o.changes o.undone)
 
--- a line that is told of the redo text is one at which it is refused
+-- a line that is reported of the redo text is one at which it is refused
 abbrev pub TellsRefused : {D T V : Type 0} → (D → Type 0) → (D → List ℕ) → (T → Type 0) → (T → List ℕ) → D → T → T → Result V SessionFault → Type 0
 TellsRefused honest image text_honest text d t u result =
     honest d → text_honest t → text_honest u → IfErr result (λ e. (line : ℕ) → e ≡ RedoDamaged line → RefusesRedoAt (text t) (image d) (text u) line)
 
--- where the redo text is refused at a line, that line is told, unless another fault came before
+-- where the redo text is refused at a line, that line is reported, unless another fault came before
 abbrev pub TellsUnfit : {D T V : Type 0} → (D → Type 0) → (D → List ℕ) → (T → Type 0) → (T → List ℕ) → D → T → T → Result V SessionFault → Type 0
 TellsUnfit honest image text_honest text d t u result =
     honest d → text_honest t → text_honest u → (line : ℕ) → RefusesRedoAt (text t) (image d) (text u) line → MatchResult result (λ v. ⊥) (RefusesRedo line)
@@ -66,7 +66,7 @@ FindsAgain honest image text_honest text d t u d_new t_new u_new result =
     → IfErr result (λ e. AfterFault e (Found (text t_new) (image d_new) (text u_new) (record { stack = s.stack; undone = [] }))
     (Found (text t_new) (image d_new) (text u_new) s))
 
--- a redo text of which opening finds images is never refused
+-- a redo text in which opening finds images is never refused
 abbrev pub KeepsRedoText : {D T V : Type 0} → (D → Type 0) → (D → List ℕ) → (T → Type 0) → (T → List ℕ) → D → T → T → Result V SessionFault → Type 0
 KeepsRedoText honest image text_honest text d t u result =
     honest d → text_honest t → text_honest u → (s : Images) → Found (text t) (image d) (text u) s → IfErr result (λ e. (line : ℕ) → e ≡ RedoDamaged line → ⊥)

@@ -21,7 +21,7 @@ use Rattle.bx_entries.specs.inner.Tally.{IsCounted}
 use Rattle.bx_entries.specs.Shown.{shown}
 use Rattle.bx_entries.specs.Text.{IsDamagedAt}
 
--- so many finished entries alone were counted: the store's, where that is honest
+-- this many finished entries alone were counted: the store's, where that is honest
 pub record IsCountedIn (honest : Type 0) (stored : List ℕ) (count : ℕ) (told : Option ℕ) : Type 0 where
   pub text : List ℕ
   pub is : honest → stored ≡ text
@@ -71,7 +71,7 @@ RecoverFault (LengthDiffers expected) = Unit {0}
 RecoverFault Interrupted = Unit {0}
 RecoverFault e = DeviceFault e
 
--- the redo text of an image and so many changes has so many undone images
+-- the redo text of an image and this many changes has this many undone images
 abbrev pub HasUndoneCount : List ℕ → List ℕ → ℕ → ℕ → Type 0
 HasUndoneCount redo x changes count = (undone : List (List ℕ)) × IsRedoOf redo x changes undone × (count ≡ length undone)
 
@@ -79,11 +79,11 @@ HasUndoneCount redo x changes count = (undone : List (List ℕ)) × IsRedoOf red
 abbrev pub KeepsUndone : List ℕ → List ℕ → Recovered → List (List ℕ) → Type 0
 KeepsUndone redo x o undone = IsRedoOf redo x o.changes (found_undone o.how undone) × (o.undone ≡ length (found_undone o.how undone))
 
--- the image has the length that is told, if any
+-- the image has the length that is recorded, if any
 abbrev pub HasToldLength : Option ℕ → List ℕ → Type 0
 HasToldLength told x = IfSome told (λ n. length x ≡ n)
 
--- the image hasn't this length, which is told
+-- the image hasn't this length, which is recorded
 abbrev pub HasOtherLength : Option ℕ → List ℕ → ℕ → Type 0
 HasOtherLength told x n = (told ≡ Some n) × (length x ≡ n → ⊥)
 
@@ -93,7 +93,7 @@ FinishedFault image both redo x changes told (LengthDiffers n) = image → HasOt
 FinishedFault image both redo x changes told (RedoDamaged line) = (image → HasToldLength told x) × (both → IsRefusedAt redo x changes line)
 FinishedFault image both redo x changes told e = DeviceFault e
 
--- a length that is told and that the image, if honest, doesn't have, or a failed device
+-- a length that is recorded and that the image, if honest, doesn't have, or a failed device
 abbrev pub LengthFault : Type 0 → Option ℕ → List ℕ → SessionFault → Type 0
 LengthFault honest told x e = (e ≡ DeviceFailed) ⊎ ((n : ℕ) × (e ≡ LengthDiffers n) × (honest → HasOtherLength told x n))
 
@@ -109,6 +109,6 @@ FaultBeside image text redo x changes told e = FinishedFault image (image × tex
 abbrev pub RefusesBeside : {V : Type 0} → List ℕ → List ℕ → ℕ → Option ℕ → Result V SessionFault → Type 0
 RefusesBeside redo x changes told result = (line : ℕ) → HasToldLength told x → IsRefusedAt redo x changes line → MatchResult result (λ v. ⊥) (RefusesRedo line)
 
--- so many undone images are told as the redo text and the image stand for
+-- this many undone images are reported as the redo text and the image stand for
 abbrev pub TellsCount : {E : Type 0} → List ℕ → List ℕ → ℕ → Result Recovered E → Type 0
 TellsCount redo x changes result = IfOk result (λ o. HasUndoneCount redo x changes o.undone)

@@ -10,7 +10,7 @@ use Rattle.bx_journal.specs.Judging.{RefusesRedo}
 use Rattle.bx_journal.specs.Redo.{IsRedoOf, IsRefusedAt}
 use Rattle.bx_journal.specs.inner.Judging.{IsRedoCounted}
 
--- the text was counted as a redo text beside so many changes, or is there as it is
+-- the text was counted as a redo text beside this many changes, or is there as it is
 abbrev pub IsRedoFound : {A : Type 0} → List ℕ → ℕ → RedoFound A → Type 0
 IsRedoFound text changes (Counted c) = IsRedoCounted text changes c.counted.count c.counted.told × (c.lines ≡ length (split text).lines)
 IsRedoFound text changes (Text bytes) = bytes.items ≡ text
@@ -21,7 +21,7 @@ pub record IsRedoIn {A : Type 0} (honest : Type 0) (stored : List ℕ) (changes 
   pub is : honest → stored ≡ text
   pub found : IsRedoFound text changes redo
 
--- a text was counted as a redo text beside so many changes: the store's, where that is honest
+-- a text was counted as a redo text beside this many changes: the store's, where that is honest
 pub record IsRedoCountedIn (honest : Type 0) (stored : List ℕ) (changes : ℕ) (c : CountedText) : Type 0 where
   pub text : List ℕ
   pub is : honest → stored ≡ text

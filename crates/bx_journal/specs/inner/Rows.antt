@@ -52,7 +52,7 @@ pub record AreListed (honest : Type 0) (stored : List ℕ) (s : Summed) (rows : 
   pub is : honest → stored ≡ text
   pub listed : IsListed text s rows
 
--- the rows of so many finished entries alone: the store's, where that is honest
+-- the rows of this many finished entries alone: the store's, where that is honest
 pub record AreRowsOf (honest : Type 0) (stored : List ℕ) (rows : List LogRow) (count : ℕ) : Type 0 where
   pub text : List ℕ
   pub is : honest → stored ≡ text
@@ -61,7 +61,7 @@ pub record AreRowsOf (honest : Type 0) (stored : List ℕ) (rows : List LogRow) 
   pub counted : length entries ≡ count
   pub rows_are : rows ≡ rows_of entries
 
--- A call that looks for the rows of so many finished entries alone: it answers them, or why the text isn't that
+-- A call that looks for the rows of this many finished entries alone: it answers them, or why the text isn't that
 pub record FindsRows {T A : Type 0} (honest : T → Type 0) (text : T → List ℕ) (failures : T → ℕ) (count : ℕ) (result : Result (Vec LogRow A) SessionFault)
     (old new : T) : Type 0 where
   pub rows : IfOk result (λ rows. AreRowsOf (honest old) (text old) rows.items count)

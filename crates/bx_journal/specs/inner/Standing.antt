@@ -1,4 +1,4 @@
--- What proofs alone need: a session whose pair stands for a stack, be it sound or not.
+-- What proofs alone need: a session whose pair stands for a stack, whether or not it is sound.
 use Rattle.bx_journal.specs.declared.session.fault.SessionFault.{SessionFault}
 use Rattle.bx_journal.specs.declared.session.fault.SessionFault.TheVariants.{TooLarge}
 use Rattle.bx_journal.specs.Fault.{DeviceFault}

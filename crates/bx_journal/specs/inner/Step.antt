@@ -70,7 +70,7 @@ abbrev pub EndStops : {V E : Type 0} → List ℕ → List ℕ → List ℕ → 
 EndStops text end_line new result =
     (x : List ℕ) (stack : List (List ℕ)) (s : Kept) → EndsEntry text x stack s end_line → OnErr result (RecoversOpen new x stack ⊎ Recovers new x (x ∷ stack))
 
--- without what is unfinished, of which the image was not changed, a text is at rest
+-- without an unfinished entry whose change has not begun, a text is at rest
 abbrev pub TailRests : {V E : Type 0} → List ℕ → ℕ → List ℕ → Result V E → Type 0
 TailRests text begins new result =
     (x : List ℕ) (stack : List (List ℕ)) (es : List Entry) (stage : Stage) → HasTail text x stack es stage begins → image_at stage x ≡ x

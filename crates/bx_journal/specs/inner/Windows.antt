@@ -17,14 +17,14 @@ pub record IsPassed (honest : Type 0) (stored : List ℕ) (only_second : Bool) (
   pub lines : p.lines ≤ p.taken
   pub few : t.count ≤ 65535 → p.tally.count ≤ 65535
 
--- the text up to a place is so many whole lines, and leads to a tally: the store's, where that is honest
+-- the text up to a place is this many whole lines, and leads to a tally: the store's, where that is honest
 pub record IsCountedTo (honest : Type 0) (stored : List ℕ) (only_second : Bool) (at : ℕ) (t : Tally) (lines : ℕ) : Type 0 where
   pub front : List ℕ
   pub is : honest → front ≡ take at stored
   pub long : length front ≡ at
   pub tallied : IsTallied only_second front t lines
 
--- a front of a text is so many finished entries alone: of the store's, where that is honest
+-- a front of a text is this many finished entries alone: of the store's, where that is honest
 pub record IsFrontCounted (honest : Type 0) (stored : List ℕ) (only_second : Bool) (f : Front) : Type 0 where
   pub front : List ℕ
   pub is : honest → front ≡ take f.at stored

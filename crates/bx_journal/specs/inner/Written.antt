@@ -27,7 +27,7 @@ EntryStops honest image text_honest text c number kept end_line d t d_new t_new 
     honest d → text_honest t → (stack : List (List ℕ)) → WritesEntry c (text t) (image d) stack (head_text number (kept_of kept)) end_line
     → OnErr result (RecoversEither (text t_new) (image d_new) stack (effect c (image d) ∷ stack))
 
--- and with the redo text, of which a part is cut, all is as before, as behind it, or the journal is unfinished
+-- and with the redo text, whose end is cut, all is as before, as behind it, or the journal is unfinished
 abbrev pub Left : {D T A V E : Type 0} → (D → Type 0) → (D → List ℕ) → (T → Type 0) → (T → List ℕ) → Change A → ℕ → Saved A → List ℕ → RedoCut → D → T → T → D
     → T → T → Result V E → Type 0
 Left honest image text_honest text c number kept end_line cut d t u d_new t_new u_new result =

@@ -1,4 +1,4 @@
-//! The entry of a change: its head, its end, and both with the change of the image between them, which cuts the redo text.
+//! The entry of a change: its head (the undo record), its end (the commit mark), and both with the change of the image between them, which cuts the redo text.
 ghost use Rattle.std.specs.Prelude.{◌≡◌, ◌↔◌, ◌⊎◌, ◌+◌, ◌^◌, ◌<◌, ◌≤◌, [], ◌++◌, ℕ, length, take, vec_capacity, OnOk, OnErr, is_err};
 ghost use Rattle.bx_entries.specs.Kept.{kept_of};
 ghost use Rattle.bx_image.specs.Change.{effect, saved, AllWithin, IsAsGood};

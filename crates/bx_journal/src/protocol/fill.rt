@@ -1,4 +1,4 @@
-//! Records of what undos will take, filled one by one.
+//! Redo records: what undos will take of the image, filled one by one.
 ghost use Rattle.std.specs.Prelude.{◌≡◌, ◌<◌, ◌≤◌, ◌++◌, ◌∷◌, [], length, reverse, OnOk, is_err};
 ghost use Rattle.bx_image.specs.Device.{GoesOn};
 ghost use Rattle.bx_image.specs.Power.{NoMore};

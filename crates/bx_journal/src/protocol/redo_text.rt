@@ -1,4 +1,4 @@
-//! What is written to the redo text: an entry more, or a cut.
+//! What is written to the redo text (after-images of what was undone): an entry more, or a cut.
 ghost use Rattle.std.specs.Prelude.{◌≡◌, ◌+◌, ◌<◌, ◌≤◌, ◌++◌, [], length, take, vec_capacity, OnOk, is_err};
 ghost use Rattle.bx_image.specs.Change.{AllWithin};
 ghost use Rattle.bx_image.specs.Device.{GoesOn};

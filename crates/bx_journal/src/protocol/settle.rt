@@ -1,4 +1,4 @@
-//! What is on the disk before the first write.
+//! All three devices synced before the first write, so that what they hold is durable.
 ghost use Rattle.std.specs.Prelude.{◌≡◌, ◌≤◌, OnOk};
 ghost use Rattle.bx_journal.specs.Power.{FoundBefore};
 ghost use Rattle.bx_journal.specs.inner.Devices.{AreBelow, StepsOn};

@@ -1,4 +1,4 @@
-//! Taking entries back: the newest, or some of them one after another.
+//! Undoing entries: the newest, or some of them one after another.
 ghost use Rattle.std.specs.Prelude.{◌≡◌, ◌↔◌, ◌+◌, ◌-◌, ◌<◌, ◌≤◌, ℕ, is_err, [], length, take, drop, reverse, nat_le, vec_capacity, if◌then◌else◌, IfOk, OnOk, OnErr};
 ghost use Rattle.bx_image.specs.Change.{restore, Covers, IsAsGood};
 ghost use Rattle.bx_entries.specs.Kept.{kept_of};

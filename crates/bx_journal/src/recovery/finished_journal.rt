@@ -1,4 +1,4 @@
-//! Opening beside a journal of finished entries alone: the redo text is read and judged.
+//! Opening beside a journal of committed entries alone: the redo text is read and judged.
 ghost use Rattle.std.specs.Prelude.{◌≡◌, ◌↔◌, ◌+◌, ◌<◌, ◌≤◌, ℕ, OnOk, IfOk, IfErr, IfSome, MatchResult};
 ghost use Rattle.bx_journal.specs.Opening.{RefusesLength};
 ghost use Rattle.bx_journal.specs.inner.Devices.{FaultCounts, LooksAt};
@@ -16,7 +16,7 @@ use bx_image::Device;
 use bx_store::TextStore;
 use std::alloc::Allocator;
 
-/// Counts the entries of the redo text, where it is one beside so many changes. It changes nothing.
+/// Counts the entries of the redo text, where it is one beside this many changes. It changes nothing.
 fn count_redo<T: TextStore, A: Allocator + Clone>(
     alloc: &A,
     redo_text: &mut T,
@@ -41,7 +41,7 @@ fn count_redo<T: TextStore, A: Allocator + Clone>(
     Ok(Some(text))
 }
 
-/// What the redo text is beside so many changes: counted in windows, and read whole only where it isn't counted so. It
+/// What the redo text is beside this many changes: counted in windows, and read whole only where it isn't counted so. It
 /// changes nothing.
 fn find_redo<T: TextStore, A: Allocator + Clone>(
     alloc: &A,

@@ -1,4 +1,4 @@
-//! What reading a journal finds when a pair is opened.
+//! What reading a journal finds when a pair is opened for recovery.
 ghost use Rattle.std.specs.Prelude.{◌≡◌, ◌<◌, ◌≤◌, List, ℕ, length, IfSome, IfNone};
 ghost use Rattle.bx_entries.specs.Shown.{shown};
 ghost use Rattle.bx_entries.specs.inner.Journal.{HasRead};
@@ -21,7 +21,7 @@ pub enum Found<A: Allocator = Global> {
     Unfinished(JournalRead<A>),
 }
 
-/// The count of what was read in the front of a text of so many bytes, where it is finished entries alone and all of the text.
+/// The count of what was read in the front of a text of this many bytes, where it is finished entries alone and all of the text.
 fn as_counted<A: Allocator>(journal: &JournalRead<A>, len: u64) -> Option<Counted>
     requires few { length journal.now.entries.items ≤ 65535 }
     ensures some { (text : List ℕ) → HasRead text journal.now → length text ≤ len → IfSome result (λ c. IsCounted text c.count c.told) }

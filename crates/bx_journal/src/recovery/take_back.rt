@@ -1,4 +1,4 @@
-//! Taking back what is unfinished.
+//! Rolling an unfinished entry back.
 ghost use Rattle.std.specs.Prelude.{◌≡◌, ◌↔◌, ◌<◌, ◌≤◌, length, take, OnOk, OnErr, map, is_err};
 ghost use Rattle.bx_image.specs.Change.{AllWithin, restore};
 ghost use Rattle.bx_image.specs.Device.{GoesOn};

@@ -1,4 +1,4 @@
-//! What is unfinished in a journal, and how opening takes it back.
+//! An unfinished entry at the end of a journal, and how opening discards it or rolls it back.
 ghost use Rattle.std.specs.Prelude.{◌≡◌, ◌↔◌, ◌⊎◌, Some, ◌+◌, ◌<◌, ◌≤◌, [], List, ℕ, length, OnOk, OnErr, IfOk, IfErr, IfSome, MatchResult};
 ghost use Rattle.bx_journal.specs.Calls.{AfterFault, OpenFault};
 ghost use Rattle.bx_entries.specs.inner.Journal.{HasRead};
@@ -46,7 +46,7 @@ pub fn check_length<D: Device>(device: &mut D, told: Option<u64>) -> Result<(), 
 }
 
 /// Compares the image's length with the one that the last finished entry tells, or makes room for what is to be
-/// restored. An entry that has its save line begins with the length that was told, so there is nothing to compare.
+/// restored. An entry that has its save line begins with the length that was recorded, so there is nothing to compare.
 fn prepare<D: Device, A: Allocator>(
     device: &mut D,
     journal: &JournalRead<A>,

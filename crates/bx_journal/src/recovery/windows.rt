@@ -1,4 +1,4 @@
-//! A text that is counted in windows: so much of it is in memory at a time, however long it is.
+//! A text that is counted in windows: one window is in memory at a time, however long the text is.
 ghost use Rattle.std.specs.Prelude.{◌≡◌, ◌<◌, ◌≤◌, length, is_err, IfOk, IfErr, IfSome};
 ghost use Rattle.bx_image.specs.Device.{GoesOn};
 ghost use Rattle.bx_image.specs.Power.{NoMore};
@@ -14,7 +14,7 @@ use bx_image::DeviceFailed;
 use bx_store::TextStore;
 use std::alloc::Allocator;
 
-/// So many bytes of a text are read at a time.
+/// This many bytes of a text are read at a time.
 const WINDOW: u64 = 262_144;
 
 /// More entries than a text can have.
@@ -58,7 +58,7 @@ fn pass_window<T: TextStore>(
     Ok(Some(passed))
 }
 
-/// Counts the first entries of a text of `len` bytes, a window at a time: so many as the limit says, or all. What is left of
+/// Counts the first entries of a text of `len` bytes, a window at a time: as many as the limit says, or all. What is left of
 /// a window's last line is read again with the next one. It answers none where the text is anything but finished entries up
 /// to there, with `only_second` also where one tells no length, and where a line is longer than the window.
 fn count_windows<T: TextStore>(
@@ -99,7 +99,7 @@ fn count_windows<T: TextStore>(
     }))
 }
 
-/// Counts the first entries of a text of `len` bytes, so many as the limit says or all, in as much memory for any length. It
+/// Counts the first entries of a text of `len` bytes, as many as the limit says or all, in as much memory for any length. It
 /// answers none where they can't be counted so: where they aren't finished entries, with `only_second` also where one tells
 /// no length, and where a line is very long.
 pub fn count_front<T: TextStore, A: Allocator + Clone>(

@@ -1,4 +1,4 @@
-//! The rows of a log.
+//! The rows of a log: a row for each change.
 ghost use Rattle.std.specs.Prelude.{◌≡◌, ◌+◌, ◌<◌, ◌≤◌, ◌^◌, List, ℕ, length, All, IfOk, IfErr, OnOk};
 ghost use Rattle.bx_journal.specs.Calls.{rows_of};
 ghost use Rattle.bx_entries.specs.inner.Parsed.{entries_of};
@@ -57,7 +57,7 @@ fn rows<A: Allocator + Clone>(
 
 ghost use Rattle.bx_journal.specs.inner.Rows.{FindsRows};
 
-/// The rows of a text that is to be so many finished entries alone, and is read whole.
+/// The rows of a text that is to be this many finished entries alone, and is read whole.
 fn rows_of_whole<T: TextStore, A: Allocator + Clone>(
     alloc: &A,
     store: &mut T,
@@ -73,7 +73,7 @@ fn rows_of_whole<T: TextStore, A: Allocator + Clone>(
     Ok(rows(alloc, &read.entries)?)
 }
 
-/// The rows of a text that is to be so many finished entries alone. It changes nothing. The text is read in windows, and
+/// The rows of a text that is to be this many finished entries alone. It changes nothing. The text is read in windows, and
 /// only one that can't be read so is read whole.
 fn rows_of_text<T: TextStore, A: Allocator + Clone>(
     alloc: &A,
@@ -111,7 +111,7 @@ impl<D: Device, T: TextStore, A: Allocator + Clone> Session<D, T, A> {
         ensures is_broken { self.new.is_broken ≡ self.old.is_broken }
         ensures fault { IfErr result (λ e. (e ≡ SessionFault.Broken → ⊥) → AgainFault (T.honest self.old.store) (T.text self.old.store) self.old.count e) }
 
-        // The text is called damaged exactly where it isn't so many finished entries alone.
+        // The text is called damaged exactly where it isn't this many finished entries alone.
         ensures undamaged { T.honest self.old.store → HasCount (T.text self.old.store) self.old.count
             → IfErr result (λ e. (n : ℕ) → e ≡ SessionFault.Damaged n → ⊥) }
         ensures whole { T.honest self.old.store → OnOk result (HasCount (T.text self.old.store) self.old.count) }

@@ -1,4 +1,4 @@
-//! Opening an image with its journal and its redo text.
+//! Opening an image with its journal and its redo text, with recovery.
 ghost use Rattle.std.specs.Prelude.{◌≡◌, ◌↔◌, ◌+◌, ◌<◌, [], List, ℕ, false, IfOk, IfErr, OnOk, MatchResult};
 ghost use Rattle.bx_entries.specs.Shown.{shown};
 ghost use Rattle.bx_entries.specs.Text.{IsAccepted, IsDamagedAt};

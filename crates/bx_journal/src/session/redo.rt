@@ -1,4 +1,4 @@
-//! Making undone changes again.
+//! Redo: undone changes are made again.
 ghost use Rattle.std.specs.Prelude.{◌≡◌, ◌↔◌, ◌+◌, ◌<◌, ◌≤◌, ℕ, length, true, false, IfOk, IfErr, OnOk, IsErrOf};
 ghost use Rattle.bx_image.specs.Power.{NoMore};
 ghost use Rattle.bx_journal.specs.Images.{redo_of};
@@ -15,7 +15,7 @@ use bx_image::Device;
 use bx_store::TextStore;
 use std::alloc::Allocator;
 
-/// Reads the last j entries of a redo text that is to be so many finished entries alone. It changes nothing.
+/// Reads the last j entries of a redo text that is to be this many finished entries alone. It changes nothing.
 fn read_undone<T: TextStore, A: Allocator + Clone>(
     alloc: &A,
     redo_text: &mut T,
@@ -44,7 +44,7 @@ fn is_beyond(wanted: u32, have: u32) -> bool
     wanted > have
 }
 
-/// How many changes are undone when so many are made again.
+/// How many changes are undone when this many are made again.
 #[inline]
 fn undone_left(undone: u32, made: u32) -> u32
     requires { made ≤ undone }
@@ -107,7 +107,7 @@ impl<D: Device, T: TextStore, A: Allocator + Clone> Session<D, T, A> {
         ensures kind { IfErr result (RedoFault self.old.undone) }
         ensures nothing { ((self.old.is_broken ≡ false) × (self.old.undone < j)) ↔ IsErrOf result (SessionFault.NothingToRedo self.old.undone) }
 
-        // The redo text is called damaged exactly where it isn't so many finished entries alone.
+        // The redo text is called damaged exactly where it isn't this many finished entries alone.
         ensures damaged { T.honest self.old.redo_text → IfErr result (λ e. (n : ℕ) → e ≡ RedoDamaged n
             → IsOutOfStep (T.text self.old.redo_text) self.old.undone n) }
         ensures undamaged { T.honest self.old.redo_text → HasCount (T.text self.old.redo_text) self.old.undone

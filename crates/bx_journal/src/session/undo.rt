@@ -1,4 +1,4 @@
-//! Taking changes back.
+//! Undo: changes are taken back, the newest first.
 ghost use Rattle.std.specs.Prelude.{◌≡◌, ◌↔◌, ◌+◌, ◌<◌, ◌≤◌, ℕ, drop, true, false, IfOk, IfErr, OnOk, IsErrOf};
 ghost use Rattle.bx_journal.specs.Images.{undo_of};
 ghost use Rattle.bx_journal.specs.Machine.{UndoStep};
@@ -11,7 +11,7 @@ use bx_image::Device;
 use bx_store::TextStore;
 use std::alloc::Allocator;
 
-/// How many changes stand when so many are undone.
+/// How many changes stand when this many are undone.
 #[inline]
 fn count_left(count: u32, undone: u32) -> u32
     requires { undone ≤ count }
@@ -71,7 +71,7 @@ impl<D: Device, T: TextStore, A: Allocator + Clone> Session<D, T, A> {
         ensures kind { IfErr result (UndoFault self.old.count) }
         ensures few { ((self.old.is_broken ≡ false) × (self.old.count < k)) ↔ IsErrOf result (SessionFault.TooFew self.old.count) }
 
-        // The text is called damaged exactly where it isn't so many finished entries alone.
+        // The text is called damaged exactly where it isn't this many finished entries alone.
         ensures damaged { T.honest self.old.store → IfErr result (λ e. (n : ℕ) → e ≡ SessionFault.Damaged n
             → IsOutOfStep (T.text self.old.store) self.old.count n) }
         ensures undamaged { T.honest self.old.store → HasCount (T.text self.old.store) self.old.count

@@ -14,7 +14,7 @@ fn memory(alloc: Global, bytes: &[u8]) -> Result<MemImage, AllocError>
     Ok(MemImage::from_vec(bytes.to_vec(alloc)?))
 }
 
-// Six bytes, of whose writes so many pass.
+// Six bytes that pass this many writes.
 fn fused(
     alloc: Global,
     pass: u64,
@@ -24,7 +24,7 @@ fn fused(
     Ok(FuseImage::new(memory(alloc, b"ABCDEF")?, pass, part, once))
 }
 
-// Bytes of which so many reads pass.
+// Bytes that pass this many reads.
 fn fused_reads(alloc: Global, bytes: &[u8], pass: u64) -> Result<FuseImage<MemImage>, AllocError> {
     Ok(FuseImage::on_reads(memory(alloc, bytes)?, pass))
 }
@@ -105,7 +105,7 @@ fn reads_fail_after_two_or_three(rt: HostRuntime) -> Result<(), Fail> {
     assert_reads_fail(&rt, rt.alloc(), 3)
 }
 
-// Does the change go through where so many calls that write pass?
+// Does the change go through where this many calls that write pass?
 fn applies(rt: &impl Abort, alloc: Global, change: &Change, pass: u64) -> Result<bool, Fail> {
     let mut image = fused(alloc, pass, Part::Nothing, false)?;
     applied(rt, &mut image, change, 6)
@@ -143,7 +143,7 @@ fn tail_replaced_in_place(rt: HostRuntime) -> Result<(), Fail> {
     Ok(())
 }
 
-// Is all saved where so many calls that read pass?
+// Is all saved where this many calls that read pass?
 fn saves(rt: &impl Abort, alloc: Global, change: &Change, pass: u64) -> Result<bool, Fail> {
     let mut image = fused_reads(alloc, b"ABCDEFGHIJ", pass)?;
     Ok(saved(rt, alloc, &mut image, change).is_ok())

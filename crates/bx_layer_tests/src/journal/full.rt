@@ -8,7 +8,7 @@ use std::test::Fail;
 /// The most changes, those that are undone with them.
 const MOST: u32 = 65_535;
 
-/// A journal in the first form of so many changes of nothing on the empty image.
+/// A journal in the first form of this many changes of nothing on the empty image.
 fn made(alloc: Global, count: u32) -> Result<Vec<u8>, AllocError> {
     let mut text = Vec::new(alloc);
     for n in 1..=count {
@@ -18,7 +18,7 @@ fn made(alloc: Global, count: u32) -> Result<Vec<u8>, AllocError> {
     Ok(text)
 }
 
-/// A redo text of so many undone changes of nothing on the empty image.
+/// A redo text of this many undone changes of nothing on the empty image.
 fn undone(alloc: Global, count: u32) -> Result<Vec<u8>, AllocError> {
     let mut text = Vec::new(alloc);
     for n in 1..=count {
@@ -30,7 +30,7 @@ fn undone(alloc: Global, count: u32) -> Result<Vec<u8>, AllocError> {
     Ok(text)
 }
 
-/// Opening the empty image with so many changes, and so many undone ones, finds this.
+/// Opening the empty image with this many changes, and this many undone ones, finds this.
 fn assert_found(
     rt: &impl Abort,
     alloc: Global,

@@ -24,7 +24,7 @@ const MADE_TWO: &[u8] =
 pub const UNDONE_TWO: &[u8] =
     b"change2 00000001 0000000000000001\n00000000: 64                                       d\nsave 00000001\ndone2 00000001 0000000000000001\nchange2 00000002 0000000000000001\n00000000: 63                                       c\nsave 00000002\ndone2 00000002 0000000000000001\n";
 
-/// No test comes near so many failed calls.
+/// No test comes near this many failed calls.
 const MANY: u64 = 100_000;
 
 /// No read fails.
@@ -61,7 +61,7 @@ pub enum Ask {
     Log,
 }
 
-/// So many saved bytes make an entry of more than 256 KiB.
+/// This many saved bytes make an entry of more than 256 KiB.
 pub const WHOLE: usize = 65_536;
 
 /// What is asked for, and what has to be answered.
@@ -169,7 +169,7 @@ pub fn held<A: Allocator + Clone>(alloc: A, bytes: Held<'_>) -> Result<MemTrio<A
     Ok((image, journal, redo_text))
 }
 
-/// Three devices of which so many reads pass.
+/// Three devices that pass this many reads.
 pub fn fused(
     alloc: Global,
     start: Held<'_>,
@@ -183,7 +183,7 @@ pub fn fused(
     ))
 }
 
-/// What a session leaves of which so many reads pass.
+/// What a session leaves whose devices pass this many reads.
 pub fn left_by(
     alloc: Global,
     rt: &impl Abort,
@@ -273,7 +273,7 @@ fn moves_refused(alloc: Global, rt: &impl Abort, ask: Ask, last: Passes) -> Resu
     Ok(())
 }
 
-// A move of two that is stopped between them, so that opening finds this, and one that goes through. So many reads of the
+// A move of two that is stopped between them, so that opening finds this, and one that goes through. This many reads of the
 // texts pass.
 fn move_stops(
     alloc: Global,
@@ -344,12 +344,12 @@ fn last_read_of_a_change_fails(rt: HostRuntime) -> Result<(), Fail> {
     Ok(())
 }
 
-/// A finished entry and so many bytes in all, beside a redo text.
+/// A finished entry and this many bytes in all, beside a redo text.
 fn unfinished(len: usize) -> Held<'static> {
     (b"A", front(MADE_TWO, len), UNDONE)
 }
 
-// Opening of the same, which reads the journal and the image's length so many times, and then nothing more.
+// Opening of the same, which reads the journal and the image's length this many times, and then nothing more.
 fn opening_recovers(
     alloc: Global,
     rt: &impl Abort,
@@ -364,7 +364,7 @@ fn opening_recovers(
     Ok(())
 }
 
-// Each of so many reads of the journal is refused.
+// Each of this many reads of the journal is refused.
 fn reads_refused(alloc: Global, rt: &impl Abort, len: usize, reads: u64) -> Result<(), Fail> {
     for pass in 0..reads {
         let passes = (NONE, pass, NONE);

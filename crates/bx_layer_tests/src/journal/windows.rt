@@ -20,7 +20,7 @@ use std::test::Fail;
 const PATCHED_FIRST: &[u8] =
     b"change 00000001 00000008\n00000002: 4344                                     CD\nsave 00000001\ndone 00000001\n";
 
-// How many entries a text has, counted in windows of so many bytes.
+// How many entries a text has, counted in windows of this many bytes.
 fn count_by(text: &[u8], size: usize, only_second: bool) -> Option<u32> {
     let mut tally = no_entries();
     let mut rest = text;
@@ -88,7 +88,7 @@ fn saved_in(alloc: Global, entries: &[EntryRead]) -> Result<Vec<u8>, AllocError>
     Ok(saved)
 }
 
-// What was read, and how many bytes of the text: those of the whole lines in a window of so many bytes.
+// What was read, and how many bytes of the text: those of the whole lines in a window of this many bytes.
 fn read_window(
     alloc: Global,
     front: Front,
@@ -108,7 +108,7 @@ fn read_window(
     }
 }
 
-// What a text's entries saved, read in windows of so many bytes; nothing where they can't be read so.
+// What a text's entries saved, read in windows of this many bytes; nothing where they can't be read so.
 fn read_by(alloc: Global, text: &[u8], size: usize) -> Result<Option<Vec<u8>>, AllocError> {
     let front = Front {
         count: 0,
@@ -166,13 +166,13 @@ fn read_in_small_windows(rt: HostRuntime) -> Result<(), Fail> {
     Ok(())
 }
 
-/// So many bytes were overwritten.
+/// This many bytes were overwritten.
 const LEN: usize = 131_072;
 
 /// Many more than a window has.
 const LONGER: usize = 524_288;
 
-// The journal of a change of an image of so many bytes, at least `LEN`: an entry that is longer than two windows.
+// The journal of a change of an image of this many bytes, at least `LEN`: an entry that is longer than two windows.
 fn long_journal(alloc: Global, len: usize) -> Result<Vec<u8>, AllocError> {
     let mut text = Vec::new(alloc);
     let first = format!(in alloc; "change2 00000001 {len:016x}\n")?;

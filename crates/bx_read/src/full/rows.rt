@@ -15,7 +15,7 @@ pub struct Taken<'a> {
     pub count: usize,
 }
 
-/// The bytes of the full line that the text begins with, where it goes on with so many bytes at an address.
+/// The bytes of the full line that the text begins with, where it goes on with this many bytes at an address.
 #[inline(always)]
 fn next_full(at: u64, count: usize, text: &[u8]) -> Option<[u8; 16]>
     ensures full { IfSome result (λ bytes. IsFull text.now (at + count) bytes) }

@@ -1,4 +1,4 @@
--- What proofs alone need: lines of 16 bytes, of which those that repeat the line before are folded.
+-- What proofs alone need: lines of 16 bytes; those that repeat the line before are folded.
 use Rattle.std.specs.Prelude.{ℕ, ◌+◌, ◌/◌, Bool, true, false, List, length}
 use Rattle.std.specs.List.{flat_map, range_with_len}
 use Rattle.bx_text.specs.declared.line.fold.Fold.{Fold}

@@ -1,4 +1,4 @@
--- What proofs alone need: why a read stopped, where there was room for so many bytes.
+-- What proofs alone need: why a read stopped, where there was room for this many bytes.
 use Rattle.std.specs.Prelude.{ℕ, List, length, Option}
 use Rattle.std.specs.Io.KnownBytes.{Consumes}
 use Rattle.bx_text.specs.Stream.{IsReadCause}

@@ -1,4 +1,4 @@
-//! The rows of a log, from a text that is read in windows: so much of it is in memory at a time, however long it is.
+//! The rows of a log, from a text that is read in windows: one window is in memory at a time, however long the text is.
 ghost use Rattle.std.specs.Prelude.{◌≡◌, ◌<◌, ◌≤◌, ◌++◌, [], length, true, OnOk, IfOk, IfErr, IfSome};
 ghost use Rattle.bx_journal.specs.inner.Devices.{LooksAt};
 ghost use Rattle.bx_journal.specs.inner.Fault.{LacksOrFails};
@@ -10,7 +10,7 @@ use bx_store::TextStore;
 use bx_text::NoMemory;
 use std::alloc::Allocator;
 
-/// So many bytes of a text are read at a time.
+/// This many bytes of a text are read at a time.
 const WINDOW: u64 = 262_144;
 
 /// Where the whole lines of a window lead, and how many bytes they have.
@@ -124,7 +124,7 @@ fn list_windows<T: TextStore, A: Allocator>(
     Ok(Some(sums))
 }
 
-/// Whether these are the sums of so many entries, and none is unfinished.
+/// Whether these are the sums of this many entries, and none is unfinished.
 fn are_all(sums: Summed, count: u32) -> bool
     ensures { result ≡ true → (sums.tally.place ≡ Place.Between) × (sums.tally.count ≡ count) }
 {
@@ -136,7 +136,7 @@ fn are_all(sums: Summed, count: u32) -> bool
 }
 
 /// The rows of a text, in as much memory beside them for any length. It answers none where they can't be had so: where the
-/// text is anything but so many finished entries, and where a line is very long.
+/// text is anything but this many finished entries, and where a line is very long.
 pub fn rows_in_windows<T: TextStore, A: Allocator + Clone>(
     alloc: &A,
     store: &mut T,

@@ -111,7 +111,7 @@ fn entries_len<A: Allocator>(takens: &[Saved<A>]) -> u64
 }
 
 /// Makes room for restoring the last k entries of a text: in the image for the longest that they restore, in their
-/// text for what it has, and in the other text for so many bytes more than it has. It changes nothing.
+/// text for what it has, and in the other text for this many bytes more than it has. It changes nothing.
 fn make_room<D: Device, T: TextStore, A: Allocator>(
     device: &mut D,
     from: &mut T,
@@ -136,7 +136,7 @@ fn make_room<D: Device, T: TextStore, A: Allocator>(
     to.reserve(to_len.saturating_add(more))
 }
 
-/// Takes all the memory of restoring the last k entries of the text `from`, each of which gives the text `to` an entry,
+/// Takes all the memory of restoring the last k entries of the text `from`; each gives the text `to` an entry,
 /// and then reads what the first of them overwrites. It changes nothing.
 fn take_records<D: Device, T: TextStore, A: Allocator + Clone>(
     alloc: &A,
@@ -172,7 +172,7 @@ fn take_records<D: Device, T: TextStore, A: Allocator + Clone>(
     Ok(Taking { takens, page })
 }
 
-/// Takes all the memory of restoring the last k entries of the text `from`, each of which gives the text `to` an entry,
+/// Takes all the memory of restoring the last k entries of the text `from`; each gives the text `to` an entry,
 /// reads what the first of them overwrites, and puts on the disk what all three have. It changes nothing.
 ///
 /// # Errors

@@ -16,7 +16,7 @@ use bx_entries::{EntryRead, Front, JournalRead, LinesRead, StageRead, nothing_re
 use bx_store::TextStore;
 use std::alloc::{Allocator, Global};
 
-/// So many bytes of a text are read at a time.
+/// This many bytes of a text are read at a time.
 const WINDOW: u64 = 262_144;
 
 /// How many bytes a text of finished entries alone has, and those entries, or the last of them.
@@ -26,7 +26,7 @@ pub struct FinishedRead<A: Allocator = Global> {
     pub entries: Vec<EntryRead<A>, A>,
 }
 
-/// What was read in a text of so many bytes, where it is so many finished entries alone.
+/// What was read in a text of this many bytes, where it is this many finished entries alone.
 fn finished<A: Allocator>(len: u64, journal: JournalRead<A>, count: u32) -> Option<FinishedRead<A>>
     ensures some { (text : List ℕ) → HasRead text journal → len ≡ length text → IfSome result (λ o. IsReadAgain text o.entries.items count) }
     ensures len { IfSome result (λ o. o.len ≡ len) }
@@ -52,7 +52,7 @@ fn finished<A: Allocator>(len: u64, journal: JournalRead<A>, count: u32) -> Opti
     }
 }
 
-/// Reads a text that is to be so many finished entries alone. It changes nothing.
+/// Reads a text that is to be this many finished entries alone. It changes nothing.
 pub fn read_again<T: TextStore, A: Allocator + Clone>(
     alloc: &A,
     store: &mut T,
@@ -142,7 +142,7 @@ fn read_windows<T: TextStore, A: Allocator + Clone>(
     Ok(Some(read))
 }
 
-/// What was read behind a front of so many entries, in a text of so many bytes, where that is all of its entries, and at
+/// What was read behind a front of this many entries, in a text of this many bytes, where that is all of its entries, and at
 /// least k.
 fn last_of<A: Allocator>(
     len: u64,
@@ -171,8 +171,8 @@ fn last_of<A: Allocator>(
     }
 }
 
-/// Reads what stands behind a front of finished entries in a text of `len` bytes: the last k entries at least, of so many in
-/// all. It takes the memory of their saved bytes, and of a window. It answers none where the text isn't so many finished
+/// Reads what stands behind a front of finished entries in a text of `len` bytes: the last k entries at least, of this many in
+/// all. It takes the memory of their saved bytes, and of a window. It answers none where the text isn't this many finished
 /// entries alone, and where a line is longer than the window. It changes nothing.
 fn read_from<T: TextStore, A: Allocator + Clone>(
     alloc: &A,
@@ -197,7 +197,7 @@ fn read_from<T: TextStore, A: Allocator + Clone>(
     Ok(last_of(len, front.count, read, k, count))
 }
 
-/// Reads the last k entries of a text that is to be so many finished entries alone. It answers none where the text isn't
+/// Reads the last k entries of a text that is to be this many finished entries alone. It answers none where the text isn't
 /// that, or a line is very long. It changes nothing.
 fn find_last<T: TextStore, A: Allocator + Clone>(
     alloc: &A,
@@ -217,7 +217,7 @@ fn find_last<T: TextStore, A: Allocator + Clone>(
     read_from(alloc, store, front, len, k, count)
 }
 
-/// Reads the last k entries of a text that is to be so many finished entries alone: what it takes of memory is in proportion
+/// Reads the last k entries of a text that is to be this many finished entries alone: what it takes of memory is in proportion
 /// to their text. Where they can't be found so, all of the text is read, which says where it is damaged. It changes nothing.
 pub fn read_last_of<T: TextStore, A: Allocator + Clone>(
     alloc: &A,

@@ -3,7 +3,7 @@ use Rattle.std.specs.Io.KnownBytes.{Consumes}
 use Rattle.bx_text.specs.declared.stream.State.TheVariants.{Open}
 use Rattle.bx_dump.proofs.driver.pages.skip.Given as goal
 
--- so many bytes were read
+-- this many bytes were read
 abbrev pub invariant-loop-meter : goal.invariant-loop-meter
 invariant-loop-meter g l = record {
   open_now : l.meter.state ≡ Open;

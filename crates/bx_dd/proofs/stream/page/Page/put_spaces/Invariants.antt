@@ -2,7 +2,7 @@ use Rattle.std.proofs.Common.{◌++◌, ◌-◌, ◌≤◌, List, ℕ, Option, r
 use Rattle.bx_dd.specs.inner.Streaming.{Goes}
 use Rattle.bx_dd.proofs.stream.page.Page.put_spaces.Given as goal
 
--- so many were put
+-- this many were put
 abbrev pub invariant-loop-done : goal.invariant-loop-done
 invariant-loop-done g l = record {
   inside : l.done ≤ l.count;

@@ -3,7 +3,7 @@ use Rattle.bx_entries.specs.Kept.{Run}
 use Rattle.bx_entries.specs.inner.Followed.{GoesOnBy, with_last}
 use Rattle.bx_entries.proofs.read.runs.full_lines.extend_run.Given as goal
 
--- so many lines were added, and this is left of the text
+-- this many lines were added, and this is left of the text
 abbrev pub invariant-loop-more : goal.invariant-loop-more
 invariant-loop-more g l = record {
   left : l.rest ≡ drop (68 * l.count) l.text;
