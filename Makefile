@@ -63,11 +63,12 @@ pictures: all
 	scripts/picture.py --bx ./bx docs/pictures/session.txt docs/pictures/session.svg
 	scripts/states.py --bx ./bx docs/pictures/states.svg
 
-# The options of bx beside those of its help, man page, completions and README.md; the definitions beside docs/BELIEVE.md; and
-# the phrases that are to go.
+# The options of bx beside those of its help, man page, completions and README.md; the definitions beside docs/BELIEVE.md; the
+# code that documents quote beside its source; and the phrases that are to go.
 check-docs: all
 	scripts/check-options.py --bx ./bx
 	scripts/believe.py
+	scripts/quotes.py
 	scripts/check-words.py
 
 # What bash, zsh and fish offer, where they are installed.

@@ -33,6 +33,7 @@ CHECKS = [
     Check("tour of RECIPES", "tour.py --bx BX docs/RECIPES.md", "bash vim awk sed diff"),
     Check("options and faults", "check-options.py --bx BX", "bash"),
     Check("definitions", "believe.py"),
+    Check("quoted code", "quotes.py"),
     Check("words", "check-words.py"),
     Check("hints", "hints.py --bx BX"),
     Check("completions of bash", "check-completions.py bash", "bash"),
