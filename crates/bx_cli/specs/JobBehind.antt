@@ -27,15 +27,15 @@ passable_of skip first length = min (min skip length - 1) (2 ^ 62 - first)
 -- how many of the bytes that a job skips can be passed in an input of this length; of dd's whole blocks
 abbrev pub passable : Job → ℕ → ℕ
 passable (Od job) length = passable_of job.options.skip job.options.first length
-passable (Xxd job) length = passable_of job.options.seek job.options.shift length
+passable (Xxd job) length = passable_of job.options.seek 0 length
 passable (Hexdump job) length = passable_of job.options.skip job.options.first length
 passable (Dd job) length = min job.plan.skip (length / job.plan.ibs) * job.plan.ibs
 passable job length = 0
 
--- this many bytes are among those that the job skips, of dd's whole blocks, and addresses stay in their range
+-- this many bytes are among those that the job skips, of dd's whole blocks, and the addresses of od and hexdump stay in their range
 abbrev pub CanPass : ℕ → Job → Type 0
 CanPass n (Od job) = (n ≤ job.options.skip) × (job.options.first + n ≤ 2 ^ 62)
-CanPass n (Xxd job) = (n ≤ job.options.seek) × (job.options.shift + n ≤ 2 ^ 62)
+CanPass n (Xxd job) = n ≤ job.options.seek
 CanPass n (Hexdump job) = (n ≤ job.options.skip) × (job.options.first + n ≤ 2 ^ 62)
 CanPass n (Dd job) = (n ≤ job.plan.skip * job.plan.ibs) × (n % job.plan.ibs ≡ 0)
 CanPass n job = n ≡ 0

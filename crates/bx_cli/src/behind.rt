@@ -78,8 +78,7 @@ fn hexdump_rest(o: &HexdumpOptions, passed: u64) -> HexdumpOptions
 
 /// The options of xxd behind passed bytes.
 fn xxd_rest(o: &XxdOptions, passed: u64) -> XxdOptions
-    requires seek { passed ≤ o.now.seek }
-    requires shift { o.now.shift + passed ≤ 2 ^ 62 }
+    requires { passed ≤ o.now.seek }
     ensures { IsXxdRest passed o.now result }
 {
     XxdOptions {
@@ -114,8 +113,7 @@ fn run_xxd_behind<R: Read, W: Write>(
     r: &mut R,
     w: &mut W,
 ) -> Result<u64, IoFault>
-    requires seek { passed ≤ job.now.options.seek }
-    requires shift { job.now.options.shift + passed ≤ 2 ^ 62 }
+    requires { passed ≤ job.now.options.seek }
     ensures ok { IfOk result (DumpsLookBehind passed job.now (R.remaining r.old) (R.remaining r.new) (W.contents w.old) (W.contents w.new)) }
     ensures err { IfErr result (StopsLookBehind passed job.now (R.remaining r.old) (R.remaining r.new) (W.contents w.old) (W.contents w.new)) }
 {

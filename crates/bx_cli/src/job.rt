@@ -201,7 +201,7 @@ impl Job {
     {
         match self {
             Job::Od(job) => passable_of(job.options.skip, job.options.first, length),
-            Job::Xxd(job) => passable_of(job.options.seek, job.options.shift, length),
+            Job::Xxd(job) => passable_of(job.options.seek, 0, length),
             Job::Hexdump(job) => passable_of(job.options.skip, job.options.first, length),
             Job::Dd(job) => blocks_of(job.plan.skip, job.plan.ibs, length),
             _ => 0,

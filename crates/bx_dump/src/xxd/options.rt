@@ -1,5 +1,5 @@
 //! How xxd dumps.
-ghost use Rattle.std.specs.Prelude.{◌<◌, ◌≤◌, ◌^◌};
+ghost use Rattle.std.specs.Prelude.{◌<◌, ◌≤◌, ◌+◌, ◌^◌};
 
 /// The style of the lines.
 #[derive(Clone, Copy)]
@@ -25,7 +25,7 @@ pub struct XxdOptions {
     pub limit: Option<u64>,
     /// How many bytes are skipped: at most 2^62.
     pub seek: u64,
-    /// What is added to each address: at most 2^62.
+    /// What is added to each address: at most 2^63 less `seek`.
     pub shift: u64,
     /// Hexadecimal digits above 9 in upper case.
     pub upper: bool,
@@ -33,5 +33,5 @@ pub struct XxdOptions {
     ghost few: { cols ≤ 256 },
     ghost small_groups: { group ≤ 256 },
     ghost near: { seek ≤ 2 ^ 62 },
-    ghost low: { shift ≤ 2 ^ 62 },
+    ghost low: { seek + shift ≤ 2 ^ 63 },
 }
