@@ -375,6 +375,49 @@ nothing_left() {
     rmdir left
 }
 
+# Links that lead to no file: the file that they lead to is made, with the image's bits and owner, and a command that is refused
+# takes it away again. The links stay, and what stood behind one.
+dangling_links() {
+    local command found links
+    mkdir links links/far
+    cd links || exit 1
+    printf '0: 4g\n' > bad
+    printf '0: 41\n' > dump
+    ln -s far/image img
+    ln -s far/next img.bxj
+    ln -s "$PWD/far/journal" far/next
+    ln -s ../links/far/redo img.bxj.redo
+    links=$(find . -type l | sort)
+    for command in "revert -f bad img" "revert -p -f bad img" "revert img" "dd if=.. of=img" "dd of=img" \
+        "revert -f dump -J no/such img" "revert -f dump -J .. img" "undo img" "redo img" "log img"; do
+        # shellcheck disable=SC2086
+        timeout 60 "$bx" $command > ../out 2> ../err <&-
+        [ $? = 1 ] && [ "$(ls far)" = next ] && [ "$(find . -type l | sort)" = "$links" ] && say 1 "nothing is left behind links by $command" "$(cat ../err)" || say 0 "nothing is left behind links by $command" "$(ls far | tr '\n' ' ')"
+    done
+    (umask 022 && timeout 60 "$bx" revert -f dump img 2> ../err)
+    [ "$(cat far/image)" = A ] && [ "$(wc -l < far/journal)" = 3 ] && [ -e far/redo ] && say 1 "files behind links are made" || say 0 "files behind links are made" "$(cat ../err)"
+    rm far/redo
+    : > far/journal
+    timeout 60 "$bx" undo img > ../out 2> ../err
+    [ $? = 1 ] && [ -e far/journal ] && [ ! -e far/redo ] && say 1 "what stood behind a link stays" || say 0 "what stood behind a link stays" "$(ls far | tr '\n' ' ')"
+    rm far/journal
+    chmod 640 far/image
+    [ "$(id -u)" = 0 ] && chown 65534:65534 far/image
+    found=$(bits far/image)
+    (umask 022 && timeout 60 "$bx" revert -f dump img 2> ../err)
+    [ "$(bits far/journal far/redo)" = "$found$found" ] && say 1 "a journal behind a link has the image's bits and owner" || say 0 "a journal behind a link has the image's bits and owner" "$(bits far/journal far/redo)"
+    ln -s round turn
+    ln -s turn round
+    ln -s no/such off
+    for command in "revert -f dump turn" "revert -f dump off" "revert -f dump -J turn img" "revert -f dump -J off img"; do
+        # shellcheck disable=SC2086
+        timeout 60 "$bx" $command > ../out 2> ../err
+        [ $? = 1 ] && [ "$(cat ../err)" = "bx: cannot open file" ] && say 1 "links that lead nowhere: $command" || say 0 "links that lead nowhere: $command" "$(cat ../err)"
+    done
+    cd .. || exit 1
+    rm -rf links
+}
+
 # Another program that holds a lock.
 held() {
     if ! command -v flock > /dev/null; then
@@ -1297,3 +1340,4 @@ else
 fi
 echo "$passed cases passed, $failed failed"
 [ "$failed" = 0 ]
+dangling_links

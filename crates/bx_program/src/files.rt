@@ -1,5 +1,6 @@
 //! The files of a session.
 mod alias;
+mod links;
 pub mod look;
 mod mode;
 mod mounts;
@@ -55,7 +56,10 @@ pub struct SessionFiles {
 
 impl SessionFiles {
     /// Takes those away again that this run made and nothing was written to.
-    pub fn unmake<R: Files<File = File>>(&self, rt: &R, image: &Name, texts: &Texts) {
+    pub fn unmake<R>(&self, rt: &R, image: &Name, texts: &Texts)
+    where
+        R: Files<File = File> + AllocGlobal,
+    {
         if self.made.image {
             take_away(rt, image.as_str(), &self.image);
         }
@@ -112,7 +116,7 @@ fn open_redo<'a, R>(
     journal: &Opened<'_>,
 ) -> Result<Opened<'a>, Stopped<'a>>
 where
-    R: Files<File = File>,
+    R: Files<File = File> + AllocGlobal,
 {
     let redo = Opened::new(rt, name, purpose, Holds::Text)?;
     match is_apart(&redo, image).and_then(|()| is_apart(&redo, journal)) {
@@ -132,7 +136,7 @@ fn make_texts<'a, R>(
     image: &Opened<'a>,
 ) -> Result<(Opened<'a>, Opened<'a>), Stopped<'a>>
 where
-    R: Files<File = File>,
+    R: Files<File = File> + AllocGlobal,
 {
     let permits = match image.file.metadata() {
         Ok(file) => Permits::beside(&file),
@@ -163,7 +167,7 @@ where
 /// `OpenFailed` where one is missing and isn't to be made, can't be opened, is no regular file (and, for the image, no block
 /// device either), or is locked by another program or under another name; where two of them are one file; where a block device
 /// has no journal of another name than `IMAGE.bxj`, or is mounted. No file is then changed, and none is made, but for an empty
-/// one behind a link that led to no file, or whose place could not be looked at again.
+/// one whose place could not be looked at again.
 pub fn trio<'a, R>(
     rt: &R,
     image: &'a Name,
@@ -201,7 +205,7 @@ pub fn existing<'a, R>(
     purpose: Purpose,
 ) -> Result<SessionFiles, Stopped<'a>>
 where
-    R: Files<File = File>,
+    R: Files<File = File> + AllocGlobal,
 {
     let redo_is_there = look(rt, texts.redo.as_str(), true, Holds::Text)?.is_some();
     let image = Opened::new(rt, image.as_str(), purpose, Holds::Image)?;

@@ -7,7 +7,7 @@ use std::io::{self, ErrorKind};
 use std::rt::Files;
 
 /// The folder of a name.
-fn folder_of(name: &str) -> &str {
+pub fn folder_of(name: &str) -> &str {
     match name.rsplit_once('/') {
         None => ".",
         Some(("", _)) => "/",

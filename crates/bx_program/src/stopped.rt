@@ -173,7 +173,7 @@ impl<'a> Devices<'a> {
     /// The device that stopped a session. Where nothing was begun, the files that this run made are taken away again.
     pub fn refused<R>(&self, rt: &R, fault: Fault, made: Made) -> Stopped<'a>
     where
-        R: Files<File = File>,
+        R: Files<File = File> + AllocGlobal,
     {
         if fault != Fault::from(SessionFault::Interrupted) {
             self.unmake(rt, made);
@@ -182,7 +182,7 @@ impl<'a> Devices<'a> {
     }
 
     /// Takes files away that nothing was written to.
-    fn unmake<R: Files<File = File>>(&self, rt: &R, made: Made) {
+    fn unmake<R: Files<File = File> + AllocGlobal>(&self, rt: &R, made: Made) {
         let (image, journal, redo) = &self.trio;
         if made.image {
             take_away(rt, self.image.as_str(), &image.file().file);

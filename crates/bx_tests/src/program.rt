@@ -224,6 +224,41 @@ rm left.img left.img.bxj left.dump left.ones",
     )
 }
 
+// A file that a link leads to and that is missing is made, and taken away again where the command is refused. The link stays, and
+// so does what stood behind one.
+#[test]
+fn links_to_missing_files(rt: HostRuntime) -> Result<(), Fail> {
+    play(
+        &rt,
+        &rt,
+        "\
+dir linked
+linked.bad := 00000000: 4g|
+linked.dump := 0: 41|
+soft linked/image linked.img
+soft linked/further linked.img.bxj
+soft journal linked/further
+soft linked/redo linked.img.bxj.redo
+revert -f linked.bad linked.img -> line 1: bad pair
+dd if=. of=linked.img -> read failed
+no linked/image linked/journal linked/redo
+revert -f linked.dump linked.img -> done
+linked/image = A
+within linked/journal linked/image
+linked/redo has 0
+undo linked.img -> done
+linked/image has 0
+linked/journal has 0
+rm linked/redo
+undo linked.img -> only 0 changes to undo
+no linked/redo
+linked/image has 0
+linked/journal has 0
+rm linked.img linked.img.bxj linked.img.bxj.redo linked/further linked/image linked/journal linked.bad linked.dump
+rmdir linked",
+    )
+}
+
 // The texts of an image may be read and written by nobody who may not do so with the image. A test can't set the umask.
 #[test]
 fn private_image(rt: HostRuntime) -> Result<(), Fail> {

@@ -1,5 +1,6 @@
 //! Opening one file, and taking away what was made.
 use crate::files::alias::is_same;
+use crate::files::links::make_linked;
 use crate::files::look::Holds;
 use crate::files::mode::Permits;
 use crate::stopped::Stopped;
@@ -39,7 +40,7 @@ fn open_there<R: Files<File = File>>(rt: &R, name: &str, writes: bool) -> io::Re
 /// Opens a file to be read and written, or makes it, and says which.
 fn open_or_make<R>(rt: &R, name: &str, permits: Permits) -> io::Result<(File, bool)>
 where
-    R: Files<File = File>,
+    R: Files<File = File> + AllocGlobal,
 {
     match open_there(rt, name, true) {
         Err(e) if e.kind() == ErrorKind::NotFound => {}
@@ -47,7 +48,7 @@ where
     }
     match permits.make(rt, name) {
         // Another program made it by now, or a link leads to a file that is missing.
-        Err(e) if e.kind() == ErrorKind::AlreadyExists => Ok((permits.open(rt, name)?, false)),
+        Err(e) if e.kind() == ErrorKind::AlreadyExists => make_linked(rt, name, permits),
         outcome => Ok((outcome?, true)),
     }
 }
@@ -89,7 +90,7 @@ impl<'a> Opened<'a> {
         holds: Holds,
     ) -> Result<Opened<'a>, Stopped<'a>>
     where
-        R: Files<File = File>,
+        R: Files<File = File> + AllocGlobal,
     {
         let outcome = match purpose {
             Purpose::Read => open_there(rt, name, false).map(|file| (file, false)),
@@ -113,7 +114,10 @@ impl<'a> Opened<'a> {
     }
 
     /// Locks the file. One that was made and that another run has locked by now stays, since that run goes on with it.
-    fn hold<R: Files<File = File>>(&self, rt: &R, purpose: Purpose) -> Result<(), Stopped<'a>> {
+    fn hold<R>(&self, rt: &R, purpose: Purpose) -> Result<(), Stopped<'a>>
+    where
+        R: Files<File = File> + AllocGlobal,
+    {
         match lock(&self.file, purpose) {
             Ok(()) => Ok(()),
             Err(TryLockError::WouldBlock) => Err(Stopped::refused(self.name, HELD)),
@@ -125,20 +129,27 @@ impl<'a> Opened<'a> {
     }
 
     /// Takes the file away again, if this run made it.
-    pub fn unmake<R: Files<File = File>>(&self, rt: &R) {
+    pub fn unmake<R: Files<File = File> + AllocGlobal>(&self, rt: &R) {
         if self.made {
             take_away(rt, self.name, &self.file);
         }
     }
 }
 
-/// Takes a file away that this run made, if it is still empty and still has its name.
-pub fn take_away<R: Files<File = File>>(rt: &R, name: &str, file: &File) {
+/// Takes a file away that this run made, if it is still empty and still has its name. Where the name is a link to it, the link
+/// stays.
+pub fn take_away<R: Files<File = File> + AllocGlobal>(rt: &R, name: &str, file: &File) {
     if is_untouched(rt, name, file).is_ok_and(|is| is) {
         let _ = fs::remove_file(rt, name);
+    } else if let Ok(place) = fs::canonicalize(rt, name) {
+        let place = place.as_path().as_str();
+        if is_untouched(rt, place, file).is_ok_and(|is| is) {
+            let _ = fs::remove_file(rt, place);
+        }
     }
 }
 
+/// Whether the file is empty, and the name its own and no link.
 fn is_untouched<R: Files<File = File>>(rt: &R, name: &str, file: &File) -> io::Result<bool> {
     let opened = file.metadata()?;
     let named = fs::symlink_metadata(rt, name)?;
