@@ -105,5 +105,5 @@ complete -c bx -n '__fish_seen_subcommand_from redo' -l mounted -d 'Change a dev
 complete -c bx -n '__fish_seen_subcommand_from redo' -s k -x -d 'Changes to make again, 0 to 65535'
 
 complete -c bx -n '__fish_seen_subcommand_from log' -s J -r -F -d 'Journal of the image'
-complete -c bx -n '__fish_seen_subcommand_from log' -s U -d 'Do not wait for the disk'
-complete -c bx -n '__fish_seen_subcommand_from log' -l mounted -d 'Change a device that is mounted'
+complete -c bx -n '__fish_seen_subcommand_from log' -s U -d 'Do not wait where a change is taken back'
+complete -c bx -n '__fish_seen_subcommand_from log' -l mounted -d 'Take a change of a mounted device back'

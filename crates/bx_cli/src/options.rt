@@ -250,7 +250,15 @@ static REDO: [Row; 3] = [
     },
 ];
 
-static LOG: [Row; 2] = [JOURNAL, UNSYNCED];
+static LOG: [Row; 2] = [
+    JOURNAL,
+    Row {
+        id: "unsynced",
+        short: 'U',
+        value: None,
+        help: "Do not wait for the disk where a stopped change is taken back first",
+    },
+];
 
 static DD: [Row; 2] = [JOURNAL, UNSYNCED];
 
@@ -314,23 +322,37 @@ fn changer<'a>(
     command: Command<'a>,
     rows: &[Row],
 ) -> Result<Command<'a>, AllocError> {
-    with_rows(alloc, command, rows)?
-        .arg(mounted(alloc))?
-        .arg(image(alloc))
+    with_mounted(
+        alloc,
+        command,
+        rows,
+        "Change a block device even while it is mounted",
+    )?
+    .arg(image(alloc))
 }
 
-fn mounted<'a>(alloc: Global) -> Arg<'a> {
+/// A command with the rows, and the option for devices that are mounted.
+fn with_mounted<'a>(
+    alloc: Global,
+    command: Command<'a>,
+    rows: &[Row],
+    help: &'static str,
+) -> Result<Command<'a>, AllocError> {
+    with_rows(alloc, command, rows)?.arg(mounted(alloc, help))
+}
+
+fn mounted<'a>(alloc: Global, help: &'static str) -> Arg<'a> {
     Arg::new(alloc, "mounted")
         .long("mounted")
         .action(ArgAction::SetTrue)
-        .help("Change a block device even while it is mounted")
+        .help(help)
 }
 
 fn image<'a>(alloc: Global) -> Arg<'a> {
     Arg::new(alloc, "image")
         .value_name("IMAGE")
         .required(true)
-        .help("Image, a file")
+        .help("Image, a file or a block device; a device wants -J")
 }
 
 fn od<'a>(alloc: Global) -> Result<Command<'a>, AllocError> {
@@ -388,11 +410,15 @@ fn dd<'a>(alloc: Global) -> Result<Command<'a>, AllocError> {
     let command = Command::new(alloc, "dd")
         .about("Copy and convert bytes, to standard output or onto an image")
         .after_help(
-            "Operands:\n  if=FILE       File to read [default: standard input]\n  of=IMAGE      Image that is changed [default: none, standard output is written]\n  ibs=BYTES     Bytes of an input block, 1 to 16777216 [default: 512]\n  obs=BYTES     Bytes of an output block [default: 512]\n  bs=BYTES      Both, 1 to 16777216\n  cbs=BYTES     Bytes of a record of block and unblock, 1 to 16777216\n  skip=BLOCKS   Input blocks to skip first [default: 0]\n  seek=BLOCKS   Output blocks in front of the place in IMAGE [default: 0]\n  count=BLOCKS  Most input blocks to copy [default: all]\n  conv=WORDS    Of block, unblock, lcase, ucase, swab, sync, notrunc, with commas\n\nNumbers: decimal, then b (512), k or K (1024), M (1048576) or G (1073741824); 2x80 is 160.\n\nEXAMPLES:\n  bx dd if=boot.bin of=disk.img seek=1 conv=notrunc    a file onto byte 512 of an image\n  bx dd if=log.txt conv=ucase count=1                  the first 512 bytes in upper case\n  bx dd if=cards conv=unblock cbs=80                   a line for each 80 bytes",
+            "Operands:\n  if=FILE       File to read [default: standard input]\n  of=IMAGE      Image that is changed, a file or a block device [default: none, standard output]\n  ibs=BYTES     Bytes of an input block, 1 to 16777216 [default: 512]\n  obs=BYTES     Bytes of an output block [default: 512]\n  bs=BYTES      Both, 1 to 16777216\n  cbs=BYTES     Bytes of a record of block and unblock, 1 to 16777216\n  skip=BLOCKS   Input blocks to skip first [default: 0]\n  seek=BLOCKS   Output blocks in front of the place in IMAGE [default: 0]\n  count=BLOCKS  Most input blocks to copy [default: all]\n  conv=WORDS    Of block, unblock, lcase, ucase, swab, sync, notrunc, with commas\n\nNumbers: decimal, then b (512), k or K (1024), M (1048576) or G (1073741824); 2x80 is 160.\n\nEXAMPLES:\n  bx dd if=boot.bin of=disk.img seek=1 conv=notrunc    a file onto byte 512 of an image\n  bx dd if=log.txt conv=ucase count=1                  the first 512 bytes in upper case\n  bx dd if=cards conv=unblock cbs=80                   a line for each 80 bytes",
         );
-    with_rows(alloc, command, &DD)?
-        .arg(mounted(alloc))?
-        .arg(operands(alloc))
+    with_mounted(
+        alloc,
+        command,
+        &DD,
+        "Change a block device even while it is mounted",
+    )?
+    .arg(operands(alloc))
 }
 
 fn operands<'a>(alloc: Global) -> Arg<'a> {
@@ -436,7 +462,13 @@ fn log<'a>(alloc: Global) -> Result<Command<'a>, AllocError> {
         .after_help(
             "Each line has a change's number, the image's bytes before it, and the bytes that were saved.\n\nEXAMPLES:\n  bx log disk.img\n  bx log -J other.bxj disk.img",
         );
-    changer(alloc, command, &LOG)
+    with_mounted(
+        alloc,
+        command,
+        &LOG,
+        "Take a stopped change of a block device back even while it is mounted",
+    )?
+    .arg(image(alloc))
 }
 
 /// All that the program takes.
