@@ -95,10 +95,12 @@ hostile: all
 hints: all
 	scripts/hints.py --bx ./bx
 
-# The order in which the files of a command reach the disk, by strace; and losses of power, played on what bx wrote.
+# The order in which the files of a command reach the disk, by strace; and losses of power, played on what bx wrote, and (as root)
+# on what the kernel's page cache held back.
 power: all
 	scripts/power.py --counts --bx ./bx
 	scripts/power_replay.py --bx ./bx
+	scripts/power_fuse.py --bx ./bx
 
 bench: all
 	bench/run.sh

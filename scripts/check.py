@@ -41,6 +41,7 @@ CHECKS = [
     Check("completions of fish", "check-completions.py fish", "fish"),
     Check("order of syncs", "power.py --counts --bx BX", "strace"),
     Check("losses of power", "power_replay.py --bx BX", "strace"),
+    Check("losses of power, by FUSE", "power_fuse.py --bx BX"),
     Check("seeks", "seeks.py --bx BX", "xxd od hexdump dd"),
     Check("package", "check-package.sh BX", "lintian dpkg-deb dpkg-shlibdeps strip", root=True),
     Check("hostile", "hostile.sh BX"),

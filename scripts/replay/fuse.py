@@ -1,0 +1,165 @@
+"""A file system in memory, which the kernel reaches by FUSE and whose writes wait in the kernel's page cache. It tells what
+reaches it: each name, write, length and sync, in order. Folders can't be listed, and there are no links."""
+import ctypes
+import errno
+import os
+import pickle
+import signal
+import stat
+import struct
+import time
+
+LOOKUP, FORGET, GETATTR, SETATTR, MKDIR, UNLINK, OPEN, READ, WRITE, STATFS = 1, 2, 3, 4, 9, 10, 14, 15, 16, 17
+RELEASE, FSYNC, FLUSH, INIT, OPENDIR, RELEASEDIR, FSYNCDIR, CREATE = 18, 20, 25, 26, 27, 29, 30, 35
+BATCH_FORGET = 42
+BIG_WRITES, WRITEBACK_CACHE = 1 << 5, 1 << 16
+HEADER, ROOT, LONG = struct.Struct("=IIQQIIIHH"), 1, 3600
+# The parts of a new attribute that are looked at.
+MODE, USER, GROUP, SIZE = 1, 2, 4, 8
+DETACH = 2
+LIBC = ctypes.CDLL(None, use_errno=True)
+
+
+class Node:
+    """A file, or a folder with its names."""
+
+    def __init__(self, number, path, mode, user, group):
+        self.number, self.path, self.mode, self.user, self.group = number, path, mode, user, group
+        self.data, self.names = bytearray(), {}
+
+    def attributes(self):
+        now = int(time.time())
+        return struct.pack("=6Q10I", self.number, len(self.data), len(self.data) // 512 + 1, now, now, now, 0, 0, 0, self.mode, 1,
+                           self.user, self.group, 0, 4096, 0)
+
+    def entry(self):
+        return struct.pack("=4Q2I", self.number, 0, LONG, LONG, 0, 0) + self.attributes()
+
+    def answer(self):
+        return struct.pack("=QII", LONG, 0, 0) + self.attributes()
+
+
+class Server:
+    """Answers the kernel's requests, and writes what changed to a file."""
+
+    def __init__(self, device, told):
+        self.device, self.told = device, told
+        self.nodes = {ROOT: Node(ROOT, "", stat.S_IFDIR | 0o755, 0, 0)}
+
+    def tell(self, *what):
+        pickle.dump(what, self.told)
+        self.told.flush()
+
+    def serve(self):
+        """Up to the file system's end."""
+        while True:
+            try:
+                request = os.read(self.device, 1 << 21)
+            except OSError as error:
+                if error.errno in (errno.EINTR, errno.ENOENT):
+                    continue
+                return
+            _, code, unique, number, user, group, *_ = HEADER.unpack_from(request)
+            if code in (FORGET, BATCH_FORGET):
+                continue
+            found = self.answer(code, self.nodes.get(number), request[HEADER.size:], user, group)
+            failed, body = (-found, b"") if isinstance(found, int) else (0, found)
+            os.write(self.device, struct.pack("=IiQ", 16 + len(body), failed, unique) + body)
+
+    def answer(self, code, node, body, user, group):
+        """What is answered: bytes, or the number of an error."""
+        if code == INIT:
+            return struct.pack("=4I2H2I2HI7I", 7, 31, 1 << 16, BIG_WRITES | WRITEBACK_CACHE, 16, 12, 1 << 16, 1, 16, 0, *[0] * 8)
+        if code in (LOOKUP, UNLINK):
+            return self.named(code, node, body.rstrip(b"\0").decode())
+        if code in (MKDIR, CREATE):
+            return self.make(code, node, body, user, group)
+        if code in (GETATTR, SETATTR):
+            return self.attributes(code, node, body)
+        if code in (READ, WRITE):
+            return self.moved(code, node, body)
+        if code in (OPEN, OPENDIR):
+            return struct.pack("=QII", 0, 0, 0)
+        if code in (FSYNC, FSYNCDIR):
+            self.tell("sync", node.path)
+            return b""
+        if code == STATFS:
+            return struct.pack("=5Q10I", 1 << 20, 1 << 20, 1 << 20, 1 << 20, 1 << 20, 4096, 255, 4096, *[0] * 7)
+        return b"" if code in (RELEASE, RELEASEDIR, FLUSH) else errno.ENOSYS
+
+    def named(self, code, folder, name):
+        if name not in folder.names:
+            return errno.ENOENT
+        node = folder.names[name]
+        if code == LOOKUP:
+            return node.entry()
+        del folder.names[name]
+        self.tell("name", node.path, False)
+        return b""
+
+    def make(self, code, folder, body, user, group):
+        front, kind = (8, stat.S_IFDIR) if code == MKDIR else (16, stat.S_IFREG)
+        mode = struct.unpack_from("=II", body)[0 if code == MKDIR else 1]
+        name = body[front:].rstrip(b"\0").decode()
+        node = Node(max(self.nodes) + 1, os.path.join(folder.path, name), kind | stat.S_IMODE(mode), user, group)
+        self.nodes[node.number] = folder.names[name] = node
+        self.tell("name", node.path, True)
+        return node.entry() + (struct.pack("=QII", 0, 0, 0) if code == CREATE else b"")
+
+    def attributes(self, code, node, body):
+        if code == SETATTR:
+            valid, _, _, size, *_, mode, _, user, group, _ = struct.unpack_from("=II6Q8I", body)
+            node.mode = stat.S_IFMT(node.mode) | stat.S_IMODE(mode) if valid & MODE else node.mode
+            node.user, node.group = user if valid & USER else node.user, group if valid & GROUP else node.group
+            if valid & SIZE:
+                node.data = node.data[:size].ljust(size, b"\0")
+                self.tell("length", node.path, size)
+        return node.answer()
+
+    def moved(self, code, node, body):
+        _, at, size = struct.unpack_from("=QQI", body)
+        if code == READ:
+            return bytes(node.data[at:at + size])
+        data = body[40:40 + size]
+        node.data[:] = node.data[:at].ljust(at, b"\0") + data + node.data[at + size:]
+        self.tell("write", node.path, at, data)
+        return struct.pack("=II", size, 0)
+
+
+class Mount:
+    """The file system, mounted on a folder up to the end of a `with`. `told` is a file for what reaches it."""
+
+    def __init__(self, path, told):
+        self.path, self.place = path, told
+
+    def __enter__(self):
+        device = os.open("/dev/fuse", os.O_RDWR)
+        options = f"fd={device},rootmode=40000,user_id=0,group_id=0,default_permissions,allow_other"
+        if LIBC.mount(b"bx", self.path.encode(), b"fuse", 0, options.encode()):
+            os.close(device)
+            raise OSError(ctypes.get_errno(), os.strerror(ctypes.get_errno()))
+        told = open(self.place, "wb")
+        self.server = os.fork()
+        if not self.server:
+            Server(device, told).serve()
+            os._exit(0)
+        os.close(device)
+        told.close()
+        self.told = open(self.place, "rb")
+        return self
+
+    def news(self):
+        """What reached the file system since the last time."""
+        found = []
+        while True:
+            try:
+                found.append(pickle.load(self.told))
+            except EOFError:
+                return found
+
+    def __exit__(self, *_):
+        self.told.close()
+        if LIBC.umount2(self.path.encode(), 0):
+            LIBC.umount2(self.path.encode(), DETACH)
+        os.kill(self.server, signal.SIGKILL)
+        os.waitpid(self.server, 0)
