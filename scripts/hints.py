@@ -11,12 +11,13 @@ Usage: scripts/hints.py [--bx PATH OF bx] [--show]
 import argparse
 import os
 import pty
+import shlex
 import subprocess
 import sys
 import tempfile
 
 DUMP = "; for digits alone give -p"
-READERS = "it holds bytes of the image, and more people may read it than the image; chmod narrows that"
+READERS = "it holds bytes of the image, and more people may read it than the image; chmod 600 private.bxj narrows that"
 PAIRS = "bytes are pairs of digits, with at most one space between two; under -p there are digits and white space alone"
 SIZE = "a number as 512, 0x200 or 01000, with "
 OLDER = "move journal and redo file away, and with them the older images"
@@ -25,8 +26,10 @@ UNDONE = CHANGE.replace("4344", "7879").replace("CD", "xy")
 NO_JOURNAL = "no journal is here, so no change is known; -J names one that is elsewhere, and bx revert and bx dd make one"
 TAKEN = ": it has the name of a journal or a redo file, and was taken as an image"
 NEGATIVE = "there are no negative places and counts"
+NO_PLACE = NEGATIVE + "; places count from the start"
+REVERT = "bx revert -f DUMP IMAGE writes the bytes of a dump onto an image"
 DASH = "- is a file's name here; without a name standard input is read"
-UNLIKE = "the characters beside the digits aren't those of the bytes in line %d; bx undo takes this back, and bx revert --help shows the form of a line"
+UNLIKE = "the characters beside the digits aren't those of the bytes in line %d; bx undo img takes this back, and bx revert --help shows the form of a line"
 LATER = "it was modified later than its journal, perhaps by another program; bx %s goes back"
 DD = "Usage: bx dd [OPTIONS] [OPERAND]..."
 XXD = "Usage: bx xxd [OPTIONS] [FILE]"
@@ -60,7 +63,14 @@ FILES = {
     "undone": "ABCDEFGH",
     "undone.bxj": "",
     "undone.bxj.redo": UNDONE,
+    "two words": "ABxyEFGH",
+    "it's": CHANGE,
+    "-8": "ABxyEFGH",
+    "-8.bxj": CHANGE,
 }
+
+# What dd reports of an empty input.
+NO_RECORDS = "0+0 records in\n0+0 records out\n"
 
 # Images that were modified later than their journals.
 LATER_FILES = ["later"]
@@ -87,9 +97,13 @@ CASES = [
     ("dd bs=4 bs=4", "", "operand 2: given twice", "bs=4; " + DD),
     ("dd seek=4", "", "seek needs an output file", "give of=IMAGE too; " + DD),
     ("log -J bad.bxj img", "", "journal line 5 is damaged", "bad.bxj; mend the line; or " + OLDER),
-    ("undo -k 2 img", "", "only 1 changes to undo", "bx log lists the changes"),
+    ("undo -k 2 img", "", "only 1 changes to undo", "bx log img lists the changes"),
+    ("undo -k 2 -J ./img.bxj img", "", "only 1 changes to undo", "bx log -J ./img.bxj img lists the changes"),
+    ("undo -k 2 --mounted img", "", "only 1 changes to undo", "bx log --mounted img lists the changes"),
+    ("undo -k 2 -J \"it's\" 'two words'", "", "only 1 changes to undo", "bx log -J 'it'\\''s' 'two words' lists the changes"),
+    ("undo -k 2 -- -8", "", "only 1 changes to undo", "bx log ./-8 lists the changes"),
     ("redo img", "", "only 0 changes to redo", "a change that is no redo gives up what was undone, and a journal that is moved takes its redo file along"),
-    ("log long", "", "image should have 8 bytes", "long: it has 9 bytes and not 8; it may have another journal; where its length alone was changed, truncate -s gives that back; or " + OLDER),
+    ("log long", "", "image should have 8 bytes", "long: it has 9 bytes and not 8; it may have another journal; where its length alone was changed, truncate -s 8 long gives that back; or " + OLDER),
     ("log -J bad.redo.bxj img", "", "redo line 1 is damaged", "bad.redo.bxj.redo; move the redo file away to go on, and with it what was undone"),
     ("xxd -z img", "", "bad arguments", "unexpected argument '-z' found; " + XXD),
     ("xxd -c 999 img", "", "bad arguments", "999: a number from 1 to 256; " + XXD),
@@ -114,12 +128,16 @@ CASES = [
     ("undo -J img.bxj hard", "", "cannot open file", "img.bxj: another program has it locked, or it is one of the others by another name"),
     ("revert -J new.bxj /proc/self/mem", "0: 41\n", "device failed", "/proc/self/mem: Invalid argument; nothing was changed"),
     ("undoo img", "", "bad arguments", "unrecognized subcommand 'undoo': did you mean 'undo'; Usage: bx <COMMAND>"),
-    ("xxd -r words", "", "bad arguments", "unexpected argument '-r' found: bx revert writes the bytes of a dump onto an image; " + XXD),
+    ("xxd -r words", "", "bad arguments", "unexpected argument '-r' found: " + REVERT + "; " + XXD),
+    ("xxd -p -r words", "", "bad arguments", "unexpected argument '-r' found: " + REVERT + "; " + XXD),
+    ("xxd --revert words", "", "bad arguments", "unexpected argument '--revert' found: " + REVERT + "; " + XXD),
     ("od -r words", "", "bad arguments", "unexpected argument '-r' found; " + OD),
-    ("xxd -s -4 img", "", "bad arguments", "unexpected argument '-4' found: " + NEGATIVE + "; " + XXD),
-    ("xxd -s-4 img", "", "bad arguments", "-4: " + NEGATIVE + "; " + XXD),
+    ("xxd -s -4 img", "", "bad arguments", "-4: " + NO_PLACE + "; " + XXD),
+    ("xxd -l 2 -s -10 img", "", "bad arguments", "-10: " + NO_PLACE + "; " + XXD),
+    ("xxd -s-10 img", "", "bad arguments", "-10: " + NO_PLACE + "; " + XXD),
+    ("xxd -l-10 img", "", "bad arguments", "-10: " + NEGATIVE + "; " + XXD),
     ("undo -k-1 img", "", "bad arguments", "-1: " + NEGATIVE + "; Usage: bx undo [OPTIONS] <IMAGE>"),
-    ("dd skip=-1", "", "operand 1: bad number", "skip=-1: " + NEGATIVE + "; a number is decimal, with b, k, M or G behind it where wanted; " + DD),
+    ("dd skip=-1", "", "operand 1: bad number", "skip=-1: " + NO_PLACE + "; a number is decimal, with b, k, M or G behind it where wanted; " + DD),
     ("xxd -", "", "cannot open file", "-: No such file or directory; " + DASH),
     ("dd if=-", "", "cannot open file", "-: No such file or directory; " + DASH),
     ("revert -f - img", "", "cannot open file", "-: No such file or directory; " + DASH),
@@ -148,9 +166,14 @@ CASES = [
     ("revert undone", "\n*\n", None, "the dump has no bytes, but what was undone is given up"),
     ("revert -p undone", "", None, "the dump has no bytes, but what was undone is given up"),
     ("revert undone", "0: 41\n", None, None),
+    ("dd if=/dev/null of=undone conv=notrunc", "", None, "nothing was written, but what was undone is given up"),
+    ("dd if=/dev/null of=undone obs=8 seek=1", "", None, "nothing was written, but what was undone is given up"),
+    ("dd if=/dev/null of=undone", "", None, None),
+    ("dd if=/dev/null of=img conv=notrunc", "", None, None),
     ("revert img", "", None, None),
-    ("undo later", "", None, "later: " + LATER % "redo -k 1"),
-    ("redo later", "", None, "later: " + LATER % "undo -k 1"),
+    ("undo later", "", None, "later: " + LATER % "redo -k 1 later"),
+    ("redo later", "", None, "later: " + LATER % "undo -k 1 later"),
+    ("undo -J ./later.bxj later", "", None, "later: " + LATER % "redo -k 1 -J ./later.bxj later"),
     ("undo -k 0 later", "", None, None),
     ("redo -k 0 later", "", None, None),
     ("log later", "", None, None),
@@ -160,7 +183,7 @@ CASES = [
 
 # The same with a limit on the size of files, or standard output on a device that is full.
 FULL = [
-    ("revert img", "00: " + "41 " * 16 + "\n", 200, "interrupted: open again to recover", "img.bxj: File too large; the next command on the image takes back or drops what was begun; look by bx log first"),
+    ("revert img", "00: " + "41 " * 16 + "\n", 200, "interrupted: open again to recover", "img.bxj: File too large; the next command on the image takes back or drops what was begun; look by bx log img first"),
 ]
 
 
@@ -193,7 +216,7 @@ def run(bx, words, text, terminal, most=None, out=subprocess.DEVNULL):
         theirs = None
         if terminal:
             ours, theirs = pty.openpty()
-        child = subprocess.Popen([bx] + words.split(), cwd=folder, stdin=subprocess.PIPE, stdout=out,
+        child = subprocess.Popen([bx] + shlex.split(words), cwd=folder, stdin=subprocess.PIPE, stdout=out,
                                  stderr=theirs if terminal else subprocess.PIPE, preexec_fn=limited(most))
         if not terminal:
             return child.communicate(text.encode())[1].decode()
@@ -237,7 +260,7 @@ def main():
     cases += [(words, "", None, "a closed pipe", None, None) for words in ("xxd img", "dd if=img", "undo img", "log img")]
     failed = 0
     for words, text, most, full, fault, hint in cases:
-        line = f"bx: {fault}\n" if fault else ""
+        line = f"bx: {fault}\n" if fault else NO_RECORDS if words.startswith("dd if=/dev/null of=") else ""
         more = f"hint: {hint}\n" if hint else ""
         out = output(full)
         piped = run(bx, words, text, False, most, out)

@@ -844,6 +844,24 @@ too_long() { # too_long NAME ARG ..
         && say 1 "$name" || say 0 "$name" "status $status, $(cat err)"
 }
 
+# An input without end, or one that is longer than a device, with conversions: it is refused, and no more of it is read than shows
+# that it doesn't fit.
+without_end() {
+    local operands before status
+    before=$(cat "$loop" device.bxj device.bxj.redo | sha256sum)
+    for operands in "if=/dev/zero" "if=/dev/zero bs=4k seek=3" "if=/dev/zero skip=100 conv=sync" "if=/dev/zero seek=1000000" "obs=1 seek=7 conv=swab" \
+        "conv=block cbs=80" "conv=block cbs=80 skip=100" "conv=unblock cbs=80" "conv=unblock,swab cbs=8192 skip=3"; do
+        # shellcheck disable=SC2086
+        yes 2> /dev/null | timeout 60 "$bx" dd of="$loop" -J device.bxj $operands > out 2> err
+        status=$?
+        [ "$status" = 1 ] && [ "$(cat err)" = "bx: out of memory" ] && [ "$(cat "$loop" device.bxj device.bxj.redo | sha256sum)" = "$before" ] \
+            && say 1 "an input without end onto a device: $operands" || say 0 "an input without end onto a device: $operands" "status $status, $(cat err)"
+    done
+    { head -c $((size - 512 + 1)) /dev/zero; echo rest; } | { "$bx" dd of="$loop" seek=1 -J device.bxj 2> err; cat; } > out
+    [ "$(cat err out)" = "bx: out of memory
+rest" ] && say 1 "one byte is read more than fits" || say 0 "one byte is read more than fits" "$(cat err; wc -c < out)"
+}
+
 # A device that is mounted is refused, and with --mounted it is changed; log writes nothing.
 mounted_device() {
     local before command
@@ -927,6 +945,7 @@ loop_devices() {
     on_both log -J JOURNAL DEV
     too_long "a revert past a device's end" revert -s 1 -f dump -J device.bxj "$loop"
     too_long "a dd past a device's end" dd if=tail_bytes of="$loop" obs=1 seek=$((size - 4999)) conv=notrunc -J device.bxj
+    without_end
     on_both log -J JOURNAL DEV
     on_both undo -k 2 -J JOURNAL DEV
     on_both redo -J JOURNAL DEV
@@ -1321,6 +1340,7 @@ other_kinds
 private_texts
 other_users
 nothing_left
+dangling_links
 held
 fronts
 words
@@ -1340,4 +1360,3 @@ else
 fi
 echo "$passed cases passed, $failed failed"
 [ "$failed" = 0 ]
-dangling_links

@@ -12,7 +12,11 @@ use Rattle.bx_cli.specs.declared.hint.Known.{Known}
 abbrev pub joined : List ℕ → List ℕ → List ℕ → List ℕ
 joined front between back = if length back == 0 then front else if length front == 0 then back else front ++ between ++ back
 
--- what can be done about a fault of its kind
+-- a text that ends in the name of a command, with its words and the rest behind it; where there is no rest, the text alone
+abbrev pub completed : List ℕ → List ℕ → List ℕ → List ℕ
+completed front words rest = if length rest == 0 then front else front ++ words ++ rest
+
+-- what can be done about a fault of its kind, up to the name of a command where it gives one
 abbrev pub advice_of : Fault → List ℕ
 advice_of (Io io.InputTooLong) = codes "at most 1099511627776 bytes are read"
 advice_of (Io io.SkipPastEnd) = codes "give a smaller -j"
@@ -33,14 +37,25 @@ advice_of (Session session.NoMemory) = codes "a change, and what an undo or a re
 advice_of (Session session.TooLarge) = codes "an image has at most 281474976710655 bytes"
 advice_of (Session session.DeviceFailed) = codes "nothing was changed"
 advice_of (Session (session.Damaged _)) = codes "mend the line; or move journal and redo file away, and with them the older images"
-advice_of (Session (session.TooFew _)) = codes "bx log lists the changes"
+advice_of (Session (session.TooFew _)) = codes "bx log"
 advice_of (Session session.JournalFull) = codes "move journal and redo file away to go on, and with them the older images"
-advice_of (Session session.Interrupted) = codes "the next command on the image takes back or drops what was begun; look by bx log first"
-advice_of (Session (session.LengthDiffers _)) = codes "it may have another journal; where its length alone was changed, truncate -s gives that back; or move journal and redo file away, and with them the older images"
+advice_of (Session session.Interrupted) = codes "the next command on the image takes back or drops what was begun; look by bx log"
+advice_of (Session (session.LengthDiffers _)) = codes "it may have another journal; where its length alone was changed, truncate -s"
 advice_of (Session (session.NothingToRedo _)) = codes "a change that is no redo gives up what was undone, and a journal that is moved takes its redo file along"
 advice_of (Session (session.RedoDamaged _)) = codes "move the redo file away to go on, and with it what was undone"
 advice_of _ = []
 
--- what is at fault and why, what can be done, and how the command is called
+-- what stands behind the words of the command that is given
+abbrev pub rest_of : Fault → List ℕ
+rest_of (Session (session.TooFew _)) = codes " lists the changes"
+rest_of (Session session.Interrupted) = codes " first"
+rest_of (Session (session.LengthDiffers _)) = codes " gives that back; or move journal and redo file away, and with them the older images"
+rest_of _ = []
+
+-- what is at fault and why, and what can be done
+abbrev pub advised : Fault → Known → List ℕ
+advised fault known = joined (joined known.subject.now (codes ": ") known.reason.now) (codes "; ") (advice_of fault)
+
+-- the same, with the whole command, and how the one at fault is called
 abbrev pub hint_of : Fault → Known → List ℕ
-hint_of fault known = joined (joined (joined known.subject.now (codes ": ") known.reason.now) (codes "; ") (advice_of fault)) (codes "; ") known.usage.now
+hint_of fault known = joined (completed (advised fault known) known.words.now (rest_of fault)) (codes "; ") known.usage.now

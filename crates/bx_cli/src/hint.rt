@@ -1,8 +1,8 @@
 //! Hints, which a person can act on, behind the texts of faults.
 ghost use Rattle.std.specs.Prelude.{◌≡◌, [], OnOk, IfSome, string_bytes};
-ghost use Rattle.bx_cli.specs.Hint.{advice_of, hint_of, joined};
+ghost use Rattle.bx_cli.specs.Hint.{advice_of, completed, hint_of, joined, rest_of};
 
-use crate::instead::{NO_NEGATIVE, has_negative, instead, is_negative, similar};
+use crate::instead::{has_negative, instead, is_negative, negative, no_negative, similar};
 use crate::options::program;
 use crate::plan::{MOST_LEAST, MOST_STEPS, columns, count_or, kind, number, radix, words_of};
 use bx_commands::Fault;
@@ -21,11 +21,15 @@ pub struct Known<'a> {
     pub subject: &'a str,
     /// Why it is at fault, as the system says.
     pub reason: &'a str,
+    /// What stands behind the name of the command that is advised, a space before each word: of `truncate -s` the length and
+    /// the image, of any other its options and the image.
+    pub words: &'a str,
     /// How the command is called.
     pub usage: &'a str,
 }
 
-/// What can be done about a fault of its kind; empty where there is nothing to say.
+/// What can be done about a fault of its kind, up to the name of a command where it gives one; empty where there is nothing to
+/// say.
 fn advice(fault: Fault) -> &'static str
     ensures { result.now ≡ advice_of fault }
 {
@@ -93,13 +97,13 @@ fn session_advice(fault: SessionFault) -> &'static str
         SessionFault::Damaged { .. } => {
             "mend the line; or move journal and redo file away, and with them the older images"
         }
-        SessionFault::TooFew { .. } => "bx log lists the changes",
+        SessionFault::TooFew { .. } => "bx log",
         SessionFault::JournalFull =>
             "move journal and redo file away to go on, and with them the older images",
         SessionFault::Interrupted =>
-            "the next command on the image takes back or drops what was begun; look by bx log first",
+            "the next command on the image takes back or drops what was begun; look by bx log",
         SessionFault::LengthDiffers { .. } => {
-            "it may have another journal; where its length alone was changed, truncate -s gives that back; or move journal and redo file away, and with them the older images"
+            "it may have another journal; where its length alone was changed, truncate -s"
         }
         SessionFault::NothingToRedo { .. } => {
             "a change that is no redo gives up what was undone, and a journal that is moved takes its redo file along"
@@ -108,6 +112,31 @@ fn session_advice(fault: SessionFault) -> &'static str
             "move the redo file away to go on, and with it what was undone",
         _ => "",
     }
+}
+
+/// What stands behind the words of the command that is advised; empty where none is.
+fn rest(fault: Fault) -> &'static str
+    ensures { result.now ≡ rest_of fault }
+{
+    match fault {
+        Fault::Session(SessionFault::TooFew { .. }) => " lists the changes",
+        Fault::Session(SessionFault::Interrupted) => " first",
+        Fault::Session(SessionFault::LengthDiffers { .. }) => {
+            " gives that back; or move journal and redo file away, and with them the older images"
+        }
+        _ => "",
+    }
+}
+
+/// Puts the words of a command behind its name, and then the rest.
+fn push_rest<A: Allocator>(text: &mut String<A>, words: &str, rest: &str) -> Result<(), AllocError>
+    ensures { OnOk result (string_bytes text.new ≡ completed (string_bytes text.old) words.now rest.now) }
+{
+    if rest.is_empty() {
+        return Ok(());
+    }
+    text.push_str(words)?;
+    text.push_str(rest)
 }
 
 /// Puts a part behind those before it.
@@ -139,6 +168,7 @@ fn push_parts<A: Allocator>(
     push_part(text, "", known.subject)?;
     push_part(text, ": ", known.reason)?;
     push_part(text, "; ", advice(fault))?;
+    push_rest(text, known.words, rest(fault))?;
     push_part(text, "; ", known.usage)
 }
 
@@ -174,11 +204,25 @@ pub fn misuse_of(alloc: Global, words: &Words, fault: Fault) -> Result<Misuse, F
         Ok(matches) => refused_later(alloc, fault, &matches),
         Err(error) => {
             let text = error.to_string(alloc)?;
-            let mut found = told(alloc, text.as_str())?;
-            found.reason = instead(words.get(0).unwrap_or(""), found.word.as_str());
-            Ok(found)
+            let found = told(alloc, text.as_str())?;
+            Ok(corrected(alloc, words, found)?)
         }
     }
+}
+
+/// What clap says, with what to give instead of the word; of a negative number the whole of it, since clap takes it for an
+/// option of its first digit.
+fn corrected(alloc: Global, words: &Words, said: Misuse) -> Result<Misuse, AllocError> {
+    let mut found = said;
+    let name = words.get(0).unwrap_or("");
+    found.reason = instead(name, found.word.as_str());
+    if found.reason.is_empty() {
+        if let Some(word) = negative(words, found.word.as_str()) {
+            found.word = String::from_str(alloc, word)?;
+            found.reason = no_negative(true);
+        }
+    }
+    Ok(found)
 }
 
 /// What clap says of words that it refuses: its first lines, the names that it finds similar, and the usage.
@@ -240,7 +284,14 @@ fn wrong_word<'a>(fault: Fault, name: &str, m: &ArgMatches<'a>) -> (&'a str, &'s
             | DdFault::Repeated(place),
         ) => {
             let word = operand(m, place).unwrap_or("");
-            (word, if has_negative(word) { NO_NEGATIVE } else { "" })
+            (
+                word,
+                if has_negative(word) {
+                    no_negative(is_place_operand(word))
+                } else {
+                    ""
+                },
+            )
         }
         Fault::Usage => match wrong_value(name, m) {
             Some(found) => found,
@@ -283,7 +334,7 @@ fn wrong_value<'a>(name: &str, m: &ArgMatches<'a>) -> Option<(&'a str, &'static 
             return Some((
                 value,
                 if is_negative(value) {
-                    NO_NEGATIVE
+                    no_negative(is_place(id))
                 } else {
                     form
                 },
@@ -291,6 +342,16 @@ fn wrong_value<'a>(name: &str, m: &ArgMatches<'a>) -> Option<(&'a str, &'static 
         }
     }
     None
+}
+
+/// Whether the values of an option are places.
+fn is_place(id: &str) -> bool {
+    matches!(id, "seek" | "skip" | "shift" | "offset")
+}
+
+/// Whether the value of an operand is a place.
+fn is_place_operand(operand: &str) -> bool {
+    operand.starts_with("skip=") || operand.starts_with("seek=")
 }
 
 /// What the values of an option are.

@@ -1,16 +1,40 @@
 //! What is said of a word that other tools take and `bx` doesn't.
+use bx_text::Words;
 
-/// What is said of a number that is negative.
-pub(crate) const NO_NEGATIVE: &str = "there are no negative places and counts";
+/// What is said of a number that is negative, and may be a place.
+pub(crate) fn no_negative(is_place: bool) -> &'static str {
+    if is_place {
+        "there are no negative places and counts; places count from the start"
+    } else {
+        "there are no negative places and counts"
+    }
+}
 
 /// What to give in place of a word that is refused under a subcommand; `said` is what clap says of it. Empty where nothing is
 /// known.
 pub(crate) fn instead(name: &str, said: &str) -> &'static str {
     match quoted(said) {
-        "-r" if name == "xxd" => "bx revert writes the bytes of a dump onto an image",
-        word if is_negative(word) => NO_NEGATIVE,
+        "-r" | "--revert" if name == "xxd" => {
+            "bx revert -f DUMP IMAGE writes the bytes of a dump onto an image"
+        }
         _ => "",
     }
+}
+
+/// The first word that is a negative number and begins as the one that clap quotes; none where that isn't one.
+pub(crate) fn negative<'a>(words: &'a Words, said: &str) -> Option<&'a str> {
+    let first = quoted(said);
+    if !is_negative(first) {
+        return None;
+    }
+    for i in 0..words.len() {
+        if let Some(word) = words.get(i) {
+            if word.starts_with(first) {
+                return Some(word);
+            }
+        }
+    }
+    None
 }
 
 /// The text between the first two quotes; empty where there are none.

@@ -1,5 +1,7 @@
 //! dd.
 use crate::files::look::is_device;
+use crate::fitting::Fitting;
+use crate::hints::remarks::Remarks;
 use crate::images::{finish, open_session};
 use crate::input::{Placed, file, standard};
 use crate::stopped::{Noted, STANDARD_INPUT, Stopped};
@@ -19,14 +21,21 @@ pub fn copy_onto<'a, R>(
     dd: &'a DdJob,
     image: &'a Name,
     texts: &'a Texts,
+    remarks: &mut Remarks,
 ) -> Result<(), Stopped<'a>>
 where
     R: Files<File = File> + Input + Eprint + AllocGlobal,
 {
-    match &dd.plan.input {
-        Some(name) => copy_from(rt, dd, image, texts, name.as_str(), file(rt, job, name)?),
-        None => copy_from(rt, dd, image, texts, STANDARD_INPUT, standard(rt, job)),
+    let counts = match &dd.plan.input {
+        Some(name) => copy_from(rt, dd, image, texts, name.as_str(), file(rt, job, name)?)?,
+        None => copy_from(rt, dd, image, texts, STANDARD_INPUT, standard(rt, job))?,
+    };
+    if let Some(counts) = counts {
+        remarks.look_at_counts(&counts);
+        // One that can't be made or written is no fault: what it tells of is done.
+        let _ = tell(rt, &counts, 0);
     }
+    Ok(())
 }
 
 /// The operands for what stands behind passed bytes: `skip=` tells how many blocks are left to skip. Of a block device, whose
@@ -53,6 +62,8 @@ fn operands_of(alloc: Global, dd: &DdJob, passed: u64, keeps_length: bool) -> Re
     Ok(operands)
 }
 
+/// Puts what the operands make of an input onto the image, and answers the counts. No more is read for a block device than
+/// shows that it doesn't fit.
 fn copy_from<'a, R, I: Read + Drop>(
     rt: &R,
     dd: &'a DdJob,
@@ -60,25 +71,24 @@ fn copy_from<'a, R, I: Read + Drop>(
     texts: &'a Texts,
     from: &'a str,
     input: Placed<I>,
-) -> Result<(), Stopped<'a>>
+) -> Result<Option<Counts>, Stopped<'a>>
 where
     R: Files<File = File> + Eprint + AllocGlobal,
 {
     let keeps_length = is_device(rt, image.as_str());
     let operands = operands_of(rt.alloc(), dd, input.passed, keeps_length)?;
     let session = open_session(rt, image, texts, true, dd.access)?;
+    let passed = input.passed;
     let mut input = Noted::new(input.reader);
+    let mut fitting = Fitting::new(&mut input, &dd.plan, passed, session.length);
     let asked = Command::Dd {
         operands,
-        input: &mut input,
+        input: &mut fitting,
     };
     match finish(rt, session, asked, image, texts) {
-        Ok(Reply::Copied { counts, .. }) => {
-            // One that can't be made or written is no fault: what it tells of is done.
-            let _ = tell(rt, &counts, 0);
-            Ok(())
-        }
-        Ok(_) => Ok(()),
+        Ok(Reply::Copied { counts, .. }) => Ok(Some(counts)),
+        Ok(_) => Ok(None),
+        Err(stopped) if fitting.is_full() => Err(stopped.on_more_input()),
         Err(stopped) => Err(stopped.on_input(from, input.error)),
     }
 }

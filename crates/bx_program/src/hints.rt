@@ -1,18 +1,27 @@
 //! What the program writes of a fault, and for a person of a success.
+mod commands;
 mod names;
 mod readers;
 pub mod remarks;
 
+use crate::hints::commands::{operands_of, words_of};
 use crate::hints::names::name_hint;
 use crate::stopped::{Reason, Stopped};
-use bx_cli::{Fault, Known, hint_text, misuse_of};
+use bx_cli::{Fault, Job, Known, hint_text, misuse_of};
 use bx_text::Words;
 use std::alloc::{AllocError, Global};
 use std::io;
 
 /// Writes the text of the fault, and behind it for a person the hint. A hint that can't be made or written is left out. Where
-/// the reader of standard output has gone nothing is written, as by other programs.
-pub fn show_fault<R>(rt: &R, person: bool, words: &Words, stopped: Stopped<'_>) -> Fault
+/// the reader of standard output has gone nothing is written, as by other programs. The job is none where the words ask for
+/// none.
+pub fn show_fault<R>(
+    rt: &R,
+    person: bool,
+    words: &Words,
+    job: Option<&Job>,
+    stopped: Stopped<'_>,
+) -> Fault
 where
     R: Eprint + AllocGlobal,
 {
@@ -22,13 +31,13 @@ where
     }
     let _ = eprintln!(rt; "bx: {fault}");
     if person {
-        let _ = show_hint(rt, words, stopped);
+        let _ = show_hint(rt, words, job, stopped);
     }
     fault
 }
 
 /// The hint on a line of its own.
-fn show_hint<R>(rt: &R, words: &Words, stopped: Stopped<'_>) -> Result<(), Fault>
+fn show_hint<R>(rt: &R, words: &Words, job: Option<&Job>, stopped: Stopped<'_>) -> Result<(), Fault>
 where
     R: Eprint + AllocGlobal,
 {
@@ -37,23 +46,42 @@ where
         let known = Known {
             subject: misuse.word.as_str(),
             reason: misuse.reason,
+            words: "",
             usage: misuse.usage.as_str(),
         };
         show_known(rt, stopped.fault, &known);
-    } else {
-        let reason = reason_text(rt.alloc(), stopped.reason)?;
-        let file = stopped.file.unwrap_or("");
-        let known = Known {
-            subject: file,
-            reason: reason.as_str(),
-            usage: if stopped.fault == Fault::OpenFailed {
-                name_hint(file)
-            } else {
-                ""
-            },
-        };
-        show_known(rt, stopped.fault, &known);
+        return Ok(());
     }
+    show_cause(rt, job, stopped)
+}
+
+/// The file that stopped the job, why it did, and what can be done.
+fn show_cause<R>(rt: &R, job: Option<&Job>, stopped: Stopped<'_>) -> Result<(), Fault>
+where
+    R: Eprint + AllocGlobal,
+{
+    let file = stopped.file.unwrap_or("");
+    let reason = reason_text(rt.alloc(), job, stopped.reason)?;
+    if matches!(stopped.reason, Reason::Fixed { .. } | Reason::Full { .. }) {
+        // The advice is on memory, and there was enough.
+        let _ = eprintln!(rt; "hint: {file}: {reason}");
+        return Ok(());
+    }
+    let words = match job {
+        Some(job) => words_of(rt.alloc(), stopped.fault, job)?,
+        None => String::new(rt.alloc()),
+    };
+    let known = Known {
+        subject: file,
+        reason: reason.as_str(),
+        words: words.as_str(),
+        usage: if stopped.fault == Fault::OpenFailed {
+            name_hint(file)
+        } else {
+            ""
+        },
+    };
+    show_known(rt, stopped.fault, &known);
     Ok(())
 }
 
@@ -74,18 +102,35 @@ fn is_of_words(stopped: Stopped<'_>) -> bool {
 }
 
 /// The reason in words, as the system says it.
-fn reason_text(alloc: Global, reason: Reason) -> Result<String, AllocError> {
+fn reason_text(alloc: Global, job: Option<&Job>, reason: Reason) -> Result<String, AllocError> {
     match reason {
         Reason::Unknown => Ok(String::new(alloc)),
         Reason::System(code) => system_text(alloc, code),
         Reason::Told(why) => String::from_str(alloc, why),
+        Reason::Unfinished => unfinished_text(alloc, job),
         Reason::Fixed { has, wanted } => {
             format!(in alloc; "it has {has} bytes and can't grow to {wanted}")
+        }
+        Reason::Full { has } => {
+            format!(in alloc;
+                "it has {has} bytes and can't grow, and the input goes on behind them"
+            )
         }
         Reason::Lengths { has, expected } => {
             format!(in alloc; "it has {has} bytes and not {expected}")
         }
     }
+}
+
+/// What is said of a file that has to be written before the changes can be listed.
+fn unfinished_text(alloc: Global, job: Option<&Job>) -> Result<String, AllocError> {
+    let operands = match job {
+        Some(job) => operands_of(alloc, job)?,
+        None => String::new(alloc),
+    };
+    format!(in alloc;
+        "a change is unfinished, and recovery has to write this file; let someone run bx log{operands} who may"
+    )
 }
 
 /// The system's text, without the number that std puts behind it.

@@ -23,6 +23,8 @@ type FileSession = Session<FileImage, FileText<TextFile>>;
 /// before anything was written to them.
 #[derive(Drop)]
 pub struct OpenSession {
+    /// The image's length, where it can't have another one: of a block device.
+    pub length: Option<u64>,
     session: FileSession,
     made: Made,
 }
@@ -100,7 +102,8 @@ where
     ensures redo_text { IfOk result (λ o. ⟦<FileText<TextFile> as TextStore>⟧.failures o.session.redo_text ≡ 0) }
 {
     let made = files.made;
-    let device = image_of(held(files.image, durability), files.length);
+    let length = files.length;
+    let device = image_of(held(files.image, durability), length);
     let store = FileText::new(TextFile::new(Some(held(files.journal, durability))));
     let redo = files.redo.map(|file| held(file, durability));
     let redo_text = FileText::new(TextFile::new(redo));
@@ -114,6 +117,7 @@ where
     };
     let recovered = tell_recovered(rt, found.how);
     Ok(OpenSession {
+        length,
         session,
         made: if recovered { Made::NONE } else { made },
     })
@@ -159,7 +163,11 @@ where
     requires store { ⟦<FileText<TextFile> as TextStore>⟧.failures opened.session.store ≡ 0 }
     requires redo_text { ⟦<FileText<TextFile> as TextStore>⟧.failures opened.session.redo_text ≡ 0 }
 {
-    let OpenSession { mut session, made } = opened;
+    let OpenSession {
+        mut session,
+        made,
+        ..
+    } = opened;
     match command(rt, &mut session, asked) {
         Ok(reply) => Ok(reply),
         Err(fault) => {

@@ -37,7 +37,7 @@ where
     let mut words = Words::new(rt.alloc());
     match Held::new(rt) {
         Ok(_held) => run_words(rt, person, &mut words),
-        Err(fault) => Err(show_fault(rt, person, &words, Stopped::from(fault))),
+        Err(fault) => Err(show_fault(rt, person, &words, None, Stopped::from(fault))),
     }
 }
 
@@ -49,9 +49,9 @@ where
     match planned(rt, words) {
         Ok(job) => match perform_for(rt, person, &job) {
             Ok(()) => Ok(()),
-            Err(stopped) => Err(show_fault(rt, person, words, stopped)),
+            Err(stopped) => Err(show_fault(rt, person, words, Some(&job), stopped)),
         },
-        Err(stopped) => Err(show_fault(rt, person, words, stopped)),
+        Err(stopped) => Err(show_fault(rt, person, words, None, stopped)),
     }
 }
 
@@ -137,7 +137,7 @@ where
         | Job::Xxd(XxdJob { file, .. })
         | Job::Hexdump(HexdumpJob { file, .. })
         | Job::Strings(StringsJob { file, .. }) => return dump_file(rt, job, file, out),
-        Job::Dd(dd) => return copy(rt, job, dd, out),
+        Job::Dd(dd) => return copy(rt, job, dd, out, remarks),
         Job::Revert(job) => revert(rt, job, remarks)?,
         Job::Undo {
             count,
@@ -182,13 +182,14 @@ fn copy<'a, R, W: Write>(
     job: &Job,
     dd: &'a DdJob,
     out: &mut W,
+    remarks: &mut Remarks,
 ) -> Result<Option<Counts>, Stopped<'a>>
 where
     R: Files<File = File> + Input + Eprint + AllocGlobal,
 {
     match (&dd.plan.output, &dd.texts) {
         (Some(image), Some(texts)) => {
-            copy_onto(rt, job, dd, image, texts)?;
+            copy_onto(rt, job, dd, image, texts, remarks)?;
             Ok(None)
         }
         _ => dump_file(rt, job, &dd.plan.input, out),

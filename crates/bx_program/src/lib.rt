@@ -3,6 +3,7 @@
 
 mod copies;
 mod files;
+mod fitting;
 mod folders;
 mod hints;
 mod images;

@@ -24,12 +24,19 @@ pub enum Reason {
     System(i32),
     /// In words.
     Told(&'static str),
+    /// A change is unfinished, and the system doesn't let this file be written.
+    Unfinished,
     /// The file has this many bytes and can't grow, and the change wants it to have `wanted`.
     Fixed {
         /// How many it has.
         has: u64,
         /// How many it would have.
         wanted: u64,
+    },
+    /// The file can't grow, and the input has more for it than fits.
+    Full {
+        /// How many it has.
+        has: u64,
     },
     /// The file has this many bytes, and should have as many as `expected`.
     Lengths {
@@ -99,7 +106,7 @@ impl<'a> Stopped<'a> {
     pub fn unrecovered(self) -> Stopped<'a> {
         match self.reason {
             Reason::System(code) if is_unwritable(code) => Stopped {
-                reason: Reason::Told(UNFINISHED),
+                reason: Reason::Unfinished,
                 ..self
             },
             _ => self,
@@ -125,6 +132,17 @@ impl<'a> Stopped<'a> {
         }
     }
 
+    /// The same, where the input was read no further than shows that it doesn't fit: how long it is isn't known.
+    pub fn on_more_input(self) -> Stopped<'a> {
+        match self.reason {
+            Reason::Fixed { has, .. } => Stopped {
+                reason: Reason::Full { has },
+                ..self
+            },
+            _ => self,
+        }
+    }
+
     /// The same, or that standard output was not written, where it is that.
     pub fn on_output(self, error: Option<i32>) -> Stopped<'a> {
         match self.fault {
@@ -145,10 +163,6 @@ impl<'a> Stopped<'a> {
         }
     }
 }
-
-/// What is said of a file that has to be written before the changes can be listed.
-const UNFINISHED: &str =
-    "a change is unfinished, and recovery has to write this file; let someone run bx log who may";
 
 /// Whether the system's number says that a file may not be written.
 fn is_unwritable(code: i32) -> bool {

@@ -1,7 +1,9 @@
 //! What a person may want to know after a success.
+use crate::hints::commands::operands_of;
 use crate::hints::names::{image_of, is_of_text};
 use crate::hints::readers::tell_of_readers;
 use bx_cli::{Job, Texts, unlike_line};
+use bx_dd::Counts;
 use bx_text::Name;
 use std::fs::{self, File};
 use std::io::ErrorKind;
@@ -17,8 +19,10 @@ pub struct Remarks {
     was_undone: bool,
     // the image was modified later than its journal
     is_later: bool,
-    // the dump gives no byte
+    // the dump or dd's output has no byte
     is_empty: bool,
+    // the image's length before, where it has one
+    length: Option<u64>,
     // the line of the dump whose characters aren't those of its bytes
     unlike: Option<u64>,
 }
@@ -32,17 +36,19 @@ impl Remarks {
             was_undone: false,
             is_later: false,
             is_empty: false,
+            length: None,
             unlike: None,
         }
     }
 
-    /// Looks whether the job's image is missing, and whether something is undone, before the job opens a file.
+    /// Looks whether the job's image is missing, how long it is, and whether something is undone, before the job opens a file.
     pub fn look_before<R: Files<File = File>>(&mut self, rt: &R, job: &Job) {
         if !self.person {
             return;
         }
         if let Some((image, texts)) = image_of(job) {
             self.is_new = is_missing(rt, image.as_str());
+            self.length = length_of(rt, image.as_str());
             self.was_undone = is_filled(rt, texts.redo.as_str());
         }
     }
@@ -64,19 +70,36 @@ impl Remarks {
         }
     }
 
+    /// Looks whether dd's output has a byte.
+    pub fn look_at_counts(&mut self, counts: &Counts) {
+        self.is_empty = counts.whole_out == 0 && counts.part_out == 0;
+    }
+
     /// Writes what there is to say of a job that was done, each on a line of its own. One that can't be written is left out.
-    pub fn tell<R: Files<File = File> + Eprint>(&self, rt: &R, job: &Job) {
+    pub fn tell<R>(&self, rt: &R, job: &Job)
+    where
+        R: Files<File = File> + Eprint + AllocGlobal,
+    {
         if !self.person {
             return;
         }
+        let Ok(operands) = operands_of(rt.alloc(), job) else {
+            return;
+        };
+        let operands = operands.as_str();
         if let Some((image, texts)) = image_of(job) {
             self.tell_of_image(rt, image.as_str(), texts.journal.as_str());
             tell_of_readers(rt, image.as_str(), texts);
         }
         match job {
-            Job::Revert(_) => self.tell_of_dump(rt),
-            Job::Undo { count, image, .. } => self.tell_of_times(rt, image, *count, "redo"),
-            Job::Redo { count, image, .. } => self.tell_of_times(rt, image, *count, "undo"),
+            Job::Revert(_) => self.tell_of_dump(rt, operands),
+            Job::Dd(_) => self.tell_of_nothing(rt, job),
+            Job::Undo { count, image, .. } => self.tell_of_times(
+                rt, image, *count, "redo", operands,
+            ),
+            Job::Redo { count, image, .. } => self.tell_of_times(
+                rt, image, *count, "undo", operands,
+            ),
             _ => {}
         }
     }
@@ -99,10 +122,10 @@ impl Remarks {
     }
 
     /// What may be wrong with a dump that was reverted.
-    fn tell_of_dump<R: Eprint>(&self, rt: &R) {
+    fn tell_of_dump<R: Eprint>(&self, rt: &R, operands: &str) {
         if let Some(line) = self.unlike {
             let _ = eprintln!(rt;
-                "hint: the characters beside the digits aren't those of the bytes in line {line}; bx undo takes this back, and bx revert --help shows the form of a line"
+                "hint: the characters beside the digits aren't those of the bytes in line {line}; bx undo{operands} takes this back, and bx revert --help shows the form of a line"
             );
         }
         if self.is_empty && self.was_undone {
@@ -110,15 +133,37 @@ impl Remarks {
         }
     }
 
+    /// That a dd which wrote nothing and left the length gave up what was undone.
+    fn tell_of_nothing<R: Files<File = File> + Eprint>(&self, rt: &R, job: &Job) {
+        let Some((image, _)) = image_of(job) else {
+            return;
+        };
+        if self.is_empty && self.was_undone && self.length == length_of(rt, image.as_str()) {
+            let _ = eprintln!(rt; "hint: nothing was written, but what was undone is given up");
+        }
+    }
+
     /// That another program may have written the image, and the command that goes back.
-    fn tell_of_times<R: Eprint>(&self, rt: &R, image: &Name, count: u32, back: &str) {
+    fn tell_of_times<R: Eprint>(
+        &self,
+        rt: &R,
+        image: &Name,
+        count: u32,
+        back: &str,
+        operands: &str,
+    ) {
         if self.is_later && count > 0 {
             let image = image.as_str();
             let _ = eprintln!(rt;
-                "hint: {image}: it was modified later than its journal, perhaps by another program; bx {back} -k {count} goes back"
+                "hint: {image}: it was modified later than its journal, perhaps by another program; bx {back} -k {count}{operands} goes back"
             );
         }
     }
+}
+
+/// The length of a file; 0 of a block device, and none where it is missing.
+fn length_of<R: Files<File = File>>(rt: &R, name: &str) -> Option<u64> {
+    fs::metadata(rt, name).ok().map(|file| file.len())
 }
 
 /// Whether no file has this name.
