@@ -19,3 +19,5 @@ pub mod PairLaws
 pub mod FaultLemmas
 pub mod RunLemmas
 pub mod GoesOnLemmas
+pub mod WindowLemmas
+pub mod SourceLemmas

@@ -1,5 +1,5 @@
 -- The runs of a dump.
-use Rattle.std.proofs.Common.{◌≡◌, ℕ, suc, ◌+◌, ◌<◌, ◌≤◌, Bool, true, false, cond, eqb, Some, None, Option, Result, Ok, Err, List, [], ◌∷◌, ◌++◌, length, refl, arith, sym, ap, subst, ◌∙◌, append_assoc}
+use Rattle.std.proofs.Common.{◌≡◌, ◌⊎◌, inl, inr, ℕ, suc, ◌+◌, ◌<◌, ◌≤◌, Bool, true, false, cond, eqb, Some, None, Option, Result, Ok, Err, List, [], ◌∷◌, ◌++◌, length, refl, arith, sym, ap, subst, ◌∙◌, append_assoc}
 use Rattle.std.specs.Prelude.{◌^◌}
 use Rattle.std.specs.List.{All}
 use Rattle.std.proofs.lemmas.Bool.{eqb-true, eq-eqb}
@@ -10,11 +10,12 @@ use Rattle.bx_read.specs.Text.{ReadLine, gathered, piece_then, contents, answers
 use Rattle.bx_read.specs.Runs.{with_piece, joined}
 use Rattle.bx_read.specs.inner.NextLine.{piece_of, IsNextLine, taken_then, lines_left, joined_of}
 use Rattle.bx_read.specs.declared.fault.ReadFault.{ReadFault}
+use Rattle.bx_read.specs.declared.fault.ReadFault.TheVariants.{NoMemory}
 use Rattle.bx_read.specs.declared.runs.DumpLine.{DumpLine}
 use Rattle.bx_read.proofs.DumpLemmas.{Pieces, after, found, small}
 
 -- A piece that goes on with the one before it is a part of that one.
-same_front : (at : ℕ) (x y : List ℕ) (runs : Pieces) → with_piece (at, x) (with_piece (at + length x, y) runs) ≡ with_piece (at, x ++ y) runs
+pub same_front : (at : ℕ) (x y : List ℕ) (runs : Pieces) → with_piece (at, x) (with_piece (at + length x, y) runs) ≡ with_piece (at, x ++ y) runs
 same_front at x y [] = rw (eq-eqb (at + length x) (at + length x) refl) refl
 same_front at x y (run ∷ runs) = go (eqb run.0 (at + length x + length y)) refl
   where
@@ -118,12 +119,13 @@ after_none (Ok pieces) = refl
 after_none (Err e) = refl
 
 -- the runs of a text, from its first line to its end
-pub first_line : (text : List ℕ) (old new : List (Result ReadLine ReadFault)) (o : Option DumpLine) → old ≡ answers 1 (lines_of text) → IsNextLine old new o →
-    joined_of (dump_pieces text) ≡ after [] (joined_of (taken_then o new))
-first_line text old new o all is = ap (λ a. joined_of (gathered a)) (sym all) ∙ ap joined_of (next_gives old new o is) ∙ after_none (joined_of (taken_then o new))
+pub first_line : (p : ℕ) (text : List ℕ) (old new : List (Result ReadLine ReadFault)) (o : Option DumpLine) → old ≡ answers p (lines_of text) → IsNextLine old new o →
+    joined_of (gathered (answers p (lines_of text))) ≡ after [] (joined_of (taken_then o new))
+first_line p text old new o all is = ap (λ a. joined_of (gathered a)) (sym all) ∙ ap joined_of (next_gives old new o is) ∙ after_none (joined_of (taken_then o new))
 
-pub first_fault : (text : List ℕ) (old : List (Result ReadLine ReadFault)) (e : ReadFault) → old ≡ answers 1 (lines_of text) → gathered old ≡ Err e → dump_pieces text ≡ Err e
-first_fault text old e all is = ap gathered (sym all) ∙ is
+pub first_fault : (p : ℕ) (text : List ℕ) (old : List (Result ReadLine ReadFault)) (e : ReadFault) → old ≡ answers p (lines_of text) → gathered old ≡ Err e →
+    gathered (answers p (lines_of text)) ≡ Err e
+first_fault p text old e all is = ap gathered (sym all) ∙ is
 
 pub one_run : {A : Type 0} (whole : Result Pieces ReadFault) (olds news : List (Piece A)) (run : Piece A) (old new : List (Result ReadLine ReadFault)) (first : DumpLine) (o : Option DumpLine) →
     whole ≡ after (contents olds) (joined_of (taken_then (Some first) old)) →
@@ -135,3 +137,13 @@ one_run whole olds news run old new first o inv step pushed =
 -- what a test said of places that are known
 pub test_is : (told answer : Bool) (next at count place len : ℕ) → told ≡ eqb next (at + count) → told ≡ answer → next ≡ place → count ≡ len → eqb place (at + len) ≡ answer
 test_is told answer next at count place len is was n c = rw (← n, ← c) (sym is ∙ was)
+
+-- a fault behind runs is the text's
+pub run_fault : {A : Type 0} (whole : Result Pieces ReadFault) (olds : List (Piece A)) (first : DumpLine) (old : List (Result ReadLine ReadFault)) (e : ReadFault) →
+    joined_of whole ≡ after (contents olds) (joined_of (taken_then (Some first) old)) → (e ≡ NoMemory) ⊎ (gathered old ≡ Err e) → (e ≡ NoMemory) ⊎ (whole ≡ Err e)
+run_fault whole olds first old e inv (inl none) = inl none
+run_fault whole olds first old e inv (inr fault) = inr (go whole (inv ∙ ap (λ r. after (contents olds) (joined_of (piece_then (piece_of first) r))) fault))
+  where
+    go : (r : Result Pieces ReadFault) → joined_of r ≡ Err e → r ≡ Err e
+    go (Ok pieces) h = cc
+    go (Err f) h = cc

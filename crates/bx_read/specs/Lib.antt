@@ -4,6 +4,7 @@ pub mod Grammar
 pub mod Text
 pub mod Runs
 pub mod Lines
+pub mod Window
 pub mod Plain
 pub mod Laws
 pub mod PairGrammar

@@ -9,3 +9,4 @@ pub mod Plain
 pub mod Rows
 pub mod Steps
 pub mod Text
+pub mod Window

@@ -21,6 +21,8 @@ mod line;
 mod lines;
 mod plain;
 mod runs;
+mod sources;
+mod window;
 
 pub use dump::read_dump;
 pub use fault::ReadFault;
@@ -29,3 +31,5 @@ pub use line::Line;
 pub use lines::DumpLines;
 pub use plain::read_plain;
 pub use runs::read_runs;
+pub use sources::read_runs_from;
+pub use window::DumpRead;

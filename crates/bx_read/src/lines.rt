@@ -32,6 +32,14 @@ impl<'a> DumpLines<'a> {
         DumpLines { text, passed: 0 }
     }
 
+    /// The same of a text that stands behind so many lines.
+    pub(crate) fn behind(text: &'a [u8], passed: u64) -> DumpLines<'a>
+        requires { passed + length text.now < 2 ^ 64 }
+        ensures { coming result ≡ answers (passed + 1) (lines_of text.now) }
+    {
+        DumpLines { text, passed }
+    }
+
     /// Takes the next line, without its newline.
     fn take_line(&mut self) -> &'a [u8]
         requires { 0 < length self.old.text.now }

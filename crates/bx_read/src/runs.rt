@@ -1,6 +1,6 @@
 //! Whole dumps, in which lines that go on with one another are one run.
 ghost use Rattle.std.specs.Prelude.{◌≡◌, ◌⊎◌, ◌+◌, ◌^◌, ◌<◌, ◌≤◌, ◌==◌, ◌++◌, ℕ, List, length, Ok, Err, MatchResult, IfOk, IfErr, All};
-ghost use Rattle.bx_read.specs.Text.{dump_pieces, contents, gathered};
+ghost use Rattle.bx_read.specs.Text.{lines_of, answers, dump_pieces, contents, gathered};
 ghost use Rattle.bx_read.specs.Runs.{joined};
 ghost use Rattle.bx_read.specs.Lines.{coming};
 ghost use Rattle.bx_read.specs.inner.NextLine.{piece_of, IsNextLine, lines_left, joined_of, runs_with, runs_then};
@@ -21,17 +21,24 @@ pub fn read_runs<A: Allocator + Clone>(alloc: A, text: &[u8]) -> Result<Vec<Piec
     // Each run begins below 2^62.
     ensures near { IfOk result (λ v. All (λ run. run.at < 2 ^ 62) v.items) }
 {
-    gather_runs(alloc, text)
+    let _len = text.len();
+    gather_runs(alloc, text, 0)
 }
 
-/// The runs, one after another. Memory for the first one is guessed from the text's length, as if all lines went on.
-fn gather_runs<A: Allocator + Clone>(alloc: A, text: &[u8]) -> Result<Vec<Piece<A>, A>, ReadFault>
-    ensures { MatchResult result (λ v. joined_of (dump_pieces text.now) ≡ Ok (contents v.items))
-        (λ e. (e ≡ ReadFault.NoMemory) ⊎ (dump_pieces text.now ≡ Err e)) }
+/// The runs of a text that stands behind so many lines, one after another. Memory for the first one is guessed from the text's
+/// length, as if all lines went on.
+pub(crate) fn gather_runs<A: Allocator + Clone>(
+    alloc: A,
+    text: &[u8],
+    passed: u64,
+) -> Result<Vec<Piece<A>, A>, ReadFault>
+    requires { passed + length text.now < 2 ^ 64 }
+    ensures { MatchResult result (λ v. joined_of (gathered (answers (passed + 1) (lines_of text.now))) ≡ Ok (contents v.items))
+        (λ e. (e ≡ ReadFault.NoMemory) ⊎ (gathered (answers (passed + 1) (lines_of text.now)) ≡ Err e)) }
 {
     let mut runs = Vec::new(alloc.clone()?);
     let mut room = text.len() / ENDED * 16 + 16;
-    let mut lines = DumpLines::new(text);
+    let mut lines = DumpLines::behind(text, passed);
     let mut next = next_line(&mut lines)?;
     while let Some(first) = next {
         let taken = take_run(alloc.clone()?, &mut lines, first, room)?;

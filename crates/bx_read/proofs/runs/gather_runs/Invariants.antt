@@ -1,5 +1,5 @@
-use Rattle.std.proofs.Common.{◌≡◌}
-use Rattle.bx_read.specs.Text.{dump_pieces, contents}
+use Rattle.std.proofs.Common.{◌≡◌, ◌+◌}
+use Rattle.bx_read.specs.Text.{lines_of, answers, gathered, contents}
 use Rattle.bx_read.specs.Lines.{coming}
 use Rattle.bx_read.specs.inner.NextLine.{taken_then, lines_left, joined_of}
 use Rattle.bx_read.proofs.DumpLemmas.{after}
@@ -10,4 +10,4 @@ decreases-loop-next g l = lines_left l.next (coming l.lines)
 
 -- the runs so far, and those of the lines to come, are all
 abbrev pub invariant-loop-next : goal.invariant-loop-next
-invariant-loop-next g l = joined_of (dump_pieces l.text) ≡ after (contents l.runs.items) (joined_of (taken_then l.next (coming l.lines)))
+invariant-loop-next g l = joined_of (gathered (answers (l.passed + 1) (lines_of l.text))) ≡ after (contents l.runs.items) (joined_of (taken_then l.next (coming l.lines)))

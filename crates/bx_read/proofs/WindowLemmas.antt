@@ -1,0 +1,339 @@
+-- A dump that is read window by window.
+use Rattle.std.proofs.Common.{◌≡◌, ◌⊎◌, inl, inr, ℕ, ◌+◌, ◌<◌, Bool, true, false, eqb, Some, None, Option, Result, Ok, Err, List, [], ◌∷◌, ◌++◌, length, refl, arith, sym, ap, subst, ◌∙◌, append_assoc, append-nil, Vec}
+use Rattle.std.specs.List.{onto_first, All}
+use Rattle.std.specs.Prelude.{◌^◌}
+use Rattle.std.specs.Option.{unwrap_or, is_some}
+use Rattle.std.proofs.lemmas.Bool.{eqb-true}
+use Rattle.std.proofs.lemmas.List.{length-append, map-append}
+use Rattle.bx_text.specs.declared.owned.pieces.Piece.{Piece}
+use Rattle.bx_read.specs.Digits.{pairs_of}
+use Rattle.bx_read.specs.Line.{read_line}
+use Rattle.bx_read.specs.Runs.{with_piece, joined}
+use Rattle.bx_read.specs.Text.{lines_of, is_skipped, answer_then, answers, gathered, piece_then, contents, dump_pieces}
+use Rattle.bx_read.specs.Window.{IsWhole, AreRunsOf, IsDumpFault, IsFaultBehind, HasLines, HasReadBy, HasReadDump}
+use Rattle.bx_read.specs.inner.Window.{newlines, JoinsBehind, TakesText}
+use Rattle.bx_read.specs.inner.NextLine.{joined_of}
+use Rattle.bx_read.specs.declared.fault.ReadFault.{ReadFault}
+use Rattle.bx_read.specs.declared.fault.ReadFault.TheVariants.{NoMemory}
+use Rattle.bx_read.specs.declared.window.DumpRead.{DumpRead}
+use Rattle.bx_read.proofs.DumpLemmas.{Pieces, after}
+use Rattle.bx_read.proofs.LinesLemmas.{answers_read, answers_skip}
+use Rattle.bx_read.proofs.RunLemmas.{same_front, all_near}
+
+-- a run behind others: the last one has its bytes too, where it begins at its end
+abbrev pub onto_last : Pieces → ℕ × List ℕ → Pieces
+onto_last [] q = q ∷ []
+onto_last (r ∷ []) q = with_piece r (q ∷ [])
+onto_last (r ∷ s ∷ runs) q = r ∷ onto_last (s ∷ runs) q
+
+pub onto_front : (front : Pieces) (last q : ℕ × List ℕ) → onto_last (front ++ last ∷ []) q ≡ front ++ with_piece last (q ∷ [])
+onto_front [] last q = refl
+onto_front (f ∷ []) last q = refl
+onto_front (f ∷ g ∷ front) last q = ap (λ t. f ∷ t) (onto_front (g ∷ front) last q)
+
+-- one piece in front, and one behind
+both_ends : (p : ℕ × List ℕ) (runs : Pieces) (q : ℕ × List ℕ) → with_piece p (onto_last runs q) ≡ onto_last (with_piece p runs) q
+both_ends p [] q = refl
+both_ends p (r ∷ []) q = one (eqb r.0 (p.0 + length p.1)) refl (eqb q.0 (r.0 + length r.1)) refl
+  where
+    one : (a : Bool) → eqb r.0 (p.0 + length p.1) ≡ a → (b : Bool) → eqb q.0 (r.0 + length r.1) ≡ b → with_piece p (with_piece r (q ∷ [])) ≡ onto_last (with_piece p (r ∷ [])) q
+    one true e true k =
+        let at : r.0 ≡ p.0 + length p.1 = eqb-true r.0 (p.0 + length p.1) e in
+        let end : p.0 + length (p.1 ++ r.1) ≡ r.0 + length r.1 = omega (arith, at, length-append p.1 r.1) in
+        rw (e, k, end, k, e) (ap (λ b. (p.0, b) ∷ []) (sym (append_assoc p.1 r.1 q.1)))
+    one true e false k =
+        let at : r.0 ≡ p.0 + length p.1 = eqb-true r.0 (p.0 + length p.1) e in
+        let end : p.0 + length (p.1 ++ r.1) ≡ r.0 + length r.1 = omega (arith, at, length-append p.1 r.1) in
+        rw (e, k, end, k, e) refl
+    one false e true k = rw (e, k, e) refl
+    one false e false k = rw (e, k, e) refl
+both_ends p (r ∷ s ∷ runs) q = more (eqb r.0 (p.0 + length p.1)) refl
+  where
+    more : (a : Bool) → eqb r.0 (p.0 + length p.1) ≡ a → with_piece p (r ∷ onto_last (s ∷ runs) q) ≡ onto_last (with_piece p (r ∷ s ∷ runs)) q
+    more true e = rw e refl
+    more false e = rw e refl
+
+pub joined_onto : (pieces : Pieces) (q : ℕ × List ℕ) → joined (pieces ++ q ∷ []) ≡ onto_last (joined pieces) q
+joined_onto [] q = refl
+joined_onto (p ∷ pieces) q = ap (with_piece p) (joined_onto pieces q) ∙ both_ends p (joined pieces) q
+
+-- runs are joined already
+with_joined : (p : ℕ × List ℕ) (runs : Pieces) → joined (with_piece p runs) ≡ with_piece p (joined runs)
+with_joined p [] = refl
+with_joined p (r ∷ runs) = go (eqb r.0 (p.0 + length p.1)) refl
+  where
+    go : (a : Bool) → eqb r.0 (p.0 + length p.1) ≡ a → joined (with_piece p (r ∷ runs)) ≡ with_piece p (with_piece r (joined runs))
+    go true e =
+        let at : r.0 ≡ p.0 + length p.1 = eqb-true r.0 (p.0 + length p.1) e in
+        rw e (sym (subst (λ a. with_piece p (with_piece (a, r.1) (joined runs)) ≡ with_piece (p.0, p.1 ++ r.1) (joined runs)) (sym at) (same_front p.0 p.1 r.1 (joined runs))))
+    go false e = rw e refl
+
+pub joined_twice : (pieces : Pieces) → joined (joined pieces) ≡ joined pieces
+joined_twice [] = refl
+joined_twice (p ∷ pieces) = with_joined p (joined pieces) ∙ ap (with_piece p) (joined_twice pieces)
+
+pub joined_behind : (pieces more : Pieces) → joined (pieces ++ joined more) ≡ joined (pieces ++ more)
+joined_behind [] more = joined_twice more
+joined_behind (p ∷ pieces) more = ap (with_piece p) (joined_behind pieces more)
+
+-- the first line has a byte more in front
+onto_lines : (c : ℕ) (lines others : List (List ℕ)) → 0 < length lines → onto_first c (lines ++ others) ≡ onto_first c lines ++ others
+onto_lines c [] others some = absurd (omega arith)
+onto_lines c (line ∷ lines) others some = refl
+
+onto_length : (c : ℕ) (lines : List (List ℕ)) → 0 < length lines → length (onto_first c lines) ≡ length lines
+onto_length c [] some = absurd (omega arith)
+onto_length c (line ∷ lines) some = refl
+
+-- a newline ends a line
+pub some_lines : (front rest : List ℕ) → 0 < length (lines_of (front ++ 10 ∷ rest))
+some_lines [] rest = omega arith
+some_lines (c ∷ front) rest = go (eqb c 10) refl (some_lines front rest)
+  where
+    go : (b : Bool) → eqb c 10 ≡ b → 0 < length (lines_of (front ++ 10 ∷ rest)) → 0 < length (lines_of (c ∷ (front ++ 10 ∷ rest)))
+    go true e some = rw e (omega arith)
+    go false e some = rw e (omega (arith, some, onto_length c (lines_of (front ++ 10 ∷ rest)) some))
+
+-- how many lines whole lines are
+pub lines_count : (front : List ℕ) → length (lines_of (front ++ 10 ∷ [])) ≡ newlines (front ++ 10 ∷ [])
+lines_count [] = refl
+lines_count (c ∷ front) = go (eqb c 10) refl (lines_count front) (some_lines front [])
+  where
+    go : (b : Bool) → eqb c 10 ≡ b → length (lines_of (front ++ 10 ∷ [])) ≡ newlines (front ++ 10 ∷ []) → 0 < length (lines_of (front ++ 10 ∷ []))
+        → length (lines_of (c ∷ (front ++ 10 ∷ []))) ≡ newlines (c ∷ (front ++ 10 ∷ []))
+    go true e same some = rw e (omega (arith, same))
+    go false e same some = rw e (onto_length c (lines_of (front ++ 10 ∷ [])) some ∙ same)
+
+-- lines behind whole lines
+lines_front : (front rest : List ℕ) → lines_of (front ++ 10 ∷ rest) ≡ lines_of (front ++ 10 ∷ []) ++ lines_of rest
+lines_front [] rest = refl
+lines_front (c ∷ front) rest = go (eqb c 10) refl (lines_front front rest) (some_lines front [])
+  where
+    go : (b : Bool) → eqb c 10 ≡ b → lines_of (front ++ 10 ∷ rest) ≡ lines_of (front ++ 10 ∷ []) ++ lines_of rest → 0 < length (lines_of (front ++ 10 ∷ []))
+        → lines_of (c ∷ (front ++ 10 ∷ rest)) ≡ lines_of (c ∷ (front ++ 10 ∷ [])) ++ lines_of rest
+    go true e same some = rw e (ap (λ l. [] ∷ l) same)
+    go false e same some = rw e (ap (onto_first c) same ∙ onto_lines c (lines_of (front ++ 10 ∷ [])) (lines_of rest) some)
+
+pub lines_behind : (whole rest : List ℕ) → IsWhole whole → lines_of (whole ++ rest) ≡ lines_of whole ++ lines_of rest
+lines_behind whole rest (inl none) = rw none refl
+lines_behind whole rest (inr (front, is)) =
+    rw is (ap lines_of (append_assoc front (10 ∷ []) rest) ∙ lines_front front rest)
+
+-- what lines give, and what those behind them give
+abbrev pub gives_then : Result Pieces ReadFault → Result Pieces ReadFault → Result Pieces ReadFault
+gives_then (Ok pieces) later = after pieces later
+gives_then (Err fault) later = Err fault
+
+piece_in_front : (piece : ℕ × List ℕ) (r later : Result Pieces ReadFault) → piece_then piece (gives_then r later) ≡ gives_then (piece_then piece r) later
+piece_in_front piece (Ok pieces) (Ok more) = refl
+piece_in_front piece (Ok pieces) (Err fault) = refl
+piece_in_front piece (Err fault) later = refl
+
+after_nothing : (r : Result Pieces ReadFault) → r ≡ after [] r
+after_nothing (Ok pieces) = refl
+after_nothing (Err fault) = refl
+
+pub gathered_behind : (p q : ℕ) (lines others : List (List ℕ)) → q ≡ p + length lines →
+    gathered (answers p (lines ++ others)) ≡ gives_then (gathered (answers p lines)) (gathered (answers q others))
+gathered_behind p q [] others e =
+    let same : p ≡ q = omega (arith, e) in
+    ap (λ n. gathered (answers n others)) same ∙ after_nothing (gathered (answers q others))
+gathered_behind p q (line ∷ lines) others e = go (is_skipped line) refl (gathered_behind (p + 1) q lines others (omega (arith, e)))
+  where
+    read : (r : Result (ℕ × List ℕ) ReadFault) → gathered (answers (p + 1) (lines ++ others)) ≡ gives_then (gathered (answers (p + 1) lines)) (gathered (answers q others)) →
+        gathered (answer_then p r (answers (p + 1) (lines ++ others))) ≡ gives_then (gathered (answer_then p r (answers (p + 1) lines))) (gathered (answers q others))
+    read (Err fault) later = refl
+    read (Ok got) later =
+        ap (piece_then (got.0, unwrap_or (pairs_of got.1) [])) later
+        ∙ piece_in_front (got.0, unwrap_or (pairs_of got.1) []) (gathered (answers (p + 1) lines)) (gathered (answers q others))
+
+    go : (b : Bool) → is_skipped line ≡ b → gathered (answers (p + 1) (lines ++ others)) ≡ gives_then (gathered (answers (p + 1) lines)) (gathered (answers q others)) →
+        gathered (answers p (line ∷ (lines ++ others))) ≡ gives_then (gathered (answers p (line ∷ lines))) (gathered (answers q others))
+    go true e later = rw (answers_skip p line (lines ++ others) e, answers_skip p line lines e) later
+    go false e later = rw (answers_read p line (lines ++ others) e, answers_read p line lines e) (read (read_line p line) later)
+
+-- a run put behind others
+module _ {A : Type 0} (old popped new : List (Piece A)) (run : Piece A) where
+  pub push_onto : contents new ≡ onto_last (contents old) (run.at, run.bytes) → JoinsBehind old new ((run.at, run.bytes) ∷ [])
+  push_onto is = λ pieces joined_are. is ∙ ap (λ r. onto_last r (run.at, run.bytes)) joined_are ∙ sym (joined_onto pieces (run.at, run.bytes))
+
+  pub push_first : old ≡ popped ++ [] → length popped ≡ 0 → new ≡ popped ++ run ∷ [] → JoinsBehind old new ((run.at, run.bytes) ∷ [])
+  push_first before none pushed = push_onto (go popped none before pushed)
+    where
+      go : (popped : List (Piece A)) → length popped ≡ 0 → old ≡ popped ++ [] → new ≡ popped ++ run ∷ [] → contents new ≡ onto_last (contents old) (run.at, run.bytes)
+      go [] none before pushed = rw (before, pushed) refl
+      go (p ∷ popped) none before pushed = absurd (omega arith)
+
+  module _ (last : Piece A) (before : old ≡ popped ++ last ∷ []) where
+    last_of : contents old ≡ contents popped ++ (last.at, last.bytes) ∷ []
+    last_of = ap contents before ∙ map-append (λ p. (p.at, p.bytes)) popped (last ∷ [])
+
+    with_last : onto_last (contents old) (run.at, run.bytes) ≡ contents popped ++ with_piece (last.at, last.bytes) ((run.at, run.bytes) ∷ [])
+    with_last = ap (λ r. onto_last r (run.at, run.bytes)) last_of ∙ onto_front (contents popped) (last.at, last.bytes) (run.at, run.bytes)
+
+    pub push_apart : (between : List (Piece A)) → between ≡ popped ++ last ∷ [] → new ≡ between ++ run ∷ [] → eqb run.at (last.at + length last.bytes) ≡ false →
+        JoinsBehind old new ((run.at, run.bytes) ∷ [])
+    push_apart between first second e =
+        let both : contents new ≡ contents popped ++ (last.at, last.bytes) ∷ (run.at, run.bytes) ∷ [] =
+        ap contents (second ∙ ap (λ b. b ++ run ∷ []) first ∙ append_assoc popped (last ∷ []) (run ∷ []))
+        ∙ map-append (λ p. (p.at, p.bytes)) popped (last ∷ run ∷ []) in
+        let two : contents popped ++ with_piece (last.at, last.bytes) ((run.at, run.bytes) ∷ []) ≡ contents popped ++ (last.at, last.bytes) ∷ (run.at, run.bytes) ∷ [] = rw e refl in
+        push_onto (both ∙ sym (with_last ∙ two))
+
+    pub push_joined : (longer : Piece A) → longer.at ≡ last.at → longer.bytes ≡ last.bytes ++ run.bytes → new ≡ popped ++ longer ∷ [] →
+        eqb run.at (last.at + length last.bytes) ≡ true → JoinsBehind old new ((run.at, run.bytes) ∷ [])
+    push_joined longer at bytes pushed e =
+        let all : contents new ≡ contents popped ++ (longer.at, longer.bytes) ∷ [] = ap contents pushed ∙ map-append (λ p. (p.at, p.bytes)) popped (longer ∷ []) in
+        let one : contents popped ++ (longer.at, longer.bytes) ∷ [] ≡ contents popped ++ (last.at, last.bytes ++ run.bytes) ∷ [] = rw (at, bytes) refl in
+        let two : contents popped ++ with_piece (last.at, last.bytes) ((run.at, run.bytes) ∷ []) ≡ contents popped ++ (last.at, last.bytes ++ run.bytes) ∷ [] = rw e refl in
+        push_onto (all ∙ one ∙ sym (with_last ∙ two))
+
+-- runs put behind others, one after another
+pub none_put : {A : Type 0} (old : List (Piece A)) → JoinsBehind old old []
+none_put old = λ pieces joined_are. joined_are ∙ ap joined (sym (append-nil pieces))
+
+pub one_put : {A : Type 0} (old mid new done more : List (Piece A)) (run : Piece A) → JoinsBehind old mid (contents done) → JoinsBehind mid new ((run.at, run.bytes) ∷ []) →
+    more ≡ done ++ run ∷ [] → JoinsBehind old new (contents more)
+one_put old mid new done more run before step all = λ pieces joined_are.
+    step (pieces ++ contents done) (before pieces joined_are)
+    ∙ ap joined (append_assoc pieces (contents done) ((run.at, run.bytes) ∷ [])
+    ∙ ap (λ t. pieces ++ t) (sym (ap contents all ∙ map-append (λ p. (p.at, p.bytes)) done (run ∷ []))))
+
+-- a text behind lines that were read, by its own runs
+pub takes_text : {A : Type 0} (lines : ℕ) (text : List ℕ) (got old new : List (Piece A)) → joined_of (gathered (answers (lines + 1) (lines_of text))) ≡ Ok (contents got) →
+    JoinsBehind old new (contents got) → TakesText lines text old new
+takes_text lines text got old new read joins = go (gathered (answers (lines + 1) (lines_of text))) refl read
+  where
+    same : (x y : Pieces) → ◌≡◌ {A = Result Pieces ReadFault} (Ok x) (Ok y) → x ≡ y
+    same x y h = cc
+
+    go : (r : Result Pieces ReadFault) → gathered (answers (lines + 1) (lines_of text)) ≡ r → joined_of r ≡ Ok (contents got) → TakesText lines text old new
+    go (Ok more) is e = (more, is, λ pieces joined_are. joins pieces joined_are ∙ ap (λ t. joined (pieces ++ t)) (sym (same (joined more) (contents got) e)) ∙ joined_behind pieces more)
+    go (Err fault) is e = cc
+
+-- whole lines that were read, and a text behind them
+module _ (whole text : List ℕ) (lines : ℕ) (pieces : Pieces) (ends : IsWhole whole) (read : dump_pieces whole ≡ Ok pieces) (count : lines ≡ length (lines_of whole)) where
+  all_of : dump_pieces (whole ++ text) ≡ gives_then (Ok pieces) (gathered (answers (lines + 1) (lines_of text)))
+  all_of =
+      ap (λ l. gathered (answers 1 l)) (lines_behind whole text ends)
+      ∙ gathered_behind 1 (lines + 1) (lines_of whole) (lines_of text) (omega (arith, count))
+      ∙ ap (λ r. gives_then r (gathered (answers (lines + 1) (lines_of text)))) read
+
+  pub pieces_behind : (more : Pieces) → gathered (answers (lines + 1) (lines_of text)) ≡ Ok more → dump_pieces (whole ++ text) ≡ Ok (pieces ++ more)
+  pieces_behind more e = all_of ∙ ap (gives_then (Ok pieces)) e
+
+  pub fault_behind : (fault : ReadFault) → gathered (answers (lines + 1) (lines_of text)) ≡ Err fault → dump_pieces (whole ++ text) ≡ Err fault
+  fault_behind fault e = all_of ∙ ap (gives_then (Ok pieces)) e
+
+-- a fault of whole lines is that of each text which begins with them
+pub fault_lasts : (whole rest : List ℕ) (fault : ReadFault) → IsWhole whole → dump_pieces whole ≡ Err fault → dump_pieces (whole ++ rest) ≡ Err fault
+fault_lasts whole rest fault ends e =
+    ap (λ l. gathered (answers 1 l)) (lines_behind whole rest ends)
+    ∙ gathered_behind 1 (1 + length (lines_of whole)) (lines_of whole) (lines_of rest) refl
+    ∙ ap (λ r. gives_then r (gathered (answers (1 + length (lines_of whole)) (lines_of rest)))) e
+
+whole_ends : (whole held lines front : List ℕ) → lines ≡ front ++ 10 ∷ [] → IsWhole (whole ++ (held ++ lines))
+whole_ends whole held lines front end =
+    inr (whole ++ (held ++ front), ap (λ l. whole ++ (held ++ l)) end ∙ ap (λ l. whole ++ l) (sym (append_assoc held front (10 ∷ []))) ∙ sym (append_assoc whole (held ++ front) (10 ∷ [])))
+
+-- a window of which nothing is read yet
+pub held_more : {A : Type 0} (text whole window : List ℕ) (old new : DumpRead A) → HasLines text whole old → new.held.items ≡ old.held.items ++ window → new.runs ≡ old.runs →
+    new.lines ≡ old.lines → HasLines (text ++ window) whole new
+held_more text whole window old new has held runs lines = record {
+  spelled = ap (λ t. t ++ window) has.spelled ∙ append_assoc whole old.held.items window ∙ ap (λ t. whole ++ t) (sym held);
+  ends = has.ends;
+  runs = subst (λ (r : Vec _ _). AreRunsOf whole r.items) (sym runs) has.runs;
+  lines = lines ∙ has.lines;
+}
+
+-- a window whose lines are read
+module _ {A : Type 0} (text whole window lines rest front : List ℕ) (old mid : DumpRead A) (has : HasLines text whole old) (cut : window ≡ lines ++ rest) (end : lines ≡ front ++ 10 ∷ [])
+    (held : mid.held.items ≡ old.held.items ++ lines) (runs : mid.runs ≡ old.runs) (count : mid.lines ≡ old.lines) where
+  spelled_more : text ++ window ≡ (whole ++ mid.held.items) ++ rest
+  spelled_more =
+      ap (λ t. t ++ window) has.spelled ∙ append_assoc whole old.held.items window
+      ∙ ap (λ w. whole ++ (old.held.items ++ w)) cut
+      ∙ ap (λ w. whole ++ w) (sym (append_assoc old.held.items lines rest) ∙ ap (λ h. h ++ rest) (sym held))
+      ∙ sym (append_assoc whole mid.held.items rest)
+
+  ends_more : IsWhole (whole ++ mid.held.items)
+  ends_more = subst (λ h. IsWhole (whole ++ h)) (sym held) (whole_ends whole old.held.items lines front end)
+
+  pub lines_read : (took new : DumpRead A) → TakesText mid.lines mid.held.items mid.runs.items took.runs.items → took.lines ≡ mid.lines + newlines mid.held.items →
+      took.held.items ≡ [] → new.held.items ≡ took.held.items ++ rest → new.runs ≡ took.runs → new.lines ≡ took.lines → HasLines (text ++ window) (whole ++ mid.held.items) new
+  lines_read took new takes counted none more same_runs same_lines = record {
+    spelled = spelled_more ∙ ap (λ t. (whole ++ mid.held.items) ++ t) (sym (more ∙ ap (λ h. h ++ rest) none));
+    ends = ends_more;
+    runs =
+        let before : contents mid.runs.items ≡ joined has.runs.0 = ap (λ (r : Vec _ _). contents r.items) runs ∙ has.runs.2 in (
+          has.runs.0 ++ takes.0,
+          pieces_behind whole mid.held.items mid.lines has.runs.0 has.ends has.runs.1 (count ∙ has.lines) takes.0 takes.1,
+          ap (λ (r : Vec _ _). contents r.items) same_runs ∙ takes.2 has.runs.0 before,
+        );
+    lines =
+        let whole_front : mid.held.items ≡ (old.held.items ++ front) ++ 10 ∷ [] = held ∙ ap (λ l. old.held.items ++ l) end ∙ sym (append_assoc old.held.items front (10 ∷ [])) in
+        let of_held : length (lines_of mid.held.items) ≡ newlines mid.held.items =
+        subst (λ t. length (lines_of t) ≡ newlines t) (sym whole_front) (lines_count (old.held.items ++ front)) in
+        let both : length (lines_of (whole ++ mid.held.items)) ≡ length (lines_of whole) + length (lines_of mid.held.items) =
+        ap length (lines_behind whole mid.held.items has.ends) ∙ length-append (lines_of whole) (lines_of mid.held.items) in
+        omega (arith, same_lines, counted, count, has.lines, both, of_held);
+  }
+
+  pub window_fault : (fault : ReadFault) → (fault ≡ NoMemory) ⊎ (gathered (answers (mid.lines + 1) (lines_of mid.held.items)) ≡ Err fault) → IsFaultBehind (text ++ window) fault
+  window_fault fault (inl none) = inl none
+  window_fault fault (inr is) = inr (λ later.
+      ap (λ t. dump_pieces (t ++ later)) spelled_more ∙ ap dump_pieces (append_assoc (whole ++ mid.held.items) rest later)
+      ∙ fault_lasts (whole ++ mid.held.items) (rest ++ later) fault ends_more
+      (fault_behind whole mid.held.items mid.lines has.runs.0 has.ends has.runs.1 (count ∙ has.lines) fault is))
+
+-- what is known of a text, by the fault that is kept
+pub not_known : {X : Type 0} (o : Option X) → ((x : X) → o ≡ Some x → ⊥) → o ≡ None
+not_known None none = refl
+not_known (Some x) none = absurd (none x refl)
+
+pub no_fault : {X : Type 0} (o : Option X) (b : Bool) → b ≡ is_some o → b ≡ false → o ≡ None
+no_fault None b is e = refl
+no_fault (Some x) b is e = cc
+
+pub lines_of_read : {A : Type 0} (text : List ℕ) (old : DumpRead A) → old.fault ≡ None → HasReadDump text old → (whole : List ℕ) × HasLines text whole old
+lines_of_read text old none is = subst (HasReadBy text old) none is
+
+pub reads_on : {A : Type 0} (text window : List ℕ) (old new : DumpRead A) → old.fault ≡ None → new.fault ≡ old.fault →
+    ((whole : List ℕ) → HasLines text whole old → (longer : List ℕ) × HasLines (text ++ window) longer new) → HasReadDump text old → HasReadDump (text ++ window) new
+reads_on text window old new none same step is =
+    let was = lines_of_read text old none is in
+    subst (HasReadBy (text ++ window) new) (sym (same ∙ none)) (step was.0 was.1)
+
+pub fault_stays : {A : Type 0} (text window : List ℕ) (old : DumpRead A) (fault : ReadFault) → old.fault ≡ Some fault → HasReadDump text old → HasReadDump (text ++ window) old
+fault_stays text window old fault known is = subst (HasReadBy (text ++ window) old) (sym known) (go (subst (HasReadBy text old) known is))
+  where
+    go : IsFaultBehind text fault → IsFaultBehind (text ++ window) fault
+    go (inl none) = inl none
+    go (inr all) = inr (λ rest. ap dump_pieces (append_assoc text window rest) ∙ all (window ++ rest))
+
+-- at the end of the text
+pub fault_at_end : {A : Type 0} (text : List ℕ) (read : DumpRead A) (fault : ReadFault) → read.fault ≡ Some fault → HasReadDump text read → IsDumpFault text fault
+fault_at_end text read fault known is = go (subst (HasReadBy text read) known is)
+  where
+    go : IsFaultBehind text fault → IsDumpFault text fault
+    go (inl none) = inl none
+    go (inr all) = inr (ap dump_pieces (sym (append-nil text)) ∙ all [])
+
+module _ {A : Type 0} (text : List ℕ) (old : DumpRead A) (none : old.fault ≡ None) (is : HasReadDump text old) where
+  was : (whole : List ℕ) × HasLines text whole old
+  was = subst (HasReadBy text old) none is
+
+  pub last_runs : (new : List (Piece A)) → TakesText old.lines old.held.items old.runs.items new → AreRunsOf text new
+  last_runs new takes = let has = was.1 in (
+    has.runs.0 ++ takes.0,
+    ap dump_pieces has.spelled ∙ pieces_behind was.0 old.held.items old.lines has.runs.0 has.ends has.runs.1 has.lines takes.0 takes.1,
+    takes.2 has.runs.0 has.runs.2,
+  )
+
+  pub last_fault : (fault : ReadFault) → (fault ≡ NoMemory) ⊎ (gathered (answers (old.lines + 1) (lines_of old.held.items)) ≡ Err fault) → IsDumpFault text fault
+  last_fault fault (inl refused) = inl refused
+  last_fault fault (inr e) = let has = was.1 in inr (ap dump_pieces has.spelled ∙ fault_behind was.0 old.held.items old.lines has.runs.0 has.ends has.runs.1 has.lines fault e)
+
+-- each run of a text begins below 2 ^ 62
+pub runs_near : {A : Type 0} (text : List ℕ) (runs : List (Piece A)) → AreRunsOf text runs → All (λ run. run.at < 2 ^ 62) runs
+runs_near text runs are = all_near text runs (ap joined_of are.1 ∙ ap Ok (sym are.2))

@@ -1,0 +1,18 @@
+-- What proofs alone need: more lines behind those that were read.
+use Rattle.std.specs.Prelude.{◌≡◌, ℕ, ◌+◌, ◌==◌, if◌then◌else◌, List, [], ◌∷◌, ◌++◌, Ok}
+use Rattle.bx_text.specs.declared.owned.pieces.Piece.{Piece}
+use Rattle.bx_read.specs.Runs.{joined}
+use Rattle.bx_read.specs.Text.{lines_of, answers, gathered, contents}
+
+-- how many newlines a text has
+abbrev pub newlines : List ℕ → ℕ
+newlines [] = 0
+newlines (c ∷ text) = if c == 10 then newlines text + 1 else newlines text
+
+-- Behind the runs of any pieces stand those of others too: they are the runs of all of them.
+abbrev pub JoinsBehind : {A : Type 0} → List (Piece A) → List (Piece A) → List (ℕ × List ℕ) → Type 0
+JoinsBehind old new more = (pieces : List (ℕ × List ℕ)) → contents old ≡ joined pieces → contents new ≡ joined (pieces ++ more)
+
+-- Behind the runs of any pieces stand those of a text behind so many lines.
+abbrev pub TakesText : {A : Type 0} → ℕ → List ℕ → List (Piece A) → List (Piece A) → Type 0
+TakesText lines text old new = (more : List (ℕ × List ℕ)) × (gathered (answers (lines + 1) (lines_of text)) ≡ Ok more) × JoinsBehind old new more
