@@ -3,6 +3,7 @@ pub mod Copy
 pub mod Fault
 pub mod Standing
 pub mod Run
+pub mod Reading
 pub mod Power
 pub mod Obeys
 pub mod Tells

@@ -54,6 +54,10 @@ MovesUp Step moved k old (Err DeviceFailed) after = after ≡ Up old
 MovesUp Step moved k old (Err Interrupted) after = (i : ℕ) × (i ≤ k) × (after ≡ Down (moved i old))
 MovesUp Step moved k old (Err e) after = (after ≡ Up old) × Step old k (Err e) old
 
+-- how many calls of each of a session's devices failed is below a limit
+abbrev pub CountsBelow : {D T : Type 0} → ℕ → (D → ℕ) → (T → ℕ) → SessionView D T → Type 0
+CountsBelow limit failures text_failures s = (failures s.device < limit) × (text_failures s.store < limit) × (text_failures s.redo_text < limit)
+
 -- No count of failed calls falls, and the three together rise by exactly this many
 pub record CountsBy {D T : Type 0} (failures : D → ℕ) (text_failures : T → ℕ) (old new : SessionView D T) (failed : ℕ) : Type 0 where
   pub device_least : failures old.device ≤ failures new.device

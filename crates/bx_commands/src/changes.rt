@@ -7,7 +7,7 @@ ghost use Rattle.bx_commands.specs.inner.Copy.{CopiesBy};
 ghost use Rattle.bx_dd.specs.Transfer.{HasStopped, ReadsWithin};
 ghost use Rattle.bx_read.specs.Plain.{plain_answer};
 ghost use Rattle.bx_read.specs.Runs.{joined};
-ghost use Rattle.bx_read.specs.Text.{dump_pieces};
+ghost use Rattle.bx_read.specs.Text.{dump_pieces, contents};
 
 use bx_dd::{Counts, DdFault, Plan, parse, transfer};
 use bx_image::Change;
@@ -27,12 +27,21 @@ pub fn change_of_dump<A: Allocator + Clone>(
     ensures change { IfOk result (λ c. (pieces : List (ℕ × List ℕ)) × (dump_pieces text.now ≡ Ok pieces) × (c ≡ dump_change offset (joined pieces))) }
     ensures fault { IfErr result (λ e. (e ≡ ReadFault.NoMemory) ⊎ (dump_pieces text.now ≡ Err e)) }
 {
-    let mut runs = read_runs(alloc.clone()?, text)?;
+    let runs = read_runs(alloc.clone()?, text)?;
+    Ok(change_of_runs(runs, offset))
+}
+
+/// The change that puts each run at its address plus `offset`.
+pub fn change_of_runs<A: Allocator>(mut runs: Vec<Piece<A>, A>, offset: u64) -> Change<A>
+    requires near { All (λ run. run.at < 2 ^ 62) runs.items }
+    requires far { offset ≤ 2 ^ 62 }
+    ensures { result ≡ dump_change offset (contents runs.items) }
+{
     move_pieces(runs.as_mut_slice(), offset);
-    Ok(Change {
+    Change {
         base: None,
         writes: Pieces::from_vec(runs),
-    })
+    }
 }
 
 /// Adds `offset` to the address of each piece.

@@ -6,9 +6,11 @@ mod command;
 mod fault;
 pub mod laws;
 mod listing;
+mod reading;
 mod run;
 
 pub use command::{Command, Reply};
 pub use fault::Fault;
 pub use listing::log_text;
-pub use run::run_all;
+pub use reading::{Form, change_from};
+pub use run::{run_all, run_read};

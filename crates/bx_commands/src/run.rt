@@ -2,12 +2,12 @@
 ghost use Rattle.std.specs.Prelude.{◌≡◌, ◌+◌, ◌^◌, ◌≤◌, ℕ, [], length, IfOk, OnErr, All, count_by};
 ghost use Rattle.bx_journal.specs.Session.{IsRedoSame, IsUnfailed};
 ghost use Rattle.bx_commands.specs.Obeys.{Obeys};
-ghost use Rattle.bx_commands.specs.Standing.{CountsBy, HoldsAt, Leads, RestsAt, Shows};
+ghost use Rattle.bx_commands.specs.Standing.{CountsBelow, CountsBy, HoldsAt, Leads, RestsAt, Shows};
 ghost use Rattle.bx_commands.specs.Command.{IsNear};
 ghost use Rattle.bx_commands.specs.Power.{RunFinds};
 ghost use Rattle.bx_commands.specs.Refusal.{IsOwnRefusal, IsWholeRefusal, KeepsPair};
 ghost use Rattle.bx_commands.specs.Run.{is_failure, ReadStep, DdStep, CommandRun, Runs, Unfailed};
-ghost use Rattle.bx_commands.specs.inner.Run.{made_reply, CountsBelow, ChangeStep, UndoesStep, RedoesStep, DumpStep, PlainStep};
+ghost use Rattle.bx_commands.specs.inner.Run.{made_reply, ChangeStep, UndoesStep, RedoesStep, DumpStep, PlainStep};
 ghost use Rattle.bx_commands.specs.SessionRun.{AllObey, SessionStep};
 ghost use Rattle.bx_commands.specs.Tells.{ChangeTells, RedoTells, Tells, UndoTells};
 
@@ -82,8 +82,8 @@ fn run_redo<D: Device, T: TextStore, A: Allocator + Clone>(
     }
 }
 
-/// Reads the text that asks for a change, and makes the change.
-fn run_read<D: Device, T: TextStore, A: Allocator + Clone>(
+/// Makes the change of a text that was read, or refuses it for the text's fault.
+pub fn run_read<D: Device, T: TextStore, A: Allocator + Clone>(
     session: &mut Session<D, T, A>,
     read: Result<Change<A>, ReadFault>,
 ) -> Reply

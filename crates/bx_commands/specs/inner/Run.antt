@@ -1,5 +1,5 @@
 -- What proofs alone need: the steps of single calls.
-use Rattle.std.specs.Prelude.{◌≡◌, ◌<◌, ◌≤◌, ℕ, Option, None, Some, Result, List}
+use Rattle.std.specs.Prelude.{◌≡◌, ◌≤◌, ℕ, Option, None, Some, Result, List}
 use Rattle.bx_dd.specs.declared.stream.counts.Counts.{Counts}
 use Rattle.bx_image.specs.declared.change.Change.{Change}
 use Rattle.bx_journal.specs.Images.{Images, redo_of, undo_of}
@@ -15,10 +15,6 @@ use Rattle.bx_commands.specs.declared.fault.Fault.TheVariants.{Read}
 use Rattle.bx_commands.specs.Command.{dump_change, plain_change}
 use Rattle.bx_commands.specs.Run.{CallStep, TextStep}
 use Rattle.bx_commands.specs.Standing.{CountsBy, MovesUp, PerformUp, Standing}
-
--- how many calls of each of a session's devices failed is below a limit
-abbrev pub CountsBelow : {D T : Type 0} → ℕ → (D → ℕ) → (T → ℕ) → SessionView D T → Type 0
-CountsBelow limit failures text_failures s = (failures s.device < limit) × (text_failures s.store < limit) × (text_failures s.redo_text < limit)
 
 -- the reply to a change that was made; dd's tells its counts too
 abbrev pub made_reply : Option Counts → ℕ → Reply

@@ -1,0 +1,96 @@
+//! The changes of texts that are read from a source, a window at a time.
+ghost use Rattle.std.specs.Prelude.{◌≡◌, ◌⊎◌, ◌-◌, ◌+◌, ◌^◌, ◌<◌, ◌≤◌, ℕ, List, length, Some, Err, MatchResult, IfOk, IfErr, OnOk};
+ghost use Rattle.std.specs.Io.KnownBytes.{Consumes, IsAtEnd};
+ghost use Rattle.bx_text.specs.Stream.{fault_of, IsRestCause, StopsIn};
+ghost use Rattle.bx_text.specs.declared.stream.State.{State};
+ghost use Rattle.bx_text.specs.declared.fault.IoFault.{IoFault};
+ghost use Rattle.bx_commands.specs.Reading.{IsChangeOf, IsFaultOf};
+
+use crate::changes::{change_of_plain, change_of_runs};
+use bx_image::Change;
+use bx_read::{ReadFault, read_runs_from};
+use bx_text::{IoFault, Source};
+use std::alloc::Allocator;
+use std::io::Read;
+
+/// How the text of a revert is written.
+#[derive(Clone, Copy, Debug, PartialEq, Eq)]
+pub enum Form {
+    /// Lines with addresses.
+    Dump,
+    /// Plain hexadecimal.
+    Plain,
+}
+
+/// The change that a text asks for, which is read up to the source's end: `at` is added to the addresses of a dump, and is the place of
+/// plain hexadecimal. Of a dump no more is held than its runs, a window and the longest line. A fault of the text is answered once
+/// the source is at its end; one of the source, or want of memory, as soon as it comes.
+pub fn change_from<R: Read + Drop, A: Allocator + Clone>(
+    alloc: &A,
+    source: &mut Source<R>,
+    form: Form,
+    at: u64,
+) -> Result<Result<Change<A>, ReadFault>, IoFault>
+    requires { at ≤ 2 ^ 62 }
+
+    // What was read is the text, up to the end.
+    ensures change { IfOk result (λ read. (text : List ℕ) × Consumes (R.remaining source.old.reader) (R.remaining source.new.reader) text
+        × MatchResult read (IsChangeOf form text at) (IsFaultOf form text)) }
+    ensures end { OnOk result (source.old.meter.state ≡ State.Open → IsAtEnd (R.remaining source.new.reader)) }
+
+    // A fault of the source is the same from then on.
+    ensures err { IfErr result (λ e. (e ≡ IoFault.NoMemory) ⊎ (fault_of source.new.meter.state ≡ Some e)) }
+    ensures stopped { IfErr result (λ e. StopsIn source.old.meter (R.remaining source.old.reader) (R.remaining source.new.reader) (IsRestCause e)) }
+{
+    match form {
+        Form::Dump => dump_from(alloc, source, at),
+        Form::Plain => plain_from(alloc, source, at),
+    }
+}
+
+/// The change of a dump.
+fn dump_from<R: Read + Drop, A: Allocator + Clone>(
+    alloc: &A,
+    source: &mut Source<R>,
+    offset: u64,
+) -> Result<Result<Change<A>, ReadFault>, IoFault>
+    requires { offset ≤ 2 ^ 62 }
+    ensures change { IfOk result (λ read. (text : List ℕ) × Consumes (R.remaining source.old.reader) (R.remaining source.new.reader) text
+        × MatchResult read (IsChangeOf Form.Dump text offset) (IsFaultOf Form.Dump text)) }
+    ensures end { OnOk result (source.old.meter.state ≡ State.Open → IsAtEnd (R.remaining source.new.reader)) }
+    ensures err { IfErr result (λ e. (e ≡ IoFault.NoMemory) ⊎ (fault_of source.new.meter.state ≡ Some e)) }
+    ensures stopped { IfErr result (λ e. StopsIn source.old.meter (R.remaining source.old.reader) (R.remaining source.new.reader) (IsRestCause e)) }
+{
+    match read_runs_from(alloc, source) {
+        Ok(Ok(runs)) => Ok(Ok(change_of_runs(runs, offset))),
+        Ok(Err(ReadFault::NoMemory)) => Err(IoFault::NoMemory),
+        Ok(Err(fault)) => Ok(Err(fault)),
+        Err(fault) => Err(fault),
+    }
+}
+
+/// The change of plain hexadecimal.
+fn plain_from<R: Read + Drop, A: Allocator + Clone>(
+    alloc: &A,
+    source: &mut Source<R>,
+    at: u64,
+) -> Result<Result<Change<A>, ReadFault>, IoFault>
+    ensures change { IfOk result (λ read. (text : List ℕ) × Consumes (R.remaining source.old.reader) (R.remaining source.new.reader) text
+        × MatchResult read (IsChangeOf Form.Plain text at) (IsFaultOf Form.Plain text)) }
+    ensures end { OnOk result (source.old.meter.state ≡ State.Open → IsAtEnd (R.remaining source.new.reader)) }
+    ensures err { IfErr result (λ e. (e ≡ IoFault.NoMemory) ⊎ (fault_of source.new.meter.state ≡ Some e)) }
+    ensures stopped { IfErr result (λ e. StopsIn source.old.meter (R.remaining source.old.reader) (R.remaining source.new.reader) (IsRestCause e)) }
+{
+    let Ok(memory) = alloc.clone() else {
+        return Err(IoFault::NoMemory);
+    };
+    let text = match source.rest(memory) {
+        Ok(text) => text,
+        Err(fault) => return Err(fault),
+    };
+    match change_of_plain(alloc, text.as_slice(), at) {
+        Ok(change) => Ok(Ok(change)),
+        Err(ReadFault::NoMemory) => Err(IoFault::NoMemory),
+        Err(fault) => Ok(Err(fault)),
+    }
+}
