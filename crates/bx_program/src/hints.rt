@@ -3,6 +3,7 @@ mod commands;
 mod names;
 mod readers;
 pub mod remarks;
+pub mod seen;
 
 use crate::hints::commands::{operands_of, words_of};
 use crate::hints::names::name_hint;

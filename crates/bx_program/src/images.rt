@@ -8,9 +8,10 @@ use crate::files::text_file::TextFile;
 use crate::files::{Made, SessionFiles, existing, trio};
 use crate::folders::keep_names;
 use crate::stopped::{Devices, Stopped};
-use bx_cli::{Access, Command, Durability, Fault, Reply, Texts, log_text, run_all};
-use bx_image::{Device, FileImage, SystemFile};
+use bx_cli::{Access, Command, Durability, Fault, Reply, Texts, log_text, run_all, run_read};
+use bx_image::{Change, Device, FileImage, SystemFile};
 use bx_journal::{How, Session, SessionFault};
+use bx_read::ReadFault;
 use bx_store::{FileText, TextStore};
 use bx_text::{Name, NoMemory};
 use std::fs::File;
@@ -175,6 +176,35 @@ where
             let devices = Devices { trio, image, texts };
             Err(devices.refused(rt, fault, made))
         }
+    }
+}
+
+/// Makes the change of a text that was read, on a session that was just opened, and closes it.
+pub fn finish_read<'a, R>(
+    rt: &R,
+    opened: OpenSession,
+    read: Result<Change, ReadFault>,
+    image: &'a Name,
+    texts: &'a Texts,
+) -> Result<(), Stopped<'a>>
+where
+    R: Files<File = File> + AllocGlobal,
+    requires device { ⟦<FileImage as Device>⟧.failures opened.session.device ≡ 0 }
+    requires store { ⟦<FileText<TextFile> as TextStore>⟧.failures opened.session.store ≡ 0 }
+    requires redo_text { ⟦<FileText<TextFile> as TextStore>⟧.failures opened.session.redo_text ≡ 0 }
+{
+    let OpenSession {
+        mut session,
+        made,
+        ..
+    } = opened;
+    match run_read(&mut session, read) {
+        Reply::Refused(fault) => {
+            let trio = session.close();
+            let devices = Devices { trio, image, texts };
+            Err(devices.refused(rt, fault, made))
+        }
+        _ => Ok(()),
     }
 }
 

@@ -4,18 +4,21 @@ ghost use Rattle.bx_commands.specs.Command.{IsNear};
 
 use crate::copies::{copy_onto, tell};
 use crate::hints::remarks::Remarks;
+use crate::hints::seen::{Seen, Watched};
 use crate::hints::show_fault;
-use crate::images::{finish, log, open_session, open_to_look};
+use crate::images::{finish, finish_read, log, open_session, open_to_look};
 use crate::input::{Placed, file, open, standard};
 use crate::stopped::{Noted, STANDARD_INPUT, Stopped};
 use crate::streams::Held;
 use crate::tally::Tally;
 use bx_cli::{
-    Access, Command, DdJob, Done, Fault, HexdumpJob, Job, OdJob, Reply, RevertJob, StringsJob,
-    Texts, XxdJob, plan_words, run_dump_behind,
+    Access, Command, DdJob, Done, Fault, Form, HexdumpJob, Job, OdJob, Reply, RevertJob, StringsJob,
+    Texts, XxdJob, change_from, plan_words, run_dump_behind,
 };
 use bx_dd::Counts;
-use bx_text::{Bytes, IoFault, Name, Source, Words, dec_field, emit, emit_after};
+use bx_image::Change;
+use bx_read::ReadFault;
+use bx_text::{IoFault, Name, Source, Words, dec_field, emit, emit_after};
 use std::alloc::Global;
 use std::env;
 use std::fs::File;
@@ -213,30 +216,30 @@ fn revert<'a, R>(rt: &R, job: &'a RevertJob, remarks: &mut Remarks) -> Result<()
 where
     R: Files<File = File> + Input + Eprint + AllocGlobal,
 {
-    let text = match &job.dump {
-        Some(name) => whole(rt.alloc(), name.as_str(), open(rt, name)?)?,
-        None => whole(rt.alloc(), STANDARD_INPUT, rt.reader())?,
+    let mut seen = remarks.seen_of(rt.alloc(), job.plain);
+    let read = match &job.dump {
+        Some(name) => change_of(rt.alloc(), job, name.as_str(), open(rt, name)?, &mut seen)?,
+        None => change_of(rt.alloc(), job, STANDARD_INPUT, rt.reader(), &mut seen)?,
     };
-    remarks.look_at_dump(text.as_slice(), job.plain);
-    let text = Bytes::from_vec(text);
-    let asked: Command = if job.plain {
-        Command::RevertPlain { text, at: job.at }
-    } else {
-        Command::Revert {
-            text,
-            offset: job.at,
-        }
-    };
+    remarks.look_at_dump(seen);
     let session = open_session(rt, &job.image, &job.texts, true, job.access)?;
-    finish(rt, session, asked, &job.image, &job.texts)?;
+    finish_read(rt, session, read, &job.image, &job.texts)?;
     Ok(())
 }
 
-/// All that a reader gives.
-fn whole<I: Read + Drop>(alloc: Global, name: &str, input: I) -> Result<Vec<u8>, Stopped<'_>> {
+/// The change of the dump that an input gives, or the dump's fault.
+fn change_of<'a, I: Read + Drop>(
+    alloc: Global,
+    job: &RevertJob,
+    name: &'a str,
+    input: I,
+    seen: &mut Seen,
+) -> Result<Result<Change, ReadFault>, Stopped<'a>> {
+    let form = if job.plain { Form::Plain } else { Form::Dump };
     let mut input = Noted::new(input);
-    match Source::new(&mut input, MOST_INPUT).rest(alloc) {
-        Ok(bytes) => Ok(bytes),
+    let watched = Watched::new(&mut input, seen);
+    match change_from(&alloc, &mut Source::new(watched, MOST_INPUT), form, job.at) {
+        Ok(read) => Ok(read),
         Err(fault) => Err(Stopped::from(Fault::from(fault)).on_input(name, input.error)),
     }
 }

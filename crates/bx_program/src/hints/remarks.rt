@@ -2,9 +2,11 @@
 use crate::hints::commands::operands_of;
 use crate::hints::names::{image_of, is_of_text};
 use crate::hints::readers::tell_of_readers;
-use bx_cli::{Job, Texts, unlike_line};
+use crate::hints::seen::Seen;
+use bx_cli::{Job, Texts};
 use bx_dd::Counts;
 use bx_text::Name;
+use std::alloc::Global;
 use std::fs::{self, File};
 use std::io::ErrorKind;
 use std::rt::Files;
@@ -61,12 +63,17 @@ impl Remarks {
         }
     }
 
-    /// Looks at a dump: whether it gives a byte, and, where it isn't plain, whether the characters beside the digits are those
-    /// of the bytes.
-    pub fn look_at_dump(&mut self, dump: &[u8], plain: bool) {
+    /// What is to be seen of a dump while it is read.
+    pub fn seen_of(&self, alloc: Global, plain: bool) -> Seen {
+        Seen::new(alloc, self.person, plain)
+    }
+
+    /// Takes what was seen of a dump that was read: whether it gives a byte, and, where it isn't plain, whether the characters
+    /// beside the digits are those of the bytes.
+    pub fn look_at_dump(&mut self, seen: Seen) {
         if self.person {
-            self.is_empty = !dump.iter().any(|byte| byte.is_ascii_hexdigit());
-            self.unlike = if plain { None } else { unlike_line(dump) };
+            self.is_empty = !seen.has_digit;
+            self.unlike = seen.unlike();
         }
     }
 

@@ -1,0 +1,104 @@
+//! What is seen of a dump while it is read, for the hints behind a revert.
+use bx_cli::unlike_line;
+use memchr::memchr;
+use std::alloc::Global;
+use std::io::{self, Read};
+
+/// What was seen of a dump so far. Nothing is looked at where no person looks at standard error.
+#[derive(Drop)]
+pub struct Seen {
+    person: bool,
+    plain: bool,
+    // the line that isn't whole yet, and how many stand before it
+    line: Vec<u8>,
+    passed: u64,
+    // the first line whose characters aren't those of its bytes
+    unlike: Option<u64>,
+    /// Whether there is a digit.
+    pub has_digit: bool,
+}
+
+impl Seen {
+    /// Nothing was seen yet.
+    pub fn new(alloc: Global, person: bool, plain: bool) -> Seen {
+        Seen {
+            person,
+            plain,
+            line: Vec::new(alloc),
+            passed: 0,
+            unlike: None,
+            has_digit: false,
+        }
+    }
+
+    /// Looks at the bytes that come next.
+    fn look(&mut self, bytes: &[u8]) {
+        if !self.person {
+            return;
+        }
+        self.has_digit = self.has_digit || bytes.iter().any(|byte| byte.is_ascii_hexdigit());
+        if !self.plain && self.unlike.is_none() {
+            self.look_at_lines(bytes);
+        }
+    }
+
+    /// Looks at the lines that end in these bytes, and holds what stands behind the last of them.
+    fn look_at_lines(&mut self, bytes: &[u8]) {
+        let mut rest = bytes;
+        while let Some(end) = memchr(b'\n', rest) {
+            self.hold(&rest[..end]);
+            self.look_at_line();
+            rest = &rest[end + 1..];
+        }
+        self.hold(rest);
+    }
+
+    /// Holds bytes of a line. Where memory is refused, nothing more is looked at.
+    fn hold(&mut self, bytes: &[u8]) {
+        if self.line.extend_from_slice(bytes).is_err() {
+            self.plain = true;
+        }
+    }
+
+    /// Looks at the line that is held, which ends here.
+    fn look_at_line(&mut self) {
+        self.passed = self.passed.saturating_add(1);
+        if self.unlike.is_none() && unlike_line(self.line.as_slice()).is_some() {
+            self.unlike = Some(self.passed);
+        }
+        self.line.clear();
+    }
+
+    /// The first line whose characters aren't those of its bytes, once the dump is at its end.
+    pub fn unlike(mut self) -> Option<u64> {
+        if self.plain {
+            return None;
+        }
+        self.look_at_line();
+        self.unlike
+    }
+}
+
+/// A reader that shows what it reads.
+#[derive(Drop)]
+pub struct Watched<'a, I> {
+    input: I,
+    seen: &'a mut Seen,
+}
+
+impl<'a, I: Read> Watched<'a, I> {
+    /// A reader of an input.
+    pub fn new(input: I, seen: &'a mut Seen) -> Watched<'a, I> {
+        Watched { input, seen }
+    }
+}
+
+impl<I: Read> Read for Watched<'_, I> {
+    fn read(&mut self, buf: &mut [u8]) -> io::Result<usize> {
+        let outcome = self.input.read(buf);
+        if let Ok(count) = &outcome {
+            self.seen.look(&buf[..*count]);
+        }
+        outcome
+    }
+}
