@@ -61,7 +61,7 @@ saved_in {A = A} c x =
     let with_runs : List Run → Kept = λ rs. record { len = length x; runs = rs } in
     ap with_runs (runs_in A (kept_byte c x) (kept_byte (plain c) x) 0 (length x) (kept_byte_in c x))
 
--- One turn: a text of n entries behind restoring the record of e, of which t was taken
+-- One turn: a text of n entries behind restoring the record of e, for which t was taken
 abbrev pub turned : {A : Type 0} → ℕ → List Entry → EntryRead A → Saved A → List ℕ → ℕ → List ℕ → List ℕ
 turned k es e t x n text = taken_by k es (restore (kept_of e.kept) x) (if nat_le t.len MAX_LEN then n + 1 else 0) (kept_text text (kept_of t) (n + 1) e.kept.len)
 
