@@ -300,7 +300,7 @@ def unfinished_case(size):
 
 
 ROWS = [(2 * KIB, "rows that are put at once"), (4 * KIB, "pages of an image in memory")]
-PARTS = [(256 * KIB, "parts of a run")]
+PARTS = [(64 * KIB, "windows of what a change overwrites"), (256 * KIB, "parts of a run")]
 
 
 def image_cases():
