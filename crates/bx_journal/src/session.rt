@@ -56,8 +56,9 @@ impl<D: Device, T: TextStore, A: Allocator + Clone> Session<D, T, A> {
     /// given up: the redo text is then empty.
     ///
     /// All memory is taken before the first write. The faults come in this order: `Broken`, `JournalFull`,
-    /// `DeviceFailed` of the length, `TooLarge`, then `DeviceFailed` and `NoMemory` of saving and reserving, and
-    /// `Interrupted` from the first write on. Each but the last changes nothing.
+    /// `DeviceFailed` of the length, `TooLarge`, then `DeviceFailed` and `NoMemory` of reading what it overwrites and of
+    /// reserving, and `Interrupted` from the first write on. Each but the last changes nothing. Of what it overwrites no
+    /// more is held than a page of the journal has.
     pub fn perform(&mut self, change: &Change<A>) -> Result<u32, SessionFault>
         requires device_countable { D.failures self.old.device < u64.MAX }
         requires store_countable { T.failures self.old.store < u64.MAX }
