@@ -140,10 +140,14 @@ written_to text new x y stack s n st many few is long most back written =
     }
 
 -- one turn of an image that an entry can tell
-one_taken : (e : Entry) (es : List Entry) (x text : List ℕ) (n : ℕ) → length x ≤ MAX_LEN → taken_by 1 (e ∷ es) x n text ≡ text ++ entry_text (suc n) (taken e.saved x) e.saved.len
-one_taken e es x text n low =
+one_taken : (new : List ℕ) (e : Entry) (es : List Entry) (x text : List ℕ) (n m : ℕ) → length x ≤ MAX_LEN → e.saved.len ≡ m → new ≡ taken_by 1 (e ∷ es) x n text → new ≡ text ++ entry_text (suc n) (taken e.saved x) m
+one_taken new e es x text n m low long taken_so =
     let is : nat_le (length x) MAX_LEN ≡ true = grind (arith, nat_tests) in
-    ap (λ b. if b then text ++ entry_text (suc n) (taken e.saved x) e.saved.len else []) is
+    taken_so ∙ ap (λ b. if b then text ++ entry_text (suc n) (taken e.saved x) e.saved.len else []) is ∙ ap (λ k. text ++ entry_text (suc n) (taken e.saved x) k) long
+
+-- two texts of one entry behind one text
+same_text : (new text left older : List ℕ) (t s : Kept) (n m : ℕ) → new ≡ left ++ entry_text n t m → t ≡ s → left ≡ older → text ≡ older ++ entry_text n s m → new ≡ text
+same_text new text left older t s n m written same left_is text_is = written ∙ ap (λ k. left ++ entry_text n k m) same ∙ ap (λ u. u ++ entry_text n s m) left_is ∙ sym text_is
 
 pub written_again : {A : Type 0} (c : Change A) (x older text left redo kept new : List ℕ) (stack undone : List (List ℕ)) (n : ℕ) → StandsFor older x stack → length stack ≡ suc n → IsRedoOf redo (effect c x) (suc n) undone
     → length x ≤ MAX_LEN → length (effect c x) ≤ MAX_LEN → AreBytes x → AreBytes (effect c x)
@@ -162,7 +166,7 @@ written_again c x older text left redo kept new stack undone n st many r long mo
     let back : restore e.saved y ≡ x = restored_same e s (length y) y w.bytes ∙ s_back in
     let len : e.saved.len ≡ length x = w.bytes.len ∙ len-saved c x in
     let kept_is : kept ≡ redo ++ entry_text (suc (length undone)) t (length x) =
-    keeps (e ∷ w.entries) w.finished ∙ one_taken e w.entries y redo (length undone) most ∙ ap (λ k. redo ++ entry_text (suc (length undone)) t k) len in
+    one_taken kept e w.entries y redo (length undone) (length x) most len (keeps (e ∷ w.entries) w.finished) in
     let again : restore t x ≡ y = ap (restore t) (sym back) ∙ taken_back e.saved y in
     let w2 = written_to redo kept y x (y ∷ undone) t (length undone) r.stands refl (omega (arith, r.few)) (saved_is_of (back_of e.saved) y bytes_behind) most long again kept_is in
     let f : Entry = w2.entry in
@@ -171,8 +175,7 @@ written_again c x older text left redo kept new stack undone n st many r long mo
     let left_is : left ≡ older =
     let l = leaves (e ∷ w.entries) w.finished in
     one_front left older l.front.0 (entry_text (suc n) s (length y)) w.entries (sym l.front.1 ∙ text_is) l.finished w.before in
-    grows (f ∷ w2.entries) w2.finished ∙ one_taken f w2.entries x left n long
-    ∙ ap (λ k. left ++ entry_text (suc n) k f.saved.len) same ∙ ap (λ k. left ++ entry_text (suc n) s k) f_len ∙ ap (λ u. u ++ entry_text (suc n) s (length y)) left_is ∙ sym text_is
+    same_text new text left older (taken f.saved x) s (suc n) (length y) (one_taken new f w2.entries x left n (length y) long f_len (grows (f ∷ w2.entries) w2.finished)) same left_is text_is
 
 pub is_written_again : (A : Type 0) {D T : Type 0} (image : D → List ℕ) (text : T → List ℕ) → IsWrittenAgain A image text
 is_written_again A image text c x older stack undone old mid new left n behind has standing leaves keeps grows =
