@@ -17,6 +17,7 @@ pub fn push_rows<A: Allocator>(page: &mut Vec<u8, A>, at: u64, bytes: &[u8], fir
     requires inside { 16 * first < length bytes.now }
     ensures inside { 16 * (first + result) < length bytes.now }
     ensures rows { page.new.items ≡ page.old.items ++ rows_text (map (row (record { at = at; bytes = bytes.now })) (range_with_len first result)) }
+    ensures long { length page.new.items ≡ length page.old.items + 68 * result }
     ensures room { vec_capacity page.old ≤ vec_capacity page.new }
 {
     if at > u32::MAX as u64 {
@@ -44,6 +45,7 @@ fn push_full_rows<A: Allocator>(
     requires address { at + length bytes.now < 2 ^ 32 }
     requires free { length page.old.items + 68 * count ≤ vec_capacity page.old }
     ensures rows { page.new.items ≡ page.old.items ++ rows_text (map (row (record { at = at; bytes = bytes.now })) (range_with_len first count)) }
+    ensures long { length page.new.items ≡ length page.old.items + 68 * count }
     ensures room { vec_capacity page.old ≤ vec_capacity page.new }
 {
     let from = page.len();

@@ -12,7 +12,7 @@ ghost use Rattle.bx_journal.specs.inner.Ranges.{range_text, range_len, head_from
 
 use crate::write::entry::put_words;
 use crate::write::page::append_page;
-use bx_entries::{Words, row_of, save_text, start_words};
+use bx_entries::{Words, push_rows, row_of, save_text, start_words};
 use bx_image::{Device, DeviceFailed, Span};
 use bx_store::TextStore;
 use std::alloc::Allocator;
@@ -49,10 +49,13 @@ fn push_run<A: Allocator>(page: &mut Vec<u8, A>, at: u64, bytes: &[u8])
     ensures room { vec_capacity page.old ≤ vec_capacity page.new }
 {
     let count = (bytes.len() + 15) / 16;
-    for k in 0..count {
-        let from = 16 * k;
+    let mut k = 0;
+    while k < count {
+        let more = push_rows(page, at, bytes, k);
+        let from = 16 * (k + more);
         let to = (from + 16).min(bytes.len());
         push_row(page, at + from as u64, &bytes[from..to]);
+        k = k + more + 1;
     }
 }
 
