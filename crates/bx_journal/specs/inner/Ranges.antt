@@ -51,7 +51,8 @@ pub record IsPlace (ranges : List Span) (p : Place) : Type 0 where
 
 -- the place behind the bytes of a range up to an address
 abbrev pub IsBehind : Span → Place → ℕ → Place → Type 0
-IsBehind r p next q = ((next ≡ r.end) × (q ≡ record { range = p.range + 1; done = 0 })) ⊎ ((next < r.end) × (q ≡ record { range = p.range; done = next - r.at }))
+IsBehind r p next q =
+    ((next ≡ r.end) × (q ≡ record { range = p.range + 1; done = 0 })) ⊎ ((next < r.end) × (q ≡ record { range = p.range; done = next - r.at }))
 
 -- an entry's head: the bytes that wait in a page, the lines from a place on, and the save line
 abbrev pub head_from : List ℕ → List Span → Place → List ℕ → ℕ → List ℕ

@@ -74,7 +74,8 @@ LeavesBoth c text x redo text_new x_new redo_new head end_line part result =
     → OnErr result (LeavesEither text_new x_new redo_new (side_of stack x redo) (side_of (effect c x ∷ stack) (effect c x) (take (place_of part) redo)))
 
 -- so it is of whatever is found of the three behind a loss of power
-abbrev pub SurvivesBoth : {A : Type 0} → Change A → List ℕ → List ℕ → List ℕ → (List ℕ → Type 0) → (List ℕ → Type 0) → (List ℕ → Type 0) → List ℕ → List ℕ → RedoCut → Type 0
+abbrev pub SurvivesBoth : {A : Type 0} → Change A → List ℕ → List ℕ → List ℕ → (List ℕ → Type 0) → (List ℕ → Type 0) → (List ℕ → Type 0)
+    → List ℕ → List ℕ → RedoCut → Type 0
 SurvivesBoth c text x redo text_survives survives redo_survives head end_line part =
     (stack : List (List ℕ)) → WritesEntry c text x stack head end_line
     → (y new left : List ℕ) → survives y → text_survives new → redo_survives left

@@ -85,7 +85,8 @@ pub fn append_head_of<D: Device, T: TextStore, A: Allocator>(
     ensures device_room { D.room device.old ≤ D.room device.new }
     ensures store_honesty { T.honest store.new ↔ T.honest store.old }
     ensures store_room { T.room store.old ≤ T.room store.new }
-    ensures long { T.honest store.old → OnOk result (length (T.text store.new) ≡ length (T.text store.old) + length page.old.items + rest_len ranges.now place + 14) }
+    ensures long { T.honest store.old
+        → OnOk result (length (T.text store.new) ≡ length (T.text store.old) + length page.old.items + rest_len ranges.now place + 14) }
     ensures no_failure { OnOk result ((D.failures device.new ≡ D.failures device.old) × (T.failures store.new ≡ T.failures store.old)) }
     ensures failure { OnErr result (OneMore (D.failures device.old) (T.failures store.old) (D.failures device.new) (T.failures store.new)) }
 {
@@ -217,11 +218,14 @@ pub fn write_change<D: Device, T: TextStore, A: Allocator>(
     requires text_room { T.honest store.old
         → length (T.text store.old) + length page.old.items + rest_len ranges.now place + 14 + length end.now ≤ T.room store.old }
     requires within { T.honest redo.old → place_of part ≤ length (T.text redo.old) }
-    ensures ok { D.honest device.old → T.honest store.old → RestsBehind change.now (T.text store.old) (D.image device.old) (T.text store.new) (D.image device.new)
+    ensures ok { D.honest device.old → T.honest store.old
+        → RestsBehind change.now (T.text store.old) (D.image device.old) (T.text store.new) (D.image device.new)
         (head_text number (kept_over (D.image device.old) ranges.now)) end.now result }
-    ensures fault { D.honest device.old → T.honest store.old → StopsEither change.now (T.text store.old) (D.image device.old) (T.text store.new) (D.image device.new)
+    ensures fault { D.honest device.old → T.honest store.old
+        → StopsEither change.now (T.text store.old) (D.image device.old) (T.text store.new) (D.image device.new)
         (head_text number (kept_over (D.image device.old) ranges.now)) end.now result }
-    ensures left { D.honest device.old → T.honest store.old → T.honest redo.old → LeavesBoth change.now (T.text store.old) (D.image device.old) (T.text redo.old)
+    ensures left { D.honest device.old → T.honest store.old → T.honest redo.old
+        → LeavesBoth change.now (T.text store.old) (D.image device.old) (T.text redo.old)
         (T.text store.new) (D.image device.new) (T.text redo.new) (head_text number (kept_over (D.image device.old) ranges.now)) end.now part result }
     ensures settles { EntrySettles D.honest D.image D.survives T.honest T.text T.survives
         device.old store.old redo.old device.new store.new redo.new result }

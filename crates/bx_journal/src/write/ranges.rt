@@ -166,10 +166,12 @@ pub fn fill_page<D: Device, A: Allocator>(
     requires place { IsPlace ranges.now place }
     requires window { 16 ≤ length window.old }
     ensures put { D.honest device.old
-        → IfOk result (λ next. page.new.items ++ rest_text (D.image device.old) ranges.now next ≡ page.old.items ++ rest_text (D.image device.old) ranges.now place) }
+        → IfOk result (λ next. page.new.items ++ rest_text (D.image device.old) ranges.now next
+        ≡ page.old.items ++ rest_text (D.image device.old) ranges.now place) }
     ensures long { IfOk result (λ next. length page.new.items + rest_len ranges.now next ≡ length page.old.items + rest_len ranges.now place) }
     ensures place { IfOk result (IsPlace ranges.now) }
-    ensures more { place.range < length ranges.now → length page.old.items + 82 ≤ vec_capacity page.old → OnOk result (length page.old.items < length page.new.items) }
+    ensures more { place.range < length ranges.now → length page.old.items + 82 ≤ vec_capacity page.old
+        → OnOk result (length page.old.items < length page.new.items) }
     ensures room { vec_capacity page.old ≤ vec_capacity page.new }
     ensures window { length window.new ≡ length window.old }
     ensures image { D.honest device.old → D.image device.new ≡ D.image device.old }
@@ -296,7 +298,8 @@ pub fn put_head_from<D: Device, T: TextStore, A: Allocator>(
         → OnErr result (IsPartlyAppended (head_from (D.image device.old) ranges.now place page.old.items number) (T.text store.old) (T.text store.new)) }
     ensures fades { D.honest device.old → T.honest store.old
         → FadesBehind (T.text store.old) (head_from (D.image device.old) ranges.now place page.old.items number) (T.survives store.old) (T.survives store.new) }
-    ensures long { T.honest store.old → OnOk result (length (T.text store.new) ≡ length (T.text store.old) + length page.old.items + rest_len ranges.now place + 14) }
+    ensures long { T.honest store.old
+        → OnOk result (length (T.text store.new) ≡ length (T.text store.old) + length page.old.items + rest_len ranges.now place + 14) }
     ensures emptied { OnOk result (page.new.items ≡ []) }
     ensures room { vec_capacity page.old ≤ vec_capacity page.new }
     ensures image { D.honest device.old → D.image device.new ≡ D.image device.old }
