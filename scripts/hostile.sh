@@ -946,6 +946,9 @@ loop_devices() {
     too_long "a revert past a device's end" revert -s 1 -f dump -J device.bxj "$loop"
     too_long "a dd past a device's end" dd if=tail_bytes of="$loop" obs=1 seek=$((size - 4999)) conv=notrunc -J device.bxj
     without_end
+    letters $((2 * size)) ' ' > spaces # longer than the device, but they are cut off
+    on_both dd if=spaces of=DEV conv=unblock,notrunc cbs=512 -J JOURNAL
+    on_both undo -J JOURNAL DEV
     on_both log -J JOURNAL DEV
     on_both undo -k 2 -J JOURNAL DEV
     on_both redo -J JOURNAL DEV

@@ -6,6 +6,8 @@ use std::io::{self, Read};
 #[derive(Clone, Copy, PartialEq, Eq)]
 enum Unit {
     Bytes,
+    /// Bytes that are no spaces, and the ends of records.
+    Kept,
     Newlines,
 }
 
@@ -19,15 +21,18 @@ pub struct Fitting<I> {
     // what may be read behind them
     left: u64,
     unit: Unit,
+    // the bytes of a record, and the place in the one that is being read
+    cbs: u64,
+    place: u64,
 }
 
-/// What of an input makes an output of more than `room` bytes: each byte makes one, but under `unblock` each record at least one
-/// and under `block` each line `cbs`.
+/// What of an input makes an output of more than `room` bytes: each byte makes one, but under `unblock` each that is no space and
+/// the end of each record, and under `block` each line `cbs`.
 fn enough(plan: &Plan, room: u64) -> (u64, Unit) {
     let over = room.saturating_add(1);
     match plan.shape {
         Shape::Flat => (over, Unit::Bytes),
-        Shape::Unblock => (over.saturating_mul(plan.cbs), Unit::Bytes),
+        Shape::Unblock => (over, Unit::Kept),
         Shape::Block => ((room / plan.cbs.max(1)).saturating_add(1), Unit::Newlines),
     }
 }
@@ -37,9 +42,9 @@ impl<I> Fitting<I> {
     /// the input.
     pub fn new(input: I, plan: &Plan, passed: u64, length: Option<u64>) -> Fitting<I> {
         let skipped = plan.skip.saturating_mul(plan.ibs).saturating_sub(passed);
-        let place = plan.seek.saturating_mul(plan.obs);
+        let front = plan.seek.saturating_mul(plan.obs);
         let (left, unit) = match length {
-            Some(length) => enough(plan, length.saturating_sub(place)),
+            Some(length) => enough(plan, length.saturating_sub(front)),
             None => (u64::MAX, Unit::Bytes),
         };
         Fitting {
@@ -47,6 +52,8 @@ impl<I> Fitting<I> {
             skipped,
             left,
             unit,
+            cbs: plan.cbs,
+            place: 0,
         }
     }
 
@@ -59,10 +66,10 @@ impl<I> Fitting<I> {
     fn most(&self) -> u64 {
         if self.skipped > 0 {
             self.skipped
-        } else if self.left == 0 || self.unit == Unit::Bytes {
-            self.left
-        } else {
+        } else if self.left > 0 && self.unit == Unit::Newlines {
             u64::MAX
+        } else {
+            self.left
         }
     }
 
@@ -74,10 +81,27 @@ impl<I> Fitting<I> {
         } else {
             let units = match self.unit {
                 Unit::Bytes => length,
+                Unit::Kept => self.kept(bytes),
                 Unit::Newlines => newlines(bytes),
             };
             self.left = self.left.saturating_sub(units);
         }
+    }
+
+    /// The bytes that are no spaces, and the ends of records.
+    fn kept(&mut self, bytes: &[u8]) -> u64 {
+        let mut found = 0u64;
+        for byte in bytes {
+            if *byte != b' ' {
+                found = found.saturating_add(1);
+            }
+            self.place = self.place.saturating_add(1);
+            if self.place >= self.cbs {
+                self.place = 0;
+                found = found.saturating_add(1);
+            }
+        }
+        found
     }
 }
 
