@@ -16,7 +16,7 @@ import crates
 
 # the crate whose calls and those below are public: bx_program only puts them in order
 TOP = "bx_cli"
-# whose calls no other crate exports: their definitions count where a public contract above names them
+# whose calls no other crate exports: their definitions count where a public contract above, or a law of theirs, names them
 INNER = ["bx_entries"]
 # the page's part of what laws alone name
 TOLD = "D"
@@ -247,9 +247,10 @@ def main():
     definitions, imports = read_specs(args.root)
     called, said = set(), set()
     for crate in crates_of(args.root):
-        if crate in INNER:
-            continue
         of_calls, of_laws = public_names(args.root, crate)
+        if crate in INNER:
+            said |= {key for key in of_laws if not key[1].startswith("inner.")}
+            continue
         called |= of_calls
         said |= of_laws
     met, met_by_all = closure(definitions, imports, called), closure(definitions, imports, called | said)

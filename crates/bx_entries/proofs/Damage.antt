@@ -14,14 +14,14 @@ use Rattle.bx_entries.proofs.Inverse.{bind_some}
 use Rattle.bx_entries.proofs.Foreign.{lines_plain}
 use Rattle.bx_entries.proofs.LineLoop.{IsLine}
 
-split_joined : (ls : List (List ℕ)) → AllPlain ls → split (joined ls) ≡ record { lines = ls; rest = [] }
+pub split_joined : (ls : List (List ℕ)) → AllPlain ls → split (joined ls) ≡ record { lines = ls; rest = [] }
 unfolding split
 split_joined [] plain = refl
 split_joined (l ∷ ls) plain =
     ap split (append_assoc l (10 ∷ []) (joined ls)) ∙ split-ended l (joined ls) plain.0
     ∙ ap (λ (s : Split). record { lines = l ∷ s.lines; rest = s.rest }) (split_joined ls plain.1)
 
-take_plain : (k : ℕ) (ls : List (List ℕ)) → AllPlain ls → AllPlain (take k ls)
+pub take_plain : (k : ℕ) (ls : List (List ℕ)) → AllPlain ls → AllPlain (take k ls)
 take_plain zero ls plain = tt
 take_plain (suc k) [] plain = tt
 take_plain (suc k) (l ∷ ls) plain = (plain.0, take_plain k ls plain.1)
@@ -39,7 +39,7 @@ front_read (suc k) (l ∷ ls) r q e =
     on_step : (o : Option Reading) (s : Reading) (ls : List (List ℕ)) (p : Reading) → o ≡ Some s → after_lines s ls ≡ Some p → option_and_then (λ q. after_lines q ls) o ≡ Some p
     on_step o s ls p is e = rw is e
 
-first_few : (k : ℕ) (text : List ℕ) → k ≤ length (split text).lines → first_lines k text ≡ joined (take k (split text).lines)
+pub first_few : (k : ℕ) (text : List ℕ) → k ≤ length (split text).lines → first_lines k text ≡ joined (take k (split text).lines)
 first_few k text h = grind (arith, common_steps)
 
 pub first_all : (k : ℕ) (text : List ℕ) → length (split text).lines < k → first_lines k text ≡ text

@@ -34,3 +34,4 @@ pub mod OverLemmas
 pub mod GatherLemmas
 pub mod LinesLemmas
 pub mod Bounds
+pub mod GrammarLemmas

@@ -6,5 +6,6 @@ pub mod Line
 pub mod Parsed
 pub mod Text
 pub mod Finished
+pub mod Grammar
 pub mod Shown
 pub mod inner

@@ -3,6 +3,7 @@
 
 mod fault;
 mod format;
+pub mod laws;
 mod read;
 mod write;
 
