@@ -1,5 +1,5 @@
 //! From the texts of commands to changes.
-ghost use Rattle.std.specs.Prelude.{◌≡◌, ◌⊎◌, ◌+◌, ◌^◌, ◌<◌, ◌≤◌, ℕ, List, map, None, Ok, Err, IfOk, IfErr, OnErr, All};
+ghost use Rattle.std.specs.Prelude.{◌≡◌, ◌⊎◌, ◌+◌, ◌^◌, ◌<◌, ◌≤◌, ℕ, List, map, None, Ok, Err, MatchResult, IfOk, IfErr, OnErr, All};
 ghost use Rattle.bx_commands.specs.Command.{dump_change, plain_change};
 ghost use Rattle.bx_commands.specs.inner.Command.{moved};
 ghost use Rattle.bx_commands.specs.Copy.{Makes};
@@ -64,6 +64,17 @@ pub fn change_of_plain<A: Allocator + Clone>(
     ensures fault { IfErr result (λ e. (e ≡ ReadFault.NoMemory) ⊎ (plain_answer text.now ≡ Err e)) }
 {
     let bytes = read_plain(alloc.clone()?, text)?;
+    change_of_bytes(alloc, bytes, at)
+}
+
+/// The change that puts bytes at a place.
+pub fn change_of_bytes<A: Allocator + Clone>(
+    alloc: &A,
+    bytes: Vec<u8, A>,
+    at: u64,
+) -> Result<Change<A>, ReadFault>
+    ensures { MatchResult result (λ c. c ≡ plain_change at bytes.items) (λ e. e ≡ ReadFault.NoMemory) }
+{
     let mut writes = Vec::new(alloc.clone()?);
     writes.push(Piece {
         at,

@@ -6,9 +6,9 @@ ghost use Rattle.bx_text.specs.declared.stream.State.{State};
 ghost use Rattle.bx_text.specs.declared.fault.IoFault.{IoFault};
 ghost use Rattle.bx_commands.specs.Reading.{IsChangeOf, IsFaultOf};
 
-use crate::changes::{change_of_plain, change_of_runs};
+use crate::changes::{change_of_bytes, change_of_runs};
 use bx_image::Change;
-use bx_read::{ReadFault, read_runs_from};
+use bx_read::{ReadFault, read_plain_from, read_runs_from};
 use bx_text::{IoFault, Source};
 use std::alloc::Allocator;
 use std::io::Read;
@@ -23,7 +23,7 @@ pub enum Form {
 }
 
 /// The change that a text asks for, which is read up to the source's end: `at` is added to the addresses of a dump, and is the place of
-/// plain hexadecimal. Of a dump no more is held than its runs, a window and the longest line. A fault of the text is answered once
+/// plain hexadecimal. No more is held than the bytes, a window and the longest line of a dump. A fault of the text is answered once
 /// the source is at its end; one of the source, or want of memory, as soon as it comes.
 pub fn change_from<R: Read + Drop, A: Allocator + Clone>(
     alloc: &A,
@@ -84,13 +84,13 @@ fn plain_from<R: Read + Drop, A: Allocator + Clone>(
     let Ok(memory) = alloc.clone() else {
         return Err(IoFault::NoMemory);
     };
-    let text = match source.rest(memory) {
-        Ok(text) => text,
-        Err(fault) => return Err(fault),
-    };
-    match change_of_plain(alloc, text.as_slice(), at) {
-        Ok(change) => Ok(Ok(change)),
-        Err(ReadFault::NoMemory) => Err(IoFault::NoMemory),
-        Err(fault) => Ok(Err(fault)),
+    match read_plain_from(memory, source) {
+        Ok(Ok(bytes)) => match change_of_bytes(alloc, bytes, at) {
+            Ok(change) => Ok(Ok(change)),
+            Err(_) => Err(IoFault::NoMemory),
+        },
+        Ok(Err(ReadFault::NoMemory)) => Err(IoFault::NoMemory),
+        Ok(Err(fault)) => Ok(Err(fault)),
+        Err(fault) => Err(fault),
     }
 }

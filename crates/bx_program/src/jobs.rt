@@ -12,8 +12,8 @@ use crate::stopped::{Noted, STANDARD_INPUT, Stopped};
 use crate::streams::Held;
 use crate::tally::Tally;
 use bx_cli::{
-    Access, Command, DdJob, Done, Fault, Form, HexdumpJob, Job, OdJob, Reply, RevertJob, StringsJob,
-    Texts, XxdJob, change_from, plan_words, run_dump_behind,
+    Access, Command, DdJob, Done, Fault, Form, HexdumpJob, Job, OdJob, Reply, RevertJob,
+    StringsJob, Texts, XxdJob, change_from, plan_words, run_dump_behind,
 };
 use bx_dd::Counts;
 use bx_image::Change;

@@ -21,3 +21,4 @@ pub mod RunLemmas
 pub mod GoesOnLemmas
 pub mod WindowLemmas
 pub mod SourceLemmas
+pub mod PlainWindowLemmas

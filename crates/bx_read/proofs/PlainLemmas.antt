@@ -58,7 +58,7 @@ none_of text e = skip text ∙ ap without_space (drop_all (prefix_len is_space t
 pub end_step : (text : List ℕ) (n : ℕ) → n ≡ prefix_len is_space text → n ≡ length text → plain_bytes text ≡ Some []
 end_step text n e whole = ap hex_bytes (none_of text (sym e ∙ whole))
 
-hex_bytes-none : (c d : ℕ) (rest : List ℕ) → (is_hex c && is_hex d) ≡ false → hex_bytes (c ∷ d ∷ rest) ≡ None
+pub hex_bytes-none : (c d : ℕ) (rest : List ℕ) → (is_hex c && is_hex d) ≡ false → hex_bytes (c ∷ d ∷ rest) ≡ None
 hex_bytes-none c d rest e = rw e refl
 
 pub hex_bytes-some : (c d : ℕ) (rest : List ℕ) → (is_hex c && is_hex d) ≡ true → hex_bytes (c ∷ d ∷ rest) ≡ option_map (λ more. pair_value c d ∷ more) (hex_bytes rest)

@@ -6,6 +6,7 @@ pub mod Runs
 pub mod Lines
 pub mod Window
 pub mod Plain
+pub mod PlainWindow
 pub mod Laws
 pub mod PairGrammar
 pub mod FaultTable

@@ -107,7 +107,7 @@ fn spaces(text: &[u8]) -> usize
 
 /// Whether the byte is white space.
 #[inline]
-fn is_space(byte: u8) -> bool
+pub fn is_space(byte: u8) -> bool
     ensures { result ≡ is_space byte }
 {
     byte == b' ' || (9..=13).contains(&byte)

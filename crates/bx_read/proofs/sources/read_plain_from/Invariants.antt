@@ -1,0 +1,19 @@
+use Rattle.std.proofs.Common.{◌≡◌, ◌≤◌, ◌+◌, ◌-◌, ℕ, List, length}
+use Rattle.std.specs.Io.KnownBytes.{Consumes}
+use Rattle.bx_read.specs.PlainWindow.{HasReadPlain}
+use Rattle.bx_read.proofs.sources.read_plain_from.Given as goal
+
+-- what was read so far is the text that was given
+abbrev pub invariant-loop-count : goal.invariant-loop-count
+invariant-loop-count g l = record {
+  text : List ℕ;
+  limit : l.source.meter.limit ≡ l.fn.source.meter.limit;
+  state : l.source.meter.state ≡ l.fn.source.meter.state;
+  taken : l.source.meter.taken ≡ l.fn.source.meter.taken + length text;
+  bytes : Consumes (g.R.Read.remaining l.fn.source.reader) (g.R.Read.remaining l.source.reader) text;
+  few : l.read.passed ≤ length text;
+  read : HasReadPlain text l.read;
+}
+
+abbrev pub decreases-loop-count : goal.decreases-loop-count
+decreases-loop-count g l = l.source.meter.limit - l.source.meter.taken

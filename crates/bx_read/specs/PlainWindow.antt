@@ -1,0 +1,32 @@
+-- Plain hexadecimal that is read window by window.
+use Rattle.std.specs.Prelude.{◌≡◌, ◌⊎◌, ℕ, ◌+◌, not, List, [], ◌∷◌, ◌++◌, filter, Option, None, Some, Ok, Err}
+use Rattle.std.specs.Option.{option_map}
+use Rattle.bx_read.specs.Plain.{is_space, hex_bytes, bad_line, digit_line, plain_answer}
+use Rattle.bx_read.specs.declared.fault.ReadFault.{ReadFault}
+use Rattle.bx_read.specs.declared.fault.ReadFault.TheVariants.{NoMemory}
+use Rattle.bx_read.specs.declared.plain_window.PlainRead.{PlainRead}
+
+-- a digit whose second one is still to come, or none
+abbrev pub half_digit : Option ℕ → List ℕ
+half_digit None = []
+half_digit (Some digit) = digit ∷ []
+
+-- Behind the text, whatever follows it, stand these bytes and half a pair; so many newlines were passed, and the last digit is in this line.
+pub record HasDigits (text bytes : List ℕ) (half : Option ℕ) (passed last : ℕ) : Type 0 where
+  pub digits : (more : List ℕ) → hex_bytes (filter (λ c. not (is_space c)) (text ++ more))
+      ≡ option_map (λ others. bytes ++ others) (hex_bytes (half_digit half ++ filter (λ c. not (is_space c)) more))
+  pub bad : (more : List ℕ) → bad_line 1 (text ++ more) ≡ bad_line (passed + 1) more
+  pub ends : (more : List ℕ) → digit_line 1 1 (text ++ more) ≡ digit_line last (passed + 1) more
+
+-- Memory was refused, or this is the text's fault.
+abbrev pub IsPlainFault : List ℕ → ReadFault → Type 0
+IsPlainFault text fault = (fault ≡ NoMemory) ⊎ (plain_answer text ≡ Err fault)
+
+-- its digits were read, or a fault is known: one of memory, or that of each text which begins so
+abbrev pub HasReadPlainBy : {A : Type 0} → List ℕ → PlainRead A → Option ReadFault → Type 0
+HasReadPlainBy text read None = HasDigits text read.bytes.items read.half read.passed read.last
+HasReadPlainBy text read (Some fault) = (fault ≡ NoMemory) ⊎ ((rest : List ℕ) → plain_answer (text ++ rest) ≡ Err fault)
+
+-- The text was read, as far as this can be done without what follows it.
+abbrev pub HasReadPlain : {A : Type 0} → List ℕ → PlainRead A → Type 0
+HasReadPlain text read = HasReadPlainBy text read read.fault
