@@ -1,41 +1,61 @@
 //! Cases of commands, and the ways in which one is played.
+mod behind;
 mod follower;
 mod growths;
 mod rows;
 mod stops;
 
+use crate::commands::behind::{Lost, Next, Nothing, Stopped};
 use crate::commands::growths::play_growths;
 use crate::commands::rows::{play_each, play_once};
 use crate::commands::stops::play_stops;
 use crate::report::tally::{Failure, at};
+use crate::session::medium::{Killed, PageCache};
 use crate::session::places::{Files, Memory, Pages, Place};
-use crate::sweep::weight::{is_large, is_swept};
+use crate::sweep::weight::{is_large, is_swept, odd, opening_step, stop_step};
 use bx_case_files::CommandsCase;
 use bx_image::Device;
 use bx_store::TextStore;
 use std::alloc::Global;
 
 /// The ways in which a case of commands is played.
-pub static SWEEPS: [&str; 6] = [
+pub static SWEEPS: [&str; 9] = [
     "in memory",
     "in pages",
     "in files",
     "growths refused",
     "calls failing",
     "openings stopped",
+    "power lost",
+    "power lost again",
+    "power lost behind unsynced commands",
 ];
 
 /// Plays a case in one way. Tells how often.
 pub fn play_commands(rt: &HostRuntime, case: &CommandsCase, sweep: usize) -> Result<u32, Failure> {
     let alloc = rt.alloc();
     match sweep {
-        3..=5 if is_large(case) => Ok(0),
+        3..=8 if is_large(case) => Ok(0),
         0 => play_at(alloc, &Memory, case),
         1 => play_at(alloc, &Pages, case),
         2 => play_at(alloc, &Files::new(rt), case),
         3 => play_growths(alloc, case),
-        4 => play_stops(alloc, case, false),
-        _ => play_stops(alloc, case, true),
+        4 => play_stops(alloc, &Memory, case, stop_step(case), &mut Nothing),
+        5 => {
+            let step = opening_step(case);
+            play_stops(alloc, &Memory, case, step, &mut Stopped::new(alloc))
+        }
+        _ => play_losses(alloc, case, sweep),
+    }
+}
+
+/// Plays a case with losses of power.
+fn play_losses(alloc: Global, case: &CommandsCase, sweep: usize) -> Result<u32, Failure> {
+    let step = odd(opening_step(case));
+    match sweep {
+        6 => play_stops(alloc, &PageCache, case, odd(stop_step(case)), &mut Nothing),
+        7 => play_stops(alloc, &PageCache, case, step, &mut Lost::new(alloc)),
+        _ => play_stops(alloc, &Killed, case, step, &mut Next::new(alloc, case)),
     }
 }
 

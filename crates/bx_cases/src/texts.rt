@@ -7,6 +7,7 @@ use crate::report::compare::{Wrong, differs, same_bytes};
 use crate::report::tally::{Failure, at};
 use crate::session::answers::found_so;
 use crate::session::devices::{Devices, Held, Texts, contents, held_of, in_memory};
+use crate::session::medium::{Medium, PageCache};
 use crate::session::open::open;
 use crate::session::places::{Files, Memory, Pages, Place};
 use crate::session::standing::{Standing, again};
@@ -23,13 +24,14 @@ use bx_store::TextStore;
 use std::alloc::Global;
 
 /// The ways in which a text is opened.
-pub static SWEEPS: [&str; 9] = [
+pub static SWEEPS: [&str; 10] = [
     "in memory",
     "in pages",
     "in files",
     "all undone",
     "growths refused",
     "openings stopped",
+    "power lost",
     "fronts",
     "changed bytes",
     "fronts with zeros",
@@ -44,9 +46,10 @@ pub fn play_text(rt: &HostRuntime, case: &TextCase, sweep: usize) -> Result<u32,
         2 => opens(alloc, &Files::new(rt), case),
         3 => all_undone(alloc, case),
         4 => opening_growths(alloc, case),
-        5 => stopped(alloc, case),
-        6 => fronts(alloc, texts_of(case)),
-        7 => changed_bytes(alloc, texts_of(case), case.all_changes),
+        5 => stopped(alloc, &Memory, case),
+        6 => stopped(alloc, &PageCache, case),
+        7 => fronts(alloc, texts_of(case)),
+        8 => changed_bytes(alloc, texts_of(case), case.all_changes),
         _ => fronts_with_zeros(alloc, texts_of(case)),
     };
     match played {
@@ -161,12 +164,16 @@ fn all_undone(alloc: Global, case: &TextCase) -> Result<u32, Wrong> {
 }
 
 /// Stops the opening at each call of each device, and what is left again.
-fn stopped(alloc: Global, case: &TextCase) -> Result<u32, Wrong> {
+fn stopped<D: Device + Drop, T: TextStore + Drop, M: Medium<D, T>>(
+    alloc: Global,
+    medium: &M,
+    case: &TextCase,
+) -> Result<u32, Wrong> {
     let Some(history) = history(alloc, case)? else {
         return Ok(0);
     };
     let expected = Images::of(alloc, &history)?;
     let left = held_of(alloc, &in_memory(alloc, texts_of(case))?)?;
     let mut seen = Vec::new(alloc);
-    openings(alloc, left, &expected, &mut seen)
+    openings(alloc, medium, left, &expected, &mut seen)
 }

@@ -5,24 +5,24 @@ use crate::report::compare::{Wrong, differs};
 use crate::report::tally::{Failure, at};
 use crate::session::answers::refused;
 use crate::session::ask::ask_for;
-use crate::session::devices::Held;
-use crate::session::fuse::{
-    Fused, FusedDevices, FusedSession, KINDS, fuse_at, held_fused, in_fused,
-};
+use crate::session::devices::{Held, Texts};
+use crate::session::fuse::{Fused, FusedDevices, FusedSession, found_of, fuse_at, in_fused};
+use crate::session::medium::Medium;
 use crate::session::open::{close, open};
 use crate::session::places::Memory;
 use crate::sweep::images::{History, Images, history_of};
-use crate::sweep::recovery::{MOST_CALLS, openings, recovered, stands_for};
-use crate::sweep::weight::{opening_step, stop_step};
+use crate::sweep::recovery::{MOST_CALLS, recovered, stands_for};
 use bx_case_files::{Ask, CommandsCase, Row};
 use bx_cli::Fault;
+use bx_image::Device;
 use bx_journal::SessionFault;
+use bx_store::TextStore;
 use std::alloc::Global;
 
 /// Asks for what a row tells, if the list of images can follow it.
-fn run_row<'a>(
+fn run_row<'a, D: Device + Drop, T: TextStore + Drop>(
     alloc: Global,
-    session: &mut FusedSession,
+    session: &mut FusedSession<D, T>,
     row: &'a Row,
     follower: &mut Follower<'a>,
 ) -> Result<(), Wrong> {
@@ -35,33 +35,33 @@ fn run_row<'a>(
     }
 }
 
-/// Runs the rows of a case on devices that were opened, or not. Answers what is left.
-fn run_rows<'a>(
+/// Runs rows on devices that were opened, or not. Hands the devices back.
+fn run_rows<'a, D: Device + Drop, T: TextStore + Drop>(
     alloc: Global,
-    devices: FusedDevices,
-    case: &'a CommandsCase,
+    devices: FusedDevices<D, T>,
+    rows: &'a Vec<Row>,
     follower: &mut Follower<'a>,
-) -> Result<Held, Wrong> {
+) -> Result<FusedDevices<D, T>, Wrong> {
     let mut session = match open(alloc, devices) {
         Ok((session, _)) => session,
         Err((devices, Fault::Session(SessionFault::DeviceFailed | SessionFault::Interrupted))) => {
             follower.refuse();
-            return held_fused(alloc, devices);
+            return Ok(devices);
         }
         Err((_, fault)) => return Err(refused(alloc, fault)),
     };
-    run_each(alloc, &mut session, case, follower)?;
-    held_fused(alloc, close(session))
+    run_each(alloc, &mut session, rows, follower)?;
+    Ok(close(session))
 }
 
-/// Runs the rows of a case.
-fn run_each<'a>(
+/// Runs rows.
+fn run_each<'a, D: Device + Drop, T: TextStore + Drop>(
     alloc: Global,
-    session: &mut FusedSession,
-    case: &'a CommandsCase,
+    session: &mut FusedSession<D, T>,
+    rows: &'a Vec<Row>,
     follower: &mut Follower<'a>,
 ) -> Result<(), Wrong> {
-    for row in &case.rows {
+    for row in rows {
         run_row(alloc, session, row, follower)?;
     }
     Ok(())
@@ -96,74 +96,85 @@ fn first_of(alloc: Global, case: &CommandsCase) -> Result<History, Wrong> {
     history_of(alloc, begun(alloc, &Memory, case)?)
 }
 
-/// One run of a case on devices, one of them failing, and what it leaves opened again. Tells how often it was stopped: never
-/// where no call failed, and else once; with openings also how often these were.
-fn one_stop(
+/// What is done with each thing that a stopped run left.
+pub trait Behind {
+    /// What was left stands for these images. Tells how often it was stopped.
+    fn play(&mut self, alloc: Global, left: Held, expected: &Images<'_>) -> Result<u32, Wrong>;
+}
+
+/// A run: what devices hold, and what is asked for.
+#[derive(Clone, Copy)]
+pub struct Run<'a, 'b> {
+    pub texts: Texts<'a>,
+    pub rows: &'b Vec<Row>,
+    /// Between two of its calls that fail: how far the second is behind the first.
+    pub step: u64,
+}
+
+/// A run on devices of which one fails, and what it leaves opened again. Tells how often it was stopped, if a call failed: once
+/// for each thing that may be found, and how often these were.
+fn one_stop<D: Device + Drop, T: TextStore + Drop, M: Medium<D, T>, B: Behind>(
     alloc: Global,
-    case: &CommandsCase,
-    first: &History,
+    medium: &M,
+    run: Run<'_, '_>,
+    images: &Images<'_>,
     fused: Fused,
-    with_openings: bool,
-    seen: &mut Vec<Held>,
-) -> Result<u32, Wrong> {
-    let mut follower = Follower::new(Images::of(alloc, first)?);
-    let devices = in_fused(alloc, first_texts(case), fused)?;
-    let left = run_rows(alloc, devices, case, &mut follower)?;
-    reopened(alloc, left, &follower, with_openings, seen)
+    behind: &mut B,
+) -> Result<Option<u32>, Wrong> {
+    let mut follower = Follower::new(Images::lent(alloc, images)?);
+    let devices = in_fused(alloc, medium, run.texts, fused)?;
+    let devices = run_rows(alloc, devices, run.rows, &mut follower)?;
+    let stops = reopened(alloc, found_of(alloc, medium, devices)?, &follower, behind)?;
+    Ok(if follower.is_whole() {
+        None
+    } else {
+        Some(stops)
+    })
 }
 
-/// What a run leaves opened again, with openings stopped too. Tells how often all was stopped.
-fn reopened(
+/// All that a run leaves opened again. Tells how often it was stopped.
+fn reopened<B: Behind>(
     alloc: Global,
-    left: Held,
+    found: Vec<Held>,
     follower: &Follower<'_>,
-    with_openings: bool,
-    seen: &mut Vec<Held>,
+    behind: &mut B,
 ) -> Result<u32, Wrong> {
-    let expected = follows(alloc, &left, follower)?;
-    if follower.is_whole() {
-        return Ok(0);
+    let mut stops = 0u32;
+    for left in found {
+        let expected = follows(alloc, &left, follower)?;
+        if !follower.is_whole() {
+            let more = behind.play(alloc, left, &expected)?;
+            stops = stops.saturating_add(more).saturating_add(1);
+        }
     }
-    if with_openings {
-        return Ok(openings(alloc, left, &expected, seen)?.saturating_add(1));
-    }
-    Ok(1)
+    Ok(stops)
 }
 
-/// Stops a case in one way at each call, or one in this many. Tells how often.
-fn stop_kind(
+/// Stops a run in one way at each call that its step takes. Tells how often.
+fn stop_kind<D: Device + Drop, T: TextStore + Drop, M: Medium<D, T>, B: Behind>(
     alloc: Global,
-    case: &CommandsCase,
-    first: &History,
+    medium: &M,
+    run: Run<'_, '_>,
+    images: &Images<'_>,
     kind: u32,
-    with_openings: bool,
-    seen: &mut Vec<Held>,
+    behind: &mut B,
 ) -> Result<u32, Failure> {
-    let step = step_of(case, with_openings);
     let mut stops = 0u32;
     for turn in 0..MOST_CALLS {
-        let pass = place_of(kind, step, turn);
-        match one_stop(alloc, case, first, fuse_at(kind, pass), with_openings, seen) {
-            Ok(0) => break,
-            Ok(more) => stops = stops.saturating_add(more),
+        let pass = place_of(kind, medium.kinds(), run.step, turn);
+        match one_stop(alloc, medium, run, images, fuse_at(kind, pass), behind) {
+            Ok(None) => break,
+            Ok(Some(more)) => stops = stops.saturating_add(more),
             Err(wrong) => return Err(at(call_of(kind, pass), wrong)),
         }
     }
     Ok(stops)
 }
 
-/// Of the calls of a case one in this many fails.
-fn step_of(case: &CommandsCase, with_openings: bool) -> u64 {
-    if with_openings {
-        opening_step(case)
-    } else {
-        stop_step(case)
-    }
-}
-
 /// The call that fails at this turn. The ways begin at calls that are spread over a step.
-fn place_of(kind: u32, step: u64, turn: u64) -> u64 {
-    let first = (kind as u64).saturating_mul(step) / (KINDS as u64);
+fn place_of(kind: u32, kinds: u32, step: u64, turn: u64) -> u64 {
+    let first = (kind as u64).saturating_mul(step);
+    let first = first.checked_div(kinds as u64).unwrap_or(0);
     turn.saturating_mul(step).saturating_add(first)
 }
 
@@ -173,17 +184,42 @@ fn call_of(kind: u32, pass: u64) -> u32 {
         .saturating_add(pass.min(99_999) as u32)
 }
 
-/// Stops a case at the calls of each device, and with openings also the opening of what is left. Tells how often.
-pub fn play_stops(alloc: Global, case: &CommandsCase, with_openings: bool) -> Result<u32, Failure> {
+/// Stops a run at the calls of each device. Tells how often.
+pub fn stop_run<D: Device + Drop, T: TextStore + Drop, M: Medium<D, T>, B: Behind>(
+    alloc: Global,
+    medium: &M,
+    run: Run<'_, '_>,
+    images: &Images<'_>,
+    behind: &mut B,
+) -> Result<u32, Failure> {
+    let mut stops = 0u32;
+    for kind in 0..medium.kinds() {
+        let more = stop_kind(alloc, medium, run, images, kind, behind)?;
+        stops = stops.saturating_add(more);
+    }
+    Ok(stops)
+}
+
+/// Stops a case at the calls of each device that the step takes. Tells how often.
+pub fn play_stops<D: Device + Drop, T: TextStore + Drop, M: Medium<D, T>, B: Behind>(
+    alloc: Global,
+    medium: &M,
+    case: &CommandsCase,
+    step: u64,
+    behind: &mut B,
+) -> Result<u32, Failure> {
     let first = match first_of(alloc, case) {
         Ok(first) => first,
         Err(wrong) => return Err(at(0, wrong)),
     };
-    let mut seen = Vec::new(alloc);
-    let mut stops = 0u32;
-    for kind in 0..KINDS {
-        let more = stop_kind(alloc, case, &first, kind, with_openings, &mut seen)?;
-        stops = stops.saturating_add(more);
-    }
-    Ok(stops)
+    let images = match Images::of(alloc, &first) {
+        Ok(images) => images,
+        Err(_) => return Err(at(0, Wrong::NoMemory)),
+    };
+    let run = Run {
+        texts: first_texts(case),
+        rows: &case.rows,
+        step,
+    };
+    stop_run(alloc, medium, run, &images, behind)
 }

@@ -121,7 +121,7 @@ pub fn front_of(
 }
 
 /// How many bytes two texts share.
-fn shared(wanted: &[u8], found: &[u8]) -> usize {
+pub fn shared(wanted: &[u8], found: &[u8]) -> usize {
     wanted
         .iter()
         .zip(found.iter())

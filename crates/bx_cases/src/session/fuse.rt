@@ -1,18 +1,11 @@
-//! Devices, one of which fails, and the ways in which it does.
+//! Devices, one failing; the ways in which it does, and what is found then.
 use crate::report::compare::Wrong;
-use crate::session::devices::{Devices, Held, Texts, held_of, in_memory};
-use bx_image::{FuseImage, MemImage, Part};
+use crate::session::devices::{Devices, Held, Texts};
+use crate::session::medium::{DEVICES, Medium};
+use bx_image::{Device, FuseImage, Part};
 use bx_journal::Session;
-use bx_store::{FuseText, MemText};
+use bx_store::{FuseText, TextStore};
 use std::alloc::Global;
-
-/// How many devices a session has.
-pub const DEVICES: u32 = 3;
-
-/// The ways in which one of the devices fails: those with which one is opened first, and all.
-pub const OPENING_KINDS: u32 = 4 * DEVICES;
-
-pub const KINDS: u32 = 7 * DEVICES;
 
 /// The device that fails behind this many calls.
 pub fn fuse_at(kind: u32, pass: u64) -> Fused {
@@ -41,63 +34,85 @@ pub struct Fused {
     pub pass: u64,
 }
 
-/// Devices in memory; one may fail.
-pub type FusedDevices = Devices<FuseImage<MemImage>, FuseText<MemText>>;
+/// Devices of which one may fail.
+pub type FusedDevices<D, T> = Devices<FuseImage<D>, FuseText<T>>;
 
-pub type FusedSession = Session<FuseImage<MemImage>, FuseText<MemText>>;
+pub type FusedSession<D, T> = Session<FuseImage<D>, FuseText<T>>;
 
 /// An image that fails so, if it is this device.
-fn fused_image(image: MemImage, fused: Fused) -> FuseImage<MemImage> {
-    if fused.device != 0 {
-        FuseImage::on_reads(image, u64::MAX)
-    } else if fused.reads {
-        FuseImage::on_reads(image, fused.pass)
-    } else {
-        FuseImage::new(image, fused.pass, fused.part, fused.once)
+fn fused_image<D: Device + Drop>(image: D, fused: Fused) -> Result<FuseImage<D>, Wrong> {
+    if image.faults() > 0 {
+        return Err(Wrong::Unknown);
     }
+    if fused.device != 0 {
+        return Ok(FuseImage::on_reads(image, u64::MAX));
+    }
+    if fused.reads {
+        return Ok(FuseImage::on_reads(image, fused.pass));
+    }
+    Ok(FuseImage::new(image, fused.pass, fused.part, fused.once))
 }
 
 /// A text that fails so, if it is this device.
-fn fused_text(text: MemText, device: u32, fused: Fused) -> FuseText<MemText> {
-    if fused.device != device {
-        FuseText::on_reads(text, u64::MAX)
-    } else if fused.reads {
-        FuseText::on_reads(text, fused.pass)
-    } else {
-        FuseText::new(text, fused.pass, fused.part, fused.once)
+fn fused_text<T: TextStore + Drop>(
+    text: T,
+    device: u32,
+    fused: Fused,
+) -> Result<FuseText<T>, Wrong> {
+    if text.faults() > 0 {
+        return Err(Wrong::Unknown);
     }
+    if fused.device != device {
+        return Ok(FuseText::on_reads(text, u64::MAX));
+    }
+    if fused.reads {
+        return Ok(FuseText::on_reads(text, fused.pass));
+    }
+    Ok(FuseText::new(text, fused.pass, fused.part, fused.once))
 }
 
-/// Devices in memory that hold this; one fails.
-pub fn in_fused(alloc: Global, texts: Texts<'_>, fused: Fused) -> Result<FusedDevices, Wrong> {
-    let Devices {
-        image,
-        journal,
-        redo,
-    } = in_memory(alloc, texts)?;
-    Ok(Devices {
-        image: fused_image(image, fused),
-        journal: fused_text(journal, 1, fused),
-        redo: fused_text(redo, 2, fused),
-    })
-}
-
-/// What devices hold that failed.
-pub fn held_fused(alloc: Global, devices: FusedDevices) -> Result<Held, Wrong> {
+/// Devices one of which fails.
+fn fuse<D: Device + Drop, T: TextStore + Drop>(
+    devices: Devices<D, T>,
+    fused: Fused,
+) -> Result<FusedDevices<D, T>, Wrong> {
     let Devices {
         image,
         journal,
         redo,
     } = devices;
-    let image = image.into_inner();
-    let journal = journal.into_inner();
-    let redo = redo.into_inner();
-    held_of(
-        alloc,
-        &Devices {
-            image,
-            journal,
-            redo,
-        },
-    )
+    Ok(Devices {
+        image: fused_image(image, fused)?,
+        journal: fused_text(journal, 1, fused)?,
+        redo: fused_text(redo, 2, fused)?,
+    })
+}
+
+/// Devices that hold this, one of which fails.
+pub fn in_fused<D: Device + Drop, T: TextStore + Drop, M: Medium<D, T>>(
+    alloc: Global,
+    medium: &M,
+    texts: Texts<'_>,
+    fused: Fused,
+) -> Result<FusedDevices<D, T>, Wrong> {
+    fuse(medium.devices(alloc, texts)?, fused)
+}
+
+/// What may be found of devices that failed.
+pub fn found_of<D: Device + Drop, T: TextStore + Drop, M: Medium<D, T>>(
+    alloc: Global,
+    medium: &M,
+    devices: FusedDevices<D, T>,
+) -> Result<Vec<Held>, Wrong> {
+    let Devices {
+        image,
+        journal,
+        redo,
+    } = devices;
+    let devices = Devices {
+        image: image.into_inner(),
+        journal: journal.into_inner(),
+        redo: redo.into_inner(),
+    };
+    medium.found(alloc, devices)
 }

@@ -37,6 +37,18 @@ impl<'a> Images<'a> {
         })
     }
 
+    /// The same list once more, for as long as it is lent.
+    pub fn lent(alloc: Global, images: &'a Images<'_>) -> Result<Self, AllocError> {
+        let mut list = Vec::new(alloc);
+        for image in &images.list {
+            list.push(*image)?;
+        }
+        Ok(Images {
+            list,
+            changes: images.changes,
+        })
+    }
+
     /// The same list once more.
     pub fn copy(&self, alloc: Global) -> Result<Self, AllocError> {
         Ok(Images {

@@ -3,14 +3,17 @@ use crate::report::compare::{Wrong, same_bytes};
 use crate::session::answers::{refused, replied_so, same_opening};
 use crate::session::ask::{redo, undo};
 use crate::session::devices::{Held, Texts, in_memory};
-use crate::session::fuse::{Fused, OPENING_KINDS, fuse_at, held_fused, in_fused};
+use crate::session::fuse::{Fused, found_of, fuse_at, in_fused};
+use crate::session::medium::Medium;
 use crate::session::open::{MemSession, found_again, open};
 use crate::session::places::Memory;
 use crate::session::standing::{Standing, again};
 use crate::sweep::images::Images;
 use bx_case_files::Opening;
 use bx_cli::{Fault, Reply};
+use bx_image::Device;
 use bx_journal::SessionFault;
+use bx_store::TextStore;
 use std::alloc::Global;
 
 /// No play makes this many calls, and none leaves so much that is opened.
@@ -106,12 +109,17 @@ pub fn recovered(alloc: Global, texts: Texts<'_>) -> Result<(MemSession, Opening
     }
 }
 
-/// Stops an opening at one call. Answers what is left, if it was stopped.
-fn stopped_opening(alloc: Global, texts: Texts<'_>, fused: Fused) -> Result<Option<Held>, Wrong> {
-    match open(alloc, in_fused(alloc, texts, fused)?) {
+/// Stops an opening at one call. Answers what may be found then, if it was stopped.
+fn stopped_opening<D: Device + Drop, T: TextStore + Drop, M: Medium<D, T>>(
+    alloc: Global,
+    medium: &M,
+    texts: Texts<'_>,
+    fused: Fused,
+) -> Result<Option<Vec<Held>>, Wrong> {
+    match open(alloc, in_fused(alloc, medium, texts, fused)?) {
         Ok(_) => Ok(None),
         Err((devices, Fault::Session(SessionFault::DeviceFailed | SessionFault::Interrupted))) => {
-            Ok(Some(held_fused(alloc, devices)?))
+            Ok(Some(found_of(alloc, medium, devices)?))
         }
         Err((_, fault)) => Err(refused(alloc, fault)),
     }
@@ -124,7 +132,7 @@ fn still_stands(alloc: Global, texts: Texts<'_>, expected: &Images<'_>) -> Resul
 }
 
 /// What a stopped opening left stays what is expected. It is added to the list, where nothing left the same bytes.
-fn add_left(
+fn add_found(
     alloc: Global,
     left: Held,
     expected: &Images<'_>,
@@ -139,9 +147,26 @@ fn add_left(
     Ok(())
 }
 
-/// Stops an opening in one way at each call, and adds what each leaves to the list. Tells how often it was stopped.
-fn stop_kind(
+/// The same of all that may be found. Tells how many they are.
+fn add_each(
     alloc: Global,
+    found: Vec<Held>,
+    expected: &Images<'_>,
+    list: &mut Vec<Held>,
+    opened: &[Held],
+) -> Result<u32, Wrong> {
+    let mut count = 0u32;
+    for left in found {
+        add_found(alloc, left, expected, list, opened)?;
+        count = count.saturating_add(1);
+    }
+    Ok(count)
+}
+
+/// Stops an opening in one way at each call, and adds what each leaves to the list. Tells how often it was stopped.
+fn stop_kind<D: Device + Drop, T: TextStore + Drop, M: Medium<D, T>>(
+    alloc: Global,
+    medium: &M,
     texts: Texts<'_>,
     expected: &Images<'_>,
     kind: u32,
@@ -150,33 +175,33 @@ fn stop_kind(
 ) -> Result<u32, Wrong> {
     let mut stops = 0u32;
     for pass in 0..MOST_CALLS {
-        match stopped_opening(alloc, texts, fuse_at(kind, pass))? {
-            Some(left) => add_left(alloc, left, expected, list, opened)?,
-            None => break,
-        }
-        stops = stops.saturating_add(1);
+        let Some(found) = stopped_opening(alloc, medium, texts, fuse_at(kind, pass))? else {
+            break;
+        };
+        stops = stops.saturating_add(add_each(alloc, found, expected, list, opened)?);
     }
     Ok(stops)
 }
 
 /// Stops an opening in each way at each call of each device.
-fn stop_each(
+fn stop_each<D: Device + Drop, T: TextStore + Drop, M: Medium<D, T>>(
     alloc: Global,
+    medium: &M,
     texts: Texts<'_>,
     expected: &Images<'_>,
     list: &mut Vec<Held>,
     opened: &[Held],
 ) -> Result<u32, Wrong> {
     let mut stops = 0u32;
-    for kind in 0..OPENING_KINDS {
-        let more = stop_kind(alloc, texts, expected, kind, list, opened)?;
+    for kind in 0..medium.opening_kinds() {
+        let more = stop_kind(alloc, medium, texts, expected, kind, list, opened)?;
         stops = stops.saturating_add(more);
     }
     Ok(stops)
 }
 
 /// Whether these bytes were opened before.
-fn is_seen(seen: &[Held], texts: Texts<'_>) -> bool {
+pub fn is_seen(seen: &[Held], texts: Texts<'_>) -> bool {
     seen.iter().any(|held| {
         held.image.as_slice() == texts.image
             && held.journal.as_slice() == texts.journal
@@ -185,8 +210,9 @@ fn is_seen(seen: &[Held], texts: Texts<'_>) -> bool {
 }
 
 /// Stops the opening of what was left at each call, then that of what is left each time, and so on: each once. Tells how often.
-pub fn openings(
+pub fn openings<D: Device + Drop, T: TextStore + Drop, M: Medium<D, T>>(
     alloc: Global,
+    medium: &M,
     left: Held,
     expected: &Images<'_>,
     seen: &mut Vec<Held>,
@@ -199,7 +225,7 @@ pub fn openings(
         let Some(left) = list.pop() else {
             return Ok(stops);
         };
-        let more = stop_new(alloc, left, expected, &mut list, seen, before)?;
+        let more = stop_new(alloc, medium, left, expected, &mut list, seen, before)?;
         stops = stops.saturating_add(more);
     }
     Err(Wrong::Unknown)
@@ -207,8 +233,9 @@ pub fn openings(
 
 /// Stops the opening of what was left at each call, where it wasn't opened before. What was opened behind the first `before`
 /// is expected to stand for the same. Tells how often.
-fn stop_new(
+fn stop_new<D: Device + Drop, T: TextStore + Drop, M: Medium<D, T>>(
     alloc: Global,
+    medium: &M,
     left: Held,
     expected: &Images<'_>,
     list: &mut Vec<Held>,
@@ -219,7 +246,7 @@ fn stop_new(
         return Ok(0);
     }
     let (_, opened) = seen.as_slice().split_at(before.min(seen.len()));
-    let more = stop_each(alloc, left.texts(), expected, list, opened)?;
+    let more = stop_each(alloc, medium, left.texts(), expected, list, opened)?;
     seen.push(left)?;
     Ok(more)
 }

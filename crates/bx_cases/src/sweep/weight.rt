@@ -4,16 +4,16 @@ use bx_case_files::{Ask, CommandsCase, Row};
 /// A command weighs as much as this many bytes.
 const COMMAND: usize = 8;
 
-/// Of each this many bytes of a case, one more call is passed over between two that fail.
+/// For each this many bytes of a case, one more call is passed over between two that fail.
 const BYTES_A_STOP: usize = 64;
 
 /// Cases of at most this many bytes have all that their stops leave opened and stopped again.
 const LIGHT: usize = 64;
 
-/// Of each this many bytes of others, one more stop is passed over.
+/// For each this many bytes of others, one more stop is passed over.
 const BYTES_AN_OPENING: usize = 2;
 
-/// Of each this many rows of a case, one more is passed over between two that are swept alone.
+/// For each this many rows of a case, one more is passed over between two that are swept alone.
 const ROWS: usize = 16;
 
 /// Of the changes of a text's bytes about this many are made.
@@ -81,7 +81,12 @@ pub fn opening_step(case: &CommandsCase) -> u64 {
     (step as u64).saturating_add(1)
 }
 
-/// Whether this row of a case is one of those that are swept alone: of this many rows one in this many, and the first.
+/// The same step where it is odd, else one more: so of calls that write and syncs, which take turns, it takes both.
+pub fn odd(step: u64) -> u64 {
+    step | 1
+}
+
+/// Whether this row of a case is one of those that are swept alone: one in this many, and the first.
 pub fn is_swept(row: usize, rows: usize) -> bool {
     let step = (rows / ROWS).saturating_add(1);
     row.checked_rem(step) == Some(0)
