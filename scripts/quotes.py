@@ -1,5 +1,5 @@
 #!/usr/bin/env python3
-"""Compares what documents quote with its source: docs/HEADLINE.md and the call trees of docs/ARCHITECTURE.md.
+"""Compares what documents quote with its source: docs/HEADLINE.md, docs/CALLING.md, the heads of public crates, and call trees.
 
 Usage: scripts/quotes.py [--write]
 
@@ -8,9 +8,10 @@ The first line of a block of a document names what it quotes, and --write fills 
     ```antt undo_of PerformStep      definitions of specs/: of a record or a list of cases all lines, of others their equations;
                                      the line with their type is left out
     ```rust run_all.headline         the clause of a public call or law, behind its name
+    ```rust bx_examples/src/a.rt b   functions and structs of a file by their names, and an impl by impl:NAME of its type or trait
 
 In docs/HEADLINE.md each definition that a quoted line names is quoted too, or stands in the page's paragraphs between ` and `.
-It has less than 200 lines.
+It has less than 200 lines. The block at the head of a public crate's lib.rt stands in that crate's file of bx_examples.
 In docs/ARCHITECTURE.md a block ```calls is a tree: each function on a line is called by the one above it that is indented less.
 """
 import argparse
@@ -21,9 +22,10 @@ import sys
 import believe
 
 ROOT = pathlib.Path(__file__).resolve().parent.parent
-PAGES = ["docs/HEADLINE.md"]
+PAGES = ["docs/HEADLINE.md", "docs/CALLING.md"]
 HEADLINE, MOST = "docs/HEADLINE.md", 199
 TREES = "docs/ARCHITECTURE.md"
+PUBLIC = ["text", "read", "image", "dump", "dd", "journal", "cli"]
 BLOCK = re.compile(r"^```(antt|rust) (\S.*)\n((?:(?!```).*\n)*)```$", re.M)
 
 
@@ -85,16 +87,47 @@ class Sources:
         self.note(known, ("", ""), lines)
         return [f"{call}: {lines[0].strip()}", *["    " + line.strip() for line in lines[1:]]]
 
+    def item(self, path, name):
+        """An item of a file, with its public comment: `impl:NAME` is the impl of a type, or of a trait for one."""
+        text = self.texts[ROOT / "crates" / path]
+        kind, _, of = name.rpartition(":")
+        head = rf"impl(?:<.*?>)? {of}(?:<.*?>)? (?:for .*)?\{{$" if kind else rf"(?:pub(?:\([a-z]+\))? )?(?:fn|struct|enum) {of}\b"
+        found = list(re.finditer(rf"^{head}", text, re.M))
+        if len(found) != 1:
+            raise ValueError(f"{path} has {len(found)} items {name}")
+        above, item = text[: found[0].start()].split("\n")[:-1], text[found[0].start() :].split("\n")
+        comment = len(above)
+        while comment and re.match(r"///|#\[", above[comment - 1]):
+            comment -= 1
+        return above[comment:] + item[: item.index("}") + 1]
+
     def quoted(self, kind, words):
         """What a block whose first line has these words is to hold."""
         if kind == "antt":
             return [line for word in words for line in self.definition(word)]
+        if "/" in words[0]:
+            parts = [self.item(words[0], word) for word in words[1:]]
+            return [line for i, part in enumerate(parts) for line in ([""] if i else []) + part]
         return [line for word in words for line in self.clause(word)]
 
 
 def spelled(page):
     """The names that stand between ` and ` in a page's paragraphs."""
     return {word for span in re.findall(r"`([^`\n]+)`", BLOCK.sub("", page)) for word in believe.NAME.findall(span)}
+
+
+def heads(sources):
+    """What is wrong with the blocks at the heads of the public crates."""
+    for short in PUBLIC:
+        head = sources.texts[ROOT / "crates" / f"bx_{short}" / "src" / "lib.rt"]
+        block = re.search(r"^//! ```\n((?://! .*\n)+)//! ```$", head, re.M)
+        if not block:
+            yield f"bx_{short} has no example at the head of its lib.rt"
+            continue
+        wanted = [line.removeprefix("//!").strip() for line in block.group(1).split("\n") if line]
+        lines = [line.strip() for line in sources.texts[ROOT / "crates" / "bx_examples" / "src" / f"{short}.rt"].split("\n")]
+        if not any(lines[i : i + len(wanted)] == wanted for i in range(len(lines))):
+            yield f"the example at the head of bx_{short} doesn't stand in bx_examples/src/{short}.rt"
 
 
 def bodies(texts):
@@ -141,7 +174,7 @@ def main():
             shown = {word for words in blocks for word in words} | spelled(page)
             bad += [f"{name} neither quotes nor explains {key[2]} of {key[0]}/{key[1]}" for key in sorted(sources.named) if key[2] not in shown]
             bad += [f"{name} has more than {MOST} lines"] if len(filled.splitlines()) > MOST else []
-    bad += trees(sources)
+    bad += [*heads(sources), *trees(sources)]
     print("\n".join(bad) if bad else "what is quoted is as its sources have it")
     sys.exit(1 if bad else 0)
 
