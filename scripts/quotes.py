@@ -135,7 +135,9 @@ def bodies(texts):
     found = {}
     for text in texts.values():
         for match in re.finditer(r"^( *)(?:pub(?:\([a-z]+\))? )?fn (\w+)", text, re.M):
-            body = re.search(rf"^{match.group(1)}\{{\n(.*?)^{match.group(1)}\}}", text[match.start() :], re.M | re.S)
+            indent = match.group(1)
+            opens = rf"^{indent}(?:(?:pub(?:\([a-z]+\))? )?fn [^\n]*|\)[^\n]*)?\{{\n"
+            body = re.search(rf"{opens}(.*?)^{indent}\}}", text[match.start() :], re.M | re.S)
             found.setdefault(match.group(2), []).append(body.group(1) if body else "")
     return found
 
