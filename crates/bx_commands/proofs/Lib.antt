@@ -12,3 +12,4 @@ pub mod Stopped
 pub mod Tells
 pub mod SessionRuns
 pub mod Copying
+pub mod RoundTrips

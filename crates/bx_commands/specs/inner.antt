@@ -2,3 +2,4 @@
 pub mod Command
 pub mod Copy
 pub mod Run
+pub mod RoundTrip

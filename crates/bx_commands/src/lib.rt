@@ -7,6 +7,7 @@ mod fault;
 pub mod laws;
 mod listing;
 mod reading;
+pub mod round_trip;
 mod run;
 
 pub use command::{Command, Reply};

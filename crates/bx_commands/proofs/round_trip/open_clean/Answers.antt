@@ -1,0 +1,22 @@
+use Rattle.bx_journal.specs.Stack.{recovered}
+use Rattle.bx_commands.proofs.round_trip.open_clean.Goals as goal
+
+pub returns-in-Clean-clause-opens : goal.returns-in-Clean-clause-opens
+returns-in-Clean-clause-opens g c d t u =
+    let e = c.in-Ok-open.ensures in
+    let same = e.clean d t c.in-Clean.is in
+    let accepted = e.accepted t in
+    let undone = e.undone d t u in (
+      same.1,
+      same.0,
+      e.clean_redo u c.in-Clean.is,
+      (
+        record { stack = recovered accepted.0 (g.D.Device.image c.args.device); undone = undone.0 },
+        record {
+          device = e.device_honesty.1 d;
+          store = e.store_honesty.1 t;
+          redo_text = e.redo_honesty.1 u;
+          shows = (e.standing d t accepted.0 accepted.1, undone.1);
+        },
+      ),
+    )
