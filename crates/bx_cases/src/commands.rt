@@ -12,7 +12,7 @@ use crate::commands::stops::play_stops;
 use crate::report::tally::{Failure, at};
 use crate::session::medium::{Killed, PageCache};
 use crate::session::places::{Files, Memory, Pages, Place};
-use crate::sweep::weight::{is_large, is_swept, odd, opening_step, stop_step};
+use crate::sweep::weight::{is_large, is_swept, loss_step, odd, opening_step, stop_step};
 use bx_case_files::CommandsCase;
 use bx_image::Device;
 use bx_store::TextStore;
@@ -51,7 +51,7 @@ pub fn play_commands(rt: &HostRuntime, case: &CommandsCase, sweep: usize) -> Res
 
 /// Plays a case with losses of power.
 fn play_losses(alloc: Global, case: &CommandsCase, sweep: usize) -> Result<u32, Failure> {
-    let step = odd(opening_step(case));
+    let step = loss_step(case);
     match sweep {
         6 => play_stops(alloc, &PageCache, case, odd(stop_step(case)), &mut Nothing),
         7 => play_stops(alloc, &PageCache, case, step, &mut Lost::new(alloc)),

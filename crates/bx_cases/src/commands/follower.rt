@@ -23,6 +23,8 @@ enum Stop<'a> {
 enum Course<'a> {
     /// No call failed.
     Whole,
+    /// A call failed while the devices were opened.
+    Unopened,
     /// A call failed before the first that writes.
     Refused,
     /// A call failed then.
@@ -76,13 +78,18 @@ impl<'a> Follower<'a> {
 
     /// Opening failed before it wrote anything, or has to be made again.
     pub fn refuse(&mut self) {
-        self.course = Course::Refused;
+        self.course = Course::Unopened;
+    }
+
+    /// Whether nothing unfinished may be found.
+    pub fn is_at_rest(&self) -> bool {
+        matches!(self.course, Course::Whole | Course::Refused)
     }
 
     /// Whether the case tells what a row leaves: behind a refusal it doesn't tell what a change makes of the image.
     pub fn can_follow(&self, row: &Row) -> bool {
         match self.course {
-            Course::Refused => match &row.ask {
+            Course::Unopened | Course::Refused => match &row.ask {
                 Ask::Undo(_) | Ask::Redo(_) => true,
                 _ => matches!(&row.answer, Answer::Refused(_)),
             },
@@ -133,7 +140,7 @@ impl<'a> Follower<'a> {
     pub fn follow(&mut self, alloc: Global, row: &'a Row, reply: Reply) -> Result<(), Wrong> {
         match self.course {
             Course::Stopped(_) => refused_so(alloc, row, SessionFault::Broken, reply),
-            Course::Refused => self.follow_refused(alloc, row, reply),
+            Course::Unopened | Course::Refused => self.follow_refused(alloc, row, reply),
             Course::Whole => self.follow_whole(alloc, row, reply),
         }
     }

@@ -12,7 +12,7 @@ use crate::session::open::{close, open};
 use crate::session::places::Memory;
 use crate::sweep::images::{History, Images, history_of};
 use crate::sweep::recovery::{MOST_CALLS, recovered, stands_for};
-use bx_case_files::{Ask, CommandsCase, Row};
+use bx_case_files::{Ask, CommandsCase, Opening, Row};
 use bx_cli::Fault;
 use bx_image::Device;
 use bx_journal::SessionFault;
@@ -81,6 +81,9 @@ fn too_many(alloc: Global, least: usize, most: usize, changes: usize) -> Wrong {
 /// Opens what a run left: this many changes stand. Answers the images that it stands for.
 fn follows<'a>(alloc: Global, left: &Held, follower: &Follower<'a>) -> Result<Images<'a>, Wrong> {
     let (session, found) = recovered(alloc, left.texts())?;
+    if follower.is_at_rest() && !matches!(found, Opening::Clean { .. }) {
+        return Err(differs(alloc, "opening", "finished entries", "others"));
+    }
     let changes = session.changes() as usize;
     let (least, most) = follower.bounds();
     if changes < least || changes > most {

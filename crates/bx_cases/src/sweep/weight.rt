@@ -13,6 +13,9 @@ const LIGHT: usize = 64;
 /// For each this many bytes of others, one more stop is passed over.
 const BYTES_AN_OPENING: usize = 2;
 
+/// For as many bytes of a case one more loss of power is passed over where what is left goes on.
+const BYTES_A_LOSS: usize = 32;
+
 /// For each this many rows of a case, one more is passed over between two that are swept alone.
 const ROWS: usize = 16;
 
@@ -79,6 +82,12 @@ pub fn opening_step(case: &CommandsCase) -> u64 {
     }
     let step = bytes / BYTES_AN_OPENING;
     (step as u64).saturating_add(1)
+}
+
+/// How far losses of power are apart where what is left goes on, in calls.
+pub fn loss_step(case: &CommandsCase) -> u64 {
+    let more = weight(case) / BYTES_A_LOSS;
+    odd(opening_step(case).saturating_add(more as u64))
 }
 
 /// The same step where it is odd, else one more: so of calls that write and syncs, which take turns, it takes both.
