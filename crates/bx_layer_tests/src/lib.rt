@@ -19,3 +19,5 @@ mod slow;
 mod store;
 #[cfg(test)]
 mod text;
+#[cfg(test)]
+mod windows;

@@ -6,7 +6,7 @@ use std::process::Abort;
 use std::test::Fail;
 
 /// Whether these are runs at these addresses, of this many bytes.
-fn are(found: &[Piece], wanted: &[(u64, usize)]) -> bool {
+pub fn are(found: &[Piece], wanted: &[(u64, usize)]) -> bool {
     if found.len() != wanted.len() {
         return false;
     }
