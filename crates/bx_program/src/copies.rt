@@ -79,8 +79,8 @@ where
     let operands = operands_of(rt.alloc(), dd, input.passed, keeps_length)?;
     let session = open_session(rt, image, texts, true, dd.access)?;
     let passed = input.passed;
-    let mut input = Noted::new(input.reader);
-    let mut fitting = Fitting::new(&mut input, &dd.plan, passed, session.length);
+    let input = Noted::new(input.reader);
+    let mut fitting = Fitting::new(input, &dd.plan, passed, session.length);
     let asked = Command::Dd {
         operands,
         input: &mut fitting,
@@ -89,7 +89,7 @@ where
         Ok(Reply::Copied { counts, .. }) => Ok(Some(counts)),
         Ok(_) => Ok(None),
         Err(stopped) if fitting.is_full() => Err(stopped.on_more_input()),
-        Err(stopped) => Err(stopped.on_input(from, input.error)),
+        Err(stopped) => Err(stopped.on_input(from, fitting.input.error)),
     }
 }
 

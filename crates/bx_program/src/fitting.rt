@@ -15,7 +15,8 @@ enum Unit {
 /// that is too long.
 #[derive(Drop)]
 pub struct Fitting<I> {
-    input: I,
+    /// The input itself.
+    pub input: I,
     // the bytes that dd skips
     skipped: u64,
     // what may be read behind them

@@ -64,11 +64,11 @@ pub fn push_word(text: &mut String, name: &str) -> Result<(), AllocError> {
         return text.push_str(name);
     }
     text.push_str("'")?;
-    let mut between = "";
-    for part in name.split('\'') {
-        text.push_str(between)?;
+    for (place, part) in name.split('\'').enumerate() {
+        if place > 0 {
+            text.push_str("'\\''")?;
+        }
         text.push_str(part)?;
-        between = "'\\''";
     }
     text.push_str("'")
 }

@@ -1,6 +1,5 @@
 //! What is seen of a dump while it is read, for the hints behind a revert.
 use bx_cli::unlike_line;
-use memchr::memchr;
 use std::alloc::Global;
 use std::io::{self, Read};
 
@@ -44,13 +43,12 @@ impl Seen {
 
     /// Looks at the lines that end in these bytes, and holds what stands behind the last of them.
     fn look_at_lines(&mut self, bytes: &[u8]) {
-        let mut rest = bytes;
-        while let Some(end) = memchr(b'\n', rest) {
-            self.hold(&rest[..end]);
-            self.look_at_line();
-            rest = &rest[end + 1..];
+        for (place, part) in bytes.split(|byte| *byte == b'\n').enumerate() {
+            if place > 0 {
+                self.look_at_line();
+            }
+            self.hold(part);
         }
-        self.hold(rest);
     }
 
     /// Holds bytes of a line. Where memory is refused, nothing more is looked at.
