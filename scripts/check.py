@@ -35,6 +35,7 @@ CHECKS = [
     Check("definitions", "believe.py"),
     Check("quoted code", "quotes.py"),
     Check("words", "check-words.py"),
+    Check("rooms", "check-rooms.py"),
     Check("hints", "hints.py --bx BX"),
     Check("completions of bash", "check-completions.py bash", "bash"),
     Check("completions of zsh", "check-completions.py zsh", "zsh"),

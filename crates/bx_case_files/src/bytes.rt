@@ -2,11 +2,8 @@
 use crate::fault::{CaseFault, Trouble};
 use crate::quoted::{digit, pair, push_quoted};
 use crate::seeds::{push_seeded, seeded};
-use crate::values::small;
+use crate::values::{MOST_TIMES, small};
 use std::alloc::Global;
-
-/// The most times that a part is written, and the most bytes of a seed.
-pub const MOST_TIMES: u32 = 100_000_000;
 
 /// How many times a part is written, and the part.
 fn times_of(line: u64, rest: &[u8]) -> Result<(u32, &[u8]), CaseFault> {

@@ -13,10 +13,11 @@ mod quoted;
 mod seeds;
 mod values;
 
-pub use case::{Case, CaseFile, Opening, Records, Test};
+pub use case::{Case, CaseFile, Test};
 pub use fault::{CaseFault, Trouble};
 pub use file::read_cases;
 pub use kinds::commands::{Answer, Ask, CommandsCase, Left, Row, Write};
 pub use kinds::reading::{ReadingCase, Reads};
 pub use kinds::texts::{Found, Outcome, TextCase};
 pub use kinds::words::{Refusal, Sum, WordsCase};
+pub use values::{Opening, Records};

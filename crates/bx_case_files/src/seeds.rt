@@ -1,7 +1,6 @@
 //! Bytes that a seed begins.
-use crate::bytes::MOST_TIMES;
 use crate::fault::{CaseFault, Trouble};
-use crate::values::small;
+use crate::values::{MOST_TIMES, small};
 use std::alloc::{AllocFailed, Global};
 
 /// The factor and the summand of the C standard's example of `rand`.

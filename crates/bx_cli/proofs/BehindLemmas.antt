@@ -14,7 +14,7 @@ use Rattle.bx_dump.specs.Styles.{xxd_of}
 use Rattle.bx_dump.proofs.BehindLemmas.{od_rest, xxd_rest}
 use Rattle.bx_dd.specs.Behind.{IsRest}
 use Rattle.bx_dd.specs.declared.operands.plan.Plan.{Plan}
-use Rattle.bx_dd.specs.declared.stream.counts.Counts.{Counts}
+use Rattle.bx_dd.specs.declared.counts.Counts.{Counts}
 use Rattle.bx_commands.specs.declared.fault.Fault.{Fault}
 use Rattle.bx_cli.specs.Dump.{IsStyleOf}
 use Rattle.bx_cli.specs.inner.CopyOut.{CopiesOut, StopsOut}

@@ -14,7 +14,7 @@ use Rattle.bx_commands.specs.declared.command.Reply.TheVariants.{Undone, Redone,
 use Rattle.bx_commands.specs.declared.fault.Fault.{Fault}
 use Rattle.bx_commands.specs.declared.fault.Fault.TheVariants.{Read, Dd}
 use Rattle.bx_commands.specs.Standing.{Standing, PerformUp}
-use Rattle.bx_dd.specs.declared.stream.counts.Counts.{Counts}
+use Rattle.bx_dd.specs.declared.counts.Counts.{Counts}
 use Rattle.bx_dd.specs.declared.fault.DdFault.{DdFault}
 use Rattle.bx_commands.specs.declared.changes.DdChange.{DdChange}
 use Rattle.bx_commands.specs.Power.{images_of}

@@ -11,7 +11,7 @@ use Rattle.bx_read.specs.declared.fault.ReadFault.{ReadFault}
 use Rattle.bx_read.specs.declared.fault.ReadFault.TheVariants.{NoMemory as ReadNoMemory}
 use Rattle.bx_read.specs.Runs.{with_piece, joined}
 use Rattle.bx_read.specs.Text.{dump_pieces}
-use Rattle.bx_dd.specs.declared.stream.counts.Counts.{Counts}
+use Rattle.bx_dd.specs.declared.counts.Counts.{Counts}
 use Rattle.std.specs.Prelude.{Option, None}
 use Rattle.bx_journal.specs.Images.{Images, change_to}
 use Rattle.bx_journal.specs.Machine.{top}

@@ -1,6 +1,6 @@
 -- What refused commands leave.
 use Rattle.std.proofs.Common.{◌≡◌, ◌↔◌, ◌∙◌, ◌⊎◌, inl, inr, ℕ, List, Option, None, Some, refl, ap, subst}
-use Rattle.bx_dd.specs.declared.stream.counts.Counts.{Counts}
+use Rattle.bx_dd.specs.declared.counts.Counts.{Counts}
 use Rattle.bx_journal.specs.Calls.{AfterFault}
 use Rattle.bx_journal.specs.Power.{NothingNew}
 use Rattle.bx_journal.specs.Session.{IsRedoSame, IsSame}

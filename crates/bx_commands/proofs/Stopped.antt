@@ -6,7 +6,7 @@ use Rattle.bx_image.specs.Change.{effect}
 use Rattle.bx_read.specs.declared.fault.ReadFault.{ReadFault}
 use Rattle.bx_read.specs.Plain.{plain_answer}
 use Rattle.bx_read.specs.Text.{dump_pieces}
-use Rattle.bx_dd.specs.declared.stream.counts.Counts.{Counts}
+use Rattle.bx_dd.specs.declared.counts.Counts.{Counts}
 use Rattle.bx_dd.specs.declared.fault.DdFault.{DdFault}
 use Rattle.bx_journal.specs.Images.{Images, change_to, redo_of, undo_of}
 use Rattle.bx_journal.specs.Machine.{RedoStep, UndoStep, top}

@@ -1,7 +1,7 @@
 -- What replies tell of a session's counts.
 use Rattle.std.proofs.Common.{◌≡◌, ◌↔◌, ◌<◌, ◌≤◌, ◌+◌, ℕ, Option, None, Some, false, sym, ap, subst}
 use Rattle.std.specs.Result.{IsErrOf}
-use Rattle.bx_dd.specs.declared.stream.counts.Counts.{Counts}
+use Rattle.bx_dd.specs.declared.counts.Counts.{Counts}
 use Rattle.bx_journal.specs.SessionView.{SessionView}
 use Rattle.bx_journal.specs.Standing.{PerformFault}
 use Rattle.bx_journal.specs.Undoing.{RedoFault, UndoFault}

@@ -11,7 +11,7 @@ use Rattle.bx_commands.specs.declared.command.Reply.TheVariants.{Undone, Redone}
 use Rattle.bx_journal.specs.Images.{Images}
 use Rattle.bx_journal.specs.SessionView.{SessionView}
 use Rattle.bx_commands.specs.Standing.{Standing, HoldsAt, PerformUp, RestsAt}
-use Rattle.bx_dd.specs.declared.stream.counts.Counts.{Counts}
+use Rattle.bx_dd.specs.declared.counts.Counts.{Counts}
 use Rattle.bx_dd.specs.declared.fault.DdFault.{DdFault}
 use Rattle.bx_commands.specs.declared.changes.DdChange.{DdChange}
 use Rattle.bx_commands.specs.Run.{answered, ReadStep, DdStep, CommandStep, CommandRun, StackRun, Unfailed}

@@ -4,7 +4,7 @@ use Rattle.std.proofs.Math.ListN.{set}
 use Rattle.std.proofs.Math.Seq.{drop-cons, take-add}
 use Rattle.std.proofs.lemmas.List.{length-take-le, length-drop, append_assoc, take-append-drop}
 use Rattle.bx_dd.specs.Output.{swapped, cased}
-use Rattle.bx_dd.specs.declared.convert.form.Letters.TheVariants.{Keep}
+use Rattle.bx_dd.specs.declared.form.Letters.TheVariants.{Keep}
 
 pub length-swapped : (xs : List ℕ) → length (swapped xs) ≡ length xs
 unfolding swapped

@@ -3,7 +3,7 @@ use Rattle.std.proofs.Common.{◌≡◌, ℕ, ◌%◌, ◌/◌, ◌<◌, ◌≤�
 use Rattle.std.proofs.lemmas.List.{length-map, length-replicate}
 use Rattle.bx_dd.proofs.BlockLemmas.{length-swapped}
 use Rattle.bx_text.proofs.PiecesLemmas.{in_pieces-none, in_pieces-more}
-use Rattle.bx_dd.specs.declared.convert.form.Form.{Form}
+use Rattle.bx_dd.specs.declared.form.Form.{Form}
 use Rattle.bx_dd.specs.Counting.{counts_of}
 use Rattle.bx_dd.specs.Output.{converted, cut_records, joined, swapped, cased, filler}
 use Rattle.bx_dd.specs.inner.Output.{block_of}

@@ -11,15 +11,15 @@ use Rattle.bx_text.specs.inner.Stream.{StopsAfter}
 use Rattle.bx_text.specs.Writing.{WritesFront}
 use Rattle.bx_text.specs.declared.fault.IoFault.{IoFault}
 use Rattle.bx_text.specs.declared.fault.IoFault.TheVariants.{NoMemory, ReadFailed, WriteFailed, InputTooLong, SkipPastEnd}
-use Rattle.bx_dd.specs.declared.stream.counts.Counts.{Counts}
+use Rattle.bx_dd.specs.declared.counts.Counts.{Counts}
 use Rattle.bx_dd.specs.declared.operands.plan.Plan.{Plan}
 use Rattle.bx_dd.specs.Counting.{counts_of}
 use Rattle.bx_dd.specs.Plan.{form_of}
 use Rattle.bx_dd.specs.Transfer.{output_of, selected_by}
 use Rattle.bx_dd.specs.inner.Transfer.{IsReadOut, IsWithin, selected}
-use Rattle.bx_dd.specs.declared.convert.form.Form.{Form}
-use Rattle.bx_dd.specs.declared.convert.form.Shape.{Shape}
-use Rattle.bx_dd.specs.declared.convert.form.Shape.TheVariants.{Flat, Block, Unblock}
+use Rattle.bx_dd.specs.declared.form.Form.{Form}
+use Rattle.bx_dd.specs.declared.form.Shape.{Shape}
+use Rattle.bx_dd.specs.declared.form.Shape.TheVariants.{Flat, Block, Unblock}
 use Rattle.bx_dd.specs.Output.{converted, cut_records, joined, shaped}
 use Rattle.bx_dd.specs.inner.Output.{fitted, line_of}
 use Rattle.bx_dd.specs.inner.Standing.{HasSizes, last_of}

@@ -9,8 +9,8 @@ use Rattle.bx_text.specs.InPieces.{in_pieces}
 use Rattle.bx_text.specs.declared.fault.IoFault.{IoFault}
 use Rattle.bx_text.specs.Writing.{WritesFront}
 use Rattle.bx_text.proofs.PiecesLemmas.{in_pieces-append}
-use Rattle.bx_dd.specs.declared.convert.form.Shape.{Shape}
-use Rattle.bx_dd.specs.declared.convert.form.Shape.TheVariants.{Flat, Block, Unblock}
+use Rattle.bx_dd.specs.declared.form.Shape.{Shape}
+use Rattle.bx_dd.specs.declared.form.Shape.TheVariants.{Flat, Block, Unblock}
 use Rattle.bx_dd.specs.Output.{records, shaped, unfinished}
 use Rattle.bx_dd.specs.inner.Output.{fitted, line_of}
 use Rattle.bx_dd.specs.Standing.{Stands}

@@ -10,8 +10,8 @@ use Rattle.std.proofs.Math.Seq.{take-add}
 use Rattle.bx_text.specs.InPieces.{in_pieces}
 use Rattle.std.proofs.Math.Nat.{mod-le, div-add-mod, mul-add-mod_self_left, mod-eq_of_lt}
 use Rattle.bx_text.proofs.PiecesLemmas.{in_pieces-none, in_pieces-append, in_pieces-one}
-use Rattle.bx_dd.specs.declared.convert.form.Shape.{Shape}
-use Rattle.bx_dd.specs.declared.convert.form.Shape.TheVariants.{Flat, Block, Unblock}
+use Rattle.bx_dd.specs.declared.form.Shape.{Shape}
+use Rattle.bx_dd.specs.declared.form.Shape.TheVariants.{Flat, Block, Unblock}
 use Rattle.bx_dd.specs.Output.{records, shaped, cut_records, unfinished}
 use Rattle.bx_dd.specs.inner.Output.{fitted, line_of, goes_on, is_space}
 use Rattle.bx_dd.specs.Standing.{Stands}

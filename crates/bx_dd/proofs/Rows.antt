@@ -1,9 +1,9 @@
 -- Rows of dd, computed from the definitions.
 use Rattle.std.specs.Prelude.{◌≡◌, ◌/◌, ℕ, true, false, None, Some, List, [], ◌∷◌, ◌++◌, refl, codes, length, take}
 use Rattle.bx_text.specs.InPieces.{in_pieces}
-use Rattle.bx_dd.specs.declared.convert.form.Form.{Form}
-use Rattle.bx_dd.specs.declared.convert.form.Letters.TheVariants.{Keep, Upper}
-use Rattle.bx_dd.specs.declared.convert.form.Shape.TheVariants.{Flat, Block, Unblock}
+use Rattle.bx_dd.specs.declared.form.Form.{Form}
+use Rattle.bx_dd.specs.declared.form.Letters.TheVariants.{Keep, Upper}
+use Rattle.bx_dd.specs.declared.form.Shape.TheVariants.{Flat, Block, Unblock}
 use Rattle.bx_dd.specs.Output.{converted, cut_records, joined, swapped, records, shaped, unfinished}
 use Rattle.bx_dd.specs.inner.Output.{block_of, fitted, line_of}
 use Rattle.bx_dd.specs.inner.Transfer.{selected}

@@ -7,7 +7,7 @@ use Rattle.std.proofs.lemmas.List.{length-append, length-drop, length-take-le, m
 use borrow.Rule.Slice.PartMut.{put_mid, post_of}
 use Rattle.bx_text.specs.InPieces.{in_pieces}
 use Rattle.bx_text.proofs.PiecesLemmas.{in_pieces-append, in_pieces-none, in_pieces-one}
-use Rattle.bx_dd.specs.declared.convert.form.Form.{Form}
+use Rattle.bx_dd.specs.declared.form.Form.{Form}
 use Rattle.bx_dd.specs.Output.{cased, filler, joined, swapped}
 use Rattle.bx_dd.specs.inner.Output.{block_of}
 use Rattle.bx_dd.specs.inner.Streaming.{unit_of}

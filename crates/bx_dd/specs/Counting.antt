@@ -1,8 +1,8 @@
 -- What dd counts.
 use Rattle.std.specs.Prelude.{ℕ, ◌/◌, ◌%◌, min, ◌==◌, if◌then◌else◌, List, [], ◌++◌, length, codes}
 use Rattle.std.specs.Fmt.{decimal}
-use Rattle.bx_dd.specs.declared.convert.form.Form.{Form}
-use Rattle.bx_dd.specs.declared.stream.counts.Counts.{Counts}
+use Rattle.bx_dd.specs.declared.form.Form.{Form}
+use Rattle.bx_dd.specs.declared.counts.Counts.{Counts}
 use Rattle.bx_dd.specs.Output.{converted, cut_records, joined}
 
 -- blocks of the selected input and of the output, those that are short apart, and the records that were cut

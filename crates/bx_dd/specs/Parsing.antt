@@ -1,7 +1,7 @@
 -- The plan that operands ask for.
 use Rattle.std.specs.Prelude.{◌≡◌, if◌then◌else◌, List, ℕ, codes}
-use Rattle.bx_dd.specs.declared.convert.form.Letters.TheVariants.{Keep, Upper, Lower}
-use Rattle.bx_dd.specs.declared.convert.form.Shape.TheVariants.{Flat, Block, Unblock}
+use Rattle.bx_dd.specs.declared.form.Letters.TheVariants.{Keep, Upper, Lower}
+use Rattle.bx_dd.specs.declared.form.Shape.TheVariants.{Flat, Block, Unblock}
 use Rattle.bx_dd.specs.declared.operands.plan.Plan.{Plan}
 use Rattle.bx_dd.specs.Operands.{given, number_given, number_or, block_size, converts}
 

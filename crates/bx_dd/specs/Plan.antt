@@ -1,7 +1,7 @@
 -- What a plan says of its input and output.
 use Rattle.std.specs.Prelude.{ℕ, ◌*◌, if◌then◌else◌, List, [], ◌∷◌, None, Some}
 use Rattle.bx_image.specs.declared.change.Change.{Change}
-use Rattle.bx_dd.specs.declared.convert.form.Form.{Form}
+use Rattle.bx_dd.specs.declared.form.Form.{Form}
 use Rattle.bx_dd.specs.declared.operands.plan.Plan.{Plan}
 
 -- its sizes and conversions

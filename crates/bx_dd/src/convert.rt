@@ -7,20 +7,19 @@ ghost use Rattle.bx_dd.specs.Plan.{form_of};
 ghost use Rattle.bx_dd.specs.Standing.{IsAfter};
 ghost use Rattle.bx_dd.specs.inner.Paged.{Takes, TakesWithin};
 ghost use Rattle.bx_dd.specs.inner.Standing.{last_of, HasSizes};
-ghost use Rattle.bx_dd.specs.declared.convert.form.Shape.TheVariants.{Flat, Unblock};
+ghost use Rattle.bx_dd.specs.declared.form.Shape.TheVariants.{Flat, Unblock};
 
 mod block;
-pub(crate) mod form;
 pub(crate) mod records;
 pub(crate) mod units;
 
 use crate::convert::block::ready_block;
-use crate::convert::form::{Form, Shape};
 use crate::convert::records::{Tail, push_rest, push_shaped};
+use crate::counts::{Counts, Transfer};
 use crate::fault::DdFault;
+use crate::form::{Form, Shape};
 use crate::operands::plan::Plan;
-use crate::stream::counts::{Counts, Transfer};
-use crate::stream::page::Page;
+use crate::page::Page;
 use bx_text::Bytes;
 use std::alloc::{AllocError, Allocator, Global};
 use std::marker::Model;
@@ -42,7 +41,7 @@ impl<A: Allocator> Model for Convert<A> {
 
     ghost Value = { Progress };
 
-    ghost use Rattle.bx_dd.specs.declared.convert.form.Shape.TheVariants.{Flat, Unblock};
+    ghost use Rattle.bx_dd.specs.declared.form.Shape.TheVariants.{Flat, Unblock};
     ghost use Rattle.std.specs.Prelude.{length, vec_capacity, ◌<◌, ◌≤◌, ◌≡◌, ◌≢◌, ◌+◌, ◌%◌, ◌^◌};
     ghost use Rattle.bx_dd.specs.inner.Standing.{HasSizes};
 

@@ -12,16 +12,19 @@
 #![tactic(auto)]
 
 mod convert;
+mod counts;
 mod fault;
+mod form;
 pub mod laws;
 mod operands;
+mod page;
 mod stream;
 
 pub use convert::Convert;
-pub use convert::form::{Form, Letters, Shape};
+pub use counts::{Counts, Transfer, report};
 pub use fault::DdFault;
+pub use form::{Form, Letters, Shape};
 pub use operands::parse::parse;
 pub use operands::plan::Plan;
 pub use stream::copy::copy_out;
-pub use stream::counts::{Counts, Transfer, report};
 pub use stream::transfer::transfer;

@@ -11,8 +11,8 @@ mod number;
 pub(crate) mod parse;
 pub(crate) mod plan;
 
-use crate::convert::form::{Letters, Shape};
 use crate::fault::DdFault;
+use crate::form::{Letters, Shape};
 use crate::operands::number::read_number;
 use bx_text::{SizeFault, Words};
 use std::alloc::Allocator;

@@ -1,9 +1,8 @@
 //! Cases of commands on an image.
-use crate::case::{Opening, Records};
 use crate::cursor::Cursor;
 use crate::fault::{CaseFault, Trouble};
 use crate::kinds::told::{begun_with, needed_bytes, opening_of, placed, two_told};
-use crate::values::{number, records, small, split_space};
+use crate::values::{Opening, Records, number, records, small, split_space};
 use bx_text::Words;
 use std::alloc::Global;
 

@@ -1,8 +1,8 @@
 //! Cases of texts that are opened.
-use crate::case::Opening;
 use crate::cursor::Cursor;
 use crate::fault::{CaseFault, Trouble};
 use crate::kinds::told::{begun_with, opening_of, two_told};
+use crate::values::Opening;
 use std::alloc::Global;
 
 /// What opening answers.

@@ -1,8 +1,7 @@
 //! What lines of several kinds tell.
-use crate::case::Opening;
 use crate::cursor::Cursor;
 use crate::fault::{CaseFault, Trouble};
-use crate::values::{number, opening, split_space};
+use crate::values::{Opening, number, opening, split_space};
 use std::alloc::Global;
 
 /// The bytes of the next line, which has this word.

@@ -1,9 +1,8 @@
 //! Cases of words.
-use crate::case::Records;
 use crate::cursor::Cursor;
 use crate::fault::{CaseFault, Trouble};
 use crate::kinds::told::some_bytes;
-use crate::values::{number, records, split_space, text};
+use crate::values::{Records, number, records, split_space, text};
 use bx_text::Words;
 use std::alloc::Global;
 

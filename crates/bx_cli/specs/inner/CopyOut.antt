@@ -2,7 +2,7 @@
 use Rattle.std.specs.Prelude.{◌≡◌, ◌⊎◌, ◌<◌, ℕ, Option, List}
 use Rattle.bx_text.specs.declared.fault.IoFault.{IoFault}
 use Rattle.bx_dd.specs.declared.fault.DdFault.TheVariants.{SeekWithoutOutput}
-use Rattle.bx_dd.specs.declared.stream.counts.Counts.{Counts}
+use Rattle.bx_dd.specs.declared.counts.Counts.{Counts}
 use Rattle.bx_dd.specs.declared.operands.plan.Plan.{Plan}
 use Rattle.bx_dd.specs.Streaming.{IsCopy, StopsCopy}
 use Rattle.bx_commands.specs.declared.fault.Fault.{Fault}

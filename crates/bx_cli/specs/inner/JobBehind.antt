@@ -12,7 +12,7 @@ use Rattle.bx_cli.specs.inner.CopyOut.{CopiesOut, StopsOut}
 use Rattle.bx_cli.specs.declared.job.XxdJob.{XxdJob}
 use Rattle.bx_commands.specs.declared.fault.Fault.{Fault}
 use Rattle.bx_dd.specs.declared.operands.plan.Plan.{Plan}
-use Rattle.bx_dd.specs.declared.stream.counts.Counts.{Counts}
+use Rattle.bx_dd.specs.declared.counts.Counts.{Counts}
 use Rattle.bx_dump.specs.declared.od.options.OdOptions.{OdOptions}
 
 -- xxd's text in the style of the job's look, of what stands behind n bytes

@@ -1,7 +1,7 @@
 -- What proofs alone need: one block, the bytes that end a record, and those that fill it up.
 use Rattle.std.specs.Prelude.{ℕ, ◌-◌, Bool, not, ◌==◌, if◌then◌else◌, List, [], ◌∷◌, ◌++◌, length, map, replicate, take}
 use Rattle.std.specs.List.{suffix_len}
-use Rattle.bx_dd.specs.declared.convert.form.Form.{Form}
+use Rattle.bx_dd.specs.declared.form.Form.{Form}
 use Rattle.bx_dd.specs.Output.{cased, filler, swapped}
 
 -- one block: filled up, then swapped, then in one case

@@ -5,13 +5,13 @@ use Rattle.std.specs.declared.result.Result.{Result}
 use Rattle.bx_text.specs.declared.fault.IoFault.{IoFault}
 use Rattle.bx_text.specs.Writing.{WritesFront}
 use Rattle.bx_text.specs.declared.stream.Meter.{Meter}
-use Rattle.bx_dd.specs.declared.convert.form.Form.{Form}
-use Rattle.bx_dd.specs.declared.convert.form.Shape.{Shape}
-use Rattle.bx_dd.specs.declared.convert.form.Shape.TheVariants.{Block}
+use Rattle.bx_dd.specs.declared.form.Form.{Form}
+use Rattle.bx_dd.specs.declared.form.Shape.{Shape}
+use Rattle.bx_dd.specs.declared.form.Shape.TheVariants.{Block}
 use Rattle.bx_dd.specs.declared.convert.records.Tail.{Tail}
 use Rattle.bx_dd.specs.declared.stream.copy.Turn.{Turn}
-use Rattle.bx_dd.specs.declared.stream.counts.Counts.{Counts}
-use Rattle.bx_dd.specs.declared.stream.page.Page.{Page}
+use Rattle.bx_dd.specs.declared.counts.Counts.{Counts}
+use Rattle.bx_dd.specs.declared.page.Page.{Page}
 use Rattle.bx_dd.specs.Counting.{counts_of}
 use Rattle.bx_dd.specs.Output.{converted, cut_records, joined}
 use Rattle.bx_dd.specs.Standing.{Stands}

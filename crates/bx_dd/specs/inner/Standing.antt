@@ -1,11 +1,11 @@
 -- What proofs alone need: where a conversion stands once some blocks were given to it.
 use Rattle.std.specs.Prelude.{ℕ, ◌-◌, ◌<◌, ◌≤◌, ◌≢◌, ◌==◌, Bool, if◌then◌else◌, List, [], ◌++◌, length, take, drop, slice_index}
 use Rattle.bx_dd.specs.Standing.{Stands}
-use Rattle.bx_dd.specs.declared.convert.form.Shape.{Shape}
-use Rattle.bx_dd.specs.declared.convert.form.Shape.TheVariants.{Flat, Block, Unblock}
+use Rattle.bx_dd.specs.declared.form.Shape.{Shape}
+use Rattle.bx_dd.specs.declared.form.Shape.TheVariants.{Flat, Block, Unblock}
 use Rattle.bx_dd.specs.Output.{unfinished}
 use Rattle.bx_dd.specs.inner.Output.{fitted, line_of}
-use Rattle.bx_dd.specs.declared.convert.form.Form.{Form}
+use Rattle.bx_dd.specs.declared.form.Form.{Form}
 
 -- the bytes of the records that are finished
 abbrev pub finished : Shape → ℕ → List ℕ → List ℕ

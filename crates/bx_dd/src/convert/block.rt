@@ -3,7 +3,7 @@ ghost use Rattle.std.specs.Prelude.{◌≡◌, ℕ, ◌+◌, ◌-◌, ◌<◌, �
 ghost use Rattle.bx_dd.specs.Output.{cased, filler, swapped};
 ghost use Rattle.bx_dd.specs.inner.Output.{block_of};
 
-use crate::convert::form::{Form, Letters, Shape};
+use crate::form::{Form, Letters, Shape};
 use std::alloc::{AllocError, Allocator};
 
 /// The block, filled up, swapped and in one case.

@@ -4,10 +4,10 @@ ghost use Rattle.bx_dd.specs.inner.Output.{fitted, line_of};
 ghost use Rattle.bx_dd.specs.inner.Standing.{HoldsText, last_of};
 ghost use Rattle.bx_dd.specs.inner.Streaming.{Grows};
 ghost use Rattle.bx_dd.specs.inner.Paged.{EndsRecord, Pushes, PushesPieces, Puts, StopsPieces, StopsPush, StopsPut};
-ghost use Rattle.bx_dd.specs.declared.convert.form.Shape.TheVariants.{Flat, Block, Unblock};
+ghost use Rattle.bx_dd.specs.declared.form.Shape.TheVariants.{Flat, Block, Unblock};
 
-use crate::convert::form::{Form, Shape};
-use crate::stream::page::{Page, keep};
+use crate::form::{Form, Shape};
+use crate::page::{Page, keep};
 use bx_text::IoFault;
 use memchr::memchr;
 use std::alloc::Allocator;

@@ -5,7 +5,7 @@ ghost use Rattle.bx_dd.specs.inner.Standing.{HasSizes};
 ghost use Rattle.bx_dd.specs.inner.Streaming.{unit_of};
 
 use crate::convert::block::{filler, turn_block};
-use crate::convert::form::Form;
+use crate::form::Form;
 
 /// How many bytes are converted by themselves: a block where its pairs or its end matter, else one.
 pub fn unit_len(form: Form) -> usize

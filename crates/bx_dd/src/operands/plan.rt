@@ -1,10 +1,10 @@
 //! What dd's operands ask for.
 ghost use Rattle.std.specs.Prelude.{◌≡◌, ◌≢◌, ◌↔◌, ◌*◌, ◌^◌, ◌<◌, ◌≤◌, IfOk, IsErr, IsOkUnless};
 ghost use Rattle.std.specs.Option.{ForSome};
-ghost use Rattle.bx_dd.specs.declared.convert.form.Shape.TheVariants.{Flat};
+ghost use Rattle.bx_dd.specs.declared.form.Shape.TheVariants.{Flat};
 
-use crate::convert::form::{Form, Letters, Shape};
 use crate::fault::DdFault;
+use crate::form::{Form, Letters, Shape};
 use bx_image::Change;
 use bx_text::{Bytes, Name, Piece, Pieces};
 use std::alloc::{AllocError, Allocator, Global};

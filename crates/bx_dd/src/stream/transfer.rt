@@ -7,9 +7,9 @@ ghost use Rattle.bx_dd.specs.Transfer.{Copies, HasStopped, ReadsWithin};
 ghost use Rattle.bx_dd.specs.inner.Transfer.{IsStopCause, ReadsBlocks, StopsWithin, TakesBlocks};
 
 use crate::convert::Convert;
+use crate::counts::Transfer;
 use crate::fault::DdFault;
 use crate::operands::plan::Plan;
-use crate::stream::counts::Transfer;
 use bx_text::{IoFault, Meter, State};
 use std::alloc::Allocator;
 use std::io::Read;

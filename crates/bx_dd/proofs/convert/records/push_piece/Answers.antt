@@ -1,6 +1,6 @@
 use Rattle.std.proofs.Common.{◌≡◌, ◌+◌, ◌++◌, [], length, ap, ◌∙◌, arith, refl}
 use Rattle.std.proofs.lemmas.List.{length-append}
-use Rattle.bx_dd.specs.declared.convert.form.Shape.TheVariants.{Unblock}
+use Rattle.bx_dd.specs.declared.form.Shape.TheVariants.{Unblock}
 use Rattle.bx_dd.specs.inner.Output.{line_of}
 use Rattle.bx_dd.proofs.RecordsLemmas.{Stands_piece, Stands_whole}
 use Rattle.bx_dd.proofs.FlowLemmas.{stops_flow}

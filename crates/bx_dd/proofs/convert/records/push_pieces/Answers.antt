@@ -1,5 +1,5 @@
 use Rattle.std.proofs.Common.{◌++◌, ◌+◌, ◌-◌, take, drop, arith}
-use Rattle.bx_dd.specs.declared.convert.form.Shape.TheVariants.{Unblock}
+use Rattle.bx_dd.specs.declared.form.Shape.TheVariants.{Unblock}
 use Rattle.bx_dd.proofs.RecordsLemmas.{piece_taken}
 use Rattle.bx_dd.proofs.FlowLemmas.{piece_rest, stops_more}
 use Rattle.bx_dd.proofs.convert.records.push_pieces.Goals as goal

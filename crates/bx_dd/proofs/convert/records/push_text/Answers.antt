@@ -1,6 +1,6 @@
 use Rattle.std.proofs.Common.{◌≡◌, ◌+◌, ◌<◌, ◌++◌, [], ◌∷◌, ◌-◌, length, take, drop, sym, ap, ◌∙◌, arith, eq-eqb}
 use Rattle.std.proofs.lemmas.List.{length-drop, length-take-le, get_or-take}
-use Rattle.bx_dd.specs.declared.convert.form.Shape.TheVariants.{Block}
+use Rattle.bx_dd.specs.declared.form.Shape.TheVariants.{Block}
 use Rattle.bx_dd.proofs.RecordsLemmas.{rest_taken, line_taken, IsText}
 use Rattle.bx_dd.proofs.FlowLemmas.{front_rest, held_on, stops_more}
 use Rattle.bx_dd.proofs.convert.records.push_text.Goals as goal

@@ -1,6 +1,6 @@
 use Rattle.std.proofs.Common.{◌++◌, ◌+◌, ◌-◌, ◌≤◌, List, ℕ, Option, length, take}
 use Rattle.std.specs.Prelude.{vec_capacity}
-use Rattle.bx_dd.specs.declared.convert.form.Shape.TheVariants.{Block}
+use Rattle.bx_dd.specs.declared.form.Shape.TheVariants.{Block}
 use Rattle.bx_dd.specs.inner.Streaming.{Flows}
 use Rattle.bx_dd.proofs.convert.records.push_text.Given as goal
 

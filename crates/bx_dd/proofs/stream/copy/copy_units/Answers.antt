@@ -6,7 +6,7 @@ use Rattle.bx_text.proofs.KnownLemmas.{Consumes-nil, Consumes-trans, take-put_mi
 use Rattle.bx_text.specs.Writing.{WritesFront}
 use Rattle.bx_text.specs.declared.fault.IoFault.{IoFault}
 use Rattle.bx_text.specs.declared.stream.State.TheVariants.{Open, Ended}
-use Rattle.bx_dd.specs.declared.convert.form.Shape.TheVariants.{Flat, Unblock}
+use Rattle.bx_dd.specs.declared.form.Shape.TheVariants.{Flat, Unblock}
 use Rattle.bx_dd.specs.Output.{converted}
 use Rattle.bx_dd.specs.Streaming.{IsCopyAhead}
 use Rattle.bx_dd.specs.inner.Streaming.{StopsPass, written_by}

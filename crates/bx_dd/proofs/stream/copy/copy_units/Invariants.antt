@@ -2,7 +2,7 @@ use Rattle.std.proofs.Common.{◌≡◌, ◌≢◌, ◌+◌, ◌<◌, ◌≤◌,
 use Rattle.std.specs.Prelude.{vec_capacity}
 use Rattle.std.specs.Io.KnownBytes.{Consumes}
 use Rattle.bx_text.specs.declared.stream.State.TheVariants.{Open}
-use Rattle.bx_dd.specs.declared.convert.form.Shape.TheVariants.{Unblock}
+use Rattle.bx_dd.specs.declared.form.Shape.TheVariants.{Unblock}
 use Rattle.bx_dd.specs.inner.Streaming.{Stage, unit_of}
 use Rattle.bx_dd.proofs.stream.copy.copy_units.Given as goal
 

@@ -1,7 +1,7 @@
 use Rattle.std.proofs.Common.{◌≡◌, ℕ, List, ◌+◌, ◌-◌, ◌%◌, ◌++◌, length, take, drop, sym, ap, ◌∙◌, arith}
 use Rattle.std.proofs.Math.Seq.{take-add}
 use Rattle.std.proofs.lemmas.List.{length-take-le}
-use Rattle.bx_dd.specs.declared.convert.form.Form.{Form}
+use Rattle.bx_dd.specs.declared.form.Form.{Form}
 use Rattle.bx_dd.specs.Output.{joined}
 use Rattle.bx_dd.specs.inner.Streaming.{unit_of}
 use Rattle.bx_dd.proofs.UnitLemmas.{take_front}

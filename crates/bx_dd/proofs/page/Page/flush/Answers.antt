@@ -1,6 +1,6 @@
 use Rattle.std.proofs.Common.{◌≡◌, ◌+◌, length, ap, ◌∙◌}
 use Rattle.bx_dd.proofs.StreamLemmas.{Goes-sent, front_goes}
-use Rattle.bx_dd.proofs.stream.page.Page.flush.Goals as goal
+use Rattle.bx_dd.proofs.page.Page.flush.Goals as goal
 
 pub returns-in-Ok-clause-ok : goal.returns-in-Ok-clause-ok
 returns-in-Ok-clause-ok g c start text goes =

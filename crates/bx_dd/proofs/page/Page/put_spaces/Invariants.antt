@@ -1,6 +1,6 @@
 use Rattle.std.proofs.Common.{◌++◌, ◌-◌, ◌≤◌, List, ℕ, Option, replicate}
 use Rattle.bx_dd.specs.inner.Streaming.{Goes}
-use Rattle.bx_dd.proofs.stream.page.Page.put_spaces.Given as goal
+use Rattle.bx_dd.proofs.page.Page.put_spaces.Given as goal
 
 -- this many were put
 abbrev pub invariant-loop-done : goal.invariant-loop-done

@@ -1,7 +1,7 @@
 use Rattle.std.proofs.Common.{◌≡◌, ℕ, ◌+◌, ◌-◌, ◌++◌, replicate, ap, ◌∙◌, sym, arith, append_assoc}
 use Rattle.std.proofs.lemmas.List.{take-replicate, replicate-append-replicate}
 use Rattle.bx_dd.proofs.StreamLemmas.{front_more}
-use Rattle.bx_dd.proofs.stream.page.Page.put_spaces.Goals as goal
+use Rattle.bx_dd.proofs.page.Page.put_spaces.Goals as goal
 
 pub loop-done-preserved : goal.loop-done-preserved
 loop-done-preserved g c =

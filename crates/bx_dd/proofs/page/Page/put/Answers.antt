@@ -1,5 +1,5 @@
 use Rattle.bx_dd.proofs.StreamLemmas.{Goes-through, front_through, front_more}
-use Rattle.bx_dd.proofs.stream.page.Page.put.Goals as goal
+use Rattle.bx_dd.proofs.page.Page.put.Goals as goal
 
 pub returns-in-Err-clause-err : goal.returns-in-Err-clause-err
 returns-in-Err-clause-err g c start text goes = front_more 0 start _ text c.args.bytes.now c.in-Err.fault (c.in-Err.ensures.err start text goes)
