@@ -678,6 +678,41 @@ full_disk_of_undo() {
     done
 }
 
+# Runs bx on an image of 64 MiB, and compares the most memory that it held, the status, and the image behind it.
+within() { # within NAME MOST-KIB IMAGE ARG ..
+    local name=$1 most=$2 want=$3 held status well=0
+    shift 3
+    held=$(python3 -c '
+import resource, subprocess, sys
+status = subprocess.run(sys.argv[1:], stdout=subprocess.DEVNULL, stderr=subprocess.DEVNULL).returncode
+print(resource.getrusage(resource.RUSAGE_CHILDREN).ru_maxrss)
+sys.exit(status)' "$bx" "$@")
+    status=$?
+    if [ "$status" = 0 ] && [ "$held" -le "$most" ] && cmp -s "$want" img; then well=1; fi
+    say "$well" "$name" "status $status, $held of $most KiB"
+}
+
+# A change holds its new bytes, and beside them no more than 16 MiB: 65536 KiB in 88473, of a dump in 95027.
+little_memory() {
+    head -c 67108864 /dev/urandom > new
+    head -c 67108864 /dev/zero > before
+    "$bx" xxd new > dump
+    "$bx" xxd -p new > plain
+    cp before img && rm -f img.bxj img.bxj.redo
+    within "dd of 64 MiB onto an image" 88473 new dd if=new of=img conv=notrunc
+    cp before img && rm -f img.bxj img.bxj.redo
+    within "plain digits of 64 MiB" 95027 new revert -p -f plain img
+    cp before img && rm -f img.bxj img.bxj.redo
+    within "a dump of 64 MiB" 95027 new revert -f dump img
+    cp before img && rm -f img.bxj img.bxj.redo
+    (
+        ulimit -v 88473
+        "$bx" dd if=new of=img conv=notrunc 2> err
+    )
+    say "$([ $? = 0 ] && cmp -s new img && echo 1)" "dd of 64 MiB, no more address space than 88473 KiB" "$(tail -n 1 err)"
+    rm -f new before dump plain
+}
+
 # Kills a run after so many seconds, and takes back the changes that it left.
 kill_after() { # kill_after SECONDS ARG ..
     local seconds=$1 pid changes
@@ -1350,6 +1385,9 @@ words
 streams
 closed_streams
 full_disk
+if command -v python3 > /dev/null; then
+    little_memory
+fi
 killed
 two_at_once
 loop_devices
