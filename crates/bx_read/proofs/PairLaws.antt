@@ -1,5 +1,5 @@
 -- Pairs of digits are what their form says.
-use Rattle.std.proofs.Common.{◌≡◌, ◌⊎◌, ℕ, zero, suc, Bool, true, false, ◌&&◌, cond, eqb, Option, None, Some, Ok, List, [], ◌∷◌, ◌++◌, All, refl, arith, sym, ap, subst, ◌∙◌, inl, inr, ⊎_elim, append-nil}
+use Rattle.std.proofs.Common.{◌≡◌, ◌⊎◌, ℕ, zero, suc, Bool, true, false, ◌&&◌, cond, eqb, Option, Some, List, [], ◌∷◌, ◌++◌, All, refl, arith, sym, ap, subst, ◌∙◌, inl, inr, ⊎_elim, append-nil}
 use Rattle.std.specs.Option.{option_map}
 use Rattle.std.proofs.lemmas.Bool.{eqb-true, false≢true}
 use Rattle.bx_read.specs.Digits.{is_hex, pairs_of, pair_value}
@@ -8,12 +8,7 @@ use Rattle.bx_read.specs.inner.Plain.{plain_bytes, without_space, bytes_or_fault
 use Rattle.bx_read.specs.PairGrammar.{WritesByte, ArePairs, PairsHaveForm, IsBlank, IsPlain, PlainHasForm}
 use Rattle.bx_read.proofs.GrammarLemmas.{and_true, guard_some, first_digit}
 use Rattle.bx_read.proofs.PairsLemmas.{pairs_of-last, pairs_of-space, pairs_of-next}
-use Rattle.bx_read.proofs.PlainLemmas.{hex-space, keep, leave, hex_bytes-some}
-
--- what an option gives was made of what the other gives
-unmapped : {A B : Type 0} (f : A → B) (o : Option A) (y : B) → option_map f o ≡ Some y → (x : A) × (o ≡ Some x) × (f x ≡ y)
-unmapped f None y h = cc
-unmapped f (Some x) y h = (x, refl, cc h)
+use Rattle.bx_read.proofs.PlainLemmas.{hex-space, keep, leave, hex_bytes-some, unmapped, byte_of, answered}
 
 some_same : {A : Type 0} (x y : A) → ◌≡◌ {A = Option A} (Some x) (Some y) → x ≡ y
 some_same x y h = cc
@@ -80,7 +75,7 @@ pairs_have_form text bytes = (pairs_form text bytes, pairs_read bytes text)
 
 -- ---- plain text
 
-all_cons : (P : ℕ → Type 0) (c : ℕ) (xs : List ℕ) → P c → All P xs → All P (c ∷ xs)
+pub all_cons : (P : ℕ → Type 0) (c : ℕ) (xs : List ℕ) → P c → All P xs → All P (c ∷ xs)
 all_cons P c xs p ps zero d inside = p
 all_cons P c xs p ps (suc k) d inside = ps k d (omega arith)
 
@@ -122,13 +117,6 @@ none_out text is = ap without_space (sym (append-nil text)) ∙ blank_out text [
 one_digit : (c : ℕ) (text bytes : List ℕ) → hex_bytes (c ∷ text) ≡ Some bytes → (d : ℕ) × (rest : List ℕ) × (text ≡ d ∷ rest)
 one_digit c [] bytes h = cc h
 one_digit c (d ∷ rest) bytes h = (d, rest, refl)
-
--- a byte of digits
-byte_of : (high low : ℕ) (rest bytes : List ℕ) → hex_bytes (high ∷ low ∷ rest) ≡ Some bytes →
-    ((is_hex high && is_hex low) ≡ true) × ((more : List ℕ) × (hex_bytes rest ≡ Some more) × (pair_value high low ∷ more ≡ bytes))
-byte_of high low rest bytes h =
-    let inner = guard_some (is_hex high && is_hex low) (option_map (λ more. pair_value high low ∷ more) (hex_bytes rest)) bytes h in
-    (inner.0, unmapped (λ more. pair_value high low ∷ more) (hex_bytes rest) bytes inner.1)
 
 -- the first pair of a text, its bytes and what follows
 record FirstPair (text bytes : List ℕ) : Type 0 where
@@ -215,10 +203,6 @@ plain_read (byte ∷ bytes) text (before, between, rest, high, low, spelled, is_
     let two = stays (between ++ low ∷ rest) between rest low refl is_between (hex-space low byte_is.1) in
     ap hex_bytes (one ∙ ap (λ w. high ∷ w) two) ∙ hex_bytes-some high low (without_space rest) (both (is_hex high) (is_hex low) byte_is.0 byte_is.1)
     ∙ ap (option_map (λ more. pair_value high low ∷ more)) (plain_read bytes rest later) ∙ ap (λ b. Some (b ∷ bytes)) (sym byte_is.2)
-
-answered : (text bytes : List ℕ) (o : Option (List ℕ)) → bytes_or_fault text o ≡ Ok bytes → o ≡ Some bytes
-answered text bytes None h = cc h
-answered text bytes (Some found) h = cc h
 
 pub plain_has_form : PlainHasForm
 plain_has_form text bytes = (λ h. plain_form bytes text (answered text bytes (plain_bytes text) h), λ is. ap (bytes_or_fault text) (plain_read bytes text is))

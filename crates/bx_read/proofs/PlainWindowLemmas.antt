@@ -1,7 +1,7 @@
 -- Plain hexadecimal that is read window by window.
-use Rattle.std.proofs.Common.{◌≡◌, ◌⊎◌, inl, inr, ℕ, ◌+◌, Bool, true, false, ◌&&◌, ◌||◌, cond, eqb, Some, None, Option, Result, Ok, Err, List, [], ◌∷◌, ◌++◌, refl, sym, ap, subst, ◌∙◌, append_assoc, append-nil}
+use Rattle.std.proofs.Common.{◌≡◌, ◌⊎◌, inl, inr, ℕ, ◌+◌, ◌<◌, Bool, true, false, ◌&&◌, cond, eqb, Some, None, Option, Ok, Err, List, [], ◌∷◌, ◌++◌, length, refl, sym, ap, subst, ◌∙◌, append_assoc, append-nil, arith}
 use Rattle.std.specs.Prelude.{IsTrue, IfSome}
-use Rattle.std.specs.Option.{option_map, option_map_or, is_some}
+use Rattle.std.specs.Option.{option_map, is_some}
 use Rattle.std.proofs.lemmas.Bool.{eqb-true}
 use Rattle.bx_read.specs.Digits.{is_hex, pair_value}
 use Rattle.bx_read.specs.Plain.{is_space, hex_bytes, bad_line, digit_line, plain_answer}
@@ -11,7 +11,8 @@ use Rattle.bx_read.specs.declared.fault.ReadFault.{ReadFault}
 use Rattle.bx_read.specs.declared.fault.ReadFault.TheVariants.{NoMemory, BadPair, OddDigits}
 use Rattle.bx_read.specs.declared.plain_window.PlainRead.{PlainRead}
 use Rattle.bx_read.proofs.DecodeLemmas.{more_in_front}
-use Rattle.bx_read.proofs.PlainLemmas.{hex-space, keep, leave, hex_bytes-some, hex_bytes-none}
+use Rattle.bx_read.proofs.PlainLemmas.{hex-space, keep, leave, hex_bytes-some, hex_bytes-none, byte_of}
+use Rattle.bx_read.proofs.GrammarLemmas.{and_true}
 
 nothing_in_front : (o : Option (List ℕ)) → o ≡ option_map (λ others. [] ++ others) o
 nothing_in_front None = refl
@@ -94,6 +95,62 @@ module _ (text bytes : List ℕ) (half : Option ℕ) (passed last c : ℕ) (was 
       first : bad_line 1 ((text ++ c ∷ []) ++ rest) ≡ Some (passed + 1)
       first = bad_at rest ∙ rw (other, apart) refl
 
+-- a digit is no newline
+pub digit_not_newline : (c : ℕ) → is_hex c ≡ true → eqb c 10 ≡ false
+digit_not_newline c digit = go (eqb c 10) refl
+  where
+    go : (b : Bool) → eqb c 10 ≡ b → b ≡ false
+    go false e = refl
+    go true e =
+        let same : c ≡ 10 = eqb-true c 10 e in
+        let wrong : is_hex 10 ≡ true = subst (λ n. is_hex n ≡ true) same digit in
+        cc
+
+-- a pair more
+one_pair : (text bytes : List ℕ) (passed last high low : ℕ) → HasDigits text bytes None passed last → is_hex high ≡ true → is_hex low ≡ true →
+    HasDigits (text ++ high ∷ low ∷ []) (bytes ++ pair_value high low ∷ []) None passed (passed + 1)
+one_pair text bytes passed last high low was first second =
+    let half = first_digit text bytes None passed last high was first (digit_not_newline high first) refl in
+    subst (λ t. HasDigits t (bytes ++ pair_value high low ∷ []) None passed (passed + 1)) (append_assoc text (high ∷ []) (low ∷ []))
+    (second_digit (text ++ high ∷ []) bytes (Some high) passed (passed + 1) low half second (digit_not_newline low second) high (pair_value high low)
+    (bytes ++ pair_value high low ∷ []) refl first refl refl)
+
+-- pairs more, behind a digit of the same line
+pairs_behind : (text bytes run more : List ℕ) (passed : ℕ) → HasDigits text bytes None passed (passed + 1) → hex_bytes run ≡ Some more →
+    HasDigits (text ++ run) (bytes ++ more) None passed (passed + 1)
+pairs_behind text bytes [] more passed was h =
+    let none : [] ≡ more = cc h in
+    rw (append-nil text, ← none, append-nil bytes) was
+pairs_behind text bytes (c ∷ []) more passed was h = cc h
+pairs_behind text bytes (high ∷ low ∷ run) more passed was h =
+    let first = byte_of high low run more h in
+    let two = and_true (is_hex high) (is_hex low) first.0 in
+    let later = pairs_behind (text ++ high ∷ low ∷ []) (bytes ++ pair_value high low ∷ []) run first.1.0 passed
+    (one_pair text bytes passed (passed + 1) high low was two.0 two.1) first.1.1 in
+    subst (λ t. HasDigits t (bytes ++ more) None passed (passed + 1)) (append_assoc text (high ∷ low ∷ []) run)
+    (subst (λ b. HasDigits ((text ++ high ∷ low ∷ []) ++ run) b None passed (passed + 1))
+    (append_assoc bytes (pair_value high low ∷ []) first.1.0 ∙ ap (λ b. bytes ++ b) first.1.2) later)
+
+-- pairs more, and the last digit is in this line
+pub pairs_more : (text bytes run more : List ℕ) (passed last : ℕ) → HasDigits text bytes None passed last → hex_bytes run ≡ Some more → 0 < length run →
+    HasDigits (text ++ run) (bytes ++ more) None passed (passed + 1)
+pairs_more text bytes [] more passed last was h some = absurd (omega (arith, some))
+pairs_more text bytes (c ∷ []) more passed last was h some = cc h
+pairs_more text bytes (high ∷ low ∷ run) more passed last was h some =
+    let first = byte_of high low run more h in
+    let two = and_true (is_hex high) (is_hex low) first.0 in
+    let later = pairs_behind (text ++ high ∷ low ∷ []) (bytes ++ pair_value high low ∷ []) run first.1.0 passed
+    (one_pair text bytes passed last high low was two.0 two.1) first.1.1 in
+    subst (λ t. HasDigits t (bytes ++ more) None passed (passed + 1)) (append_assoc text (high ∷ low ∷ []) run)
+    (subst (λ b. HasDigits ((text ++ high ∷ low ∷ []) ++ run) b None passed (passed + 1))
+    (append_assoc bytes (pair_value high low ∷ []) first.1.0 ∙ ap (λ b. bytes ++ b) first.1.2) later)
+
+-- the same where half a pair may have been read before
+pub pairs_taken : (text bytes run more longer : List ℕ) (half : Option ℕ) (passed last : ℕ) → half ≡ None → HasDigits text bytes half passed last →
+    hex_bytes run ≡ Some more → 0 < length run → longer ≡ bytes ++ more → HasDigits (text ++ run) longer half passed (passed + 1)
+pairs_taken text bytes run more longer half passed last none was h some pushed =
+    rw (none, pushed) (pairs_more text bytes run more passed last (subst (λ d. HasDigits text bytes d passed last) none was) h some)
+
 -- at the end of the text
 module _ (text bytes : List ℕ) (passed last : ℕ) where
   whole : text ++ [] ≡ text
@@ -137,17 +194,6 @@ fault_at_end text read fault known is = go (subst (HasReadPlainBy text read) kno
     go (inl none) = inl none
     go (inr all) = inr (ap plain_answer (sym (append-nil text)) ∙ all [])
 
--- a digit is no newline
-pub digit_not_newline : (c : ℕ) → is_hex c ≡ true → eqb c 10 ≡ false
-digit_not_newline c digit = go (eqb c 10) refl
-  where
-    go : (b : Bool) → eqb c 10 ≡ b → b ≡ false
-    go false e = refl
-    go true e =
-        let same : c ≡ 10 = eqb-true c 10 e in
-        let wrong : is_hex 10 ≡ true = subst (λ n. is_hex n ≡ true) same digit in
-        cc
-
 pub half_is_digit : (half : Option ℕ) (high : ℕ) → half ≡ Some high → IfSome half (λ d. IsTrue (is_hex d)) → IsTrue (is_hex high)
 half_is_digit half high is all = subst (λ h. IfSome h (λ d. IsTrue (is_hex d))) is all
 
@@ -159,3 +205,7 @@ half_left text bytes passed last (Some high) e was = odd_end text bytes passed l
 pub none_left : (text bytes : List ℕ) (passed last : ℕ) (half : Option ℕ) → is_some half ≡ false → HasDigits text bytes half passed last → plain_answer text ≡ Ok bytes
 none_left text bytes passed last None e was = plain_end text bytes passed last was
 none_left text bytes passed last (Some high) e was = cc
+
+-- nothing more
+pub nothing_more : {A : Type 0} (text : List ℕ) (read : PlainRead A) → HasReadPlain text read → HasReadPlain (text ++ []) read
+nothing_more text read is = rw (append-nil text) is

@@ -7,6 +7,5 @@ pub mod Next
 pub mod NextLine
 pub mod Plain
 pub mod Rows
-pub mod Steps
 pub mod Text
 pub mod Window

@@ -1,9 +1,10 @@
-//! Hexadecimal digits, in either case.
-ghost use Rattle.std.specs.Prelude.{◌≡◌, ◌≤◌, ◌<◌, ◌&&◌, if◌then◌else◌, length, All, IsTrue};
+//! Hexadecimal digits, in either case, and the white space around them.
+ghost use Rattle.std.specs.Prelude.{◌≡◌, ◌≤◌, ◌<◌, ◌*◌, ◌&&◌, if◌then◌else◌, length, take, All, IsTrue, Some};
 ghost use Rattle.std.specs.Char.{digit_value};
 ghost use Rattle.std.specs.Str.Parse.{digits_value};
 ghost use Rattle.std.specs.List.{prefix_len};
 ghost use Rattle.bx_read.specs.Digits.{is_hex, pair_value};
+ghost use Rattle.bx_read.specs.Plain.{is_space, hex_bytes};
 
 /// The value of each hexadecimal digit, and 255 for other bytes.
 #[rattlefmt::skip]
@@ -57,6 +58,32 @@ pub fn pair(high: u8, low: u8) -> u8
     ensures { result ≡ pair_value high low }
 {
     value_of(high) * 16 + value_of(low)
+}
+
+/// Puts the bytes of the pairs of digits that the text begins with, no more than there is room for, and answers how many they are.
+pub fn put_pairs(text: &[u8], out: &mut [u8]) -> usize
+    ensures within { 2 * result ≤ length text.now }
+    ensures room { result ≤ length out.old }
+    ensures bytes { hex_bytes (take (2 * result) text.now) ≡ Some (take result out.new) }
+{
+    let most = out.len().min(text.len() / 2);
+    for i in 0..most {
+        let high = text[2 * i];
+        let low = text[2 * i + 1];
+        if !is_pair(high, low) {
+            return i;
+        }
+        out[i] = pair(high, low);
+    }
+    most
+}
+
+/// Whether the byte is white space.
+#[inline]
+pub fn is_space(byte: u8) -> bool
+    ensures { result ≡ is_space byte }
+{
+    byte == b' ' || (9..=13).contains(&byte)
 }
 
 /// How many digits stand in front.

@@ -1,13 +1,15 @@
 //! Plain hexadecimal that is read window by window, so that no more than a window of the text is held.
-ghost use Rattle.std.specs.Prelude.{◌≡◌, ◌+◌, ◌^◌, ◌<◌, ◌≤◌, ◌++◌, ◌∷◌, [], ℕ, List, length, IsTrue, None, Ok, MatchResult, IfSome};
+ghost use Rattle.std.specs.Prelude.{◌≡◌, ◌+◌, ◌^◌, ◌<◌, ◌≤◌, ◌++◌, ◌∷◌, [], ℕ, List, length, take, IsTrue, None, Ok, MatchResult, IfOk, IfSome};
 ghost use Rattle.std.proofs.Props.{props};
 ghost use Rattle.bx_read.specs.Digits.{is_hex};
 ghost use Rattle.bx_read.specs.Plain.{is_space, plain_answer};
 
-use crate::digits::{is_digit, pair};
+use crate::digits::{is_digit, is_space, pair, put_pairs};
 use crate::fault::ReadFault;
-use crate::plain::is_space;
-use std::alloc::{Allocator, Global};
+use std::alloc::{AllocError, Allocator, Global};
+
+/// How many bytes are read at a time: more than a line of `xxd -p` has.
+const RUN: usize = 64;
 
 /// What was read so far of plain hexadecimal whose text comes in windows, which may be cut anywhere.
 #[derive(Drop)]
@@ -31,8 +33,25 @@ impl<A: Allocator> PlainRead<A> {
         ensures read { HasReadPlain [] result }
         ensures count { result.passed ≡ 0 }
     {
+        PlainRead::begin(Vec::new(alloc))
+    }
+
+    /// The same with room for this many bytes, without another growth.
+    pub(crate) fn with_capacity(alloc: A, capacity: usize) -> Result<PlainRead<A>, AllocError>
+        ensures read { IfOk result (λ read. HasReadPlain [] read) }
+        ensures count { IfOk result (λ read. read.passed ≡ 0) }
+    {
+        Ok(PlainRead::begin(Vec::with_capacity(alloc, capacity)?))
+    }
+
+    /// Nothing was read yet, and what will be is put here.
+    fn begin(bytes: Vec<u8, A>) -> PlainRead<A>
+        requires empty { bytes.items ≡ [] }
+        ensures read { HasReadPlain [] result }
+        ensures count { result.passed ≡ 0 }
+    {
         PlainRead {
-            bytes: Vec::new(alloc),
+            bytes,
             half: None,
             passed: 0,
             last: 1,
@@ -47,8 +66,9 @@ impl<A: Allocator> PlainRead<A> {
         // No more newlines are passed than bytes.
         ensures count { self.new.passed ≤ self.old.passed + length window.now }
     {
-        for byte in window {
-            self.take_byte(*byte);
+        let mut at = 0;
+        while at < window.len() {
+            at += self.take_front(&window[at..]);
         }
     }
 
@@ -64,6 +84,54 @@ impl<A: Allocator> PlainRead<A> {
         }
         let PlainRead { bytes, .. } = self;
         Ok(bytes)
+    }
+
+    /// Reads the pairs of digits that a text begins with and the byte behind them, and answers how long they are.
+    #[inline]
+    fn take_front(&mut self, text: &[u8]) -> usize
+        requires countable { self.old.passed + length text.now < 2 ^ 64 }
+        requires some { 0 < length text.now }
+        ensures within { result ≤ length text.now }
+        ensures some { 0 < result }
+        ensures read { (before : List ℕ) → HasReadPlain before self.old → HasReadPlain (before ++ take result text.now) self.new }
+        ensures count { self.new.passed ≤ self.old.passed + result }
+    {
+        let pairs = self.take_pairs(text);
+        if pairs == text.len() {
+            return pairs;
+        }
+        self.take_byte(text[pairs]);
+        pairs + 1
+    }
+
+    /// Reads the pairs of digits that a text begins with, as many as are read at a time, and answers how long they are: 0 where a
+    /// fault is known, or half a pair.
+    #[inline]
+    fn take_pairs(&mut self, text: &[u8]) -> usize
+        requires countable { self.old.passed + length text.now < 2 ^ 64 }
+        ensures within { result ≤ length text.now }
+        ensures read { (before : List ℕ) → HasReadPlain before self.old → HasReadPlain (before ++ take result text.now) self.new }
+        ensures count { self.new.passed ≡ self.old.passed }
+    {
+        if self.fault.is_some() {
+            return 0;
+        }
+        if self.half.is_some() {
+            return 0;
+        }
+        let mut bytes = [0u8; RUN];
+        let count = put_pairs(text, &mut bytes);
+        if count == 0 {
+            return 0;
+        }
+        self.last = self.passed + 1;
+        match self.bytes.extend_from_slice(&bytes[..count]) {
+            Ok(()) => 2 * count,
+            Err(_) => {
+                self.fault = Some(ReadFault::NoMemory);
+                2 * count
+            }
+        }
     }
 
     /// Reads a byte.
