@@ -236,7 +236,7 @@ whole_ends : (whole held lines front : List ℕ) → lines ≡ front ++ 10 ∷ [
 whole_ends whole held lines front end =
     inr (whole ++ (held ++ front), ap (λ l. whole ++ (held ++ l)) end ∙ ap (λ l. whole ++ l) (sym (append_assoc held front (10 ∷ []))) ∙ sym (append_assoc whole (held ++ front) (10 ∷ [])))
 
--- a window of which nothing is read yet
+-- a window that is only held yet
 pub held_more : {A : Type 0} (text whole window : List ℕ) (old new : DumpRead A) → HasLines text whole old → new.held.items ≡ old.held.items ++ window → new.runs ≡ old.runs →
     new.lines ≡ old.lines → HasLines (text ++ window) whole new
 held_more text whole window old new has held runs lines = record {

@@ -1,5 +1,5 @@
 -- Plain hexadecimal that is read window by window.
-use Rattle.std.specs.Prelude.{◌≡◌, ◌⊎◌, ℕ, ◌+◌, not, List, [], ◌∷◌, ◌++◌, filter, Option, None, Some, Ok, Err}
+use Rattle.std.specs.Prelude.{◌≡◌, ◌⊎◌, ℕ, ◌+◌, not, List, [], ◌∷◌, ◌++◌, filter, Option, None, Some, Err}
 use Rattle.std.specs.Option.{option_map}
 use Rattle.bx_read.specs.Plain.{is_space, hex_bytes, bad_line, digit_line, plain_answer}
 use Rattle.bx_read.specs.declared.fault.ReadFault.{ReadFault}
@@ -11,7 +11,7 @@ abbrev pub half_digit : Option ℕ → List ℕ
 half_digit None = []
 half_digit (Some digit) = digit ∷ []
 
--- Behind the text, whatever follows it, stand these bytes and half a pair; so many newlines were passed, and the last digit is in this line.
+-- Whatever follows the text is read as it is after these bytes and half a pair, this many newlines, and a last digit in this line.
 pub record HasDigits (text bytes : List ℕ) (half : Option ℕ) (passed last : ℕ) : Type 0 where
   pub digits : (more : List ℕ) → hex_bytes (filter (λ c. not (is_space c)) (text ++ more))
       ≡ option_map (λ others. bytes ++ others) (hex_bytes (half_digit half ++ filter (λ c. not (is_space c)) more))

@@ -25,7 +25,7 @@ pub fn read_runs<A: Allocator + Clone>(alloc: A, text: &[u8]) -> Result<Vec<Piec
     gather_runs(alloc, text, 0)
 }
 
-/// The runs of a text that stands behind so many lines, one after another. Memory for the first one is guessed from the text's
+/// The runs of a text that follows this many lines, one after another. Memory for the first one is guessed from the text's
 /// length, as if all lines went on.
 pub(crate) fn gather_runs<A: Allocator + Clone>(
     alloc: A,

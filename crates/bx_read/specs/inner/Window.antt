@@ -13,6 +13,6 @@ newlines (c ∷ text) = if c == 10 then newlines text + 1 else newlines text
 abbrev pub JoinsBehind : {A : Type 0} → List (Piece A) → List (Piece A) → List (ℕ × List ℕ) → Type 0
 JoinsBehind old new more = (pieces : List (ℕ × List ℕ)) → contents old ≡ joined pieces → contents new ≡ joined (pieces ++ more)
 
--- Behind the runs of any pieces stand those of a text behind so many lines.
+-- The text, which follows this many lines, is read, and its pieces join the runs of any before them.
 abbrev pub TakesText : {A : Type 0} → ℕ → List ℕ → List (Piece A) → List (Piece A) → Type 0
 TakesText lines text old new = (more : List (ℕ × List ℕ)) × (gathered (answers (lines + 1) (lines_of text)) ≡ Ok more) × JoinsBehind old new more
