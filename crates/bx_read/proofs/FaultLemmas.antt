@@ -22,7 +22,7 @@ use Rattle.bx_read.specs.declared.fault.ReadFault.TheVariants.{NoMemory, BadAddr
 same_fault : {A : Type 0} (x y : ReadFault) → ◌≡◌ {A = Result A ReadFault} (Err x) (Err y) → x ≡ y
 same_fault x y h = cc
 
-answers : {A : Type 0} (P : ReadFault → Type 0) (x y : ReadFault) → ◌≡◌ {A = Result A ReadFault} (Err x) (Err y) → P x → P y
+pub answers : {A : Type 0} (P : ReadFault → Type 0) (x y : ReadFault) → ◌≡◌ {A = Result A ReadFault} (Err x) (Err y) → P x → P y
 answers P x y h p = subst P (same_fault x y h) p
 
 -- a test that stopped the reading, or one that let it go on

@@ -17,6 +17,7 @@ pub mod FullLines
 pub mod RowsLemmas
 pub mod PairLaws
 pub mod FaultLemmas
+pub mod PlainFaultLemmas
 pub mod RunLemmas
 pub mod GoesOnLemmas
 pub mod WindowLemmas

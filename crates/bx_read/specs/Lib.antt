@@ -10,4 +10,5 @@ pub mod PlainWindow
 pub mod Laws
 pub mod PairGrammar
 pub mod FaultTable
+pub mod PlainFaults
 pub mod inner

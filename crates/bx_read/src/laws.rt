@@ -3,6 +3,7 @@ ghost use Rattle.bx_read.specs.FaultTable.{FaultIsOfLine};
 ghost use Rattle.bx_read.specs.Grammar.{LineHasForm, TextHasForm};
 ghost use Rattle.bx_read.specs.Laws.{LineIsUnique, TextIsUnique, PiecesAreFew, DumpLineReadsBack, WrittenLineReadsBack};
 ghost use Rattle.bx_read.specs.PairGrammar.{PairsHaveForm, PlainHasForm};
+ghost use Rattle.bx_read.specs.PlainFaults.{FaultIsOfPlain};
 
 /// No line gives two different pairs of an address and bytes.
 pub fn line_is_unique()
@@ -55,4 +56,10 @@ pub fn pairs_have_form()
 /// A plain text reads as bytes exactly where it is two digits for each of them, with white space before, between and behind.
 pub fn plain_has_form()
     ensures { PlainHasForm }
+{}
+
+/// A plain text that doesn't read as bytes has the fault that is answered: a bad pair in the line of its first byte that is neither a
+/// digit nor white space, or where there is none an odd number of digits, in the line of the last one.
+pub fn fault_is_of_plain()
+    ensures { FaultIsOfPlain }
 {}
