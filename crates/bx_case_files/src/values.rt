@@ -1,32 +1,12 @@
 //! Values of one line: numbers, words, counts and openings.
 use crate::fault::{CaseFault, Trouble};
+use crate::outcome::{Opening, Records};
 use crate::quoted::push_quoted;
 use bx_text::Words;
 use std::alloc::Global;
 
 /// The most times that a part is written, and the most bytes of a seed.
 pub const MOST_TIMES: u32 = 100_000_000;
-
-/// Blocks in and out, whole and short ones, and records that were cut, as dd counts them.
-#[derive(Clone, Copy, Debug, PartialEq, Eq)]
-pub struct Records {
-    pub whole_in: u64,
-    pub part_in: u64,
-    pub whole_out: u64,
-    pub part_out: u64,
-    pub cut: u64,
-}
-
-/// What opening a pair finds.
-#[derive(Clone, Copy, Debug, PartialEq, Eq)]
-pub enum Opening {
-    /// This many changes, and nothing behind them; that many that were undone can be made again.
-    Clean { changes: u32, undone: u32 },
-    /// An unfinished change behind this many, which has not touched the image.
-    Dropped { changes: u32 },
-    /// An unfinished change of this number behind that many, which was taken back.
-    Restored { number: u32, changes: u32 },
-}
 
 /// The number that decimal digits write; none where it is 2^64 or more.
 pub fn number(value: &[u8]) -> Option<u64> {

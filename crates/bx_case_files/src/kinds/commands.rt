@@ -2,7 +2,8 @@
 use crate::cursor::Cursor;
 use crate::fault::{CaseFault, Trouble};
 use crate::kinds::told::{begun_with, needed_bytes, opening_of, placed, two_told};
-use crate::values::{Opening, Records, number, records, small, split_space};
+use crate::outcome::{Opening, Records};
+use crate::values::{number, records, small, split_space};
 use bx_text::Words;
 use std::alloc::Global;
 

@@ -2,7 +2,7 @@
 use crate::cursor::Cursor;
 use crate::fault::{CaseFault, Trouble};
 use crate::kinds::told::{begun_with, opening_of, two_told};
-use crate::values::Opening;
+use crate::outcome::Opening;
 use std::alloc::Global;
 
 /// What opening answers.

@@ -1,7 +1,8 @@
 //! What lines of several kinds tell.
 use crate::cursor::Cursor;
 use crate::fault::{CaseFault, Trouble};
-use crate::values::{Opening, number, opening, split_space};
+use crate::outcome::Opening;
+use crate::values::{number, opening, split_space};
 use std::alloc::Global;
 
 /// The bytes of the next line, which has this word.

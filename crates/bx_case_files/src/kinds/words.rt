@@ -2,7 +2,8 @@
 use crate::cursor::Cursor;
 use crate::fault::{CaseFault, Trouble};
 use crate::kinds::told::some_bytes;
-use crate::values::{Records, number, records, split_space, text};
+use crate::outcome::Records;
+use crate::values::{number, records, split_space, text};
 use bx_text::Words;
 use std::alloc::Global;
 
