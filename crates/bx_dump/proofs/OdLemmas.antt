@@ -1,5 +1,5 @@
 -- Numbers in fields of a fixed width.
-use Rattle.std.proofs.Common.{◌≡◌, ℕ, zero, suc, ◌+◌, ◌-◌, ◌*◌, ◌/◌, ◌^◌, ◌<◌, ◌≤◌, List, [], ◌∷◌, ◌++◌, length, min, replicate, get_or, take, drop, refl, sym, ap, ◌∙◌, arith, add-one, Fits, w8, w64}
+use Rattle.std.proofs.Common.{◌≡◌, ℕ, zero, suc, ◌+◌, ◌-◌, ◌*◌, ◌/◌, ◌^◌, ◌<◌, ◌≤◌, List, [], ◌∷◌, ◌++◌, length, min, replicate, get_or, take, drop, refl, sym, ap, ◌∙◌, arith, add-one, Fits, w8, w32, w64}
 use Rattle.std.proofs.Math.ListN.{set}
 use Rattle.std.specs.Int.{from_le_bytes}
 use Rattle.std.proofs.Math.Nat.{mul-le-mul_left, pow-suc, pow-zero, pow-le-pow_right}
@@ -60,6 +60,15 @@ value_small m xs small few =
 pub value_from : (m at : ℕ) (xs : List ℕ) → ((k : ℕ) → Fits w8 (get_or xs k 0)) → length xs - at ≤ m → value_of (drop at xs) < 256 ^ m
 value_from m at xs small few =
     value_small m (drop at xs) (λ k. rw (get_or-drop at xs k 0) (small (at + k))) (omega (arith, length-drop at xs))
+
+-- four at once
+pub value_four : (bs : List ℕ) → length bs ≡ 4 → from_le_bytes w32 bs ≡ value_of bs
+value_four [] len = absurd (omega arith)
+value_four (a ∷ []) len = absurd (omega arith)
+value_four (a ∷ b ∷ []) len = absurd (omega arith)
+value_four (a ∷ b ∷ c ∷ []) len = absurd (omega arith)
+value_four (a ∷ b ∷ c ∷ d ∷ []) len = omega arith
+value_four (a ∷ b ∷ c ∷ d ∷ e ∷ rest) len = absurd (omega arith)
 
 -- all eight at once
 pub value_eight : (bs : List ℕ) → length bs ≡ 8 → from_le_bytes w64 bs ≡ value_of bs

@@ -9,7 +9,7 @@ use crate::od::decimal::{
     put_signed_eight, put_signed_four, put_signed_two, put_unsigned_eight, put_unsigned_four,
     put_unsigned_two,
 };
-use crate::od::octal::put_six;
+use crate::od::octal::{put_eleven, put_six, put_three, put_twenty_two};
 use crate::od::options::{NumForm, Size};
 use bx_text::hex_digit;
 
@@ -162,7 +162,6 @@ fn put_unsigned(field: &mut [u8], size: Size, v: u64)
     ensures { field.new ≡ number_text NumForm.Unsigned size v }
 {
     match size {
-        Size::One => field.copy_from_slice(&unsigned_of(v as u8)),
         Size::Two if v >= 1000 => put_unsigned_two(field, v as u32),
         Size::Four if v >= 100000000 => put_unsigned_four(field, v as u32),
         Size::Eight if v >= 10000000000000000 => put_unsigned_eight(field, v),
@@ -170,19 +169,58 @@ fn put_unsigned(field: &mut [u8], size: Size, v: u64)
     }
 }
 
+/// Puts `v` in octal digits.
+#[inline(always)]
+fn put_octal(field: &mut [u8], size: Size, v: u64)
+    requires width { length field.old ≡ number_width NumForm.Octal size }
+    requires small { v < 2 ^ (8 * size_of size) }
+    ensures { field.new ≡ number_text NumForm.Octal size v }
+{
+    match size {
+        Size::One => put_three(field, v as u32),
+        Size::Two => put_six(field, v as u32),
+        Size::Four => put_eleven(field, v as u32),
+        Size::Eight => put_twenty_two(field, v),
+    }
+}
+
 /// Puts a number.
 #[inline(always)]
-pub fn put_number(field: &mut [u8], form: NumForm, size: Size, v: u64)
+fn put_number(field: &mut [u8], form: NumForm, size: Size, v: u64)
     requires width { length field.old ≡ number_width form size }
     requires small { v < 2 ^ (8 * size_of size) }
     ensures { field.new ≡ number_text form size v }
 {
     match form {
         NumForm::Signed => put_signed(field, size, v),
-        NumForm::Octal if size == Size::Two => put_six(field, v as u32),
-        NumForm::Octal if size == Size::One => field.copy_from_slice(&octal_of(v as u8)),
-        NumForm::Octal => put_fixed(field, v, 8),
+        NumForm::Octal => put_octal(field, size, v),
         NumForm::Unsigned => put_unsigned(field, size, v),
         NumForm::Hexadecimal => put_fixed(field, v, 16),
     }
+}
+
+/// Puts a space and a number.
+#[inline(always)]
+pub fn put_cell(text: &mut [u8], form: NumForm, size: Size, v: u64)
+    requires width { length text.old ≡ number_width form size + 1 }
+    requires small { v < 2 ^ (8 * size_of size) }
+    ensures { text.new ≡ 32 ∷ number_text form size v }
+{
+    match form {
+        NumForm::Octal if size == Size::One => text.copy_from_slice(&octal_of(v as u8)),
+        NumForm::Unsigned if size == Size::One => text.copy_from_slice(&unsigned_of(v as u8)),
+        _ => put_spaced_number(text, form, size, v),
+    }
+}
+
+/// Puts a space, and a number by its digits.
+#[inline(always)]
+fn put_spaced_number(text: &mut [u8], form: NumForm, size: Size, v: u64)
+    requires width { length text.old ≡ number_width form size + 1 }
+    requires small { v < 2 ^ (8 * size_of size) }
+    ensures { text.new ≡ 32 ∷ number_text form size v }
+{
+    let (space, field) = text.split_at_mut(1);
+    space.copy_from_slice(b" ");
+    put_number(field, form, size, v);
 }

@@ -65,6 +65,18 @@ fn put_one(field: &mut [u8], v: u32)
     field.copy_from_slice(&[b'0' + v as u8]);
 }
 
+/// Puts a number in three digits.
+#[inline(always)]
+pub fn put_three(field: &mut [u8], v: u32)
+    requires room { length field.old ≡ 3 }
+    requires small { v < 8 ^ 3 }
+    ensures { field.new ≡ left_filled 48 3 (digits 8 false v) }
+{
+    let (front, back) = field.split_at_mut(1);
+    put_one(front, v / 64);
+    put_pair(back, v % 64);
+}
+
 /// Puts a number in seven digits.
 #[inline(always)]
 pub fn put_seven(field: &mut [u8], v: u32)
@@ -99,4 +111,38 @@ pub fn put_nine(field: &mut [u8], v: u32)
     let (front, back) = field.split_at_mut(1);
     put_one(front, v / 16777216);
     put_eight(back, v % 16777216);
+}
+
+/// Puts a number in eleven digits.
+#[inline(always)]
+pub fn put_eleven(field: &mut [u8], v: u32)
+    requires room { length field.old ≡ 11 }
+    ensures { field.new ≡ left_filled 48 11 (digits 8 false v) }
+{
+    let (front, back) = field.split_at_mut(3);
+    put_three(front, v / 16777216);
+    put_eight(back, v % 16777216);
+}
+
+/// Puts a number in sixteen digits.
+#[inline(always)]
+fn put_sixteen(field: &mut [u8], v: u64)
+    requires room { length field.old ≡ 16 }
+    requires small { v < 8 ^ 16 }
+    ensures { field.new ≡ left_filled 48 16 (digits 8 false v) }
+{
+    let (front, back) = field.split_at_mut(8);
+    put_eight(front, (v / 16777216) as u32);
+    put_eight(back, (v % 16777216) as u32);
+}
+
+/// Puts a number in twenty-two digits.
+#[inline(always)]
+pub fn put_twenty_two(field: &mut [u8], v: u64)
+    requires room { length field.old ≡ 22 }
+    ensures { field.new ≡ left_filled 48 22 (digits 8 false v) }
+{
+    let (front, back) = field.split_at_mut(6);
+    put_six(front, (v / 281474976710656) as u32);
+    put_sixteen(back, v % 281474976710656);
 }

@@ -2,10 +2,10 @@
 ghost use Rattle.std.specs.Prelude.{◌≡◌, ℕ, ◌+◌, ◌-◌, ◌*◌, ◌^◌, ◌<◌, ◌≤◌, ◌∷◌, length, take, drop, min};
 ghost use Rattle.bx_dump.specs.Lines.{in_lines};
 ghost use Rattle.bx_dump.specs.Od.{value_of, width_of, field_text};
-ghost use Rattle.bx_dump.specs.inner.Od.{field_width, value_text};
+ghost use Rattle.bx_dump.specs.inner.Od.{field_width, value_text, values_text};
 
 use crate::od::byte_tables::char_of;
-use crate::od::fixed::put_number;
+use crate::od::fixed::put_cell;
 use crate::od::hexadecimal::put_hexadecimal_line;
 use crate::od::octal_lanes::put_octal_twos;
 use crate::od::options::{Kind, NumForm, Size};
@@ -19,6 +19,11 @@ fn value_of(bytes: &[u8]) -> u64
 {
     if let Some(all) = bytes.first_chunk::<8>() {
         return u64::from_le_bytes(*all);
+    }
+    if bytes.len() == 4
+        && let Some(all) = bytes.first_chunk::<4>()
+    {
+        return u32::from_le_bytes(*all) as u64;
     }
     let mut at = bytes.len();
     let mut value = 0u64;
@@ -39,11 +44,7 @@ fn put_value(text: &mut [u8], kind: Kind, bytes: &[u8])
     let value = value_of(bytes);
     match kind {
         Kind::Chars => text.copy_from_slice(&char_of(value as u8)),
-        Kind::Number { form, size } => {
-            let (space, field) = text.split_at_mut(1);
-            space.copy_from_slice(b" ");
-            put_number(field, form, size, value);
-        }
+        Kind::Number { form, size } => put_cell(text, form, size, value),
     }
 }
 
@@ -110,17 +111,18 @@ fn put_whole(text: &mut [u8], kind: Kind, bytes: &[u8]) -> usize
     used
 }
 
-/// Puts the numbers of a full line in decimal digits, read in two's complement, with a loop of its own for each size.
-fn put_signed_line(text: &mut [u8], size: Size, bytes: &[u8; 16]) -> usize
+/// Puts the numbers of a full line, with a loop of its own for each size.
+#[inline(always)]
+fn put_sized(text: &mut [u8], form: NumForm, size: Size, bytes: &[u8; 16]) -> usize
     requires room { 80 ≤ length text.old }
     ensures most { result ≤ 80 }
-    ensures text { take result text.new ≡ in_lines (value_text (Kind.Number NumForm.Signed size)) (width_of (Kind.Number NumForm.Signed size)) 0 bytes.now }
+    ensures text { take result text.new ≡ values_text (Kind.Number form size) bytes.now }
 {
     match size {
         Size::One => put_whole(
             text,
             Kind::Number {
-                form: NumForm::Signed,
+                form,
                 size: Size::One,
             },
             bytes,
@@ -128,7 +130,7 @@ fn put_signed_line(text: &mut [u8], size: Size, bytes: &[u8; 16]) -> usize
         Size::Two => put_whole(
             text,
             Kind::Number {
-                form: NumForm::Signed,
+                form,
                 size: Size::Two,
             },
             bytes,
@@ -136,7 +138,7 @@ fn put_signed_line(text: &mut [u8], size: Size, bytes: &[u8; 16]) -> usize
         Size::Four => put_whole(
             text,
             Kind::Number {
-                form: NumForm::Signed,
+                form,
                 size: Size::Four,
             },
             bytes,
@@ -144,84 +146,7 @@ fn put_signed_line(text: &mut [u8], size: Size, bytes: &[u8; 16]) -> usize
         Size::Eight => put_whole(
             text,
             Kind::Number {
-                form: NumForm::Signed,
-                size: Size::Eight,
-            },
-            bytes,
-        ),
-    }
-}
-
-/// Puts the numbers of a full line in octal digits, with a loop of its own for each size.
-fn put_octal_line(text: &mut [u8], size: Size, bytes: &[u8; 16]) -> usize
-    requires room { 80 ≤ length text.old }
-    ensures most { result ≤ 80 }
-    ensures text { take result text.new ≡ in_lines (value_text (Kind.Number NumForm.Octal size)) (width_of (Kind.Number NumForm.Octal size)) 0 bytes.now }
-{
-    match size {
-        Size::One => put_whole(
-            text,
-            Kind::Number {
-                form: NumForm::Octal,
-                size: Size::One,
-            },
-            bytes,
-        ),
-        Size::Two => put_octal_twos(text, bytes),
-        Size::Four => put_whole(
-            text,
-            Kind::Number {
-                form: NumForm::Octal,
-                size: Size::Four,
-            },
-            bytes,
-        ),
-        Size::Eight => put_whole(
-            text,
-            Kind::Number {
-                form: NumForm::Octal,
-                size: Size::Eight,
-            },
-            bytes,
-        ),
-    }
-}
-
-/// Puts the numbers of a full line in decimal digits, with a loop of its own for each size.
-fn put_unsigned_line(text: &mut [u8], size: Size, bytes: &[u8; 16]) -> usize
-    requires room { 80 ≤ length text.old }
-    ensures most { result ≤ 80 }
-    ensures text { take result text.new ≡ in_lines (value_text (Kind.Number NumForm.Unsigned size)) (width_of (Kind.Number NumForm.Unsigned size)) 0 bytes.now }
-{
-    match size {
-        Size::One => put_whole(
-            text,
-            Kind::Number {
-                form: NumForm::Unsigned,
-                size: Size::One,
-            },
-            bytes,
-        ),
-        Size::Two => put_whole(
-            text,
-            Kind::Number {
-                form: NumForm::Unsigned,
-                size: Size::Two,
-            },
-            bytes,
-        ),
-        Size::Four => put_whole(
-            text,
-            Kind::Number {
-                form: NumForm::Unsigned,
-                size: Size::Four,
-            },
-            bytes,
-        ),
-        Size::Eight => put_whole(
-            text,
-            Kind::Number {
-                form: NumForm::Unsigned,
+                form,
                 size: Size::Eight,
             },
             bytes,
@@ -238,9 +163,10 @@ pub fn put_full(text: &mut [u8], kind: Kind, bytes: &[u8; 16]) -> usize
     match kind {
         Kind::Chars => put_whole(text, Kind::Chars, bytes),
         Kind::Number { form, size } => match form {
-            NumForm::Signed => put_signed_line(text, size, bytes),
-            NumForm::Octal => put_octal_line(text, size, bytes),
-            NumForm::Unsigned => put_unsigned_line(text, size, bytes),
+            NumForm::Signed => put_sized(text, NumForm::Signed, size, bytes),
+            NumForm::Octal if size == Size::Two => put_octal_twos(text, bytes),
+            NumForm::Octal => put_sized(text, NumForm::Octal, size, bytes),
+            NumForm::Unsigned => put_sized(text, NumForm::Unsigned, size, bytes),
             NumForm::Hexadecimal => put_hexadecimal_line(text, size, bytes),
         },
     }

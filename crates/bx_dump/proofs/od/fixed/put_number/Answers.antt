@@ -3,6 +3,3 @@ use Rattle.bx_dump.proofs.od.fixed.put_number.Goals as goal
 
 pub returns-in-Hexadecimal : goal.returns-in-Hexadecimal
 returns-in-Hexadecimal c = search rules
-
-pub returns-in-Octal-2 : goal.returns-in-Octal-2
-returns-in-Octal-2 c = search rules
