@@ -3,6 +3,8 @@ ghost use Rattle.std.specs.Prelude.{◌≡◌, false, ℕ, ◌+◌, ◌-◌, ◌
 ghost use Rattle.std.specs.Fmt.{digits};
 ghost use Rattle.bx_text.specs.Field.{left_filled};
 
+use crate::od::decimal_lanes::put_sixteen;
+
 /// Each number below 100 in two digits.
 #[rattlefmt::skip]
 static TWO: [[u8; 2]; 100] = [
@@ -107,18 +109,6 @@ pub fn put_eight(field: &mut [u8], v: u32)
     let (front, back) = field.split_at_mut(4);
     put_four(front, v / 10000);
     put_four(back, v % 10000);
-}
-
-/// Puts a number in sixteen digits.
-#[inline(always)]
-pub fn put_sixteen(field: &mut [u8], v: u64)
-    requires room { length field.old ≡ 16 }
-    requires small { v < 10 ^ 16 }
-    ensures { field.new ≡ left_filled 48 16 (digits 10 false v) }
-{
-    let (front, back) = field.split_at_mut(8);
-    put_eight(front, (v / 100000000) as u32);
-    put_eight(back, (v % 100000000) as u32);
 }
 
 /// Puts a number in three digits.
