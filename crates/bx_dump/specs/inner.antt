@@ -14,3 +14,4 @@ pub mod Xxd
 pub mod Strings
 pub mod Od
 pub mod Folded
+pub mod Decimal

@@ -2,6 +2,7 @@
 mod byte_tables;
 mod decimal;
 mod decimal_lanes;
+mod decimal_twos;
 mod dump;
 mod fixed;
 mod hexadecimal;
