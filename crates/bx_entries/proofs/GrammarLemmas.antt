@@ -51,11 +51,11 @@ piece_found line run e =
     let found = map_some (λ (read : ℕ × List ℕ). (record { at = read.0; bytes = read.1 })) (line_piece line) run e in
     subst (λ (p : Run). (hex : List ℕ) × IsLine line p.at hex p.bytes) found.2 (line_found line found.0 found.1)
 
-piece_only : (line hex : List ℕ) (run : Run) → IsLine line run.at hex run.bytes → piece_of line ≡ Some run
+pub piece_only : (line hex : List ℕ) (run : Run) → IsLine line run.at hex run.bytes → piece_of line ≡ Some run
 unfolding piece_of
 piece_only line hex run is = rw (line_gives line run.at hex run.bytes is) refl
 
-saved_found : (len : ℕ) (line : List ℕ) (run : Run) → saved_in len line ≡ Some run → IsSaved len line run
+pub saved_found : (len : ℕ) (line : List ℕ) (run : Run) → saved_in len line ≡ Some run → IsSaved len line run
 unfolding saved_in
 saved_found len line run e =
     let found = bind_some (λ (piece : Run). if nat_le (length piece.bytes) 16 && nat_le (piece.at + length piece.bytes) len then Some piece else None) (piece_of line) run e in
@@ -76,7 +76,7 @@ add_last : (len : ℕ) (old : List Run) (lines : List (List ℕ)) (new : List Ru
 add_last len old [] new line run add is = (run, is, ap (λ runs. with_run runs run) add)
 add_last len old (l ∷ lines) new line run add is = (add.0, add.1, add_last len (with_run old add.0) lines new line run add.2 is)
 
-not_save : (line : List ℕ) (run : Run) (n : ℕ) → piece_of line ≡ Some run → bytes_eq line (save_line n) ≡ false
+pub not_save : (line : List ℕ) (run : Run) (n : ℕ) → piece_of line ≡ Some run → bytes_eq line (save_line n) ≡ false
 unfolding save_line
 not_save line run n is = by_test (bytes_eq line (save_line n)) refl
   where

@@ -35,3 +35,4 @@ pub mod GatherLemmas
 pub mod LinesLemmas
 pub mod Bounds
 pub mod GrammarLemmas
+pub mod StretchLemmas

@@ -40,7 +40,7 @@ over_behind old at bytes new n put behind =
     ap (drop n) put.is ∙ drop-append-drop (at + length bytes) old (take at old ++ bytes) n behind (front_long old at bytes put.within)
 
 -- what ends before the bytes stays
-over_before : (old : List ℕ) (at : ℕ) (bytes new : List ℕ) (n : ℕ) → IsPutOver old at bytes new → n ≤ at → take n new ≡ take n old
+pub over_before : (old : List ℕ) (at : ℕ) (bytes new : List ℕ) (n : ℕ) → IsPutOver old at bytes new → n ≤ at → take n new ≡ take n old
 over_before old at bytes new n put before =
     let front : List ℕ = take at old ++ bytes in
     let long : length front ≡ at + length bytes = front_long old at bytes put.within in

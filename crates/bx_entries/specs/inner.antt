@@ -10,6 +10,7 @@ pub mod Line
 pub mod Lines
 pub mod Mark
 pub mod Parsed
+pub mod Parts
 pub mod Plain
 pub mod Rows
 pub mod TakeLine

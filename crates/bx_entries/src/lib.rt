@@ -14,6 +14,7 @@ pub use format::version::Version;
 pub use format::words::{Words, save_text};
 pub use read::count::{Place, Tally, next_end};
 pub use read::lines::{LinesRead, nothing_read, read_lines};
+pub use read::parts::{Part, parts_in};
 pub use read::rows::{Summed, nothing_summed, sum_one};
 pub use read::shown::{faded_is_front, shown_len};
 pub use read::take_line::{MOST_CHANGES, told_length};

@@ -1,8 +1,9 @@
 //! A journal's text, read line by line into entries and the stage at its end, or only counted.
 pub(crate) mod count;
 pub(crate) mod lines;
+pub(crate) mod parts;
 pub(crate) mod rows;
-mod runs;
+pub(crate) mod runs;
 pub(crate) mod shown;
 mod tail;
 pub(crate) mod take_line;

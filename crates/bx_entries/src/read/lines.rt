@@ -43,7 +43,7 @@ pub fn nothing_read<A: Allocator + Clone>(alloc: &A, front: Front) -> Result<Lin
 
 /// What isn't read yet of a window.
 #[inline(always)]
-fn rest_at(window: &[u8], from: usize) -> &[u8]
+pub fn rest_at(window: &[u8], from: usize) -> &[u8]
     requires { from ≤ length window.now }
     ensures { result.now ≡ drop from window.now }
 {

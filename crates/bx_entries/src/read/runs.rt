@@ -2,5 +2,5 @@
 pub(crate) mod extend;
 pub(crate) mod full_lines;
 pub(crate) mod gather;
-mod reuse_text;
+pub(crate) mod reuse_text;
 pub(crate) mod text;
