@@ -151,7 +151,7 @@ line_unended es (Ending v s) line q e same =
     let n = next_ending es v s line q e in
     absurd (omega (arith, same, ap (λ (r : Reading). length r.entries) n.1))
 
-next_counts : (es : List Entry) (stage : Stage) (line : List ℕ) (q : Reading) → next_at es stage line ≡ Some q → length es ≤ length q.entries
+pub next_counts : (es : List Entry) (stage : Stage) (line : List ℕ) (q : Reading) → next_at es stage line ≡ Some q → length es ≤ length q.entries
 next_counts es Between line q e = omega (arith, ap (λ (r : Reading). length r.entries) (next_between es line q e).2)
 next_counts es (Saving v s) line q e = elim (next_saving es v s line q e) [
   | inl is ↦ omega (arith, ap (λ (r : Reading). length r.entries) is.1)
@@ -159,7 +159,7 @@ next_counts es (Saving v s) line q e = elim (next_saving es v s line q e) [
 ]
 next_counts es (Ending v s) line q e = omega (arith, ap (λ (r : Reading). length r.entries) (next_ending es v s line q e).1)
 
-lines_count : (ls : List (List ℕ)) (r q : Reading) → after_lines r ls ≡ Some q → length r.entries ≤ length q.entries
+pub lines_count : (ls : List (List ℕ)) (r q : Reading) → after_lines r ls ≡ Some q → length r.entries ≤ length q.entries
 unfolding after_lines
 lines_count [] r q e = let same : r ≡ q = cc in omega (arith, ap (λ (p : Reading). length p.entries) same)
 lines_count (l ∷ ls) r q e =

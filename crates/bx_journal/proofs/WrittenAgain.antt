@@ -11,8 +11,9 @@ use Rattle.bx_image.proofs.Records.{KeepsUntouched-effect, len-saved, restore-sa
 use Rattle.bx_entries.specs.Kept.{Kept, kept_of, with_run}
 use Rattle.bx_entries.specs.Entry.{entry_text}
 use Rattle.bx_entries.specs.Finished.{IsFinished}
-use Rattle.bx_entries.specs.Text.{Entry, Stage, Between, Saving, Ending, Reading, Reads, Split, split, joined, start, after_lines, next_at}
+use Rattle.bx_entries.specs.Text.{Entry, Stage, Between, Saving, Ending, Reading, Reads, Split, split, joined, start, after_lines}
 use Rattle.bx_entries.specs.inner.Text.{next}
+use Rattle.bx_entries.proofs.CalmLemmas.{lines_count}
 use Rattle.bx_entries.proofs.Foreign.{joined_lines}
 use Rattle.bx_entries.proofs.KeptLemmas.{is_of_in, same_byte, same_restore}
 use Rattle.bx_entries.proofs.Inverse.{bind_some, next_between, next_saving, next_ending}
@@ -38,21 +39,6 @@ abbrev IsWithin : Stage → Type 0
 IsWithin Between = ⊥
 IsWithin (Saving v s) = Unit {0}
 IsWithin (Ending v s) = Unit {0}
-
-next_counts : (es : List Entry) (stage : Stage) (line : List ℕ) (q : Reading) → next_at es stage line ≡ Some q → length es ≤ length q.entries
-next_counts es Between line q e = omega (arith, ap (λ (r : Reading). length r.entries) (next_between es line q e).2)
-next_counts es (Saving v s) line q e = elim (next_saving es v s line q e) [
-  | inl is ↦ omega (arith, ap (λ (r : Reading). length r.entries) is.1)
-  | inr is ↦ omega (arith, ap (λ (r : Reading). length r.entries) is.2)
-]
-next_counts es (Ending v s) line q e = omega (arith, ap (λ (r : Reading). length r.entries) (next_ending es v s line q e).1)
-
-lines_count : (ls : List (List ℕ)) (r q : Reading) → after_lines r ls ≡ Some q → length r.entries ≤ length q.entries
-unfolding after_lines
-lines_count [] r q e = let same : r ≡ q = cc in omega (arith, ap (λ (p : Reading). length p.entries) same)
-lines_count (l ∷ ls) r q e =
-    let b = bind_some (λ p. after_lines p ls) (next r l) q e in
-    omega (arith, next_counts r.entries r.stage l b.0 b.1, lines_count ls b.0 q b.2)
 
 -- an entry that was begun ends as one more
 begun_counts : (ls : List (List ℕ)) (es : List Entry) (stage : Stage) (fs : List Entry) → IsWithin stage → after_lines (record { entries = es; stage = stage }) ls ≡ Some (between fs) → length es < length fs
