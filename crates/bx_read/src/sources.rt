@@ -1,12 +1,12 @@
 //! Whole texts that are read from a source, a window at a time.
-ghost use Rattle.std.specs.Prelude.{◌≡◌, ◌⊎◌, ◌-◌, ◌^◌, ◌<◌, ◌≤◌, ℕ, List, length, Some, Ok, MatchResult, IfOk, IfErr, OnOk, All};
+ghost use Rattle.std.specs.Prelude.{◌≡◌, ◌⊎◌, ◌+◌, ◌-◌, ◌^◌, ◌<◌, ◌≤◌, ◌++◌, [], ℕ, List, length, Some, Ok, MatchResult, IfOk, IfErr, OnOk, All};
 ghost use Rattle.std.specs.Io.KnownBytes.{Consumes, IsAtEnd};
 ghost use Rattle.bx_text.specs.Stream.{fault_of, IsRestCause, StopsIn};
 ghost use Rattle.bx_text.specs.declared.stream.State.{State};
 ghost use Rattle.bx_text.specs.declared.fault.IoFault.{IoFault};
 ghost use Rattle.bx_read.specs.Plain.{plain_answer};
-ghost use Rattle.bx_read.specs.PlainWindow.{IsPlainFault};
-ghost use Rattle.bx_read.specs.Window.{AreRunsOf, IsDumpFault};
+ghost use Rattle.bx_read.specs.PlainWindow.{HasReadPlain, IsPlainFault};
+ghost use Rattle.bx_read.specs.Window.{AreRunsOf, HasReadDump, IsDumpFault};
 
 use crate::fault::ReadFault;
 use crate::plain_window::PlainRead;
@@ -17,6 +17,76 @@ use std::io::Read;
 
 /// How many bytes of a text are read at a time.
 const WINDOW: usize = 65536;
+
+/// What reads a text that comes in windows.
+trait ReadsText {
+    /// The text was read, as far as this can be done without what follows it.
+    ghost HasRead: { Self → List ℕ → Type 0 };
+
+    /// How much was counted: no more than the bytes of the text.
+    ghost counted: { Self → ℕ };
+
+    /// Reads the next window.
+    fn read_next(&mut self, window: &[u8])
+        requires countable { counted self.old + length window.now < 2 ^ 64 }
+        ensures read { (text : List ℕ) → HasRead self.old text → HasRead self.new (text ++ window.now) }
+        ensures count { counted self.new ≤ counted self.old + length window.now };
+}
+
+impl<A: Allocator> ReadsText for PlainRead<A> {
+    ghost HasRead = { λ read text. HasReadPlain text read };
+
+    ghost counted = { λ read. read.passed };
+
+    fn read_next(&mut self, window: &[u8]) {
+        self.read_window(window);
+    }
+}
+
+/// A reader of a dump with its allocator.
+#[derive(Drop)]
+struct DumpWindows<'a, A: Allocator> {
+    alloc: &'a A,
+    read: DumpRead<A>,
+}
+
+impl<'a, A: Allocator + Clone> ReadsText for DumpWindows<'a, A> {
+    ghost HasRead = { λ windows text. HasReadDump text windows.read };
+
+    ghost counted = { λ windows. windows.read.lines + length windows.read.held.items };
+
+    fn read_next(&mut self, window: &[u8]) {
+        self.read.read_window(self.alloc, window);
+    }
+}
+
+/// Reads a text up to the source's end, a window at a time.
+fn read_all<R: Read + Drop, T: ReadsText>(
+    source: &mut Source<R>,
+    reader: &mut T,
+) -> Result<(), IoFault>
+    requires new { T.HasRead reader.old [] }
+    requires none { T.counted reader.old ≡ 0 }
+    ensures text { IfOk result (λ _. (text : List ℕ) × Consumes (R.remaining source.old.reader) (R.remaining source.new.reader) text
+        × (length text ≤ source.old.meter.limit - source.old.meter.taken) × T.HasRead reader.new text) }
+    ensures countable { OnOk result (T.counted reader.new < 2 ^ 64) }
+    ensures end { OnOk result (source.old.meter.state ≡ State.Open → IsAtEnd (R.remaining source.new.reader)) }
+    ensures err { IfErr result (λ e. fault_of source.new.meter.state ≡ Some e) }
+    ensures stopped { IfErr result (λ e. StopsIn source.old.meter (R.remaining source.old.reader) (R.remaining source.new.reader) (IsRestCause e)) }
+{
+    let mut window = [0u8; WINDOW];
+    loop {
+        let count = match source.fill(&mut window) {
+            Ok(count) => count,
+            Err(fault) => return Err(fault),
+        };
+        let _taken = source.taken();
+        reader.read_next(&window[..count]);
+        if count < WINDOW {
+            return Ok(());
+        }
+    }
+}
 
 /// Reads the text of a dump up to the source's end: what `read_runs` answers of it. Of the text no more is held than a window and
 /// the longest line. A fault of the text is answered once the source is at its end, and one of the source as soon as it comes.
@@ -34,21 +104,16 @@ pub fn read_runs_from<R: Read + Drop, A: Allocator + Clone>(
     ensures err { IfErr result (λ e. (e ≡ IoFault.NoMemory) ⊎ (fault_of source.new.meter.state ≡ Some e)) }
     ensures stopped { IfErr result (λ e. StopsIn source.old.meter (R.remaining source.old.reader) (R.remaining source.new.reader) (IsRestCause e)) }
 {
-    let Ok(mut read) = DumpRead::new(alloc) else {
+    let Ok(read) = DumpRead::new(alloc) else {
         return Err(IoFault::NoMemory);
     };
-    let mut window = [0u8; WINDOW];
-    loop {
-        let count = match source.fill(&mut window) {
-            Ok(count) => count,
-            Err(fault) => return Err(fault),
-        };
-        let _taken = source.taken();
-        read.read_window(alloc, &window[..count]);
-        if count < WINDOW {
-            return Ok(read.finish(alloc));
-        }
+    let mut windows = DumpWindows { alloc, read };
+    match read_all(source, &mut windows) {
+        Ok(()) => {}
+        Err(fault) => return Err(fault),
     }
+    let DumpWindows { read, .. } = windows;
+    Ok(read.finish(alloc))
 }
 
 /// Reads plain hexadecimal up to the source's end: what `read_plain` answers of it. Of the text no more is held than a window.
@@ -64,16 +129,9 @@ pub fn read_plain_from<R: Read + Drop, A: Allocator>(
     ensures stopped { IfErr result (λ e. StopsIn source.old.meter (R.remaining source.old.reader) (R.remaining source.new.reader) (IsRestCause e)) }
 {
     let mut read = PlainRead::new(alloc);
-    let mut window = [0u8; WINDOW];
-    loop {
-        let count = match source.fill(&mut window) {
-            Ok(count) => count,
-            Err(fault) => return Err(fault),
-        };
-        let _taken = source.taken();
-        read.read_window(&window[..count]);
-        if count < WINDOW {
-            return Ok(read.finish());
-        }
+    match read_all(source, &mut read) {
+        Ok(()) => {}
+        Err(fault) => return Err(fault),
     }
+    Ok(read.finish())
 }

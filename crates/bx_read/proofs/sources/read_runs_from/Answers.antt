@@ -1,77 +1,15 @@
-use Rattle.std.proofs.Common.{◌++◌, ◌∙◌, [], length, take, refl, arith}
-use Rattle.std.proofs.lemmas.List.{length-append, length-take-le}
+use Rattle.std.proofs.Common.{arith}
 use Rattle.std.proofs.lemmas.Result.{MatchResult-weaker}
-use Rattle.bx_text.proofs.KnownLemmas.{Consumes-trans}
-use Rattle.bx_read.proofs.SourceLemmas.{consumes_none, cause_more}
 use Rattle.bx_read.proofs.WindowLemmas.{runs_near}
 use Rattle.bx_read.proofs.sources.read_runs_from.Goals as goal
 
-pub loop-count-init : goal.loop-count-init
-loop-count-init g c = record {
-  text = [];
-  limit = refl;
-  state = refl;
-  taken = omega arith;
-  bytes = consumes_none _;
-  few = omega (arith, c.in-Ok.ensures.count);
-  read = c.in-Ok.ensures.read;
-}
-
-pub returns-in-Err-clause-stopped : goal.returns-in-Err-clause-stopped
-returns-in-Err-clause-stopped g c was_open =
-    let before = c.loop-count.invariant in
-    let more = c.in-Err.ensures.stopped (before.state ∙ was_open) in (
-      before.text ++ more.0,
-      Consumes-trans _ _ _ _ _ before.bytes more.1,
-      cause_more c.in-Err.fault _ _ _ _ _ (length before.text) more.2 (omega (arith, length-append before.text more.0))
-          (omega (arith, before.taken, before.limit, c.loop-count.source.meter.within)),
-    )
-
-pub read_window-requires : goal.read_window-requires
-read_window-requires g c =
-    let before = c.loop-count.invariant in
-    let read = c.in-Ok-fill.ensures in
-    record { countable = omega (arith, before.few, before.taken, read.taken, c.taken-taken.ensures, length-take-le c.in-Ok-fill.count c.fill.new.buf read.bound.0) }
-
 pub finish-requires : goal.finish-requires
-finish-requires g c =
-    let before = c.loop-count.invariant in
-    let read = c.in-Ok-fill.ensures in
-    record { countable = omega (arith, before.few, before.taken, read.taken, c.taken-taken.ensures, c.read_window.ensures.count, length-take-le c.in-Ok-fill.count c.fill.new.buf read.bound.0) }
+finish-requires g c = record { countable = omega (arith, c.in-Ok-read_all.ensures.countable) }
 
-pub returns-then-count-lt-WINDOW-clause-runs : goal.returns-then-count-lt-WINDOW-clause-runs
-returns-then-count-lt-WINDOW-clause-runs g c =
-    let before = c.loop-count.invariant in
-    let read = c.in-Ok-fill.ensures in
-    let part = take c.in-Ok-fill.count c.fill.new.buf in (
-      before.text ++ part,
-      Consumes-trans _ _ _ _ _ before.bytes c.in-Ok-fill.ensures.bytes,
-      omega (arith, before.taken, before.limit, read.taken, read.limit, c.fill.new.self.meter.within, length-take-le c.in-Ok-fill.count c.fill.new.buf read.bound.0, length-append before.text part),
-      c.finish.ensures.exact (before.text ++ part) (c.read_window.ensures.read before.text before.read),
-    )
+pub returns-clause-runs : goal.returns-clause-runs
+returns-clause-runs g c = let text = c.in-Ok-read_all.ensures.text in (text.0, text.1, text.2, c.finish.ensures.exact text.0 text.3)
 
-pub returns-then-count-lt-WINDOW-clause-end : goal.returns-then-count-lt-WINDOW-clause-end
-returns-then-count-lt-WINDOW-clause-end g c was_open =
-    let read = c.in-Ok-fill.ensures in
-    read.end (read.ended (omega arith)) (c.loop-count.invariant.state ∙ was_open)
-
-pub returns-then-count-lt-WINDOW-clause-near : goal.returns-then-count-lt-WINDOW-clause-near
-returns-then-count-lt-WINDOW-clause-near g c =
-    let before = c.loop-count.invariant in
-    let text = before.text ++ take c.in-Ok-fill.count c.fill.new.buf in
-    MatchResult-weaker c.finish.result (c.finish.ensures.exact text (c.read_window.ensures.read before.text before.read)) (λ v are. runs_near text v.items are) (λ _ _. tt)
-
-pub loop-count-preserved : goal.loop-count-preserved
-loop-count-preserved g c =
-    let before = c.loop-count.invariant in
-    let read = c.in-Ok-fill.ensures in
-    let part = take c.in-Ok-fill.count c.fill.new.buf in
-    let long = length-take-le c.in-Ok-fill.count c.fill.new.buf read.bound.0 in record {
-      text = before.text ++ part;
-      limit = read.limit ∙ before.limit;
-      state = read.full (omega arith) ∙ before.state;
-      taken = omega (arith, before.taken, read.taken, long, length-append before.text part);
-      bytes = Consumes-trans _ _ _ _ _ before.bytes read.bytes;
-      few = omega (arith, before.few, c.read_window.ensures.count, long, length-append before.text part);
-      read = c.read_window.ensures.read before.text before.read;
-    }
+pub returns-clause-near : goal.returns-clause-near
+returns-clause-near g c =
+    let text = c.in-Ok-read_all.ensures.text in
+    MatchResult-weaker c.finish.result (c.finish.ensures.exact text.0 text.3) (λ v are. runs_near text.0 v.items are) (λ _ _. tt)

@@ -2,7 +2,7 @@ use Rattle.std.proofs.Common.{◌++◌, ◌∙◌, [], length, take, refl, arith
 use Rattle.std.proofs.lemmas.List.{length-append, length-take-le}
 use Rattle.bx_text.proofs.KnownLemmas.{Consumes-trans}
 use Rattle.bx_read.proofs.SourceLemmas.{consumes_none, cause_more}
-use Rattle.bx_read.proofs.sources.read_plain_from.Goals as goal
+use Rattle.bx_read.proofs.sources.read_all.Goals as goal
 
 pub loop-count-init : goal.loop-count-init
 loop-count-init g c = record {
@@ -11,8 +11,8 @@ loop-count-init g c = record {
   state = refl;
   taken = omega arith;
   bytes = consumes_none _;
-  few = omega (arith, c.new-read.ensures.count);
-  read = c.new-read.ensures.read;
+  few = omega (arith, c.requires.none);
+  read = c.requires.new;
 }
 
 pub returns-in-Err-clause-stopped : goal.returns-in-Err-clause-stopped
@@ -25,22 +25,29 @@ returns-in-Err-clause-stopped g c was_open =
           (omega (arith, before.taken, before.limit, c.loop-count.source.meter.within)),
     )
 
-pub read_window-requires : goal.read_window-requires
-read_window-requires g c =
+pub read_next-requires : goal.read_next-requires
+read_next-requires g c =
     let before = c.loop-count.invariant in
     let read = c.in-Ok.ensures in
     record { countable = omega (arith, before.few, before.taken, read.taken, c.taken-taken.ensures, length-take-le c.in-Ok.count c.fill.new.buf read.bound.0) }
 
-pub returns-then-count-lt-WINDOW-clause-bytes : goal.returns-then-count-lt-WINDOW-clause-bytes
-returns-then-count-lt-WINDOW-clause-bytes g c =
+pub returns-then-count-lt-WINDOW-clause-text : goal.returns-then-count-lt-WINDOW-clause-text
+returns-then-count-lt-WINDOW-clause-text g c =
     let before = c.loop-count.invariant in
     let read = c.in-Ok.ensures in
-    let part = take c.in-Ok.count c.fill.new.buf in (
+    let part = take c.in-Ok.count c.fill.new.buf in
+    let long = length-take-le c.in-Ok.count c.fill.new.buf read.bound.0 in (
       before.text ++ part,
       Consumes-trans _ _ _ _ _ before.bytes c.in-Ok.ensures.bytes,
-      omega (arith, before.taken, before.limit, read.taken, read.limit, c.fill.new.self.meter.within, length-take-le c.in-Ok.count c.fill.new.buf read.bound.0, length-append before.text part),
-      c.finish.ensures.exact (before.text ++ part) (c.read_window.ensures.read before.text before.read),
+      omega (arith, before.taken, before.limit, read.taken, read.limit, c.fill.new.self.meter.within, long, length-append before.text part),
+      c.read_next.ensures.read before.text before.read,
     )
+
+pub returns-then-count-lt-WINDOW-clause-countable : goal.returns-then-count-lt-WINDOW-clause-countable
+returns-then-count-lt-WINDOW-clause-countable g c =
+    let before = c.loop-count.invariant in
+    let read = c.in-Ok.ensures in
+    omega (arith, before.few, before.taken, read.taken, c.taken-taken.ensures, c.read_next.ensures.count, length-take-le c.in-Ok.count c.fill.new.buf read.bound.0)
 
 pub returns-then-count-lt-WINDOW-clause-end : goal.returns-then-count-lt-WINDOW-clause-end
 returns-then-count-lt-WINDOW-clause-end g c was_open =
@@ -58,6 +65,6 @@ loop-count-preserved g c =
       state = read.full (omega arith) ∙ before.state;
       taken = omega (arith, before.taken, read.taken, long, length-append before.text part);
       bytes = Consumes-trans _ _ _ _ _ before.bytes read.bytes;
-      few = omega (arith, before.few, c.read_window.ensures.count, long, length-append before.text part);
-      read = c.read_window.ensures.read before.text before.read;
+      few = omega (arith, before.few, c.read_next.ensures.count, long, length-append before.text part);
+      read = c.read_next.ensures.read before.text before.read;
     }

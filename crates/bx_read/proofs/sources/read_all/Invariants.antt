@@ -1,7 +1,6 @@
 use Rattle.std.proofs.Common.{◌≡◌, ◌≤◌, ◌+◌, ◌-◌, ℕ, List, length}
 use Rattle.std.specs.Io.KnownBytes.{Consumes}
-use Rattle.bx_read.specs.PlainWindow.{HasReadPlain}
-use Rattle.bx_read.proofs.sources.read_plain_from.Given as goal
+use Rattle.bx_read.proofs.sources.read_all.Given as goal
 
 -- what was read so far is the text that was given
 abbrev pub invariant-loop-count : goal.invariant-loop-count
@@ -11,8 +10,8 @@ invariant-loop-count g l = record {
   state : l.source.meter.state ≡ l.fn.source.meter.state;
   taken : l.source.meter.taken ≡ l.fn.source.meter.taken + length text;
   bytes : Consumes (g.R.Read.remaining l.fn.source.reader) (g.R.Read.remaining l.source.reader) text;
-  few : l.read.passed ≤ length text;
-  read : HasReadPlain text l.read;
+  few : g.T.ReadsText.counted l.reader ≤ length text;
+  read : g.T.ReadsText.HasRead l.reader text;
 }
 
 abbrev pub decreases-loop-count : goal.decreases-loop-count
