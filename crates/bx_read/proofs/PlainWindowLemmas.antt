@@ -115,32 +115,19 @@ one_pair text bytes passed last high low was first second =
     (second_digit (text ++ high ∷ []) bytes (Some high) passed (passed + 1) low half second (digit_not_newline low second) high (pair_value high low)
     (bytes ++ pair_value high low ∷ []) refl first refl refl)
 
--- pairs more, behind a digit of the same line
-pairs_behind : (text bytes run more : List ℕ) (passed : ℕ) → HasDigits text bytes None passed (passed + 1) → hex_bytes run ≡ Some more →
-    HasDigits (text ++ run) (bytes ++ more) None passed (passed + 1)
-pairs_behind text bytes [] more passed was h =
+-- pairs more: there are some, or the last digit is in this line already
+pairs_more : (text bytes run more : List ℕ) (passed last : ℕ) → HasDigits text bytes None passed last → hex_bytes run ≡ Some more →
+    (0 < length run) ⊎ (last ≡ passed + 1) → HasDigits (text ++ run) (bytes ++ more) None passed (passed + 1)
+pairs_more text bytes [] more passed last was h (inl some) = absurd (omega (arith, some))
+pairs_more text bytes [] more passed last was h (inr here) =
     let none : [] ≡ more = cc h in
-    rw (append-nil text, ← none, append-nil bytes) was
-pairs_behind text bytes (c ∷ []) more passed was h = cc h
-pairs_behind text bytes (high ∷ low ∷ run) more passed was h =
+    rw (append-nil text, ← none, append-nil bytes, ← here) was
+pairs_more text bytes (c ∷ []) more passed last was h in_line = cc h
+pairs_more text bytes (high ∷ low ∷ run) more passed last was h in_line =
     let first = byte_of high low run more h in
     let two = and_true (is_hex high) (is_hex low) first.0 in
-    let later = pairs_behind (text ++ high ∷ low ∷ []) (bytes ++ pair_value high low ∷ []) run first.1.0 passed
-    (one_pair text bytes passed (passed + 1) high low was two.0 two.1) first.1.1 in
-    subst (λ t. HasDigits t (bytes ++ more) None passed (passed + 1)) (append_assoc text (high ∷ low ∷ []) run)
-    (subst (λ b. HasDigits ((text ++ high ∷ low ∷ []) ++ run) b None passed (passed + 1))
-    (append_assoc bytes (pair_value high low ∷ []) first.1.0 ∙ ap (λ b. bytes ++ b) first.1.2) later)
-
--- pairs more, and the last digit is in this line
-pub pairs_more : (text bytes run more : List ℕ) (passed last : ℕ) → HasDigits text bytes None passed last → hex_bytes run ≡ Some more → 0 < length run →
-    HasDigits (text ++ run) (bytes ++ more) None passed (passed + 1)
-pairs_more text bytes [] more passed last was h some = absurd (omega (arith, some))
-pairs_more text bytes (c ∷ []) more passed last was h some = cc h
-pairs_more text bytes (high ∷ low ∷ run) more passed last was h some =
-    let first = byte_of high low run more h in
-    let two = and_true (is_hex high) (is_hex low) first.0 in
-    let later = pairs_behind (text ++ high ∷ low ∷ []) (bytes ++ pair_value high low ∷ []) run first.1.0 passed
-    (one_pair text bytes passed last high low was two.0 two.1) first.1.1 in
+    let later = pairs_more (text ++ high ∷ low ∷ []) (bytes ++ pair_value high low ∷ []) run first.1.0 passed (passed + 1)
+    (one_pair text bytes passed last high low was two.0 two.1) first.1.1 (inr refl) in
     subst (λ t. HasDigits t (bytes ++ more) None passed (passed + 1)) (append_assoc text (high ∷ low ∷ []) run)
     (subst (λ b. HasDigits ((text ++ high ∷ low ∷ []) ++ run) b None passed (passed + 1))
     (append_assoc bytes (pair_value high low ∷ []) first.1.0 ∙ ap (λ b. bytes ++ b) first.1.2) later)
@@ -149,7 +136,7 @@ pairs_more text bytes (high ∷ low ∷ run) more passed last was h some =
 pub pairs_taken : (text bytes run more longer : List ℕ) (half : Option ℕ) (passed last : ℕ) → half ≡ None → HasDigits text bytes half passed last →
     hex_bytes run ≡ Some more → 0 < length run → longer ≡ bytes ++ more → HasDigits (text ++ run) longer half passed (passed + 1)
 pairs_taken text bytes run more longer half passed last none was h some pushed =
-    rw (none, pushed) (pairs_more text bytes run more passed last (subst (λ d. HasDigits text bytes d passed last) none was) h some)
+    rw (none, pushed) (pairs_more text bytes run more passed last (subst (λ d. HasDigits text bytes d passed last) none was) h (inl some))
 
 -- at the end of the text
 module _ (text bytes : List ℕ) (passed last : ℕ) where
