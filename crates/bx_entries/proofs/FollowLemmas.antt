@@ -30,7 +30,7 @@ none_goes_on len rest old new same = record {
 }
 
 -- a full line isn't the one that ends what is saved
-not_save : (n : ℕ) (line : List ℕ) → length line ≡ 67 → bytes_eq line (save_line n) ≡ false
+pub not_save : (n : ℕ) (line : List ℕ) → length line ≡ 67 → bytes_eq line (save_line n) ≡ false
 not_save n line long = by (bytes_eq line (save_line n)) refl
   where
     by : (b : Bool) → bytes_eq line (save_line n) ≡ b → b ≡ false

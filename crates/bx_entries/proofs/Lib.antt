@@ -35,4 +35,7 @@ pub mod GatherLemmas
 pub mod LinesLemmas
 pub mod Bounds
 pub mod GrammarLemmas
+pub mod FullLemmas
+pub mod FormLanes
+pub mod FormLemmas
 pub mod StretchLemmas

@@ -123,7 +123,7 @@ unfolding after_lines
 last r q line e = rw e refl
 
 -- one line more
-tallied_on : (only_second : Bool) (text line : List ℕ) (t u : Tally) (n : ℕ) → IsTallied only_second text t n → HasNoNewline line
+pub tallied_on : (only_second : Bool) (text line : List ℕ) (t u : Tally) (n : ℕ) → IsTallied only_second text t n → HasNoNewline line
     → ((r : Reading) → tally_of r ≡ t → LeadsTo only_second r line u) → IsTallied only_second (text ++ ended line) u (n + 1)
 unfolding split after_lines
 tallied_on only_second text line t u n h plain lead =

@@ -3,6 +3,7 @@ pub mod Entry
 pub mod Fault
 pub mod Faded
 pub mod Followed
+pub mod Form
 pub mod Front
 pub mod Journal
 pub mod Kept

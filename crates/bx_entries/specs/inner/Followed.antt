@@ -1,5 +1,5 @@
 -- Full saved lines that go on with a run, one after another.
-use Rattle.std.specs.Prelude.{◌≡◌, ◌+◌, ◌*◌, ◌≤◌, ℕ, suc, Some, List, [], ◌∷◌, ◌++◌, length, take, drop}
+use Rattle.std.specs.Prelude.{◌≡◌, ◌+◌, ◌*◌, ◌<◌, ◌≤◌, ℕ, suc, Some, List, [], ◌∷◌, ◌++◌, length, take, drop}
 use Rattle.bx_entries.specs.declared.format.version.Version.{Version}
 use Rattle.bx_entries.specs.Kept.{Run}
 use Rattle.bx_entries.specs.Line.{saved_in}
@@ -13,6 +13,15 @@ pub record IsFullSaved (len at : ℕ) (text bytes : List ℕ) : Type 0 where
   pub plain : HasNoNewline (take 67 text)
   pub ended : text ≡ take 67 text ++ 10 ∷ drop 68 text
   pub saved : saved_in len (take 67 text) ≡ Some (record { at = at; bytes = bytes })
+
+-- the text begins with a full line of an entry of an image of this length
+abbrev pub BeginsFull : ℕ → List ℕ → Type 0
+BeginsFull len text = (at : ℕ) × (bytes : List ℕ) × (length bytes ≡ 16) × IsFullSaved len at text bytes
+
+-- this many full lines of such an entry stand at the beginning of the text, one after another
+pub record AreFullSaved (len : ℕ) (text : List ℕ) (count : ℕ) : Type 0 where
+  pub within : 68 * count ≤ length text
+  pub each : (k : ℕ) → k < count → BeginsFull len (drop (68 * k) text)
 
 -- the text is read up to a place among the saved lines of an entry; `line` is the number of the next one
 pub record IsSavingTo (text : List ℕ) (entries : List Entry) (v : Version) (len : ℕ) (runs : List Run) (at line : ℕ) : Type 0 where

@@ -5,6 +5,7 @@ use Rattle.bx_entries.specs.declared.read.count.Place.TheVariants.{Between as Be
 use Rattle.bx_entries.specs.declared.read.count.Tally.{Tally}
 use Rattle.bx_entries.specs.declared.read.window.Passed.{Passed}
 use Rattle.bx_entries.specs.Text.{Entry, Stage, Between, Saving, Ending, Reading, next_at, split, start, after_lines}
+use Rattle.bx_entries.specs.inner.Followed.{AreFullSaved}
 use Rattle.bx_entries.specs.inner.Text.{next}
 use Rattle.bx_entries.specs.Parsed.{told_by}
 use Rattle.bx_entries.specs.Finished.{AllTell, IsFinished}
@@ -29,6 +30,12 @@ pub record LeadsTo (only_second : Bool) (r : Reading) (line : List ℕ) (t : Tal
   pub leads : next r line ≡ Some reading
   pub is : tally_of reading ≡ t
   pub tell : IsTrue only_second → AllTell r.entries → AllTell reading.entries
+
+-- the text begins with this many full saved lines, in an entry of the length at this place; there are none at another place
+abbrev pub AreFullAt : Place → List ℕ → ℕ → Type 0
+AreFullAt BetweenPlace text count = count ≡ 0
+AreFullAt (SavingPlace v len) text count = AreFullSaved len text count
+AreFullAt (EndingPlace v) text count = count ≡ 0
 
 -- the text is this many finished entries alone, and the newest tells this length
 pub record IsCounted (text : List ℕ) (count : ℕ) (told : Option ℕ) : Type 0 where

@@ -9,7 +9,7 @@ pub const FULL: usize = 67;
 
 /// Whether a newline is among the bytes.
 #[inline(always)]
-fn has_newline(bytes: &[u8]) -> bool
+pub fn has_newline(bytes: &[u8]) -> bool
     ensures { IsFalse result → HasNoNewline bytes.now }
 {
     let mut found = false;

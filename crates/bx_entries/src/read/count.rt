@@ -1,15 +1,16 @@
 //! One more line of a journal's text whose entries are counted, and nothing else of it is kept.
-ghost use Rattle.std.specs.Prelude.{◌≡◌, ◌+◌, ◌<◌, ◌≤◌, ◌++◌, ◌∷◌, List, suc, length, take, drop, is_some, IsTrue, Some, IfSome, IfNone};
+ghost use Rattle.std.specs.Prelude.{◌≡◌, ◌+◌, ◌*◌, ◌<◌, ◌≤◌, ◌++◌, ◌∷◌, List, suc, length, take, drop, is_some, IsTrue, Some, IfSome, IfNone};
 ghost use Rattle.bx_entries.specs.Kept.{Kept as Record};
 ghost use Rattle.bx_entries.specs.Line.{after_in as after_at};
 ghost use Rattle.bx_entries.specs.inner.Plain.{HasNoNewline};
-ghost use Rattle.bx_entries.specs.inner.Tally.{LeadsTo, StaysIn, tally_of};
+ghost use Rattle.bx_entries.specs.inner.Tally.{AreFullAt, LeadsTo, StaysIn, tally_of};
 ghost use Rattle.bx_entries.specs.Text.{Between as Resting, Saving as Keeping, Entry, Reading};
 ghost use Rattle.bx_entries.specs.Parsed.{told_by};
 
 use crate::Version;
 use crate::format::line::{after_in, is_save, saved_in};
 use crate::format::newline::{end_at, line_end};
+use crate::read::runs::full_lines::count_full;
 use crate::read::take_line::{MOST_CHANGES, begin};
 
 /// Between two entries, or in one: among its saved lines, or behind its save line.
@@ -109,6 +110,20 @@ pub fn take_one(tally: Tally, line: &[u8], only_second: bool) -> Option<Tally>
                 place: Place::Between,
             })
         }
+    }
+}
+
+/// How many full saved lines a text begins with, where it stands among the saved lines of an entry. They leave the tally as it
+/// is.
+#[inline]
+pub fn full_behind(place: Place, text: &[u8]) -> usize
+    ensures full { AreFullAt place text.now result }
+    ensures within { 68 * result ≤ length text.now }
+{
+    match place {
+        Place::Saving { len, .. } => count_full(len, text),
+        Place::Between => 0,
+        Place::Ending { .. } => 0,
     }
 }
 

@@ -3,7 +3,8 @@ ghost use Rattle.std.specs.Prelude.{◌≡◌, ◌+◌, ◌<◌, ◌≤◌, ◌+
 ghost use Rattle.bx_entries.specs.inner.Plain.{HasNoNewline};
 ghost use Rattle.bx_entries.specs.inner.Tally.{IsTallied, IsPassed, IsCountedAll};
 
-use crate::read::count::{Place, Tally, next_end, take_one};
+use crate::read::count::{Place, Tally, full_behind, next_end, take_one};
+use crate::read::runs::full_lines::ENDED;
 
 /// Where the whole lines of a window lead, how many they are, and how many bytes they have.
 #[derive(Clone, Copy)]
@@ -60,9 +61,11 @@ pub fn count_lines(tally: Tally, window: &[u8], only_second: bool, limit: u32) -
     while let Some(i) = end_below(limit, now, rest) {
         now = take_one(now, &rest[..i], only_second)?;
         let (_, behind) = rest.split_at(i + 1);
-        rest = behind;
-        lines += 1;
-        taken += i + 1;
+        let full = full_behind(now.place, behind);
+        let (_, left) = behind.split_at(ENDED * full);
+        rest = left;
+        lines += 1 + full as u64;
+        taken += i + 1 + ENDED * full;
     }
     Some(Passed {
         tally: now,

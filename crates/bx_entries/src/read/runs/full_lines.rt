@@ -1,8 +1,9 @@
 //! Full saved lines that go on with a run, as most lines of most entries do.
-ghost use Rattle.std.specs.Prelude.{◌+◌, List, IfOk, IfSome};
+ghost use Rattle.std.specs.Prelude.{◌+◌, List, IfOk, IfSome, IsTrue};
 ghost use Rattle.bx_entries.specs.Kept.{Run};
-ghost use Rattle.bx_entries.specs.inner.Followed.{IsFullSaved, GoesOnBy, with_last};
+ghost use Rattle.bx_entries.specs.inner.Followed.{AreFullSaved, BeginsFull, IsFullSaved, GoesOnBy, with_last};
 
+use crate::format::lanes::full_address;
 use crate::format::line::{SavedLine, full_in, within};
 use crate::format::newline::{FULL, end_at};
 use bx_text::NoMemory;
@@ -32,6 +33,35 @@ pub fn next_full(len: u64, at: u64, size: usize, text: &[u8]) -> Option<[u8; 16]
     };
     let _ = within(len, read)?;
     Some(bytes)
+}
+
+/// Whether the text begins with a full saved line in an entry of an image of this length.
+#[inline(always)]
+fn is_full(len: u64, text: &[u8]) -> bool
+    ensures { IsTrue result → BeginsFull len text.now }
+{
+    let Some(at) = full_address(text) else {
+        return false;
+    };
+    if len < 16 || at > len - 16 {
+        return false;
+    }
+    true
+}
+
+/// How many full saved lines the text begins with, in an entry of an image of this length. They are only looked at: nothing is
+/// decoded.
+pub fn count_full(len: u64, text: &[u8]) -> usize
+    ensures { AreFullSaved len text.now result }
+{
+    let mut count = 0;
+    let mut rest = text;
+    while is_full(len, rest) {
+        let (_, behind) = rest.split_at(ENDED);
+        rest = behind;
+        count += 1;
+    }
+    count
 }
 
 /// Adds the bytes of the full lines that go on with a run, and answers how many lines they are.

@@ -1,0 +1,115 @@
+-- Full saved lines leave a tally where it is.
+use Rattle.std.proofs.Common.{◌≡◌, ℕ, Bool, true, false, zero, suc, ◌+◌, ◌*◌, ◌<◌, ◌≤◌, List, ◌++◌, length, take, drop, refl, ap, sym, ◌∙◌, subst, arith, append_assoc, append-nil, length-take, length-drop, Some}
+use Rattle.std.specs.Prelude.{nat_lt}
+use Rattle.std.proofs.lemmas.Grind.{common_steps}
+use Rattle.bx_entries.specs.declared.format.version.Version.{Version}
+use Rattle.bx_entries.specs.declared.read.count.Place.{Place}
+use Rattle.bx_entries.specs.declared.read.count.Place.TheVariants.{Between as BetweenPlace, Saving as SavingPlace, Ending as EndingPlace}
+use Rattle.bx_entries.specs.declared.read.count.Tally.{Tally}
+use Rattle.bx_entries.specs.Kept.{Run, Kept, with_run}
+use Rattle.bx_entries.specs.Line.{saved_in}
+use Rattle.bx_entries.specs.Text.{Entry, Saving, Reading, ended}
+use Rattle.bx_entries.specs.inner.Followed.{AreFullSaved, BeginsFull, IsFullSaved}
+use Rattle.bx_entries.specs.inner.Form.{IsFullAt}
+use Rattle.bx_entries.specs.inner.Tally.{AreFullAt, IsTallied, LeadsTo, tally_of}
+use Rattle.bx_entries.proofs.FollowLemmas.{not_save}
+use Rattle.bx_entries.proofs.SavedLines.{saved_reads}
+use Rattle.bx_entries.proofs.StepLemmas.{adds}
+use Rattle.bx_entries.proofs.TallyLemmas.{IsFirstLine, LeadsIn, line_taken, save_counts, take_sum, tallied_on}
+
+-- a line that is full, where its bytes lie within the length
+pub begins_full : (len at : ℕ) (text : List ℕ) → IsFullAt at text → at + 16 ≤ len → BeginsFull len text
+begins_full len at text full within = (
+  at,
+  full.bytes,
+  full.sixteen,
+  record {
+    long = full.long;
+    plain = full.plain;
+    ended = full.ended;
+    saved = saved_reads len (take 67 text) (record { at = at; bytes = full.bytes }) full.gives (omega (arith, full.sixteen)) (omega (arith, full.sixteen, within));
+  },
+)
+
+-- no line yet
+pub none_full : (len : ℕ) (text : List ℕ) → AreFullSaved len text 0
+none_full len text = record { within = omega arith; each = λ k below. absurd (omega (arith, below)) }
+
+-- one more
+pub one_full : (len count : ℕ) (text : List ℕ) → AreFullSaved len text count → BeginsFull len (drop (68 * count) text) → AreFullSaved len text (count + 1)
+one_full len count text so more = record {
+  within = omega (arith, more.3.long, length-drop (68 * count) text, so.within);
+  each = λ k below. by k below (nat_lt k count) refl;
+}
+  where
+    before : (k : ℕ) → nat_lt k count ≡ true → k < count
+    before k is = grind (arith, common_steps)
+
+    last_one : (k : ℕ) → k < count + 1 → nat_lt k count ≡ false → count ≡ k
+    last_one k below is = let most : count ≤ k = grind (arith, common_steps) in omega (arith, below)
+
+    by : (k : ℕ) → k < count + 1 → (b : Bool) → nat_lt k count ≡ b → BeginsFull len (drop (68 * k) text)
+    by k below true is = so.each k (before k is)
+    by k below false is = subst (λ n. BeginsFull len (drop (68 * n) text)) (last_one k below is) more
+
+-- the first line of a text that begins with a full one
+pub full_first : (len at : ℕ) (text bytes : List ℕ) → IsFullSaved len at text bytes → IsFirstLine text 67
+full_first len at text bytes full = record { below = omega (arith, full.long); plain = full.plain; is = full.ended }
+
+-- a full line leads from a tally to itself
+full_leads : (only_second : Bool) (r : Reading) (t : Tally) (v : Version) (len : ℕ) (text : List ℕ) → tally_of r ≡ t → t.place ≡ SavingPlace v len → BeginsFull len text
+    → LeadsTo only_second r (take 67 text) t
+full_leads only_second r t v len text is place begins =
+    let full = begins.3 in
+    let line : List ℕ = take 67 text in
+    let run : Run = record { at = begins.0; bytes = begins.1 } in
+    let long : length line ≡ 67 = omega (arith, length-take 67 text, full.long) in
+    let lead : (es : List Entry) (s : Kept) → suc (length es) ≡ t.count + 1 → s.len ≡ len → LeadsIn es (Saving v s) line (SavingPlace v len) = λ es s number same.
+    let saved : saved_in s.len line ≡ Some run = ap (λ n. saved_in n line) same ∙ full.saved in
+    (Saving v (record { len = s.len; runs = with_run s.runs run }), adds es (t.count + 1) v s line number run (not_save (t.count + 1) line long) saved, ap (SavingPlace v) same) in
+    subst (λ p. LeadsTo only_second r line (record { count = t.count; told = t.told; place = p })) (sym place)
+    (save_counts only_second r t line is (t.count + 1) v len (SavingPlace v len) place refl lead)
+
+-- so many lines more at the beginning of a text
+full_counts : (only_second : Bool) (front text : List ℕ) (t : Tally) (v : Version) (len n count k : ℕ) → t.place ≡ SavingPlace v len → AreFullSaved len text count → k ≤ count
+    → IsTallied only_second front t n → IsTallied only_second (front ++ take (68 * k) text) t (n + k)
+full_counts only_second front text t v len n count zero place so below h =
+    let number : n ≡ n + 0 = omega arith in
+    subst (λ l. IsTallied only_second l t (n + 0)) (sym (append-nil front)) (subst (λ m. IsTallied only_second front t m) number h)
+full_counts only_second front text t v len n count (suc k) place so below h =
+    let rest : List ℕ = drop (68 * k) text in
+    let begins = so.each k (omega (arith, below)) in
+    let before = full_counts only_second front text t v len n count k place so (omega (arith, below)) h in
+    let line = tallied_on only_second (front ++ take (68 * k) text) (take 67 rest) t t (n + k) before begins.3.plain (λ r is. full_leads only_second r t v len rest is place begins) in
+    let size : 68 * suc k ≡ 68 * k + 68 = omega arith in
+    let number : (n + k) + 1 ≡ n + suc k = omega arith in
+    let end : take (68 * k) text ++ ended (take 67 rest) ≡ take (68 * suc k) text =
+    sym (ap (λ m. take m text) size ∙ take_sum (68 * k) 68 text ∙ ap (λ l. take (68 * k) text ++ l) (line_taken rest 67 (full_first len begins.0 rest begins.1 begins.3))) in
+    let whole : (front ++ take (68 * k) text) ++ ended (take 67 rest) ≡ front ++ take (68 * suc k) text = append_assoc front (take (68 * k) text) (ended (take 67 rest)) ∙ ap (λ l. front ++ l) end in
+    subst (λ m. IsTallied only_second (front ++ take (68 * suc k) text) t m) number (subst (λ l. IsTallied only_second l t ((n + k) + 1)) whole line)
+
+-- full lines at a place leave a tally as it is, and are counted
+pub full_tallied : (only_second : Bool) (front text : List ℕ) (t : Tally) (n count : ℕ) → AreFullAt t.place text count → IsTallied only_second front t n
+    → IsTallied only_second (front ++ take (68 * count) text) t (n + count)
+full_tallied only_second front text t n count so h = by t.place refl so
+  where
+    none : count ≡ 0 → IsTallied only_second (front ++ take (68 * count) text) t (n + count)
+    none is =
+        let number : n ≡ n + 0 = omega arith in
+        subst (λ c. IsTallied only_second (front ++ take (68 * c) text) t (n + c)) (sym is)
+        (subst (λ l. IsTallied only_second l t (n + 0)) (sym (append-nil front)) (subst (λ m. IsTallied only_second front t m) number h))
+
+    by : (p : Place) → t.place ≡ p → AreFullAt p text count → IsTallied only_second (front ++ take (68 * count) text) t (n + count)
+    by BetweenPlace place so = none so
+    by (SavingPlace v len) place so = full_counts only_second front text t v len n count count place so (omega arith) h
+    by (EndingPlace v) place so = none so
+
+-- the same behind a part of a window
+pub tallied_full : (only_second : Bool) (front window rest : List ℕ) (t : Tally) (taken n m count : ℕ) → rest ≡ drop taken window → AreFullAt t.place rest count
+    → IsTallied only_second (front ++ take taken window) t (n + m) → IsTallied only_second (front ++ take (taken + 68 * count) window) t (n + (m + count))
+tallied_full only_second front window rest t taken n m count left so h =
+    let number : (n + m) + count ≡ n + (m + count) = omega arith in
+    let end : take taken window ++ take (68 * count) rest ≡ take (taken + 68 * count) window = ap (λ l. take taken window ++ take (68 * count) l) left ∙ sym (take_sum taken (68 * count) window) in
+    let whole : (front ++ take taken window) ++ take (68 * count) rest ≡ front ++ take (taken + 68 * count) window = append_assoc front (take taken window) (take (68 * count) rest) ∙ ap (λ l. front ++ l) end in
+    subst (λ k. IsTallied only_second (front ++ take (taken + 68 * count) window) t k) number
+    (subst (λ l. IsTallied only_second l t ((n + m) + count)) whole (full_tallied only_second (front ++ take taken window) rest t (n + m) count so h))
