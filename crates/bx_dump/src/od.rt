@@ -1,6 +1,7 @@
 //! od: what stands for each value, its lines and its dump.
 mod byte_tables;
 mod decimal;
+mod decimal_fours;
 mod decimal_lanes;
 mod decimal_twos;
 mod dump;

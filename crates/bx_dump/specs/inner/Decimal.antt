@@ -1,5 +1,6 @@
--- What proofs alone need: the characters of decimal numbers of two bytes, each by itself.
+-- What proofs alone need: decimal numbers of two bytes by their characters, and of four bytes.
 use Rattle.std.specs.Prelude.{ℕ, ◌+◌, ◌-◌, ◌*◌, ◌/◌, ◌%◌, Bool, true, false, ◌&&◌, nat_le, nat_lt, if◌then◌else◌, List, [], ◌∷◌}
+use Rattle.bx_dump.specs.Od.{value_of}
 
 -- each two bytes as a number, the lower one first
 abbrev pub words : List ℕ → List ℕ
@@ -32,3 +33,15 @@ signed_cells v = 32 ∷ char_at true 100000 v ∷ char_at true 10000 v ∷ char_
 
 abbrev pub unsigned_cells : ℕ → List ℕ
 unsigned_cells v = 32 ∷ char_at false 10000 v ∷ char_at false 1000 v ∷ char_at false 100 v ∷ char_at false 10 v ∷ last_char false v ∷ []
+
+-- each four bytes as a number, the lowest one first
+abbrev pub fours : List ℕ → List ℕ
+fours [] = []
+fours (a ∷ []) = []
+fours (a ∷ b ∷ []) = []
+fours (a ∷ b ∷ c ∷ []) = []
+fours (a ∷ b ∷ c ∷ d ∷ rest) = value_of (a ∷ b ∷ c ∷ d ∷ []) ∷ fours rest
+
+-- a number of four bytes without its sign, in two's complement
+abbrev pub amount_of_four : ℕ → ℕ
+amount_of_four v = if nat_le 2147483648 v then 4294967296 - v else v

@@ -5,6 +5,7 @@ ghost use Rattle.bx_dump.specs.Od.{value_of, width_of, field_text};
 ghost use Rattle.bx_dump.specs.inner.Od.{field_width, value_text, values_text};
 
 use crate::od::byte_tables::char_of;
+use crate::od::decimal_fours::{put_signed_fours, put_unsigned_fours};
 use crate::od::decimal_twos::{put_signed_twos, put_unsigned_twos};
 use crate::od::fixed::put_cell;
 use crate::od::hexadecimal::put_hexadecimal_line;
@@ -165,10 +166,12 @@ pub fn put_full(text: &mut [u8], kind: Kind, bytes: &[u8; 16]) -> usize
         Kind::Chars => put_whole(text, Kind::Chars, bytes),
         Kind::Number { form, size } => match form {
             NumForm::Signed if size == Size::Two => put_signed_twos(text, bytes),
+            NumForm::Signed if size == Size::Four => put_signed_fours(text, bytes),
             NumForm::Signed => put_sized(text, NumForm::Signed, size, bytes),
             NumForm::Octal if size == Size::Two => put_octal_twos(text, bytes),
             NumForm::Octal => put_sized(text, NumForm::Octal, size, bytes),
             NumForm::Unsigned if size == Size::Two => put_unsigned_twos(text, bytes),
+            NumForm::Unsigned if size == Size::Four => put_unsigned_fours(text, bytes),
             NumForm::Unsigned => put_sized(text, NumForm::Unsigned, size, bytes),
             NumForm::Hexadecimal => put_hexadecimal_line(text, size, bytes),
         },
