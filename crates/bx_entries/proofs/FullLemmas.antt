@@ -6,16 +6,19 @@ use Rattle.bx_entries.specs.declared.format.version.Version.{Version}
 use Rattle.bx_entries.specs.declared.read.count.Place.{Place}
 use Rattle.bx_entries.specs.declared.read.count.Place.TheVariants.{Between as BetweenPlace, Saving as SavingPlace, Ending as EndingPlace}
 use Rattle.bx_entries.specs.declared.read.count.Tally.{Tally}
+use Rattle.bx_entries.specs.declared.read.rows.Summed.{Summed}
 use Rattle.bx_entries.specs.Kept.{Run, Kept, with_run}
 use Rattle.bx_entries.specs.Line.{saved_in}
 use Rattle.bx_entries.specs.Text.{Entry, Saving, Reading, ended}
 use Rattle.bx_entries.specs.inner.Followed.{AreFullSaved, BeginsFull, IsFullSaved}
 use Rattle.bx_entries.specs.inner.Form.{IsFullAt}
+use Rattle.bx_entries.specs.inner.Rows.{HasAdded, SumsTo, saved_at, summed_of, with_more}
 use Rattle.bx_entries.specs.inner.Tally.{AreFullAt, IsTallied, LeadsTo, tally_of}
 use Rattle.bx_entries.proofs.FollowLemmas.{not_save}
 use Rattle.bx_entries.proofs.SavedLines.{saved_reads}
 use Rattle.bx_entries.proofs.StepLemmas.{adds}
-use Rattle.bx_entries.proofs.TallyLemmas.{IsFirstLine, LeadsIn, line_taken, save_counts, take_sum, tallied_on}
+use Rattle.bx_entries.proofs.SumLemmas.{save_sums}
+use Rattle.bx_entries.proofs.TallyLemmas.{HasForm, IsFirstLine, LeadsIn, has_form, line_taken, save_counts, take_sum, tallied_on}
 
 -- a line that is full, where its bytes lie within the length
 pub begins_full : (len at : ℕ) (text : List ℕ) → IsFullAt at text → at + 16 ≤ len → BeginsFull len text
@@ -70,7 +73,7 @@ full_leads only_second r t v len text is place begins =
     subst (λ p. LeadsTo only_second r line (record { count = t.count; told = t.told; place = p })) (sym place)
     (save_counts only_second r t line is (t.count + 1) v len (SavingPlace v len) place refl lead)
 
--- so many lines more at the beginning of a text
+-- the first lines of those, one after another
 full_counts : (only_second : Bool) (front text : List ℕ) (t : Tally) (v : Version) (len n count k : ℕ) → t.place ≡ SavingPlace v len → AreFullSaved len text count → k ≤ count
     → IsTallied only_second front t n → IsTallied only_second (front ++ take (68 * k) text) t (n + k)
 full_counts only_second front text t v len n count zero place so below h =
@@ -113,3 +116,15 @@ tallied_full only_second front window rest t taken n m count left so h =
     let whole : (front ++ take taken window) ++ take (68 * count) rest ≡ front ++ take (taken + 68 * count) window = append_assoc front (take taken window) (take (68 * count) rest) ∙ ap (λ l. front ++ l) end in
     subst (λ k. IsTallied only_second (front ++ take (taken + 68 * count) window) t k) number
     (subst (λ l. IsTallied only_second l t ((n + m) + count)) whole (full_tallied only_second (front ++ take taken window) rest t (n + m) count so h))
+
+-- a full line adds its bytes to sums
+pub full_sums : (r : Reading) (now : Summed) (v : Version) (len : ℕ) (text : List ℕ) → summed_of r ≡ now → now.tally.place ≡ SavingPlace v len → BeginsFull len text
+    → SumsTo r (take 67 text) (with_more now 16)
+full_sums r now v len text is place begins =
+    let line : List ℕ = take 67 text in
+    let run : Run = record { at = begins.0; bytes = begins.1 } in
+    let to : LeadsTo false r line now.tally = full_leads false r now.tally v len text (ap (λ (s : Summed). s.tally) is) place begins in
+    let added : HasAdded len now.tally.place line 16 = subst (λ p. HasAdded len p line 16) (sym place) (run, begins.3.saved, begins.2) in
+    let was : HasForm r.stage (SavingPlace v len) = has_form r.stage (SavingPlace v len) (ap (λ (s : Summed). s.tally.place) is ∙ place) in
+    let long : len ≡ now.len = sym was.2 ∙ ap (λ z. (saved_at r.entries z).len) (sym was.1) ∙ ap (λ (s : Summed). s.len) is in
+    subst (λ n. SumsTo r line (record { tally = now.tally; len = n; saved = now.saved + 16 })) long (save_sums r now now.tally line is to v len 16 place added)

@@ -1,12 +1,17 @@
 -- The rows of a text that is read in windows: a line more, and a window more.
-use Rattle.std.proofs.Common.{◌≡◌, ℕ, ◌+◌, List, [], ◌∷◌, ◌++◌, take, drop, refl, ap, sym, ◌∙◌, subst, inl, inr, append_assoc, append-nil, Result, Ok, Some}
+use Rattle.std.proofs.Common.{◌≡◌, ℕ, zero, suc, ◌+◌, ◌*◌, ◌≤◌, List, [], ◌∷◌, ◌++◌, take, drop, refl, ap, sym, ◌∙◌, subst, inl, inr, append_assoc, append-nil, arith, Result, Ok, Some}
 use Rattle.std.specs.Prelude.{Vec}
 use Rattle.std.proofs.lemmas.Result.{IfOk-weaker}
+use Rattle.bx_entries.specs.declared.format.version.Version.{Version}
+use Rattle.bx_entries.specs.declared.read.count.Place.{Place}
+use Rattle.bx_entries.specs.declared.read.count.Place.TheVariants.{Between as BetweenPlace, Saving as SavingPlace, Ending as EndingPlace}
 use Rattle.bx_entries.specs.declared.read.rows.Summed.{Summed}
 use Rattle.bx_entries.specs.Text.{Entry, Stage, Between, Saving, Ending, Reading, Split, ended, split, start, next_at, after_lines}
+use Rattle.bx_entries.specs.inner.Followed.{AreFullSaved}
 use Rattle.bx_entries.specs.inner.Plain.{HasNoNewline}
-use Rattle.bx_entries.specs.inner.Rows.{SumsTo, summed_of}
-use Rattle.bx_entries.specs.inner.Tally.{place_of}
+use Rattle.bx_entries.specs.inner.Rows.{IsMore, SumsTo, summed_of, with_more}
+use Rattle.bx_entries.specs.inner.Tally.{AreFullAt, place_of}
+use Rattle.bx_entries.proofs.FullLemmas.{full_first, full_sums}
 use Rattle.bx_entries.proofs.Inverse.{next_between, next_saving, next_ending}
 use Rattle.bx_entries.proofs.Runs.{after_lines-append}
 use Rattle.bx_entries.proofs.Splits.{split-append, split-ended}
@@ -67,6 +72,53 @@ listed_more front window rest taken i s u rows new h left f lead pushed =
     ap (λ l. front ++ l) taken_is ∙ sym (append_assoc front (take taken window) (ended (take i rest))) in
     subst (λ l. IsListed l u new) (sym same)
     (subst (IsListed ((front ++ take taken window) ++ ended (take i rest)) u) (sym pushed) (listed_on (front ++ take taken window) (take i rest) s u rows h f.plain lead))
+
+-- this many full lines more
+listed_by : (front text : List ℕ) (s : Summed) (rows : List LogRow) (v : Version) (len count k : ℕ) → s.tally.place ≡ SavingPlace v len → AreFullSaved len text count → k ≤ count
+    → IsListed front s rows → IsListed (front ++ take (68 * k) text) (with_more s (16 * k)) rows
+listed_by front text s rows v len count zero place so below h =
+    let saved : s.saved ≡ s.saved + 16 * 0 = omega arith in
+    subst (λ l. IsListed l (with_more s (16 * 0)) rows) (sym (append-nil front)) (subst (λ n. IsListed front (record { tally = s.tally; len = s.len; saved = n }) rows) saved h)
+listed_by front text s rows v len count (suc k) place so below h =
+    let rest : List ℕ = drop (68 * k) text in
+    let begins = so.each k (omega (arith, below)) in
+    let now : Summed = with_more s (16 * k) in
+    let next : Summed = with_more now 16 in
+    let before = listed_by front text s rows v len count k place so (omega (arith, below)) h in
+    let line = listed_on (front ++ take (68 * k) text) (take 67 rest) now next rows before begins.3.plain (λ r is. full_sums r now v len rest is place begins) in
+    let same : rows ++ ended_row s.tally.place next ≡ rows = ap (λ p. rows ++ ended_row p next) place ∙ append-nil rows in
+    let size : 68 * suc k ≡ 68 * k + 68 = omega arith in
+    let saved : s.saved + 16 * k + 16 ≡ s.saved + 16 * suc k = omega arith in
+    let end : take (68 * k) text ++ ended (take 67 rest) ≡ take (68 * suc k) text =
+    sym (ap (λ m. take m text) size ∙ take_sum (68 * k) 68 text ∙ ap (λ l. take (68 * k) text ++ l) (line_taken rest 67 (full_first len begins.0 rest begins.1 begins.3))) in
+    let whole : (front ++ take (68 * k) text) ++ ended (take 67 rest) ≡ front ++ take (68 * suc k) text = append_assoc front (take (68 * k) text) (ended (take 67 rest)) ∙ ap (λ l. front ++ l) end in
+    subst (λ n. IsListed (front ++ take (68 * suc k) text) (record { tally = s.tally; len = s.len; saved = n }) rows) saved
+    (subst (λ l. IsListed l next rows) whole (subst (IsListed ((front ++ take (68 * k) text) ++ ended (take 67 rest)) next) same line))
+
+-- full lines at a place add their bytes to sums, and no row
+full_listed : (front text : List ℕ) (s : Summed) (rows : List LogRow) (count : ℕ) → AreFullAt s.tally.place text count → IsListed front s rows
+    → IsListed (front ++ take (68 * count) text) (with_more s (16 * count)) rows
+full_listed front text s rows count so h = by s.tally.place refl so
+  where
+    none : count ≡ 0 → IsListed (front ++ take (68 * count) text) (with_more s (16 * count)) rows
+    none is =
+        let saved : s.saved ≡ s.saved + 16 * 0 = omega arith in
+        subst (λ c. IsListed (front ++ take (68 * c) text) (with_more s (16 * c)) rows) (sym is)
+        (subst (λ l. IsListed l (with_more s (16 * 0)) rows) (sym (append-nil front)) (subst (λ n. IsListed front (record { tally = s.tally; len = s.len; saved = n }) rows) saved h))
+
+    by : (p : Place) → s.tally.place ≡ p → AreFullAt p text count → IsListed (front ++ take (68 * count) text) (with_more s (16 * count)) rows
+    by BetweenPlace place so = none so
+    by (SavingPlace v len) place so = listed_by front text s rows v len count count place so (omega arith) h
+    by (EndingPlace v) place so = none so
+
+-- the same behind a part of a window
+pub listed_full : (front window rest : List ℕ) (s u : Summed) (rows : List LogRow) (taken count : ℕ) → rest ≡ drop taken window → AreFullAt s.tally.place rest count → IsMore s (16 * count) u
+    → IsListed (front ++ take taken window) s rows → IsListed (front ++ take (taken + 68 * count) window) u rows
+listed_full front window rest s u rows taken count left so more h =
+    let end : take taken window ++ take (68 * count) rest ≡ take (taken + 68 * count) window = ap (λ l. take taken window ++ take (68 * count) l) left ∙ sym (take_sum taken (68 * count) window) in
+    let whole : (front ++ take taken window) ++ take (68 * count) rest ≡ front ++ take (taken + 68 * count) window = append_assoc front (take taken window) (take (68 * count) rest) ∙ ap (λ l. front ++ l) end in
+    subst (λ w. IsListed (front ++ take (taken + 68 * count) window) w rows) (sym more)
+    (subst (λ l. IsListed l (with_more s (16 * count)) rows) whole (full_listed (front ++ take taken window) rest s rows count so h))
 
 -- no line of a window
 pub listed_same : (front window : List ℕ) (s : Summed) (rows : List LogRow) → IsListed front s rows → IsListed (front ++ take 0 window) s rows

@@ -1,5 +1,5 @@
 -- Entries that are read for the rows of a log, and not kept.
-use Rattle.std.specs.Prelude.{◌≡◌, ℕ, Some, List, [], ◌∷◌, length, map, sum}
+use Rattle.std.specs.Prelude.{◌≡◌, ◌+◌, ℕ, Some, List, [], ◌∷◌, length, map, sum}
 use Rattle.bx_entries.specs.declared.read.count.Place.{Place}
 use Rattle.bx_entries.specs.declared.read.count.Place.TheVariants.{Between as BetweenPlace, Saving as SavingPlace, Ending as EndingPlace}
 use Rattle.bx_entries.specs.declared.read.rows.Summed.{Summed}
@@ -39,3 +39,10 @@ abbrev pub HasAdded : ℕ → Place → List ℕ → ℕ → Type 0
 HasAdded len BetweenPlace line more = ⊥
 HasAdded len (SavingPlace v n) line more = (p : Run) × (saved_in len line ≡ Some p) × (length p.bytes ≡ more)
 HasAdded len (EndingPlace v) line more = more ≡ 0
+
+-- the sums with this many bytes more of the newest entry
+abbrev pub with_more : Summed → ℕ → Summed
+with_more s more = record { tally = s.tally; len = s.len; saved = s.saved + more }
+
+abbrev pub IsMore : Summed → ℕ → Summed → Type 0
+IsMore s more now = now ≡ with_more s more

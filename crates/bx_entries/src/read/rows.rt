@@ -1,6 +1,6 @@
 //! One more line of a journal's text that is read for a log: what an entry saves is summed, and not kept.
-ghost use Rattle.std.specs.Prelude.{◌≡◌, IfSome};
-ghost use Rattle.bx_entries.specs.inner.Rows.{HasAdded, SumsTo, summed_of};
+ghost use Rattle.std.specs.Prelude.{◌≡◌, ◌*◌, IfSome};
+ghost use Rattle.bx_entries.specs.inner.Rows.{HasAdded, IsMore, SumsTo, summed_of};
 ghost use Rattle.bx_entries.specs.Text.{Reading, start};
 
 use crate::Version;
@@ -75,4 +75,18 @@ pub fn sum_one(now: Summed, line: &[u8]) -> Option<Summed>
             saved: now.saved,
         }),
     }
+}
+
+/// The sums after this many full saved lines more, each of 16 bytes.
+#[inline]
+pub fn sum_full(now: Summed, count: usize) -> Option<Summed>
+    ensures { IfSome result (IsMore now (16 * count)) }
+{
+    let more = (count as u64).checked_mul(16)?;
+    let saved = now.saved.checked_add(more)?;
+    Some(Summed {
+        tally: now.tally,
+        len: now.len,
+        saved,
+    })
 }

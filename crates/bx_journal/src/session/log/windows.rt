@@ -5,7 +5,7 @@ ghost use Rattle.bx_journal.specs.inner.Fault.{LacksOrFails};
 ghost use Rattle.bx_journal.specs.inner.Rows.{AreListed, AreRowsOf, IsListedAt, IsListedIn, ended_row};
 
 use crate::{LogRow, SessionFault};
-use bx_entries::{Place, Summed, next_end, nothing_summed, sum_one};
+use bx_entries::{ENDED, Place, Summed, full_behind, next_end, nothing_summed, sum_full, sum_one};
 use bx_store::TextStore;
 use bx_text::NoMemory;
 use std::alloc::Allocator;
@@ -56,11 +56,16 @@ fn list_lines<A: Allocator>(
         let Some(next) = sum_one(sums, &rest[..i]) else {
             return Ok(None);
         };
-        sums = next;
-        push_ended(rows, sums)?;
+        push_ended(rows, next)?;
         let (_, behind) = rest.split_at(i + 1);
-        rest = behind;
-        taken += i + 1;
+        let full = full_behind(next.tally.place, behind);
+        let Some(all) = sum_full(next, full) else {
+            return Ok(None);
+        };
+        let (_, left) = behind.split_at(ENDED * full);
+        sums = all;
+        rest = left;
+        taken += i + 1 + ENDED * full;
     }
     Ok(Some(Listed { sums, taken }))
 }
