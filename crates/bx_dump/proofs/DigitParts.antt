@@ -256,3 +256,12 @@ led_two w k n p sign e pos front some le whole =
     least n p j pos le small =
         let wide : 10 ^ 20 ≤ 10 ^ j = pow-le-pow_right {n = 10} (omega arith) {i = 20} {j = j} le in
         omega (arith, div-le_self n p)
+
+-- two spaces in front of a text that fits behind them
+pub two_spaces : (w : ℕ) (text : List ℕ) → length text ≤ w → (32 ∷ 32 ∷ []) ++ left_filled 32 w text ≡ left_filled 32 (suc (suc w)) text
+two_spaces w text fits = let more : suc (suc w) - length text ≡ suc (suc (w - length text)) = omega arith in rw more refl
+
+-- a sign and two digits
+pub sign_few : (negative : Bool) (n : ℕ) → n < 100 → length ((if negative then 45 ∷ [] else []) ++ digits 10 false n) ≤ 3
+sign_few true n small = let few = digits_few 10 (let two : 2 ≤ 10 = omega arith in two) 2 n (omega arith) (omega arith) small in omega arith
+sign_few false n small = let few = digits_few 10 (let two : 2 ≤ 10 = omega arith in two) 2 n (omega arith) (omega arith) small in omega arith

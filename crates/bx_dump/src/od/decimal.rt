@@ -99,6 +99,18 @@ fn put_four(field: &mut [u8], v: u32)
     put_two(back, v % 100);
 }
 
+/// Puts a number in six digits.
+#[inline(always)]
+fn put_six(field: &mut [u8], v: u32)
+    requires room { length field.old ≡ 6 }
+    requires small { v < 10 ^ 6 }
+    ensures { field.new ≡ left_filled 48 6 (digits 10 false v) }
+{
+    let (front, back) = field.split_at_mut(2);
+    put_two(front, v / 10000);
+    put_four(back, v % 10000);
+}
+
 /// Puts a number in eight digits.
 #[inline(always)]
 pub fn put_eight(field: &mut [u8], v: u32)
@@ -214,6 +226,21 @@ pub fn put_signed_four(field: &mut [u8], negative: bool, v: u32)
     put_eight(back, v % 100000000);
 }
 
+/// Puts a number of seven or eight digits and its sign in eleven characters.
+#[inline(always)]
+pub fn put_signed_seven(field: &mut [u8], negative: bool, v: u32)
+    requires room { length field.old ≡ 11 }
+    requires least { 10 ^ 6 ≤ v }
+    requires small { v < 10 ^ 8 }
+    ensures { field.new ≡ left_filled 32 11 ((if negative then 45 ∷ [] else []) ++ digits 10 false v) }
+{
+    let (front, back) = field.split_at_mut(5);
+    let (spaces, lead) = front.split_at_mut(2);
+    spaces.copy_from_slice(b"  ");
+    put_signed_lead(lead, negative, v / 1000000);
+    put_six(back, v % 1000000);
+}
+
 /// Puts a number of at least 10,000,000,000,000,000 and its sign in twenty characters.
 #[inline(always)]
 pub fn put_signed_eight(field: &mut [u8], negative: bool, v: u64)
@@ -250,6 +277,21 @@ pub fn put_unsigned_four(field: &mut [u8], v: u32)
     let (front, back) = field.split_at_mut(2);
     put_lead(front, v / 100000000);
     put_eight(back, v % 100000000);
+}
+
+/// Puts a number of seven or eight digits in ten characters.
+#[inline(always)]
+pub fn put_unsigned_seven(field: &mut [u8], v: u32)
+    requires room { length field.old ≡ 10 }
+    requires least { 10 ^ 6 ≤ v }
+    requires small { v < 10 ^ 8 }
+    ensures { field.new ≡ left_filled 32 10 (digits 10 false v) }
+{
+    let (front, back) = field.split_at_mut(4);
+    let (spaces, lead) = front.split_at_mut(2);
+    spaces.copy_from_slice(b"  ");
+    put_lead(lead, v / 1000000);
+    put_six(back, v % 1000000);
 }
 
 /// Puts a number of at least 10,000,000,000,000,000 in twenty characters.

@@ -6,8 +6,8 @@ ghost use Rattle.bx_dump.specs.inner.Od.{size_of, number_text, number_width};
 
 use crate::od::byte_tables::{octal_of, signed_of, unsigned_of};
 use crate::od::decimal::{
-    put_signed_eight, put_signed_four, put_signed_two, put_unsigned_eight, put_unsigned_four,
-    put_unsigned_two,
+    put_signed_eight, put_signed_four, put_signed_seven, put_signed_two, put_unsigned_eight,
+    put_unsigned_four, put_unsigned_seven, put_unsigned_two,
 };
 use crate::od::octal::{put_eleven, put_six, put_three, put_twenty_two};
 use crate::od::options::{NumForm, Size};
@@ -120,6 +120,7 @@ fn put_amount(field: &mut [u8], size: Size, negative: bool, v: u64)
     match size {
         Size::Two if v >= 1000 => put_signed_two(field, negative, v as u32),
         Size::Four if v >= 100000000 => put_signed_four(field, negative, v as u32),
+        Size::Four if v >= 1000000 => put_signed_seven(field, negative, v as u32),
         Size::Eight if v >= 10000000000000000 => put_signed_eight(field, negative, v),
         _ => put_small(field, negative, v),
     }
@@ -164,6 +165,7 @@ fn put_unsigned(field: &mut [u8], size: Size, v: u64)
     match size {
         Size::Two if v >= 1000 => put_unsigned_two(field, v as u32),
         Size::Four if v >= 100000000 => put_unsigned_four(field, v as u32),
+        Size::Four if v >= 1000000 => put_unsigned_seven(field, v as u32),
         Size::Eight if v >= 10000000000000000 => put_unsigned_eight(field, v),
         _ => put_few(field, v),
     }
