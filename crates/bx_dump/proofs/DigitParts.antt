@@ -195,25 +195,6 @@ one_octal d below =
     (bytes_eq-Decides ((48 + d) ∷ []) (left_filled 48 1 (digits 8 false d))).0
     (agree_below_at (λ i. bytes_eq ((48 + i) ∷ []) (left_filled 48 1 (digits 8 false i))) (λ _. true) 8 d refl below)
 
-pub plus_digit : (d : ℕ) → d < 10 → 32 ∷ (48 + d) ∷ [] ≡ left_filled 32 2 (digits 10 false d)
-unfolding digits
-plus_digit d below =
-    (bytes_eq-Decides (32 ∷ (48 + d) ∷ []) (left_filled 32 2 (digits 10 false d))).0
-    (agree_below_at (λ i. bytes_eq (32 ∷ (48 + i) ∷ []) (left_filled 32 2 (digits 10 false i))) (λ _. true) 10 d refl below)
-
-pub minus_digit : (d : ℕ) → d < 10 → 45 ∷ (48 + d) ∷ [] ≡ left_filled 32 2 (45 ∷ digits 10 false d)
-unfolding digits
-minus_digit d below =
-    (bytes_eq-Decides (45 ∷ (48 + d) ∷ []) (left_filled 32 2 (45 ∷ digits 10 false d))).0
-    (agree_below_at (λ i. bytes_eq (45 ∷ (48 + i) ∷ []) (left_filled 32 2 (45 ∷ digits 10 false i))) (λ _. true) 10 d refl below)
-
--- with a sign, where there is one
-pub negative_digit : (negative : Bool) (sign d : ℕ) → negative ≡ true → sign ≡ 45 → d < 10 → sign ∷ (48 + d) ∷ [] ≡ left_filled 32 2 ((if negative then 45 ∷ [] else []) ++ digits 10 false d)
-negative_digit negative sign d e is below = rw (e, is) (minus_digit d below)
-
-pub positive_digit : (negative : Bool) (sign d : ℕ) → negative ≡ false → sign ≡ 32 → d < 10 → sign ∷ (48 + d) ∷ [] ≡ left_filled 32 2 ((if negative then 45 ∷ [] else []) ++ digits 10 false d)
-positive_digit negative sign d e is below = rw (e, is) (plus_digit d below)
-
 -- The forms in which the parts are put: the front is a quotient.
 quotient : (n p : ℕ) → n / p * p + n % p ≡ n
 quotient n p = omega (arith, div-add-mod n p)

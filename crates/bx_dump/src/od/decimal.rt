@@ -172,33 +172,27 @@ pub fn put_top(field: &mut [u8], v: u32)
     }
 }
 
-/// Puts a digit and its sign in two characters.
+/// Puts a digit.
 #[inline(always)]
-fn put_signed_digit(field: &mut [u8], negative: bool, v: u32)
-    requires room { length field.old ≡ 2 }
+fn put_one(field: &mut [u8], v: u32)
+    requires room { length field.old ≡ 1 }
     requires small { v < 10 }
-    ensures { field.new ≡ left_filled 32 2 ((if negative then 45 ∷ [] else []) ++ digits 10 false v) }
+    ensures { field.new ≡ left_filled 48 1 (digits 10 false v) }
 {
-    let sign = if negative { b'-' } else { b' ' };
-    field.copy_from_slice(&[sign, b'0' + v as u8]);
+    field.copy_from_slice(&[b'0' + v as u8]);
 }
 
-/// Puts a number below 1,000 and its sign in four characters.
+/// Puts a number of two or three digits and its sign in four characters.
 #[inline(always)]
-pub fn put_signed_top(field: &mut [u8], negative: bool, v: u32)
+fn put_signed_top(field: &mut [u8], negative: bool, v: u32)
     requires room { length field.old ≡ 4 }
+    requires least { 10 ≤ v }
     requires small { v < 10 ^ 3 }
     ensures { field.new ≡ left_filled 32 4 ((if negative then 45 ∷ [] else []) ++ digits 10 false v) }
 {
-    if v < 100 {
-        let (space, rest) = field.split_at_mut(1);
-        space.copy_from_slice(b" ");
-        put_signed_lead(rest, negative, v);
-    } else {
-        let (front, back) = field.split_at_mut(2);
-        put_signed_digit(front, negative, v / 100);
-        put_two(back, v % 100);
-    }
+    let (front, back) = field.split_at_mut(3);
+    put_signed_lead(front, negative, v / 10);
+    put_one(back, v % 10);
 }
 
 /// Puts a number of at least 1,000 and its sign in six characters.
@@ -241,11 +235,11 @@ pub fn put_signed_seven(field: &mut [u8], negative: bool, v: u32)
     put_six(back, v % 1000000);
 }
 
-/// Puts a number of at least 10,000,000,000,000,000 and its sign in twenty characters.
+/// Puts a number of at least 100,000,000,000,000,000 and its sign in twenty characters.
 #[inline(always)]
 pub fn put_signed_eight(field: &mut [u8], negative: bool, v: u64)
     requires room { length field.old ≡ 20 }
-    requires least { 10 ^ 16 ≤ v }
+    requires least { 10 ^ 17 ≤ v }
     requires small { v < 10 ^ 19 }
     ensures { field.new ≡ left_filled 32 20 ((if negative then 45 ∷ [] else []) ++ digits 10 false v) }
 {

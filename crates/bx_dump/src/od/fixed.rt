@@ -121,7 +121,7 @@ fn put_amount(field: &mut [u8], size: Size, negative: bool, v: u64)
         Size::Two if v >= 1000 => put_signed_two(field, negative, v as u32),
         Size::Four if v >= 100000000 => put_signed_four(field, negative, v as u32),
         Size::Four if v >= 1000000 => put_signed_seven(field, negative, v as u32),
-        Size::Eight if v >= 10000000000000000 => put_signed_eight(field, negative, v),
+        Size::Eight if v >= 100000000000000000 => put_signed_eight(field, negative, v),
         _ => put_small(field, negative, v),
     }
 }
