@@ -17,6 +17,7 @@ pub mod Performed
 pub mod SavedBound
 pub mod PageLemmas
 pub mod LookLemmas
+pub mod PartLemmas
 pub mod RangeLemmas
 pub mod FadeLemmas
 pub mod StepSurvivors

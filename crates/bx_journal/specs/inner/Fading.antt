@@ -3,7 +3,7 @@ use Rattle.std.specs.Prelude.{◌≡◌, ◌⊎◌, ℕ, List, [], ◌∷◌}
 use Rattle.bx_image.specs.declared.change.Change.{Change}
 use Rattle.bx_entries.specs.Kept.{Kept}
 use Rattle.bx_entries.specs.Shown.{shown}
-use Rattle.bx_image.specs.Change.{Covers, IsAsGood}
+use Rattle.bx_image.specs.Change.{Covers, IsAsGood, KeepsUnmapped}
 use Rattle.bx_journal.specs.Images.{Images}
 use Rattle.bx_journal.specs.Power.{Found}
 use Rattle.bx_entries.specs.Text.{Entry, Stage, Ending, split}
@@ -31,6 +31,10 @@ AllStayOpenFor c x survives = (y : List ℕ) → survives y → StaysOpenFor c x
 -- and of one that is restored
 abbrev pub AllStayOpen : Kept → List ℕ → (List ℕ → Type 0) → Type 0
 AllStayOpen s x survives = (y : List ℕ) → survives y → StaysOpen s x y
+
+-- of an image of which a record is restored in part: what the record leaves out is there as it was
+abbrev pub AllKeepUnmapped : Kept → List ℕ → (List ℕ → Type 0) → Type 0
+AllKeepUnmapped s x survives = (y : List ℕ) → survives y → KeepsUnmapped s x y
 
 -- of a text that is cut behind the save line of its newest entry: opening finds the stack with it, or, in an unfinished text, the one without
 abbrev pub CutSurvives : List ℕ → ℕ → (List ℕ → Type 0) → Type 0

@@ -1,9 +1,9 @@
 -- What proofs alone need: the phases of a change and of an undo.
-use Rattle.std.specs.Prelude.{◌≡◌, ℕ, List, [], flat_map, Result, OnOk, OnErr}
+use Rattle.std.specs.Prelude.{◌≡◌, ◌<◌, ◌≤◌, ◌+◌, None, ℕ, List, [], flat_map, Result, OnOk, OnErr}
 use Rattle.bx_entries.specs.Kept.{Kept, kept_of}
 use Rattle.bx_entries.specs.inner.Kept.{with_runs}
 use Rattle.bx_image.specs.declared.change.Change.{Change}
-use Rattle.bx_image.specs.Change.{Covers, IsAsGood, restore, saved}
+use Rattle.bx_image.specs.Change.{Covers, IsAsGood, byte_in, restore, saved}
 use Rattle.bx_entries.specs.declared.format.version.Version.{Version}
 use Rattle.bx_entries.specs.declared.format.version.Version.TheVariants.{Second}
 use Rattle.bx_entries.specs.Text.{Entry, Ending, Reads, split}
@@ -46,3 +46,11 @@ RecoversOpenOn s x y result = (v : Version) (text : List ℕ) (stack : List (Lis
 -- restoring a record again gives the same, where it was done once
 abbrev pub RestoresAlike : {V E : Type 0} → Kept → List ℕ → List ℕ → Result V E → Type 0
 RestoresAlike s x y result = Covers s x → OnOk result (IsAsGood s x y)
+
+-- the record names each of n addresses from one on, as far as its length goes
+abbrev pub IsPartOf : Kept → ℕ → ℕ → Type 0
+IsPartOf s at n = (i : ℕ) → at ≤ i → i < at + n → i < s.len → byte_in s.runs i ≡ None → ⊥
+
+-- the record names each address from a length on up to its own
+abbrev pub IsCutOf : Kept → ℕ → Type 0
+IsCutOf s n = (i : ℕ) → n ≤ i → i < s.len → byte_in s.runs i ≡ None → ⊥
