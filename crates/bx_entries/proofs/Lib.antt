@@ -39,3 +39,5 @@ pub mod FullLemmas
 pub mod FormLanes
 pub mod FormLemmas
 pub mod StretchLemmas
+pub mod RangeSteps
+pub mod MarkLemmas

@@ -6,6 +6,8 @@ pub mod Line
 pub mod Parsed
 pub mod Text
 pub mod Finished
+pub mod Spelled
+pub mod Ranges
 pub mod Grammar
 pub mod Shown
 pub mod inner

@@ -10,6 +10,8 @@ pub mod Kept
 pub mod Line
 pub mod Lines
 pub mod Mark
+pub mod Marks
+pub mod Ranges
 pub mod Parsed
 pub mod Parts
 pub mod Plain

@@ -1,7 +1,9 @@
 //! A journal's text, read line by line into entries and the stage at its end, or only counted.
 pub(crate) mod count;
 pub(crate) mod lines;
+pub(crate) mod marks;
 pub(crate) mod parts;
+pub(crate) mod ranges;
 pub(crate) mod rows;
 pub(crate) mod runs;
 pub(crate) mod shown;
