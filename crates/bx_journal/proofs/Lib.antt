@@ -51,3 +51,6 @@ pub mod WindowLemmas
 pub mod ListLemmas
 pub mod LastLemmas
 pub mod Reopening
+pub mod MarkedLemmas
+pub mod PutLemmas
+pub mod RowTexts

@@ -19,4 +19,5 @@ pub mod Redo
 pub mod RedoLaws
 pub mod Recovery
 pub mod Judging
+pub mod Showing
 pub mod inner

@@ -16,6 +16,7 @@ pub mod Redo
 pub mod RedoFound
 pub mod RedoLaws
 pub mod Rows
+pub mod Showing
 pub mod Standing
 pub mod Step
 pub mod Takens

@@ -12,12 +12,14 @@
 #![tactic(auto)]
 
 pub mod laws;
+mod look;
 mod protocol;
 mod recovery;
 mod session;
 mod write;
 
 pub use bx_store::{FileText, FuseText, MemText, TextStore};
+pub use look::{ShowFault, log_ranges};
 pub use session::Session;
 pub use session::answers::{How, LogRow, Recovered};
 pub use session::fault::SessionFault;

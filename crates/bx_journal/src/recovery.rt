@@ -1,6 +1,6 @@
 //! Recovery, which opening begins with: what image, journal and redo text hold, and how an unfinished entry is discarded or rolled back.
 mod finished_journal;
-mod journal;
+pub(crate) mod journal;
 mod judge;
 pub(crate) mod take_back;
 pub(crate) mod unfinished_entry;

@@ -1,0 +1,111 @@
+//! The entries of a text that are marked, a row for each.
+ghost use Rattle.std.specs.Prelude.{◌≡◌, ◌<◌, ◌≤◌, ◌++◌, ℕ, All, OnOk, length, string_bytes};
+ghost use Rattle.std.specs.Io.KnownBytes.{Appends};
+ghost use Rattle.bx_journal.specs.inner.Showing.{LiesWithin, Stays, mark_row, mark_rows, places_at, row_front};
+
+use crate::look::ShowFault;
+use crate::look::marks::WINDOW;
+use crate::look::put::put;
+use crate::look::ranges::put_ranges;
+use bx_entries::Mark;
+use bx_store::TextStore;
+use std::alloc::{AllocError, Allocator};
+use std::fmt::Write as _;
+use std::io::Write;
+
+/// What stands before the ranges in the row of a change.
+fn push_front<A: Allocator>(text: &mut String<A>, number: u64, mark: Mark) -> Result<(), AllocError>
+    ensures { OnOk result (string_bytes text.new ≡ string_bytes text.old ++ row_front number mark) }
+{
+    match mark.after {
+        Some(after) => write!(text, "{} {} {} {} ", number, mark.len, after, mark.saved),
+        None => write!(text, "{} {} - {} ", number, mark.len, mark.saved),
+    }
+}
+
+/// Writes what stands before the ranges in the row of a change.
+fn put_front<A: Allocator + Clone, W: Write>(
+    alloc: &A,
+    number: u64,
+    mark: Mark,
+    written: u64,
+    out: &mut W,
+) -> Result<u64, ShowFault>
+    ensures { OnOk result (Appends (W.contents out.old) (W.contents out.new) (row_front number mark)) }
+{
+    let mut front = String::new(alloc.clone()?);
+    push_front(&mut front, number, mark)?;
+    put(out, written, front.as_bytes())
+}
+
+/// Writes the ranges of a change, or `-` where it saved no bytes.
+fn put_places<T: TextStore, A: Allocator + Clone, W: Write>(
+    alloc: &A,
+    store: &mut T,
+    window: &mut [u8],
+    mark: Mark,
+    written: u64,
+    out: &mut W,
+) -> Result<u64, ShowFault>
+    requires countable { T.failures store.old < u64.MAX }
+    requires within { T.honest store.old → mark.to ≤ length (T.text store.old) }
+    requires order { mark.from ≤ mark.to }
+    ensures put { T.honest store.old → OnOk result (Appends (W.contents out.old) (W.contents out.new) (places_at (T.text store.old) mark)) }
+    ensures stays { Stays T.honest T.text T.failures result store.old store.new }
+{
+    if mark.saved == 0 {
+        return put(out, written, b"-");
+    }
+    put_ranges(alloc, store, window, mark, written, out)
+}
+
+/// Writes the row of a change.
+fn put_row<T: TextStore, A: Allocator + Clone, W: Write>(
+    alloc: &A,
+    store: &mut T,
+    window: &mut [u8],
+    number: u64,
+    mark: Mark,
+    written: u64,
+    out: &mut W,
+) -> Result<u64, ShowFault>
+    requires countable { T.failures store.old < u64.MAX }
+    requires within { T.honest store.old → mark.to ≤ length (T.text store.old) }
+    requires order { mark.from ≤ mark.to }
+    ensures row { T.honest store.old → OnOk result (Appends (W.contents out.old) (W.contents out.new) (mark_row (T.text store.old) number mark)) }
+    ensures stays { Stays T.honest T.text T.failures result store.old store.new }
+{
+    let front = put_front(alloc, number, mark, written, out)?;
+    let places = put_places(alloc, store, window, mark, front, out)?;
+    put(out, places, b"\n")
+}
+
+/// Writes a row for each mark, in their order.
+pub fn put_rows<T: TextStore, A: Allocator + Clone, W: Write>(
+    alloc: &A,
+    store: &mut T,
+    marks: &[Mark],
+    out: &mut W,
+) -> Result<(), ShowFault>
+    requires countable { T.failures store.old < u64.MAX }
+    requires lie { (len : ℕ) × (T.honest store.old → len ≤ length (T.text store.old)) × All (LiesWithin len) marks.now }
+    ensures rows { T.honest store.old → OnOk result (Appends (W.contents out.old) (W.contents out.new) (mark_rows (T.text store.old) 1 marks.now)) }
+    ensures text { T.honest store.old → T.text store.new ≡ T.text store.old }
+{
+    let mut window = vec![in alloc.clone()?; 0u8; WINDOW as usize]?;
+    let mut written: u64 = 0;
+    for i in 0..marks.len() {
+        let mark = &marks[i];
+        let number = i as u64 + 1;
+        written = put_row(
+            alloc,
+            store,
+            window.as_mut_slice(),
+            number,
+            *mark,
+            written,
+            out,
+        )?;
+    }
+    Ok(())
+}
