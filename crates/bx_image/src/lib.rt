@@ -26,5 +26,5 @@ pub use device::memory::MemImage;
 pub use device::pages::PagedImage;
 pub use device::{Device, DeviceFailed, ImageFault, TooLarge};
 pub use record::fill::{room, room_to_restore};
-pub use record::spans::{Span, touched_by};
+pub use record::spans::{Span, touched_by, touched_to_restore};
 pub use record::{Saved, save};

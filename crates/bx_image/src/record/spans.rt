@@ -1,12 +1,14 @@
 //! The addresses that a change touches, as ranges by rising address.
 ghost use Rattle.std.specs.Prelude.{◌≡◌, ◌<◌, ◌+◌, ◌&&◌, ◌||◌, ℕ, List, min, nat_lt, length, unwrap_or, IfOk, OnOk};
 ghost use Rattle.std.specs.List.Sorted.{IsPermutation, IsNonDecreasingBy};
-ghost use Rattle.bx_image.specs.Change.{saved};
+ghost use Rattle.bx_image.specs.declared.change.Change.{Change as ChangeOf};
+ghost use Rattle.bx_image.specs.Change.{saved, Restores};
 ghost use Rattle.bx_image.specs.Over.{saved_over, LieWithin};
 ghost use Rattle.bx_image.specs.inner.Change.{is_cut_off, is_covered};
 ghost use Rattle.bx_image.specs.inner.Spans.{are_over, with_span, AreApart};
 
 use crate::Change;
+use crate::record::Saved;
 use bx_text::Piece;
 use std::alloc::{AllocError, Allocator};
 
@@ -47,6 +49,23 @@ pub fn touched_by<A: Allocator + Clone>(
     ensures within { IfOk result (λ spans. LieWithin len spans.items) }
 {
     touched(alloc, change.base, change.writes.as_slice(), len)
+}
+
+/// The ranges that `save` would read of an image of `len` bytes before a record is restored. They rise by address, none is
+/// empty, and no two touch.
+///
+/// # Errors
+/// `AllocError` where a growth is refused.
+pub fn touched_to_restore<A: Allocator + Clone>(
+    alloc: A,
+    kept: &Saved<A>,
+    len: u64,
+) -> Result<Vec<Span, A>, AllocError>
+    ensures saved { IfOk result (λ spans. (change : ChangeOf A) → Restores change kept.now
+        → (x : List ℕ) → length x ≡ len → saved_over x spans.items ≡ saved change x) }
+    ensures within { IfOk result (λ spans. LieWithin len spans.items) }
+{
+    touched(alloc, Some(kept.len), kept.runs.as_slice(), len)
 }
 
 // In the order of the base and the writes.
