@@ -15,6 +15,7 @@ pub mod AgainLemmas
 pub mod LogLemmas
 pub mod Performed
 pub mod SavedBound
+pub mod PrefixLemmas
 pub mod PageLemmas
 pub mod LookLemmas
 pub mod PartLemmas
@@ -31,14 +32,15 @@ pub mod StopLemmas
 pub mod Shapes
 pub mod TakenLemmas
 pub mod TakenText
-pub mod ToldLemmas
 pub mod AgainTaken
 pub mod WrittenAgain
 pub mod TakingLemmas
 pub mod DeviceLemmas
 pub mod Stayed
 pub mod SafeLemmas
+pub mod EntryLoop
 pub mod LoopLemmas
+pub mod TouchedLemmas
 pub mod RedoLoop
 pub mod RedoingLemmas
 pub mod StandingLoop

@@ -8,7 +8,7 @@ use Rattle.bx_text.specs.declared.owned.pieces.Piece.{Piece}
 use Rattle.bx_image.specs.declared.change.Change.{Change}
 use Rattle.bx_image.specs.declared.change.TheConstants.{MAX_LEN}
 use Rattle.bx_image.specs.declared.record.Saved.{Saved}
-use Rattle.bx_image.specs.Change.{kept_byte, restore, runs_from, saved, touches, with_byte}
+use Rattle.bx_image.specs.Change.{kept_byte, restore, runs_from, saved, touches, with_byte, Restores}
 use Rattle.bx_image.specs.Image.{is_within}
 use Rattle.bx_entries.specs.Entry.{entry_text}
 use Rattle.bx_entries.specs.Kept.{Run, Kept, run_of, kept_of}
@@ -94,3 +94,16 @@ taken_turn {A = A} k e t es x text n by = by_test (nat_le (length x) MAX_LEN) re
         ap (λ b. if b then behind (suc n) (taken (kept_of e.kept) x) else taken_by k es below 0 []) is
         ∙ ap (λ m. behind m (taken (kept_of e.kept) x)) (sym count) ∙ ap (behind (n + 1)) (sym (kept_is (le_of (length x) is))) ∙ sym (by_len true is)
     by_test false is = ap (λ b. if b then behind (suc n) (taken (kept_of e.kept) x) else taken_by k es below 0 []) is ∙ sym (by_len false is)
+
+-- a turn of the redos: what is kept of x is in the entry that is written
+pub kept_turn : {A : Type 0} (k : ℕ) (e : EntryRead A) (s : Kept) (es : List Entry) (x text : List ℕ) (n : ℕ) → length x ≤ MAX_LEN → ((c : Change A) → Restores c e.kept → s ≡ kept_of (saved c x))
+    → taken_by (suc k) (entry_of e ∷ es) x n text ≡ taken_by k es (restore (kept_of e.kept) x) (n + 1) (text ++ entry_text (n + 1) s e.kept.len)
+kept_turn {A = A} k e s es x text n short is =
+    let told : nat_le (length x) MAX_LEN ≡ true = grind (arith, nat_tests) in
+    let back : Change A = record { base = Some e.kept.len; writes = e.kept.runs } in
+    let kept_is : s ≡ taken (kept_of e.kept) x = is back (record { base = refl; writes = refl }) ∙ saved_in back x in
+    let count : n + 1 ≡ suc n = omega arith in
+    let below : List ℕ = restore (kept_of e.kept) x in
+    let behind : ℕ → Kept → List ℕ = λ m r. taken_by k es below m (text ++ entry_text m r e.kept.len) in
+    ap (λ b. if b then behind (suc n) (taken (kept_of e.kept) x) else taken_by k es below 0 []) told
+    ∙ ap (λ m. behind m (taken (kept_of e.kept) x)) (sym count) ∙ ap (behind (n + 1)) (sym kept_is)

@@ -16,7 +16,7 @@ pub changes_left : (stack : List (List ℕ)) (count k left : ℕ) → length sta
 changes_left stack count k left counted is = omega (arith, counted, is, length-drop k stack)
 
 -- the length at an entry is the one that it restores
-length_here : {A : Type 0} (es : List (EntryRead A)) (place len : ℕ) (d : EntryRead A) → place < length es → length_at (drop place es) len ≡ (slice_index_or es place d).kept.len
+pub length_here : {A : Type 0} (es : List (EntryRead A)) (place len : ℕ) (d : EntryRead A) → place < length es → length_at (drop place es) len ≡ (slice_index_or es place d).kept.len
 length_here [] place len d inside = absurd (omega (arith, inside))
 length_here (e ∷ es) zero len d inside = refl
 length_here (e ∷ es) (suc place) len d inside = length_here es place len d (omega (arith, inside))

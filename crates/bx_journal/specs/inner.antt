@@ -1,4 +1,5 @@
 -- What no public contract names.
+pub mod Again
 pub mod Begun
 pub mod Calls
 pub mod Devices
@@ -20,6 +21,7 @@ pub mod Showing
 pub mod Standing
 pub mod Step
 pub mod Takens
+pub mod Touched
 pub mod Turns
 pub mod Undoing
 pub mod Undone

@@ -1,51 +1,25 @@
 //! The entry of a change: its head (the undo record), its end (the commit mark), and both with the change of the image between them, which cuts the redo text.
 ghost use Rattle.std.specs.Prelude.{◌≡◌, ◌↔◌, ◌⊎◌, ◌+◌, ◌^◌, ◌<◌, ◌≤◌, [], ◌++◌, ℕ, length, take, vec_capacity, OnOk, OnErr, is_err};
 ghost use Rattle.bx_entries.specs.Kept.{kept_of};
-ghost use Rattle.bx_image.specs.Change.{effect, saved, AllWithin, IsAsGood};
+ghost use Rattle.bx_image.specs.Change.{effect, saved, IsAsGood};
 ghost use Rattle.bx_image.specs.Device.{GoesOn};
 ghost use Rattle.bx_image.specs.Power.{NoMore, Only};
 ghost use Rattle.bx_entries.specs.Entry.{head_text};
+ghost use Rattle.bx_entries.specs.Text.{IsPrefix};
 ghost use Rattle.bx_journal.specs.inner.Devices.{AreBelow, ImageIsFirst, OneMore, StepsOn};
 ghost use Rattle.bx_journal.specs.inner.Fading.{AllStayOpenFor, EndSurvives, HeadSurvives};
 ghost use Rattle.bx_journal.specs.inner.Phase.{StaysOpenFor};
 ghost use Rattle.bx_journal.specs.inner.Ranges.{head_from, kept_over, rest_len, AreRanges, IsPlace};
 ghost use Rattle.bx_journal.specs.inner.Step.{EndRests, EndStops, HeadOpens, HeadStops};
 ghost use Rattle.bx_journal.specs.inner.Turns.{place_of};
-ghost use Rattle.bx_journal.specs.inner.Written.{AreSettled, EntryRests, EntrySettles, EntryStops, EntrySurvives, Left, LeavesBoth, RestsBehind, StopsEither, SurvivesBoth};
+ghost use Rattle.bx_journal.specs.inner.Written.{AreSettled, EntrySettles, LeavesBoth, RestsBehind, StopsEither, SurvivesBoth};
 
 use crate::protocol::image::change_image;
 use crate::protocol::redo_text::{RedoCut, cut_redo};
-use crate::write::entry::put_head;
 use crate::write::ranges::{Place, put_head_from};
-use bx_image::{Change, Device, DeviceFailed, Saved, Span};
+use bx_image::{Change, Device, DeviceFailed, Span};
 use bx_store::TextStore;
 use std::alloc::Allocator;
-
-/// Appends an entry up to its save line, page by page, and puts it on the disk. The page is empty before it.
-pub fn append_head<T: TextStore, A: Allocator>(
-    store: &mut T,
-    page: &mut Vec<u8, A>,
-    number: u32,
-    kept: &Saved<A>,
-) -> Result<(), DeviceFailed>
-    requires countable { T.failures store.old < u64.MAX }
-    requires within { AllWithin kept.now.len kept.now.runs }
-    requires fits { T.honest store.old → length (T.text store.old) + length (head_text number (kept_of kept.now)) ≤ T.room store.old }
-    requires empty { page.old.items ≡ [] }
-    requires room { 82 ≤ vec_capacity page.old }
-    ensures ok { T.honest store.old → HeadOpens (T.text store.old) (head_text number (kept_of kept.now)) (T.text store.new) result }
-    ensures fault { T.honest store.old → HeadStops (T.text store.old) (head_text number (kept_of kept.now)) (T.text store.new) result }
-    ensures text { T.honest store.old → OnOk result (T.text store.new ≡ T.text store.old ++ head_text number (kept_of kept.now)) }
-    ensures settled { T.honest store.old → OnOk result (Only (T.text store.new) (T.survives store.new)) }
-    ensures survives { T.honest store.old → Only (T.text store.old) (T.survives store.old)
-        → HeadSurvives (T.text store.old) (head_text number (kept_of kept.now)) (T.survives store.new) }
-    ensures emptied { OnOk result (page.new.items ≡ []) }
-    ensures page_kept { vec_capacity page.old ≤ vec_capacity page.new }
-    ensures goes_on { GoesOn T.honest T.room T.failures (is_err result) store.old store.new }
-{
-    put_head(store, page, number, kept)?;
-    store.sync()
-}
 
 /// Appends an entry up to its save line, page by page, with the image's own bytes in some ranges, and puts it on the disk. Its
 /// first page is made already; the lines after that are read from the image page by page, and no more of them is held.
@@ -87,6 +61,8 @@ pub fn append_head_of<D: Device, T: TextStore, A: Allocator>(
     ensures store_room { T.room store.old ≤ T.room store.new }
     ensures long { T.honest store.old
         → OnOk result (length (T.text store.new) ≡ length (T.text store.old) + length page.old.items + rest_len ranges.now place + 14) }
+    ensures front { T.honest store.old → OnOk result (IsPrefix (T.text store.old) (T.text store.new)) }
+    ensures window { length window.new ≡ length window.old }
     ensures no_failure { OnOk result ((D.failures device.new ≡ D.failures device.old) × (T.failures store.new ≡ T.failures store.old)) }
     ensures failure { OnErr result (OneMore (D.failures device.old) (T.failures store.old) (D.failures device.new) (T.failures store.new)) }
 {
@@ -150,48 +126,6 @@ pub fn change_with<D: Device, T: TextStore, A: Allocator>(
     }
 }
 
-/// Appends the entry of a change, and changes the image and the redo text in between.
-pub fn write_entry<D: Device, T: TextStore, A: Allocator>(
-    device: &mut D,
-    store: &mut T,
-    redo: &mut T,
-    page: &mut Vec<u8, A>,
-    change: &Change<A>,
-    number: u32,
-    kept: &Saved<A>,
-    end: &[u8],
-    cut: RedoCut,
-) -> Result<(), DeviceFailed>
-    requires countable { AreBelow u64.MAX (D.failures device.old) (T.failures store.old) (T.failures redo.old) }
-    requires kept_within { AllWithin kept.now.len kept.now.runs }
-    requires empty { page.old.items ≡ [] }
-    requires page_room { 82 ≤ vec_capacity page.old }
-    requires image_room { length (effect change.now []) ≤ D.room device.old }
-    requires text_room { T.honest store.old → length (T.text store.old) + length (head_text number (kept_of kept.now)) + length end.now ≤ T.room store.old }
-    requires within { T.honest redo.old → place_of cut ≤ length (T.text redo.old) }
-    ensures ok { EntryRests D.honest D.image T.honest T.text change.now number kept.now end.now device.old store.old device.new store.new result }
-    ensures fault { EntryStops D.honest D.image T.honest T.text change.now number kept.now end.now device.old store.old device.new store.new result }
-    ensures left { Left D.honest D.image T.honest T.text change.now number kept.now end.now cut
-        device.old store.old redo.old device.new store.new redo.new result }
-    ensures settles { EntrySettles D.honest D.image D.survives T.honest T.text T.survives
-        device.old store.old redo.old device.new store.new redo.new result }
-    ensures survives { EntrySurvives D.honest D.image D.survives T.honest T.text T.survives change.now number kept.now end.now cut
-        device.old store.old redo.old device.new store.new redo.new }
-    ensures image { D.honest device.old → OnOk result (D.image device.new ≡ effect change.now (D.image device.old)) }
-    ensures back { D.honest device.old → OnOk result (IsAsGood (kept_of (saved change.now (D.image device.old))) (D.image device.old) (D.image device.new)) }
-    ensures text { T.honest store.old → OnOk result (T.text store.new ≡ T.text store.old ++ head_text number (kept_of kept.now) ++ end.now) }
-    ensures redo { T.honest redo.old → OnOk result (T.text redo.new ≡ take (place_of cut) (T.text redo.old)) }
-    ensures emptied { OnOk result (page.new.items ≡ []) }
-    ensures page_kept { vec_capacity page.old ≤ vec_capacity page.new }
-    ensures room { D.room device.old ≤ D.room device.new }
-    ensures store_room { T.room store.old ≤ T.room store.new }
-    ensures steps_on { StepsOn D.honest T.honest D.failures T.failures result device.old store.old redo.old device.new store.new redo.new }
-{
-    append_head(store, page, number, kept)?;
-    change_with(device, redo, change, cut)?;
-    append_end(store, end)
-}
-
 /// Appends the entry of a change with the image's own bytes in some ranges, and changes the image and the redo text in between.
 pub fn write_change<D: Device, T: TextStore, A: Allocator>(
     device: &mut D,
@@ -238,6 +172,14 @@ pub fn write_change<D: Device, T: TextStore, A: Allocator>(
     ensures text { D.honest device.old → T.honest store.old
         → OnOk result (T.text store.new ≡ T.text store.old ++ head_text number (kept_over (D.image device.old) ranges.now) ++ end.now) }
     ensures redo { T.honest redo.old → OnOk result (T.text redo.new ≡ take (place_of part) (T.text redo.old)) }
+    ensures long { T.honest store.old → OnOk result
+        (length (T.text store.new) ≡ length (T.text store.old) + length page.old.items + rest_len ranges.now place + 14 + length end.now) }
+    ensures front { T.honest store.old → OnOk result (IsPrefix (T.text store.old) (T.text store.new)) }
+    ensures window { length window.new ≡ length window.old }
+    ensures emptied { OnOk result (page.new.items ≡ []) }
+    ensures page_kept { vec_capacity page.old ≤ vec_capacity page.new }
+    ensures room { D.room device.old ≤ D.room device.new }
+    ensures store_room { T.room store.old ≤ T.room store.new }
     ensures steps_on { StepsOn D.honest T.honest D.failures T.failures result device.old store.old redo.old device.new store.new redo.new }
 {
     append_head_of(device, store, page, window, ranges, place, number)?;

@@ -1,30 +1,79 @@
 //! Making undone changes again: some entries of the redo text, the last first.
-ghost use Rattle.std.specs.Prelude.{◌≡◌, ◌+◌, ◌-◌, ◌<◌, ◌≤◌, [], length, drop, reverse, vec_capacity, IfOk, OnOk};
+ghost use Rattle.std.specs.Prelude.{◌≡◌, ◌+◌, ◌-◌, ◌^◌, ◌<◌, ◌≤◌, ◌++◌, ◌∷◌, [], length, drop, reverse, vec_capacity, IfOk, OnOk, is_err};
+ghost use Rattle.bx_image.specs.Device.{GoesOn};
+ghost use Rattle.bx_image.specs.Power.{NoMore};
 ghost use Rattle.bx_entries.specs.inner.Parsed.{AllKept};
 ghost use Rattle.bx_journal.specs.inner.Devices.{AreBelow, StepsOn};
 ghost use Rattle.bx_journal.specs.Undoing.{LeavesFront};
 ghost use Rattle.bx_journal.specs.inner.Entries.{RedoAll, RedoRests, RedoSome, RedoSomeSurvives, RedoTakes, RestsOnTop, StandsOnTop, StaySettled, StopsOnTop};
-ghost use Rattle.bx_journal.specs.inner.Takens.{AreReady, AllShaped, entries_len};
+ghost use Rattle.bx_journal.specs.inner.Touched.{AreTouchedFrom, IsFirstBegun, IsFirstWithin, entries_over};
 ghost use Rattle.bx_entries.specs.Text.{IsPrefix};
 ghost use Rattle.bx_journal.specs.inner.Undoing.{AreReadFrom};
 
-use crate::protocol::entry::write_entry;
-use crate::protocol::fill::{fill_last, take_last};
+use crate::protocol::entry::write_change;
 use crate::protocol::redo_text::RedoCut;
+use crate::write::look::look_and_begin;
+use crate::write::ranges::Place;
 use bx_entries::{EntryRead, entry_end};
-use bx_image::{Device, DeviceFailed, MAX_LEN, Saved};
+use bx_image::{Device, DeviceFailed, Span};
 use bx_store::TextStore;
 use std::alloc::Allocator;
 
-/// Makes as many of the last entries of the redo text again as there are records, the last first, and answers how many
-/// changes then stand.
+/// Takes the last entry off, and the last ranges.
+fn take_both<A: Allocator>(
+    entries: &mut Vec<EntryRead<A>, A>,
+    takens: &mut Vec<Vec<Span, A>, A>,
+) -> (EntryRead<A>, Vec<Span, A>)
+    requires some { 0 < length takens.old.items }
+    requires few { length takens.old.items ≤ length entries.old.items }
+    ensures entry { entries.old.items ≡ entries.new.items ++ result.0 ∷ [] }
+    ensures ranges { takens.old.items ≡ takens.new.items ++ result.1 ∷ [] }
+{
+    (entries.pop().unwrap(), takens.pop().unwrap())
+}
+
+/// Looks at what the entry with the last of some ranges is to keep of an image of `len` bytes, and begins its head in the page.
+/// Where there are none it does nothing. It takes no memory, and changes no device.
+pub fn begin_last<D: Device, A: Allocator>(
+    device: &mut D,
+    page: &mut Vec<u8, A>,
+    window: &mut [u8],
+    takens: &[Vec<Span, A>],
+    number: u32,
+    len: u64,
+) -> Result<Place, DeviceFailed>
+    requires countable { D.failures device.old < u64.MAX }
+    requires long { D.honest device.old → len ≡ length (D.image device.old) }
+    requires within { IsFirstWithin len (reverse takens.now) }
+    requires window { 16 ≤ length window.old }
+    requires empty { page.old.items ≡ [] }
+    requires room { 82 ≤ vec_capacity page.old }
+    ensures begun { IfOk result (IsFirstBegun (D.honest device.old) (D.image device.old) number (reverse takens.now) page.new.items) }
+    ensures room { vec_capacity page.old ≤ vec_capacity page.new }
+    ensures window { length window.new ≡ length window.old }
+    ensures image { D.honest device.old → D.image device.new ≡ D.image device.old }
+    ensures survives { D.honest device.old → NoMore (D.survives device.old) (D.survives device.new) }
+    ensures goes_on { GoesOn D.honest D.room D.failures (is_err result) device.old device.new }
+{
+    let count = takens.len();
+    if count == 0 {
+        return Ok(Place { range: 0, done: 0 });
+    }
+    let ranges = takens[count - 1].as_slice();
+    look_and_begin(device, page, window, ranges, number, len)
+}
+
+/// Makes as many of the last entries of the redo text again as there are ranges that they touch, the last first, and answers how
+/// many changes then stand. The first head is begun in the page, and its lines go on at `place`.
 pub fn redo_entries<D: Device, T: TextStore, A: Allocator>(
     device: &mut D,
     store: &mut T,
     redo_text: &mut T,
     page: &mut Vec<u8, A>,
+    window: &mut [u8],
     entries: &mut Vec<EntryRead<A>, A>,
-    takens: &mut Vec<Saved<A>, A>,
+    takens: &mut Vec<Vec<Span, A>, A>,
+    place: Place,
     count: u32,
 ) -> Result<u32, DeviceFailed>
     requires countable { AreBelow u64.MAX (D.failures device.old) (T.failures store.old) (T.failures redo_text.old) }
@@ -32,12 +81,11 @@ pub fn redo_entries<D: Device, T: TextStore, A: Allocator>(
     requires bound { count + length takens.old.items ≤ 65535 }
     requires kept { AllKept (D.room device.old) (drop (length entries.old.items - length takens.old.items) entries.old.items) }
     requires read { AreReadFrom (T.honest redo_text.old) (T.text redo_text.old) entries.old.items }
-    requires shaped { AllShaped takens.old.items }
-    requires ready { D.honest device.old → AreReady (D.image device.old) (reverse entries.old.items) (reverse takens.old.items) }
-    requires told { D.honest device.old → 0 < length takens.old.items → length (D.image device.old) ≤ MAX_LEN }
-    requires fits { T.honest store.old → length (T.text store.old) + entries_len takens.old.items ≤ T.room store.old }
-    requires empty { page.old.items ≡ [] }
+    requires touched { AreTouchedFrom (D.honest device.old) (D.image device.old) entries.old.items takens.old.items }
+    requires begun { IsFirstBegun (D.honest device.old) (D.image device.old) (count + 1) (reverse takens.old.items) page.old.items place }
+    requires fits { T.honest store.old → length (T.text store.old) + entries_over takens.old.items ≤ T.room store.old }
     requires page_room { 82 ≤ vec_capacity page.old }
+    requires window { 16 ≤ length window.old }
     ensures found { RedoRests D.honest D.image T.honest T.text
         device.old store.old redo_text.old device.new store.new redo_text.new count takens.old.items result }
     ensures images { RedoAll D.honest D.image T.honest T.text
@@ -58,26 +106,31 @@ pub fn redo_entries<D: Device, T: TextStore, A: Allocator>(
     ensures steps_on { StepsOn D.honest T.honest D.failures T.failures result device.old store.old redo_text.old device.new store.new redo_text.new }
 {
     let k = takens.len();
+    let mut place = place;
     let mut count = count;
     for i in 0..k {
-        let (entry, taken) = take_last(entries, takens);
+        let (entry, ranges) = take_both(entries, takens);
+        let spans = ranges.as_slice();
         let number = count + 1;
         let begins = entry.begins;
-        let end = entry_end(number, entry.kept.len);
+        let after = entry.kept.len;
+        let end = entry_end(number, after);
         let change = entry.kept.into_change();
-        write_entry(
+        write_change(
             device,
             store,
             redo_text,
             page,
+            window,
+            spans,
+            place,
             &change,
             number,
-            &taken,
             end.as_bytes(),
             RedoCut::From(begins),
         )?;
         count = number;
-        fill_last(device, takens)?;
+        place = begin_last(device, page, window, takens.as_slice(), number + 1, after)?;
     }
     Ok(count)
 }

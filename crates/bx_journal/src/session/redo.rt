@@ -8,7 +8,7 @@ ghost use Rattle.bx_journal.specs.inner.Undoing.{IsLastFrom, RedoAgainFault};
 
 use crate::protocol::redo_entry::redo_entries;
 use crate::session::fault::of_redo;
-use crate::session::prepare::records::prepare_redo;
+use crate::session::prepare::ranges::prepare_redo;
 use crate::session::read::entries::{FinishedRead, read_last_of};
 use crate::{Session, SessionFault};
 use bx_image::Device;
@@ -64,11 +64,12 @@ impl<D: Device, T: TextStore, A: Allocator + Clone> Session<D, T, A> {
     /// Makes the last j undone changes again, the one undone last first, and answers how many changes then stand.
     ///
     /// All memory is taken before the first write: it is in proportion to the bytes that the last j entries of the redo text
-    /// saved, and to those that the j changes overwrite. The faults come in this order: `Broken`, `NothingToRedo`,
+    /// saved, and to the number of their runs. What the j changes overwrite is read from the image while the journal is
+    /// written, and no more of it is held than a page. The faults come in this order: `Broken`, `NothingToRedo`,
     /// `DeviceFailed` and `NoMemory` of reading, `RedoDamaged` where the redo text was changed by others, `DeviceFailed`
-    /// of the lengths, `NoMemory`, `DeviceFailed` of reading the image, `NoMemory` of an image that an entry can't tell, and
-    /// `Interrupted` from the first write on. Each but the last changes nothing. A redo text that is the session's own never
-    /// leads to an image that is too long.
+    /// of the lengths, `NoMemory`, also of an image that an entry can't tell, `DeviceFailed` of reading what the first
+    /// change overwrites and of the syncs, and `Interrupted` from the first write on. Each but the last changes nothing. A redo
+    /// text that is the session's own never leads to an image that is too long.
     pub fn redo(&mut self, j: u32) -> Result<u32, SessionFault>
         requires device_countable { D.failures self.old.device < u64.MAX }
         requires store_countable { T.failures self.old.store < u64.MAX }
@@ -124,21 +125,24 @@ impl<D: Device, T: TextStore, A: Allocator + Clone> Session<D, T, A> {
             return Err(SessionFault::NothingToRedo { have: self.undone });
         }
         let mut read = read_undone(&self.alloc, &mut self.redo_text, self.undone, j)?;
-        let mut taking = prepare_redo(
+        let mut again = prepare_redo(
             &self.alloc,
             &mut self.device,
             &mut self.redo_text,
             &mut self.store,
             &read,
             j,
+            self.count + 1,
         )?;
         match redo_entries(
             &mut self.device,
             &mut self.store,
             &mut self.redo_text,
-            &mut taking.page,
+            &mut again.page,
+            again.window.as_mut_slice(),
             &mut read.entries,
-            &mut taking.takens,
+            &mut again.takens,
+            again.place,
             self.count,
         ) {
             Ok(count) => {

@@ -4,7 +4,7 @@ ghost use Rattle.bx_image.specs.Device.{GoesOn};
 ghost use Rattle.bx_image.specs.Power.{FadesBehind, NoMore};
 ghost use Rattle.bx_store.specs.Store.{IsPartlyAppended};
 ghost use Rattle.bx_entries.specs.Entry.{rows, head_text};
-ghost use Rattle.bx_entries.specs.Text.{ended};
+ghost use Rattle.bx_entries.specs.Text.{ended, IsPrefix};
 ghost use Rattle.bx_entries.specs.inner.Entry.{rows_text};
 ghost use Rattle.bx_journal.specs.inner.Devices.{OneMore};
 ghost use Rattle.bx_journal.specs.inner.Page.{IsPaged, row_text};
@@ -212,6 +212,8 @@ pub fn put_pages<D: Device, T: TextStore, A: Allocator>(
         → FadesBehind (T.text store.old) (page.old.items ++ rest_text (D.image device.old) ranges.now place) (T.survives store.old) (T.survives store.new) }
     ensures long { T.honest store.old
         → OnOk result (length (T.text store.new) + length page.new.items ≡ length (T.text store.old) + length page.old.items + rest_len ranges.now place) }
+    ensures front { T.honest store.old → OnOk result (IsPrefix (T.text store.old) (T.text store.new)) }
+    ensures window { length window.new ≡ length window.old }
     ensures room { vec_capacity page.old ≤ vec_capacity page.new }
     ensures image { D.honest device.old → D.image device.new ≡ D.image device.old }
     ensures device_survives { D.honest device.old → NoMore (D.survives device.old) (D.survives device.new) }
@@ -300,6 +302,8 @@ pub fn put_head_from<D: Device, T: TextStore, A: Allocator>(
         → FadesBehind (T.text store.old) (head_from (D.image device.old) ranges.now place page.old.items number) (T.survives store.old) (T.survives store.new) }
     ensures long { T.honest store.old
         → OnOk result (length (T.text store.new) ≡ length (T.text store.old) + length page.old.items + rest_len ranges.now place + 14) }
+    ensures front { T.honest store.old → OnOk result (IsPrefix (T.text store.old) (T.text store.new)) }
+    ensures window { length window.new ≡ length window.old }
     ensures emptied { OnOk result (page.new.items ≡ []) }
     ensures room { vec_capacity page.old ≤ vec_capacity page.new }
     ensures image { D.honest device.old → D.image device.new ≡ D.image device.old }

@@ -258,56 +258,64 @@ fn reads_of_openings_fail(rt: HostRuntime) -> Result<(), Fail> {
 /// Two changes that stand, and two that were undone.
 const HALF: Held<'static> = (b"b", MADE_TWO, UNDONE_TWO);
 
-// Each of these reads is refused, and changes nothing, and so is the last one of the text that is moved from.
-fn moves_refused(alloc: Global, rt: &impl Abort, ask: Ask, last: Passes) -> Result<(), Fail> {
+// Each of these reads of a move is refused, and changes nothing.
+fn move_refused(alloc: Global, rt: &impl Abort, ask: Ask, passes: Passes) -> Result<(), Fail> {
     let refused = (ask, Err(SessionFault::DeviceFailed));
-    for passes in [
-        (2, NONE, NONE),
-        (3, NONE, NONE),
-        (NONE, 2, NONE),
-        (NONE, NONE, 2),
-        last,
-    ] {
-        assert_refused(alloc, rt, HALF, passes, found(How::Clean, 2, 2), refused)?;
-    }
-    Ok(())
+    assert_refused(alloc, rt, HALF, passes, found(How::Clean, 2, 2), refused)
 }
 
-// A move of two that is stopped between them, so that opening finds this, and one that goes through. This many reads of the
-// texts pass.
+// So are the reads of the image from the third up to before this one, and those of the texts, with the last one of the text
+// that is moved from.
+fn moves_refused(
+    alloc: Global,
+    rt: &impl Abort,
+    ask: Ask,
+    reads: u64,
+    last: Passes,
+) -> Result<(), Fail> {
+    for pass in 2..reads {
+        move_refused(alloc, rt, ask, (pass, NONE, NONE))?;
+    }
+    move_refused(alloc, rt, ask, (NONE, 2, NONE))?;
+    move_refused(alloc, rt, ask, (NONE, NONE, 2))?;
+    move_refused(alloc, rt, ask, last)
+}
+
+// A move of two that is stopped between them at one of these reads of the image, so that opening finds this, and one that goes
+// through. This many reads of the texts pass.
 fn move_stops(
     alloc: Global,
     rt: &impl Abort,
     ask: Ask,
+    reads: (u64, u64),
     texts: (u64, u64),
     behind: Opened,
     all: u32,
 ) -> Result<(), Fail> {
     let clean = found(How::Clean, 2, 2);
     let stopped = (ask, Err(SessionFault::Interrupted));
-    let left = left_by(alloc, rt, HALF, (4, texts.0, texts.1), clean, stopped)?;
-    let _opened = reopened(alloc, rt, &left, behind)?;
-    let _whole = left_by(
-        alloc,
-        rt,
-        HALF,
-        (5, texts.0, texts.1),
-        clean,
-        (ask, Ok(all)),
-    )?;
+    for pass in reads.0..reads.1 {
+        let left = left_by(alloc, rt, HALF, (pass, texts.0, texts.1), clean, stopped)?;
+        let _opened = reopened(alloc, rt, &left, behind)?;
+    }
+    let passes = (reads.1, texts.0, texts.1);
+    let _whole = left_by(alloc, rt, HALF, passes, clean, (ask, Ok(all)))?;
     Ok(())
 }
 
 // The length of the text that is moved from is read, then its last two entries, then the lengths of the image and of the
-// other text, then the bytes that will be overwritten: each is refused, and changes nothing. Between the two changes the image
-// is read again. Opening asked for the image's length twice, and for that of each text, and read a window of each.
+// other text, then the bytes that will be overwritten, by a redo twice: each is refused, and changes nothing. Between the two
+// changes the image is read again. Opening asked for the image's length twice, and for that of each text, and read a window of
+// each.
 #[test]
 fn reads_of_moves_fail(rt: HostRuntime) -> Result<(), Fail> {
     let alloc = rt.alloc();
-    moves_refused(alloc, &rt, Ask::UndoTwo, (NONE, 3, NONE))?;
-    moves_refused(alloc, &rt, Ask::RedoTwo, (NONE, NONE, 3))?;
-    move_stops(alloc, &rt, Ask::UndoTwo, (4, 3), found(How::Clean, 1, 3), 0)?;
-    move_stops(alloc, &rt, Ask::RedoTwo, (3, 4), found(How::Clean, 3, 1), 4)
+    moves_refused(alloc, &rt, Ask::UndoTwo, 4, (NONE, 3, NONE))?;
+    moves_refused(alloc, &rt, Ask::RedoTwo, 5, (NONE, NONE, 3))?;
+    let undone = found(How::Clean, 1, 3);
+    move_stops(alloc, &rt, Ask::UndoTwo, (4, 5), (4, 3), undone, 0)?;
+    let made = found(How::Clean, 3, 1);
+    move_stops(alloc, &rt, Ask::RedoTwo, (5, 7), (3, 4), made, 4)
 }
 
 /// An image without changes.

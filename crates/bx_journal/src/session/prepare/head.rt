@@ -1,20 +1,17 @@
 //! The head of a change's entry, begun before the first write: its first page is made, and the others are read from the image.
-ghost use Rattle.std.specs.Prelude.{◌≡◌, ◌+◌, ◌-◌, ◌^◌, ◌<◌, ◌≤◌, [], length, min, vec_capacity, IfOk, IfErr, OnOk, is_err};
-ghost use Rattle.bx_image.specs.Change.{HaveBytes};
-ghost use Rattle.bx_image.specs.Device.{GoesOn};
+ghost use Rattle.std.specs.Prelude.{◌≡◌, ◌+◌, ◌-◌, ◌^◌, ◌<◌, ◌≤◌, length, min, IfOk, IfErr};
 ghost use Rattle.bx_image.specs.Power.{NoMore};
-ghost use Rattle.bx_entries.specs.Entry.{head_text};
 ghost use Rattle.bx_journal.specs.inner.Begun.{BeginsEntry, IsHead};
 ghost use Rattle.bx_journal.specs.inner.Devices.{LooksAt};
 ghost use Rattle.bx_journal.specs.inner.Fault.{LacksOrFails};
-ghost use Rattle.bx_journal.specs.inner.Ranges.{head_from, kept_over, left_len, rest_len, AreRanges, IsPlace};
+ghost use Rattle.bx_journal.specs.inner.Ranges.{left_len, AreRanges};
 
 use crate::SessionFault;
 use crate::write::lengths::ranges_len;
-use crate::write::look::look_at;
-use crate::write::ranges::{Place, begin_head};
+use crate::write::look::look_and_begin;
+use crate::write::ranges::Place;
 use bx_entries::new_page;
-use bx_image::{Change, Device, DeviceFailed, MAX_LEN, Span, touched_by};
+use bx_image::{Change, Device, MAX_LEN, Span, touched_by};
 use std::alloc::{Allocator, Global};
 
 /// The ranges of the image that an entry keeps, the page that its text begins with, where its lines go on, a window to read the
@@ -29,11 +26,11 @@ pub struct Head<A: Allocator = Global> {
 }
 
 /// The most bytes of the image that are read at a time.
-const WINDOW: u64 = 65_536;
+pub const WINDOW: u64 = 65_536;
 
 /// The room that a page has beyond the head, in bytes. A page is filled as long as the longest line fits in what is free, so this
 /// lets a short head stand in its first page whole: it is then read before the first write.
-const SPARE: u64 = 82;
+pub const SPARE: u64 = 82;
 
 /// The length of the head of an entry that keeps these ranges, at most `u64::MAX`.
 fn head_len_of(ranges: &[Span]) -> u64
@@ -41,37 +38,6 @@ fn head_len_of(ranges: &[Span]) -> u64
     ensures { result ≡ min (48 + left_len ranges.now 0) (2 ^ 64 - 1) }
 {
     ranges_len(ranges).saturating_add(48)
-}
-
-/// Looks at what an entry is to keep, and begins its head. It takes no memory, and changes no device.
-fn look_and_begin<D: Device, A: Allocator>(
-    device: &mut D,
-    page: &mut Vec<u8, A>,
-    window: &mut [u8],
-    ranges: &[Span],
-    number: u32,
-    len: u64,
-) -> Result<Place, DeviceFailed>
-    requires countable { D.failures device.old < u64.MAX }
-    requires ordered { AreRanges (2 ^ 64) ranges.now }
-    requires ranges { D.honest device.old → AreRanges (length (D.image device.old)) ranges.now }
-    requires long { D.honest device.old → len ≡ length (D.image device.old) }
-    requires window { 16 ≤ length window.old }
-    requires empty { page.old.items ≡ [] }
-    requires room { 82 ≤ vec_capacity page.old }
-    ensures begun { D.honest device.old
-        → IfOk result (λ p. head_from (D.image device.old) ranges.now p page.new.items number ≡ head_text number (kept_over (D.image device.old) ranges.now)) }
-    ensures bytes { D.honest device.old → OnOk result (HaveBytes (kept_over (D.image device.old) ranges.now).runs) }
-    ensures long { IfOk result (λ p. length page.new.items + rest_len ranges.now p ≡ 34 + left_len ranges.now 0) }
-    ensures place { IfOk result (IsPlace ranges.now) }
-    ensures room { vec_capacity page.old ≤ vec_capacity page.new }
-    ensures window { length window.new ≡ length window.old }
-    ensures image { D.honest device.old → D.image device.new ≡ D.image device.old }
-    ensures survives { D.honest device.old → NoMore (D.survives device.old) (D.survives device.new) }
-    ensures goes_on { GoesOn D.honest D.room D.failures (is_err result) device.old device.new }
-{
-    look_at(device, window, ranges)?;
-    begin_head(device, page, window, ranges, number, len)
 }
 
 /// Finds what a change overwrites in an image of `len` bytes, looks at it, and begins the head of the entry that keeps it. It

@@ -1,7 +1,6 @@
-//! What some undos, or some redos, take before their first write: records of what they will overwrite, a page and room.
-ghost use Rattle.std.specs.Prelude.{◌≡◌, ◌+◌, ◌-◌, ◌^◌, ◌<◌, ◌≤◌, ◌++◌, ◌∷◌, [], List, length, drop, min, reverse, true, vec_capacity, All, IfOk, IfErr, OnOk};
+//! What some undos take before their first write: records of what they will overwrite, a page and room.
+ghost use Rattle.std.specs.Prelude.{◌≡◌, ◌+◌, ◌-◌, ◌^◌, ◌<◌, ◌≤◌, [], length, drop, min, reverse, vec_capacity, All, IfOk, IfErr, OnOk};
 ghost use Rattle.bx_image.specs.Change.{AllWithin};
-ghost use Rattle.bx_image.specs.declared.record.Saved.{Saved as Record};
 ghost use Rattle.bx_journal.specs.Fault.{DeviceFault};
 ghost use Rattle.bx_journal.specs.Power.{FoundBefore};
 ghost use Rattle.bx_journal.specs.inner.Devices.{AreCounted, AreUnfailed, HaveStayed};
@@ -42,7 +41,7 @@ fn longest_of<A: Allocator>(entries: &[EntryRead<A>]) -> u64
 
 /// The length of the image that restoring the entry at a place starts from, where `len` is that of the image now: the
 /// entries above it are restored before.
-fn length_above<A: Allocator>(entries: &[EntryRead<A>], place: usize, len: u64) -> u64
+pub fn length_above<A: Allocator>(entries: &[EntryRead<A>], place: usize, len: u64) -> u64
     requires { place < length entries.now }
     ensures { result ≡ length_at (drop (place + 1) entries.now) len }
 {
@@ -112,7 +111,7 @@ fn entries_len<A: Allocator>(takens: &[Saved<A>]) -> u64
 
 /// Makes room for restoring the last k entries of a text: in the image for the longest that they restore, in their
 /// text for what it has, and in the other text for this many bytes more than it has. It changes nothing.
-fn make_room<D: Device, T: TextStore, A: Allocator>(
+pub fn make_room<D: Device, T: TextStore, A: Allocator>(
     device: &mut D,
     from: &mut T,
     to: &mut T,
@@ -211,58 +210,4 @@ pub fn prepare_takens<D: Device, T: TextStore, A: Allocator + Clone>(
     };
     settle(device, from, to)?;
     Ok(taking)
-}
-
-/// Whether an entry can tell the length of the last record, if there is one.
-fn can_tell<A: Allocator>(takens: &[Saved<A>]) -> bool
-    ensures { result ≡ true → (ts : List (Record A)) (t : Record A) → takens.now ≡ ts ++ t ∷ [] → t.len ≤ MAX_LEN }
-{
-    let count = takens.len();
-    if count == 0 {
-        return true;
-    }
-    takens[count - 1].len <= MAX_LEN
-}
-
-/// The same before a redo, whose entries go to the journal: of an image that is longer than an entry can tell they have no
-/// room there. It changes nothing.
-///
-/// # Errors
-/// Those of `prepare_takens`, and behind them `NoMemory` of such an image.
-pub fn prepare_redo<D: Device, T: TextStore, A: Allocator + Clone>(
-    alloc: &A,
-    device: &mut D,
-    from: &mut T,
-    to: &mut T,
-    read: &FinishedRead<A>,
-    k: u32,
-) -> Result<Taking<A>, SessionFault>
-    requires device_countable { D.failures device.old < u64.MAX }
-    requires from_countable { T.failures from.old < u64.MAX }
-    requires to_countable { T.failures to.old < u64.MAX }
-    requires few { k ≤ length read.now.entries.items }
-    ensures kept { HasRoomFor (D.room device.new) read.now.entries.items k result }
-    ensures filled { D.honest device.old → IfOk result (λ o. AreReady (D.image device.old) (reverse read.now.entries.items) (reverse o.takens.items)) }
-    ensures told { D.honest device.old → 0 < k → OnOk result (length (D.image device.old) ≤ MAX_LEN) }
-    ensures shaped { IfOk result (λ o. AllShaped o.takens.items) }
-    ensures count { IfOk result (λ o. length o.takens.items ≡ k) }
-    ensures roomed { T.honest to.old → IfOk result (λ o. length (T.text to.new) + entries_long o.takens.items ≤ T.room to.new) }
-    ensures empty { IfOk result (λ o. o.page.items ≡ []) }
-    ensures page_room { IfOk result (λ o. 82 ≤ vec_capacity o.page) }
-    ensures settled { D.honest device.old → T.honest from.old → T.honest to.old
-        → OnOk result (AreSettled D.image T.text D.survives T.survives device.new from.new to.new) }
-    ensures kind { IfErr result DeviceFault }
-    ensures stayed { HaveStayed D.honest T.honest D.image T.text device.old from.old to.old device.new from.new to.new }
-    ensures found_before { FoundBefore D.honest T.honest D.survives T.survives device.old from.old to.old device.new from.new to.new }
-    ensures no_failure { AreUnfailed D.failures T.failures device.old from.old to.old device.new from.new to.new result }
-    ensures counts { AreCounted D.failures T.failures device.old from.old to.old device.new from.new to.new result }
-{
-    let taking = match prepare_takens(alloc, device, from, to, read, k) {
-        Ok(taking) => taking,
-        Err(fault) => return Err(fault),
-    };
-    if can_tell(taking.takens.as_slice()) {
-        return Ok(taking);
-    }
-    Err(SessionFault::NoMemory)
 }

@@ -4,6 +4,7 @@ use Rattle.bx_entries.specs.Entry.{head_text}
 use Rattle.bx_journal.specs.inner.Ranges.{kept_over}
 use Rattle.bx_journal.proofs.PageLemmas.{part_is, at_err}
 use Rattle.bx_journal.proofs.FadeLemmas.{fades_is}
+use Rattle.bx_journal.proofs.PrefixLemmas.{prefix_is}
 use Rattle.bx_journal.proofs.ChangeSteps.{head_ok, head_fault}
 use Rattle.bx_journal.proofs.StepSurvivors.{left_behind, head_survives}
 use Rattle.bx_journal.proofs.protocol.entry.append_head_of.Goals as goal
@@ -45,6 +46,12 @@ returns-clause-long g c th =
     let put = c.in_ok-put_head_from.ensures in
     let still = put.store_honesty.1 th in
     on_ok_weaker c.sync.result (λ _. ap length (c.sync.ensures.text still) ∙ put.long th) (c.sync.ensures.settled still)
+
+pub returns-clause-front : goal.returns-clause-front
+returns-clause-front g c th =
+    let put = c.in_ok-put_head_from.ensures in
+    let still = put.store_honesty.1 th in
+    on_ok_weaker c.sync.result (λ _. prefix_is _ (put.front th) (c.sync.ensures.text still)) (c.sync.ensures.settled still)
 
 pub returns-clause-survives : goal.returns-clause-survives
 returns-clause-survives g c dh th only x stack s starts y there =

@@ -1,4 +1,4 @@
-use Rattle.std.proofs.Common.{◌≡◌, ◌⊎◌, ◌++◌, ℕ, List, ◌∷◌, take, refl, inl, Result, Ok, Err, ap, sym, ◌∙◌, subst, arith}
+use Rattle.std.proofs.Common.{◌≡◌, ◌⊎◌, ◌++◌, ℕ, List, ◌∷◌, take, refl, inl, Result, Ok, Err, ap, sym, ◌∙◌, subst, arith, length, length-append}
 use Rattle.std.specs.Prelude.{OnOk, OnErr}
 use Rattle.std.proofs.lemmas.Result.{on_ok_weaker, on_err_weaker}
 use Rattle.bx_image.specs.Change.{effect, saved, IsAsGood}
@@ -19,6 +19,7 @@ use Rattle.bx_entries.specs.Shown.{shown}
 use Rattle.bx_image.specs.Power.{Only}
 use Rattle.bx_journal.specs.inner.Fading.{AllStayOpenFor}
 use Rattle.bx_journal.proofs.StepSurvivors.{open_shown}
+use Rattle.bx_journal.proofs.PrefixLemmas.{prefix_by}
 use Rattle.bx_journal.proofs.protocol.entry.write_change.Goals as goal
 
 always_ok : {T E P : Type 0} (r : Result T E) → P → OnOk r P
@@ -130,6 +131,16 @@ pub returns-clause-text : goal.returns-clause-text
 returns-clause-text g c dh th =
     on_ok_weaker c.append_end.result (λ is. is ∙ ap (λ t. t ++ c.args.end.now) (c.in_ok-append_head_of.ensures.text dh th))
     (c.append_end.ensures.text (c.in_ok-append_head_of.ensures.store_honesty.1 th))
+
+pub returns-clause-long : goal.returns-clause-long
+returns-clause-long g c th =
+    let head = c.in_ok-append_head_of.ensures in
+    on_ok_weaker c.append_end.result (λ is. omega (arith, ap length is, length-append (g.T.TextStore.text c.append_head_of.new.store) c.args.end.now, head.long th)) (c.append_end.ensures.text (head.store_honesty.1 th))
+
+pub returns-clause-front : goal.returns-clause-front
+returns-clause-front g c th =
+    let head = c.in_ok-append_head_of.ensures in
+    on_ok_weaker c.append_end.result (prefix_by _ _ (head.front th)) (c.append_end.ensures.text (head.store_honesty.1 th))
 
 pub returns-in_err-append_head_of-clause-survives : goal.returns-in_err-append_head_of-clause-survives
 returns-in_err-append_head_of-clause-survives g c dh th rh settled stack writes y new redo image_there there redo_there =

@@ -1,8 +1,10 @@
-use Rattle.std.proofs.Common.{◌≡◌, ◌∙◌, ◌+◌, ◌∷◌, ◌++◌, [], ◌<◌, ◌≤◌, ℕ, List, length, drop, refl, ap, sym, subst, arith, append-nil}
+use Rattle.std.proofs.Common.{◌≡◌, ◌∙◌, ◌+◌, ◌^◌, ◌∷◌, ◌++◌, [], ◌<◌, ◌≤◌, ℕ, List, length, drop, refl, ap, sym, subst, arith, append-nil, length-append}
+use Rattle.std.specs.Prelude.{reverse}
 use Rattle.std.proofs.lemmas.Result.{err_from_is_err_and}
 use Rattle.bx_image.specs.Change.{effect, saved, IsAsGood}
+use Rattle.bx_image.specs.Over.{LieWithin}
+use Rattle.bx_image.proofs.Records.{length-restore}
 use Rattle.bx_entries.specs.Kept.{kept_of}
-use Rattle.bx_entries.specs.Entry.{head_text}
 use Rattle.bx_entries.proofs.KeptLemmas.{within_out}
 use Rattle.bx_journal.specs.Images.{redo_of}
 use Rattle.bx_journal.specs.Phase.{IsAtRest}
@@ -10,175 +12,265 @@ use Rattle.bx_journal.specs.Taken.{taken_by}
 use Rattle.bx_journal.specs.OnTop.{OnTop}
 use Rattle.bx_journal.specs.Stack.{StandsFor}
 use Rattle.bx_journal.specs.Undoing.{HasLeft}
-use Rattle.bx_journal.specs.inner.Takens.{AreFilled}
+use Rattle.bx_journal.specs.inner.Ranges.{kept_over, left_len}
+use Rattle.bx_journal.specs.inner.Touched.{AreTouched, IsBegun, IsFirstBegun, IsFirstWithin, IsTouched, entries_over}
 use Rattle.bx_journal.specs.inner.Turns.{AreAtRest, AreStanding}
 use Rattle.bx_journal.proofs.DeviceLemmas.{always_err, filling_fails, goes_further, none_yet, step_fails}
-use Rattle.bx_journal.proofs.LoopLemmas.{IsTurn, turn_of, none_gone, one_gone, places, long_at, first_below, left_at, standing}
+use Rattle.bx_journal.proofs.EntryLoop.{EntryTurn, all_left, entry_turn, left_at, long_at, one_less, places}
+use Rattle.bx_journal.proofs.LoopLemmas.{standing}
 use Rattle.bx_journal.proofs.Phases.{rest_recovers}
-use Rattle.bx_journal.proofs.RedoLoop.{IsRedoBy, IsMadeAgain, restored, entry_fits, redo_stopped, stopped_on, some_stands, rests_again, rests_on, stands_on, told_again, redone_next, grown_next, room_behind, prefix_more}
+use Rattle.bx_journal.proofs.PrefixLemmas.{prefix_then}
+use Rattle.bx_journal.proofs.RangeLemmas.{are_ranges, ranges_more}
+use Rattle.bx_journal.proofs.RedoLoop.{IsRedoBy, IsMadeAgain, restored, redo_stopped, stopped_on, some_stands, rests_again, rests_on, stands_on, redone_next, grown_next}
+use Rattle.bx_journal.proofs.Shapes.{end_long}
+use Rattle.bx_journal.proofs.TouchedLemmas.{IsKeptOf, begun_pop, begun_same, first_within, kept_by, over_pop, told_of, told_ranges, touched_pop}
 use Rattle.bx_journal.proofs.TurnLemmas.{rest_is_found}
 use Rattle.bx_journal.proofs.StepSurvivors.{found_at_rest, looked_at, survive_err}
 use Rattle.bx_entries.specs.Shown.{shown}
 use Rattle.bx_journal.specs.Redo.{Finds}
 use Rattle.bx_journal.proofs.protocol.redo_entry.redo_entries.Goals as goal
-use Rattle.bx_journal.proofs.protocol.redo_entry.redo_entries.Goals.{After-take_last-entry, After-as_bytes, After-fill_last, After-loop-i}
+use Rattle.bx_journal.proofs.protocol.redo_entry.redo_entries.Goals.{After-take_both-entry, After-as_slice-spans, After-as_bytes, After-begin_last, After-loop-i}
 
-turn : (g : _) (c : After-take_last-entry g) → IsTurn c.loop-i.invariant.left c.take_last-entry.new.entries.items c.take_last-entry.result.0 c.take_last-entry.new.takens.items c.take_last-entry.result.1
-turn g c = turn_of c.loop-i.invariant.left c.take_last-entry.ensures.entry c.take_last-entry.ensures.taken
+turn : (g : _) (c : After-take_both-entry g) → EntryTurn c.loop-i.invariant.left c.take_both-entry.new.entries.items c.take_both-entry.result.0 (length c.take_both-entry.new.takens.items)
+turn g c =
+    let ts = c.take_both-entry.new.takens.items in
+    let r = c.take_both-entry.result.1 in
+    entry_turn c.loop-i.invariant.left {less = length ts} c.take_both-entry.ensures.entry (sym (ap length c.take_both-entry.ensures.ranges ∙ length-append ts (r ∷ [])))
+
+-- the ranges of the entry, and those of the others
+touched : (g : _) (c : After-as_slice-spans g) → IsTouched c.loop-i.invariant.touched.len c.take_both-entry.result.0 c.as_slice-spans.result.now
+    × AreTouched c.take_both-entry.result.0.kept.len (reverse c.take_both-entry.new.entries.items) (reverse c.take_both-entry.new.takens.items)
+touched g c =
+    let all = c.loop-i.invariant.touched in
+    let es = c.take_both-entry.new.entries.items in
+    let ts = c.take_both-entry.new.takens.items in
+    let e = c.take_both-entry.result.0 in
+    let r = c.take_both-entry.result.1 in
+    let here = touched_pop all.len es e ts r
+    (subst (λ us. AreTouched all.len (reverse (es ++ e ∷ [])) (reverse us)) c.take_both-entry.ensures.ranges
+    (subst (λ fs. AreTouched all.len (reverse fs) (reverse c.loop-i.takens.items)) c.take_both-entry.ensures.entry all.touched)) in
+    (subst (IsTouched all.len e) (sym c.as_slice-spans.ensures.value) here.0, here.1)
+
+-- its head is begun
+begun : (g : _) (c : After-as_slice-spans g)
+    → IsBegun (g.D.Device.honest c.args.device.now) (g.D.Device.image c.loop-i.device) (c.loop-i.count + 1) c.as_slice-spans.result.now c.loop-i.page.items c.loop-i.place
+begun g c =
+    let x : List ℕ = g.D.Device.image c.loop-i.device in
+    let n : ℕ = c.loop-i.count + 1 in
+    let page : List ℕ = c.loop-i.page.items in
+    let place = c.loop-i.place in
+    let honest : Type 0 = g.D.Device.honest c.args.device.now in
+    subst (λ r. IsBegun honest x n r page place) (sym c.as_slice-spans.ensures.value)
+    (begun_pop x n c.take_both-entry.new.takens.items c.take_both-entry.result.1 page place (subst (λ us. IsFirstBegun honest x n (reverse us) page place) c.take_both-entry.ensures.ranges c.loop-i.invariant.begun))
+
+-- what its entry keeps
+keeps : (g : _) (c : After-as_slice-spans g)
+    → IsKeptOf (g.D.Device.honest c.args.device.now) (g.D.Device.image c.loop-i.device) c.take_both-entry.result.0 (kept_over (g.D.Device.image c.loop-i.device) c.as_slice-spans.result.now)
+keeps g c = kept_by (touched g c).0 c.loop-i.invariant.touched.long (begun g c).bytes
+
+-- the room that its entry takes
+room : (g : _) (c : After-as_slice-spans g) → entries_over c.loop-i.takens.items ≡ entries_over c.take_both-entry.new.takens.items + (80 + left_len c.as_slice-spans.result.now 0)
+room g c =
+    let ts = c.take_both-entry.new.takens.items in
+    ap entries_over c.take_both-entry.ensures.ranges ∙ over_pop ts c.take_both-entry.result.1 ∙ ap (λ r. entries_over ts + (80 + left_len r 0)) (sym c.as_slice-spans.ensures.value)
 
 -- the change that is made again, and the line that ends its entry
-by : (g : _) (c : After-as_bytes g) → IsRedoBy c.take_last-entry.result.0 c.loop-i.count c.into_change-change.result c.as_bytes.result.now
+by : (g : _) (c : After-as_bytes g) → IsRedoBy c.take_both-entry.result.0 c.loop-i.count c.into_change-change.result c.as_bytes.result.now
 by g c = record {
   back = record { base = c.into_change-change.ensures.base; writes = c.into_change-change.ensures.writes };
   line_is = c.as_bytes.ensures.value ∙ c.entry_end-end.ensures.text;
 }
 
 -- the entry is made again, whether or not the next record is filled
-made : (g : _) (c : After-fill_last g) → IsMadeAgain (g.T.TextStore.honest c.args.redo_text.now) (g.D.Device.honest c.args.device.now) (g.T.TextStore.honest c.args.store.now) (g.T.TextStore.text c.loop-i.redo_text) (g.D.Device.image c.loop-i.device) (g.T.TextStore.text c.loop-i.store)
-    (g.T.TextStore.text c.write_entry.new.redo) (g.D.Device.image c.fill_last.new.device) (g.T.TextStore.text c.write_entry.new.store) c.take_last-entry.result.0 c.take_last-entry.result.1 c.loop-i.count c.into_change-change.result c.as_bytes.result.now
+made : (g : _) (c : After-begin_last g) → IsMadeAgain (g.T.TextStore.honest c.args.redo_text.now) (g.D.Device.honest c.args.device.now) (g.T.TextStore.honest c.args.store.now) (g.T.TextStore.text c.loop-i.redo_text) (g.D.Device.image c.loop-i.device) (g.T.TextStore.text c.loop-i.store)
+    (g.T.TextStore.text c.write_change.new.redo) (g.D.Device.image c.begin_last.new.device) (g.T.TextStore.text c.write_change.new.store) c.take_both-entry.result.0 (kept_over (g.D.Device.image c.loop-i.device) c.as_slice-spans.result.now) c.loop-i.count c.into_change-change.result c.as_bytes.result.now
 made g c =
     let x : List ℕ = g.D.Device.image c.loop-i.device in
     let change = c.into_change-change.result in
     let on = c.loop-i.invariant.steps_on in
-    let wrote = c.in_ok-write_entry.ensures in
-    let same = λ (h : g.D.Device.honest c.args.device.now). c.fill_last.ensures.image (wrote.steps_on.device_honesty.1 (on.device_honesty.1 h)) in
+    let wrote = c.in_ok-write_change.ensures in
+    let same = λ (h : g.D.Device.honest c.args.device.now). c.begin_last.ensures.image (wrote.steps_on.device_honesty.1 (on.device_honesty.1 h)) in
     record {
       changed = λ dh. same dh ∙ wrote.image (on.device_honesty.1 dh);
       good = λ dh. subst (IsAsGood (kept_of (saved change x)) x) (sym (same dh)) (wrote.back (on.device_honesty.1 dh));
       cut = λ rh. wrote.redo (on.redo_honesty.1 rh);
-      written = λ th. wrote.text (on.store_honesty.1 th);
-      rests = λ dh th stack writes. subst (λ z. IsAtRest (g.T.TextStore.text c.write_entry.new.store) z (effect change x ∷ stack)) (sym (same dh)) (wrote.ok (on.device_honesty.1 dh) (on.store_honesty.1 th) stack writes);
+      written = λ dh th. wrote.text (on.device_honesty.1 dh) (on.store_honesty.1 th);
+      rests = λ dh th stack writes.
+          subst (λ z. IsAtRest (g.T.TextStore.text c.write_change.new.store) z (effect change x ∷ stack)) (sym (same dh)) (wrote.ok (on.device_honesty.1 dh) (on.store_honesty.1 th) stack writes);
     }
 
-pub write_entry-requires-clause-kept_within : goal.write_entry-requires-clause-kept_within
-write_entry-requires-clause-kept_within g c = (turn g (goal.at.write_entry-requires-clause-kept_within g c).After-take_last-entry).shaped.1
+pub write_change-requires-clause-ordered : goal.write_change-requires-clause-ordered
+write_change-requires-clause-ordered g c =
+    let here = (touched g (goal.at.write_change-requires-clause-ordered g c).After-as_slice-spans).0 in
+    ranges_more (2 ^ 62) (2 ^ 64) _ (omega arith) (told_ranges _ (told_of here))
 
-pub write_entry-requires-clause-image_room : goal.write_entry-requires-clause-image_room
-write_entry-requires-clause-image_room g c =
-    let e = c.take_last-entry.result.0 in
-    let last = turn g (goal.at.write_entry-requires-clause-image_room g c).After-take_last-entry in
+pub write_change-requires-clause-ranges : goal.write_change-requires-clause-ranges
+write_change-requires-clause-ranges g c now =
+    let inv = c.loop-i.invariant in
+    let here = (touched g (goal.at.write_change-requires-clause-ranges g c).After-as_slice-spans).0 in
+    are_ranges (length (g.D.Device.image c.loop-i.device)) _ (subst (λ n. LieWithin n c.as_slice-spans.result.now) (inv.touched.long (inv.steps_on.device_honesty.0 now)) here.within)
+
+pub write_change-requires-clause-place : goal.write_change-requires-clause-place
+write_change-requires-clause-place g c = (begun g (goal.at.write_change-requires-clause-place g c).After-as_slice-spans).is_place
+
+pub write_change-requires-clause-begun : goal.write_change-requires-clause-begun
+write_change-requires-clause-begun g c now = (begun g (goal.at.write_change-requires-clause-begun g c).After-as_slice-spans).text (c.loop-i.invariant.steps_on.device_honesty.0 now)
+
+pub write_change-requires-clause-image_room : goal.write_change-requires-clause-image_room
+write_change-requires-clause-image_room g c =
+    let e = c.take_both-entry.result.0 in
+    let last = turn g (goal.at.write_change-requires-clause-image_room g c).After-take_both-entry in
     omega (arith, c.into_change-change.ensures.reach (within_out e.kept.len e.kept.runs last.kept.1), last.kept.2)
 
-pub write_entry-requires-clause-text_room : goal.write_entry-requires-clause-text_room
-write_entry-requires-clause-text_room g c now =
-    let inv = c.loop-i.invariant in
-    let at = goal.at.write_entry-requires-clause-text_room g c in
-    omega (arith, entry_fits (turn g at.After-take_last-entry) (by g at.After-as_bytes) (g.T.TextStore.text c.loop-i.store) (inv.fits (inv.steps_on.store_honesty.0 now)))
+-- the length of the line that ends the entry
+line_long : (g : _) (c : After-as_bytes g) → length c.as_bytes.result.now ≡ 32
+line_long g c = ap length (by g c).line_is ∙ end_long (c.loop-i.count + 1) c.take_both-entry.result.0.kept.len
 
-pub write_entry-requires-clause-within : goal.write_entry-requires-clause-within
-write_entry-requires-clause-within g c now =
-    let last = turn g (goal.at.write_entry-requires-clause-within g c).After-take_last-entry in
+pub write_change-requires-clause-text_room : goal.write_change-requires-clause-text_room
+write_change-requires-clause-text_room g c now =
+    let inv = c.loop-i.invariant in
+    let at = goal.at.write_change-requires-clause-text_room g c in
+    omega (arith, inv.fits (inv.steps_on.store_honesty.0 now), room g at.After-as_slice-spans, (begun g at.After-as_slice-spans).long, line_long g at.After-as_bytes)
+
+pub write_change-requires-clause-within : goal.write_change-requires-clause-within
+write_change-requires-clause-within g c now =
+    let last = turn g (goal.at.write_change-requires-clause-within g c).After-take_both-entry in
     omega (arith, (places last).0.order, long_at last (c.loop-i.invariant.steps_on.redo_honesty.0 now))
 
-pub returns-in_err-write_entry-clause-finds : goal.returns-in_err-write_entry-clause-finds
-returns-in_err-write_entry-clause-finds g c dh th rh s rest count =
+pub returns-in_err-write_change-clause-finds : goal.returns-in_err-write_change-clause-finds
+returns-in_err-write_change-clause-finds g c dh th rh s rest count =
     let inv = c.loop-i.invariant in
-    let at = goal.at.returns-in_err-write_entry-clause-finds g c in
+    let at = goal.at.returns-in_err-write_change-clause-finds g c in
     let here = inv.images dh th rh s (standing rest) count in
     let less : c.loop-i.i < length c.args.takens.now.items = omega (arith, c.loop-i-test.true, c.len-k.ensures) in
-    always_err _ (redo_stopped (turn g at.After-take_last-entry) (by g at.After-as_bytes) rh dh less s (record { rest = inv.rest dh th rh s rest count; undone = here.0.undone }) here.1
-    (c.in_err-write_entry.ensures.left (inv.steps_on.device_honesty.1 dh) (inv.steps_on.store_honesty.1 th) (inv.steps_on.redo_honesty.1 rh)))
+    always_err _ (redo_stopped (turn g at.After-take_both-entry) (keeps g at.After-as_slice-spans) (by g at.After-as_bytes) rh dh less s (record { rest = inv.rest dh th rh s rest count; undone = here.0.undone }) here.1
+    (c.in_err-write_change.ensures.left (inv.steps_on.device_honesty.1 dh) (inv.steps_on.store_honesty.1 th) (inv.steps_on.redo_honesty.1 rh)))
 
 -- before a turn some record is left, so the image's length is one that an entry can tell, and so is the entry's number
-pub returns-in_err-write_entry-clause-fault : goal.returns-in_err-write_entry-clause-fault
-returns-in_err-write_entry-clause-fault g c dh th stack rest count =
+pub returns-in_err-write_change-clause-fault : goal.returns-in_err-write_change-clause-fault
+returns-in_err-write_change-clause-fault g c dh th stack rest count =
     let inv = c.loop-i.invariant in
-    let at = goal.at.returns-in_err-write_entry-clause-fault g c in
-    let last = turn g at.After-take_last-entry in
+    let at = goal.at.returns-in_err-write_change-clause-fault g c in
+    let last = turn g at.After-take_both-entry in
     let less : c.loop-i.i < length c.args.takens.now.items = omega (arith, c.loop-i-test.true, c.len-k.ensures) in
-    always_err _ (stopped_on last (by g at.After-as_bytes) dh (inv.told dh (omega (arith, last.most))) (omega (arith, last.most, inv.bound)) less inv.made stack (some_stands _ _ stack rest.stands) count (inv.on_top dh th stack rest count)
-    (c.in_err-write_entry.ensures.fault (inv.steps_on.device_honesty.1 dh) (inv.steps_on.store_honesty.1 th)))
+    always_err _ (stopped_on last (keeps g at.After-as_slice-spans) (by g at.After-as_bytes) dh (omega (arith, last.most, inv.bound)) less inv.made stack (some_stands _ _ stack rest.stands) count (inv.on_top dh th stack rest count)
+    (c.in_err-write_change.ensures.fault (inv.steps_on.device_honesty.1 dh) (inv.steps_on.store_honesty.1 th)))
 
-pub fill_last-requires-clause-range : goal.fill_last-requires-clause-range
-fill_last-requires-clause-range g c now =
+pub begin_last-requires-clause-long : goal.begin_last-requires-clause-long
+begin_last-requires-clause-long g c now =
+    let at = goal.at.begin_last-requires-clause-long g c in
     let on = c.loop-i.invariant.steps_on in
-    let at = goal.at.fill_last-requires-clause-range g c in
-    let last = turn g at.After-take_last-entry in
-    let wrote = c.in_ok-write_entry.ensures in
+    let wrote = c.in_ok-write_change.ensures in
     let dh = on.device_honesty.0 (wrote.steps_on.device_honesty.0 now) in
-    first_below last _ dh (restored last (by g at.After-as_bytes) (wrote.image (on.device_honesty.1 dh)))
+    sym (ap length (restored (turn g at.After-take_both-entry) (keeps g at.After-as_slice-spans) (by g at.After-as_bytes) (wrote.image (on.device_honesty.1 dh)))
+    ∙ length-restore (kept_of c.take_both-entry.result.0.kept) (g.D.Device.image c.loop-i.device))
 
-pub returns-in_err-fill_last-clause-finds : goal.returns-in_err-fill_last-clause-finds
-returns-in_err-fill_last-clause-finds g c dh th rh s rest count =
+pub begin_last-requires-clause-within : goal.begin_last-requires-clause-within
+begin_last-requires-clause-within g c =
+    let at = goal.at.begin_last-requires-clause-within g c in
+    let ts = c.take_both-entry.new.takens.items in
+    let len : ℕ = c.take_both-entry.result.0.kept.len in
+    subst (λ us. IsFirstWithin len (reverse us)) (sym c.as_slice.ensures.value)
+    (first_within len (reverse c.take_both-entry.new.entries.items) (reverse ts) (touched g at.After-as_slice-spans).1)
+
+pub returns-in_err-place-clause-finds : goal.returns-in_err-place-clause-finds
+returns-in_err-place-clause-finds g c dh th rh s rest count =
     let inv = c.loop-i.invariant in
-    let at = goal.at.returns-in_err-fill_last-clause-finds g c in
-    let last = turn g at.After-take_last-entry in
+    let at = goal.at.returns-in_err-place-clause-finds g c in
+    let last = turn g at.After-take_both-entry in
     let again = by g at.After-as_bytes in
-    let done = made g at.After-fill_last in
+    let kept = keeps g at.After-as_slice-spans in
+    let done = made g at.After-begin_last in
     let here = inv.images dh th rh s (standing rest) count in
-    let next = redone_next last again done rh dh th s here.0 here.1 in
-    always_err c.from_residual-in_err-fill_last.result (
+    let next = redone_next last kept again done rh dh th s here.0 here.1 in
+    always_err c.from_residual-in_err-place.result (
       c.loop-i.i + 1,
       omega (arith, c.loop-i-test.true, c.len-k.ensures),
-      rest_is_found (g.T.TextStore.text c.write_entry.new.store) (g.D.Device.image c.fill_last.new.device) (g.T.TextStore.text c.write_entry.new.redo) (redo_of (c.loop-i.i + 1) s)
-          (record { rest = rests_again last again done rh dh th s (record { rest = inv.rest dh th rh s rest count; undone = here.0.undone }) here.1; undone = next.0.undone }),
+      rest_is_found (g.T.TextStore.text c.write_change.new.store) (g.D.Device.image c.begin_last.new.device) (g.T.TextStore.text c.write_change.new.redo) (redo_of (c.loop-i.i + 1) s)
+          (record { rest = rests_again last kept again done rh dh th s (record { rest = inv.rest dh th rh s rest count; undone = here.0.undone }) here.1; undone = next.0.undone }),
     )
 
-pub returns-in_err-fill_last-clause-fault : goal.returns-in_err-fill_last-clause-fault
-returns-in_err-fill_last-clause-fault g c dh th stack rest count =
+pub returns-in_err-place-clause-fault : goal.returns-in_err-place-clause-fault
+returns-in_err-place-clause-fault g c dh th stack rest count =
     let inv = c.loop-i.invariant in
-    let at = goal.at.returns-in_err-fill_last-clause-fault g c in
-    let last = turn g at.After-take_last-entry in
-    let on = rests_on last (by g at.After-as_bytes) (made g at.After-fill_last) dh th (inv.told dh (omega (arith, last.most))) (omega (arith, last.most, inv.bound)) inv.made stack (some_stands _ _ stack rest.stands) count (inv.on_top dh th stack rest count) in
-    always_err c.from_residual-in_err-fill_last.result (
+    let at = goal.at.returns-in_err-place-clause-fault g c in
+    let last = turn g at.After-take_both-entry in
+    let on = rests_on last (keeps g at.After-as_slice-spans) (by g at.After-as_bytes) (made g at.After-begin_last) dh th (omega (arith, last.most, inv.bound)) inv.made stack (some_stands _ _ stack rest.stands) count (inv.on_top dh th stack rest count) in
+    always_err c.from_residual-in_err-place.result (
       c.loop-i.i + 1,
       omega (arith, c.loop-i-test.true, c.len-k.ensures),
-      (on.0, on.1, rest_recovers (g.T.TextStore.text c.write_entry.new.store) (g.D.Device.image c.fill_last.new.device) (on.0 ++ stack) on.2),
+      (on.0, on.1, rest_recovers (g.T.TextStore.text c.write_change.new.store) (g.D.Device.image c.begin_last.new.device) (on.0 ++ stack) on.2),
     )
 
 pub loop-i-preserved : goal.loop-i-preserved
 loop-i-preserved g c =
     let inv = c.loop-i.invariant in
     let at = goal.at.loop-i-preserved g c in
-    let last = turn g at.After-take_last-entry in
+    let last = turn g at.After-take_both-entry in
     let again = by g at.After-as_bytes in
-    let done = made g at.After-fill_last in
-    let wrote = c.in_ok-write_entry.ensures in
-    let filled = c.in_ok-fill_last.ensures in
-    let ts = c.take_last-entry.new.takens.items in
-    let new = c.fill_last.new.takens.items in
+    let kept = keeps g at.After-as_slice-spans in
+    let done = made g at.After-begin_last in
+    let wrote = c.in_ok-write_change.ensures in
+    let next = c.in_ok-place.ensures in
+    let es = c.take_both-entry.new.entries.items in
+    let ts = c.take_both-entry.new.takens.items in
+    let e = c.take_both-entry.result.0 in
+    let y : List ℕ = g.D.Device.image c.begin_last.new.device in
     record {
-      left = one_gone last done.cut (λ dh. restored last again (done.changed dh)) (omega (arith, wrote.room, filled.goes_on.no_less_room)) filled.shaped filled.count
-          (λ dh. let here = wrote.steps_on.device_honesty.1 (inv.steps_on.device_honesty.1 dh) in subst (λ z. AreFilled z ts new) (sym (filled.image here)) (filled.filled here));
+      left = one_less last done.cut (omega (arith, wrote.room, next.goes_on.no_less_room));
+      touched = record {
+        len = e.kept.len;
+        long = λ dh. sym (ap length (restored last kept again (done.changed dh)) ∙ length-restore (kept_of e.kept) (g.D.Device.image c.loop-i.device));
+        touched = (touched g at.After-as_slice-spans).1;
+      };
+      begun = begun_same (c.loop-i.count + 1 + 1) c.begin_last.new.page.items c.in_ok-place.place (λ dh. wrote.steps_on.device_honesty.1 (inv.steps_on.device_honesty.1 dh)) (λ dh. next.image (wrote.steps_on.device_honesty.1 (inv.steps_on.device_honesty.1 dh))) c.as_slice.ensures.value next.begun;
       made = omega (arith, inv.made);
-      bound = omega (arith, inv.bound, last.most, filled.count);
-      front = λ th. prefix_more (g.T.TextStore.text c.args.store.now) (g.T.TextStore.text c.loop-i.store) (g.T.TextStore.text c.write_entry.new.store) (head_text (c.loop-i.count + 1) (kept_of c.take_last-entry.result.1)) c.as_bytes.result.now (inv.front th) (done.written th);
-      steps_on = goes_further inv.steps_on wrote.steps_on filled.goes_on;
-      fits = λ th. room_behind last again done new th (inv.fits th) wrote.store_room filled.entries_len;
+      bound = omega (arith, inv.bound, last.most);
+      front = λ th. prefix_then _ _ _ (inv.front th) (wrote.front (inv.steps_on.store_honesty.1 th));
+      steps_on = goes_further inv.steps_on wrote.steps_on next.goes_on;
+      fits = λ th. omega (
+        arith,
+        inv.fits th,
+        room g at.After-as_slice-spans,
+        (begun g at.After-as_slice-spans).long,
+        line_long g at.After-as_bytes,
+        wrote.long (inv.steps_on.store_honesty.1 th),
+        wrote.store_room,
+      );
       settled = λ dh th rh on.
           let here = inv.steps_on in
           let d = here.device_honesty.1 dh in
-          looked_at _ _ _ _ _ _ _ _ (filled.image (wrote.steps_on.device_honesty.1 d)) (filled.survives (wrote.steps_on.device_honesty.1 d)) (wrote.settles d (here.store_honesty.1 th) (here.redo_honesty.1 rh));
-      told = λ dh some. told_again last again done dh;
+          looked_at _ _ _ _ _ _ _ _ (next.image (wrote.steps_on.device_honesty.1 d)) (next.survives (wrote.steps_on.device_honesty.1 d)) (wrote.settles d (here.store_honesty.1 th) (here.redo_honesty.1 rh));
       on_top = λ dh th stack rest count.
-          rests_on last again done dh th (inv.told dh (omega (arith, last.most))) (omega (arith, last.most, inv.bound)) inv.made stack (some_stands _ _ stack rest.stands) count (inv.on_top dh th stack rest count);
+          rests_on last kept again done dh th (omega (arith, last.most, inv.bound)) inv.made stack (some_stands _ _ stack rest.stands) count (inv.on_top dh th stack rest count);
       stood = λ dh th stack stands count.
-          stands_on last again done dh th (inv.told dh (omega (arith, last.most))) (omega (arith, last.most, inv.bound)) inv.made stack (some_stands _ _ stack stands) count (inv.stood dh th stack stands count);
-      empty = wrote.emptied;
-      page_room = omega (arith, inv.page_room, wrote.page_kept);
+          stands_on last kept again done dh th (omega (arith, last.most, inv.bound)) inv.made stack (some_stands _ _ stack stands) count (inv.stood dh th stack stands count);
+      page_room = omega (arith, inv.page_room, wrote.page_kept, next.room);
+      window = omega (arith, inv.window, wrote.window, next.window);
       rest = λ dh th rh s rest count.
           let here = inv.images dh th rh s (standing rest) count in
-          rests_again last again done rh dh th s (record { rest = inv.rest dh th rh s rest count; undone = here.0.undone }) here.1;
+          rests_again last kept again done rh dh th s (record { rest = inv.rest dh th rh s rest count; undone = here.0.undone }) here.1;
       images = λ dh th rh s stands count.
           let here = inv.images dh th rh s stands count in
-          redone_next last again done rh dh th s here.0 here.1;
-      taken = λ dh th rh es finished. grown_next last again done rh dh th (inv.told dh (omega (arith, last.most))) new filled.count es finished ∙ inv.taken dh th rh es finished;
+          redone_next last kept again done rh dh th s here.0 here.1;
+      taken = λ dh th rh es finished. grown_next last kept again done rh dh th es finished ∙ inv.taken dh th rh es finished;
     }
 
 pub loop-i-init : goal.loop-i-init
 loop-i-init g c = record {
-  left = none_gone c.requires.read c.requires.few c.requires.kept c.requires.shaped c.requires.ready;
+  left = all_left c.requires.read c.requires.few c.requires.kept;
+  touched = c.requires.touched;
+  begun = c.requires.begun;
   made = omega arith;
   bound = c.requires.bound;
   front = λ th. ([], sym (append-nil (g.T.TextStore.text c.args.store.now)));
   steps_on = none_yet;
   fits = c.requires.fits;
   settled = λ dh th rh on. on;
-  told = c.requires.told;
   on_top = λ dh th stack rest count. ([], refl, rest);
   stood = λ dh th stack stands count. ([], refl, stands);
-  empty = c.requires.empty;
   page_room = c.requires.page_room;
+  window = c.requires.window;
   rest = λ dh th rh s rest count. rest.rest;
   images = λ dh th rh s stands count. (stands, count);
   taken = λ dh th rh es finished. refl;
@@ -221,41 +313,42 @@ pub returns-clause-left : goal.returns-clause-left
 returns-clause-left g c rh entries finished =
     subst (λ n. HasLeft (g.T.TextStore.text c.args.redo_text.now) (g.T.TextStore.text c.loop-i.redo_text) (drop n entries)) (all_taken g (goal.at.returns-clause-left g c).After-loop-i) (left_at c.loop-i.invariant.left rh entries finished)
 
-pub returns-in_err-write_entry-clause-steps_on : goal.returns-in_err-write_entry-clause-steps_on
-returns-in_err-write_entry-clause-steps_on g c = step_fails c.from_residual.result (err_from_is_err_and c.from_residual.result c.from_residual.ensures.1).1 c.loop-i.invariant.steps_on c.in_err-write_entry.ensures.steps_on
+pub returns-in_err-write_change-clause-steps_on : goal.returns-in_err-write_change-clause-steps_on
+returns-in_err-write_change-clause-steps_on g c = step_fails c.from_residual.result (err_from_is_err_and c.from_residual.result c.from_residual.ensures.1).1 c.loop-i.invariant.steps_on c.in_err-write_change.ensures.steps_on
 
-pub returns-in_err-fill_last-clause-steps_on : goal.returns-in_err-fill_last-clause-steps_on
-returns-in_err-fill_last-clause-steps_on g c =
-    filling_fails c.from_residual-in_err-fill_last.result (err_from_is_err_and c.from_residual-in_err-fill_last.result c.from_residual-in_err-fill_last.ensures.1).1 c.loop-i.invariant.steps_on c.in_ok-write_entry.ensures.steps_on
-    c.in_err-fill_last.ensures.goes_on
+pub returns-in_err-place-clause-steps_on : goal.returns-in_err-place-clause-steps_on
+returns-in_err-place-clause-steps_on g c =
+    filling_fails c.from_residual-in_err-place.result (err_from_is_err_and c.from_residual-in_err-place.result c.from_residual-in_err-place.ensures.1).1 c.loop-i.invariant.steps_on c.in_ok-write_change.ensures.steps_on
+    c.in_err-place.ensures.goes_on
 
-pub returns-in_err-write_entry-clause-survives : goal.returns-in_err-write_entry-clause-survives
-returns-in_err-write_entry-clause-survives g c dh th rh on s rest count =
+pub returns-in_err-write_change-clause-survives : goal.returns-in_err-write_change-clause-survives
+returns-in_err-write_change-clause-survives g c dh th rh on s rest count =
     let inv = c.loop-i.invariant in
-    let at = goal.at.returns-in_err-write_entry-clause-survives g c in
+    let at = goal.at.returns-in_err-write_change-clause-survives g c in
     let d = inv.steps_on.device_honesty.1 dh in
     let t = inv.steps_on.store_honesty.1 th in
     let u = inv.steps_on.redo_honesty.1 rh in
     let here = inv.images dh th rh s (standing rest) count in
     let less : c.loop-i.i < length c.args.takens.now.items = omega (arith, c.loop-i-test.true, c.len-k.ensures) in
-    survive_err c.from_residual.result (λ y new redo. (j : ℕ) × (j ≤ length c.args.takens.now.items) × Finds (shown new) y redo (redo_of j s)) _ _ _ (λ y new redo image_there there redo_there. redo_stopped (turn g at.After-take_last-entry) (by g at.After-as_bytes) rh dh less s (record { rest = inv.rest dh th rh s rest count; undone = here.0.undone }) here.1
-    (λ stack writes. c.in_err-write_entry.ensures.survives d t u (inv.settled dh th rh on) stack writes y new redo image_there there redo_there))
+    survive_err c.from_residual.result (λ y new redo. (j : ℕ) × (j ≤ length c.args.takens.now.items) × Finds (shown new) y redo (redo_of j s)) _ _ _ (λ y new redo image_there there redo_there. redo_stopped (turn g at.After-take_both-entry) (keeps g at.After-as_slice-spans) (by g at.After-as_bytes) rh dh less s (record { rest = inv.rest dh th rh s rest count; undone = here.0.undone }) here.1
+    (λ stack writes. c.in_err-write_change.ensures.survives d t u (inv.settled dh th rh on) stack writes y new redo image_there there redo_there))
 
-pub returns-in_err-fill_last-clause-survives : goal.returns-in_err-fill_last-clause-survives
-returns-in_err-fill_last-clause-survives g c dh th rh on s rest count =
+pub returns-in_err-place-clause-survives : goal.returns-in_err-place-clause-survives
+returns-in_err-place-clause-survives g c dh th rh on s rest count =
     let inv = c.loop-i.invariant in
-    let at = goal.at.returns-in_err-fill_last-clause-survives g c in
-    let last = turn g at.After-take_last-entry in
+    let at = goal.at.returns-in_err-place-clause-survives g c in
+    let last = turn g at.After-take_both-entry in
     let again = by g at.After-as_bytes in
-    let done = made g at.After-fill_last in
+    let kept = keeps g at.After-as_slice-spans in
+    let done = made g at.After-begin_last in
     let here = inv.images dh th rh s (standing rest) count in
-    let next = redone_next last again done rh dh th s here.0 here.1 in
-    let behind = rests_again last again done rh dh th s (record { rest = inv.rest dh th rh s rest count; undone = here.0.undone }) here.1 in
-    let did = c.in_ok-write_entry.ensures in
+    let next = redone_next last kept again done rh dh th s here.0 here.1 in
+    let behind = rests_again last kept again done rh dh th s (record { rest = inv.rest dh th rh s rest count; undone = here.0.undone }) here.1 in
+    let did = c.in_ok-write_change.ensures in
     let d = inv.steps_on.device_honesty.1 dh in
     let still = did.steps_on.device_honesty.1 d in
-    let settled = looked_at _ _ _ _ _ _ _ _ (c.in_err-fill_last.ensures.image still) (c.in_err-fill_last.ensures.survives still) (did.settles d (inv.steps_on.store_honesty.1 th) (inv.steps_on.redo_honesty.1 rh)) in
-    survive_err c.from_residual-in_err-fill_last.result (λ y new redo. (j : ℕ) × (j ≤ length c.args.takens.now.items) × Finds (shown new) y redo (redo_of j s)) _ _ _ (λ y new redo image_there there redo_there. (
+    let settled = looked_at _ _ _ _ _ _ _ _ (c.in_err-place.ensures.image still) (c.in_err-place.ensures.survives still) (did.settles d (inv.steps_on.store_honesty.1 th) (inv.steps_on.redo_honesty.1 rh)) in
+    survive_err c.from_residual-in_err-place.result (λ y new redo. (j : ℕ) × (j ≤ length c.args.takens.now.items) × Finds (shown new) y redo (redo_of j s)) _ _ _ (λ y new redo image_there there redo_there. (
       c.loop-i.i + 1,
       omega (arith, c.loop-i-test.true, c.len-k.ensures),
       found_at_rest _ _ _ _ _ _ (redo_of (c.loop-i.i + 1) s) behind next.0.undone (settled.device y image_there) (settled.store new there) (settled.redo redo redo_there),

@@ -1,40 +1,40 @@
-use Rattle.std.proofs.Common.{◌≡◌, ◌+◌, ◌<◌, ◌≤◌, ℕ, List, [], length, drop}
-use Rattle.bx_image.specs.declared.change.TheConstants.{MAX_LEN}
+use Rattle.std.proofs.Common.{◌≡◌, ◌+◌, ◌≤◌, ℕ, List, length, drop}
 use Rattle.bx_entries.specs.Finished.{IsFinished}
 use Rattle.bx_journal.specs.Taken.{taken_by}
 use Rattle.bx_journal.specs.OnTop.{OnTop}
 use Rattle.bx_journal.specs.Stack.{StandsFor}
-use Rattle.std.specs.Prelude.{vec_capacity}
+use Rattle.std.specs.Prelude.{reverse, vec_capacity}
 use Rattle.bx_journal.specs.Images.{Images, redo_of}
 use Rattle.bx_journal.specs.Machine.{changes_of}
 use Rattle.bx_journal.specs.Phase.{IsAtRest}
-use Rattle.bx_journal.specs.inner.Takens.{entries_len}
+use Rattle.bx_journal.specs.inner.Touched.{AreTouchedFrom, IsFirstBegun, entries_over}
 use Rattle.bx_entries.specs.Text.{Entry, IsPrefix}
 use Rattle.bx_journal.specs.inner.Turns.{AreAtRest, AreStanding}
 use Rattle.bx_journal.specs.inner.Written.{AreSettled}
 use Rattle.bx_journal.proofs.DeviceLemmas.{HaveGoneOn}
-use Rattle.bx_journal.proofs.LoopLemmas.{AreLeft}
+use Rattle.bx_journal.proofs.EntryLoop.{EntriesLeft}
 use Rattle.bx_journal.proofs.protocol.redo_entry.redo_entries.Given as goal
 
 abbrev pub invariant-loop-i : goal.invariant-loop-i
 invariant-loop-i g l = record {
-  left : AreLeft (g.T.TextStore.honest l.fn.redo_text) (g.D.Device.honest l.fn.device) (g.T.TextStore.text l.fn.redo_text) (g.T.TextStore.text l.redo_text) (g.D.Device.image l.device) (g.D.Device.room l.device) l.i
-      l.fn.entries.items l.entries.items l.fn.takens.items l.takens.items;
+  left : EntriesLeft (g.T.TextStore.honest l.fn.redo_text) (g.T.TextStore.text l.fn.redo_text) (g.T.TextStore.text l.redo_text) (g.D.Device.room l.device) l.i
+      l.fn.entries.items l.entries.items (length l.fn.takens.items) (length l.takens.items);
+  touched : AreTouchedFrom (g.D.Device.honest l.fn.device) (g.D.Device.image l.device) l.entries.items l.takens.items;
+  begun : IsFirstBegun (g.D.Device.honest l.fn.device) (g.D.Device.image l.device) (l.count + 1) (reverse l.takens.items) l.page.items l.place;
   made : l.count ≡ l.fn.count + l.i;
   bound : l.count + length l.takens.items ≤ 65535;
   front : g.T.TextStore.honest l.fn.store → IsPrefix (g.T.TextStore.text l.fn.store) (g.T.TextStore.text l.store);
   steps_on : HaveGoneOn g.D.Device.honest g.T.TextStore.honest g.D.Device.failures g.T.TextStore.failures l.fn.device l.fn.store l.fn.redo_text l.device l.store l.redo_text;
-  fits : g.T.TextStore.honest l.fn.store → length (g.T.TextStore.text l.store) + entries_len l.takens.items ≤ g.T.TextStore.room l.store;
+  fits : g.T.TextStore.honest l.fn.store → length (g.T.TextStore.text l.store) + entries_over l.takens.items ≤ g.T.TextStore.room l.store;
   settled : g.D.Device.honest l.fn.device → g.T.TextStore.honest l.fn.store → g.T.TextStore.honest l.fn.redo_text
       → AreSettled g.D.Device.image g.T.TextStore.text g.D.Device.survives g.T.TextStore.survives l.fn.device l.fn.store l.fn.redo_text
       → AreSettled g.D.Device.image g.T.TextStore.text g.D.Device.survives g.T.TextStore.survives l.device l.store l.redo_text;
-  told : g.D.Device.honest l.fn.device → 0 < length l.takens.items → length (g.D.Device.image l.device) ≤ MAX_LEN;
   on_top : g.D.Device.honest l.fn.device → g.T.TextStore.honest l.fn.store → (stack : List (List ℕ)) → IsAtRest (g.T.TextStore.text l.fn.store) (g.D.Device.image l.fn.device) stack
       → l.fn.count ≡ changes_of stack → OnTop l.i stack (IsAtRest (g.T.TextStore.text l.store) (g.D.Device.image l.device));
   stood : g.D.Device.honest l.fn.device → g.T.TextStore.honest l.fn.store → (stack : List (List ℕ)) → StandsFor (g.T.TextStore.text l.fn.store) (g.D.Device.image l.fn.device) stack
       → l.fn.count ≡ changes_of stack → OnTop l.i stack (StandsFor (g.T.TextStore.text l.store) (g.D.Device.image l.device));
-  empty : l.page.items ≡ [];
   page_room : 82 ≤ vec_capacity l.page;
+  window : 16 ≤ length l.window;
   rest : g.D.Device.honest l.fn.device → g.T.TextStore.honest l.fn.store → g.T.TextStore.honest l.fn.redo_text → (s : Images)
       → AreAtRest (g.T.TextStore.text l.fn.store) (g.D.Device.image l.fn.device) (g.T.TextStore.text l.fn.redo_text) s → l.fn.count ≡ changes_of s.stack
       → IsAtRest (g.T.TextStore.text l.store) (g.D.Device.image l.device) (redo_of l.i s).stack;

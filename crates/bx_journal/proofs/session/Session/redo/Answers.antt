@@ -1,4 +1,4 @@
-use Rattle.std.proofs.Common.{◌≡◌, ℕ, length-append, refl, ◌∙◌, subst, arith}
+use Rattle.std.proofs.Common.{◌≡◌, ◌+◌, ℕ, length, length-append, refl, ap, sym, ◌∙◌, subst, arith}
 use Rattle.std.proofs.lemmas.Grind.{common_steps}
 use Rattle.bx_journal.specs.declared.session.fault.SessionFault.TheVariants.{RedoDamaged}
 use Rattle.bx_entries.specs.Text.{IsPrefix}
@@ -17,6 +17,7 @@ use Rattle.bx_journal.specs.Power.{FoundBefore}
 use Rattle.bx_journal.proofs.SafeLemmas.{accepts, any_fault, interrupts, refuses}
 use Rattle.bx_journal.proofs.Stayed.{left_since, looked_at, none_failed, other_order, pair_step, read_since, rest_step, standing_step}
 use Rattle.bx_journal.specs.Images.{redo_of}
+use Rattle.bx_journal.proofs.TouchedLemmas.{begun_same}
 use Rattle.bx_journal.proofs.StepSurvivors.{found_at_rest, found_of, found_some}
 use Rattle.bx_journal.proofs.session.Session.redo.Goals as goal
 use Rattle.bx_journal.proofs.session.Session.redo.Goals.{After-prepare_redo}
@@ -42,55 +43,56 @@ returns-in_err-read-clause-damaged g c =
 
 pub redo_entries-requires-clause-kept : goal.redo_entries-requires-clause-kept
 redo_entries-requires-clause-kept g c =
-    let last = c.in_ok-read.ensures.read in rw c.in_ok-taking.ensures.count (c.in_ok-taking.ensures.kept last.text c.self.inside.undone last.read)
+    let last = c.in_ok-read.ensures.read in rw c.in_ok-again.ensures.ready.count (c.in_ok-again.ensures.kept last.text c.self.inside.undone last.read)
 
 pub redo_entries-requires-clause-read : goal.redo_entries-requires-clause-read
 redo_entries-requires-clause-read g c =
     let before = stayed g (goal.at.redo_entries-requires-clause-read g c).After-prepare_redo in
     read_since before.other_honesty.0 before.other_same c.in_ok-read.ensures.read
 
-pub redo_entries-requires-clause-ready : goal.redo_entries-requires-clause-ready
-redo_entries-requires-clause-ready g c dh =
+pub redo_entries-requires-clause-touched : goal.redo_entries-requires-clause-touched
+redo_entries-requires-clause-touched g c =
+    let ready = c.in_ok-again.ensures.ready.touched in
     let taken = c.prepare_redo.ensures.stayed in
-    let before = taken.device_honesty.0 dh in rw (taken.image_same before) (c.in_ok-taking.ensures.filled before)
+    record { len = ready.len; long = λ now. let before = taken.device_honesty.0 now in ready.long before ∙ sym (ap length (taken.image_same before)); touched = ready.touched }
+
+pub redo_entries-requires-clause-begun : goal.redo_entries-requires-clause-begun
+redo_entries-requires-clause-begun g c =
+    let taken = c.prepare_redo.ensures.stayed in
+    begun_same (c.self.inside.count + 1) {rs = c.in_ok-again.again.takens.items} {slice = c.in_ok-again.again.takens.items} c.in_ok-again.again.page.items c.in_ok-again.again.place taken.device_honesty.0 (λ now. taken.image_same (taken.device_honesty.0 now)) refl c.in_ok-again.ensures.ready.begun
 
 pub redo_entries-requires-clause-fits : goal.redo_entries-requires-clause-fits
-redo_entries-requires-clause-fits g c th = c.in_ok-taking.ensures.roomed (c.prepare_redo.ensures.stayed.other_honesty.0 th)
-
-pub redo_entries-requires-clause-told : goal.redo_entries-requires-clause-told
-redo_entries-requires-clause-told g c dh some =
-    let taken = c.prepare_redo.ensures.stayed in
-    let before = taken.device_honesty.0 dh in rw (taken.image_same before) (c.in_ok-taking.ensures.told before (rw c.in_ok-taking.ensures.count at some))
+redo_entries-requires-clause-fits g c th = c.in_ok-again.ensures.roomed (c.prepare_redo.ensures.stayed.other_honesty.0 th)
 
 pub returns-in-Ok-clause-stands : goal.returns-in-Ok-clause-stands
 returns-in-Ok-clause-stands g c =
     rw (← c.self.view_is) (λ dh th stack standing.
     let before = stayed g (goal.at.returns-in-Ok-clause-stands g c).After-prepare_redo in
     let many : c.self.inside.count ≡ changes_of stack = omega (arith, standing.count) in
-    let on = rw c.in_ok-taking.ensures.count at (pair_step (λ t x. StandsFor t x stack) before (λ d t stands. c.in-Ok.ensures.stands d t stack stands many) dh th standing.stands) in
-    (on.0, on.1, record { stands = on.2; count = omega (arith, length-append on.0 stack, on.1, standing.count, c.in-Ok.ensures.number, c.in_ok-taking.ensures.count); whole = standing.whole }))
+    let on = rw c.in_ok-again.ensures.ready.count at (pair_step (λ t x. StandsFor t x stack) before (λ d t stands. c.in-Ok.ensures.stands d t stack stands many) dh th standing.stands) in
+    (on.0, on.1, record { stands = on.2; count = omega (arith, length-append on.0 stack, on.1, standing.count, c.in-Ok.ensures.number, c.in_ok-again.ensures.ready.count); whole = standing.whole }))
 
 pub returns-in-Ok-clause-ready : goal.returns-in-Ok-clause-ready
 returns-in-Ok-clause-ready g c =
     rw (← c.self.view_is) (λ dh th stack ready.
     let before = stayed g (goal.at.returns-in-Ok-clause-ready g c).After-prepare_redo in
     let many : c.self.inside.count ≡ changes_of stack = omega (arith, ready.count) in
-    let on = rw c.in_ok-taking.ensures.count at (pair_step (λ t x. IsAtRest t x stack) before (λ d t rest. c.in-Ok.ensures.rests d t stack rest many) dh th ready.rest) in
-    (on.0, on.1, record { rest = on.2; count = omega (arith, length-append on.0 stack, on.1, ready.count, c.in-Ok.ensures.number, c.in_ok-taking.ensures.count); whole = ready.whole }))
+    let on = rw c.in_ok-again.ensures.ready.count at (pair_step (λ t x. IsAtRest t x stack) before (λ d t rest. c.in-Ok.ensures.rests d t stack rest many) dh th ready.rest) in
+    (on.0, on.1, record { rest = on.2; count = omega (arith, length-append on.0 stack, on.1, ready.count, c.in-Ok.ensures.number, c.in_ok-again.ensures.ready.count); whole = ready.whole }))
 
 pub returns-clause-fault : goal.returns-clause-fault
 returns-clause-fault g c =
     rw (← c.self.view_is) (λ dh th stack ready.
     let before = stayed g (goal.at.returns-clause-fault g c).After-prepare_redo in
     let many : c.self.inside.count ≡ changes_of stack = omega (arith, ready.count) in
-    rw c.in_ok-taking.ensures.count at (pair_step (λ t x. IsAtRest t x stack) before (λ d t rest. c.in-Err.ensures.fault d t stack rest many) dh th ready.rest))
+    rw c.in_ok-again.ensures.ready.count at (pair_step (λ t x. IsAtRest t x stack) before (λ d t rest. c.in-Err.ensures.fault d t stack rest many) dh th ready.rest))
 
 pub returns-in-Ok-clause-accepted : goal.returns-in-Ok-clause-accepted
 returns-in-Ok-clause-accepted g c =
     rw (← c.self.view_is) (λ dh th rh s standing has.
     let before = stayed g (goal.at.returns-in-Ok-clause-accepted g c).After-prepare_redo in
-    let found = rw c.in_ok-taking.ensures.count at (standing_step before c.in-Ok.ensures.images dh th rh s standing has (omega (arith, standing.count))) in
-    let left = redone c.args.j s standing.count has.counted (rw c.in_ok-taking.ensures.count at c.in-Ok.ensures.number) c.undone_left-self-inside.ensures found.undone in (
+    let found = rw c.in_ok-again.ensures.ready.count at (standing_step before c.in-Ok.ensures.images dh th rh s standing has (omega (arith, standing.count))) in
+    let left = redone c.args.j s standing.count has.counted (rw c.in_ok-again.ensures.ready.count at c.in-Ok.ensures.number) c.undone_left-self-inside.ensures found.undone in (
       (left.0, omega (arith, left.2), refl),
       record { stands = found.stands; count = left.1; whole = standing.whole },
       record { redo = left.3; counted = left.4 },
@@ -100,8 +102,8 @@ pub returns-in-Ok-clause-sound : goal.returns-in-Ok-clause-sound
 returns-in-Ok-clause-sound g c =
     rw (← c.self.view_is) (λ dh th rh s ready has.
     let before = stayed g (goal.at.returns-in-Ok-clause-sound g c).After-prepare_redo in
-    let found = rw c.in_ok-taking.ensures.count at (rest_step before c.in-Ok.ensures.found dh th rh s ready has (omega (arith, ready.count))) in
-    let left = redone c.args.j s ready.count has.counted (rw c.in_ok-taking.ensures.count at c.in-Ok.ensures.number) c.undone_left-self-inside.ensures found.undone in (
+    let found = rw c.in_ok-again.ensures.ready.count at (rest_step before c.in-Ok.ensures.found dh th rh s ready has (omega (arith, ready.count))) in
+    let left = redone c.args.j s ready.count has.counted (rw c.in_ok-again.ensures.ready.count at c.in-Ok.ensures.number) c.undone_left-self-inside.ensures found.undone in (
       record { rest = found.rest; count = left.1; whole = ready.whole },
       record { redo = left.3; counted = left.4 },
     ))
@@ -115,13 +117,13 @@ pub returns-in-Ok-clause-text : goal.returns-in-Ok-clause-text
 returns-in-Ok-clause-text g c =
     rw (← c.self.view_is) (λ rh.
     let before = stayed g (goal.at.returns-in-Ok-clause-text g c).After-prepare_redo in
-    left_since (before.other_same rh) c.in_ok-taking.ensures.count (c.in-Ok.ensures.left (before.other_honesty.1 rh)))
+    left_since (before.other_same rh) c.in_ok-again.ensures.ready.count (c.in-Ok.ensures.left (before.other_honesty.1 rh)))
 
 pub returns-in-Ok-clause-grown : goal.returns-in-Ok-clause-grown
 returns-in-Ok-clause-grown g c =
     rw (← c.self.view_is) (λ dh th rh es finished.
     let before = stayed g (goal.at.returns-in-Ok-clause-grown g c).After-prepare_redo in
-    grown_since c.self.inside.count c.in_ok-taking.ensures.count (before.image_same dh) (before.text_same th) (before.other_same rh)
+    grown_since c.self.inside.count c.in_ok-again.ensures.ready.count (before.image_same dh) (before.text_same th) (before.other_same rh)
     (c.in-Ok.ensures.taken (before.device_honesty.1 dh) (before.text_honesty.1 th) (before.other_honesty.1 rh)) es finished)
 
 pub returns-in-Ok-clause-front : goal.returns-in-Ok-clause-front
@@ -133,25 +135,25 @@ pub returns-clause-finds : goal.returns-clause-finds
 returns-clause-finds g c =
     rw (← c.self.view_is) (λ dh th rh s ready has.
     let before = stayed g (goal.at.returns-clause-finds g c).After-prepare_redo in
-    rw c.in_ok-taking.ensures.count at (rest_step before c.in-Err.ensures.finds dh th rh s ready has (omega (arith, ready.count))))
+    rw c.in_ok-again.ensures.ready.count at (rest_step before c.in-Err.ensures.finds dh th rh s ready has (omega (arith, ready.count))))
 
-pub returns-in_err-taking-clause-safe : goal.returns-in_err-taking-clause-safe
-returns-in_err-taking-clause-safe g c =
+pub returns-in_err-again-clause-safe : goal.returns-in_err-again-clause-safe
+returns-in_err-again-clause-safe g c =
     let read = c.in_ok-read.ensures.looks in
-    let found = err_from_is_err_and c.from_residual-in_err-taking.result c.from_residual-in_err-taking.ensures.1 in
+    let found = err_from_is_err_and c.from_residual-in_err-again.result c.from_residual-in_err-again.ensures.1 in
     rw (← c.self.view_is) (
-    refuses c.from_residual-in_err-taking.result c.in_err-taking.field-0.0 (grind (arith, common_steps, found.1, found.2)) c.in_err-taking.ensures.kind c.if-self.false refl refl refl
-    (stayed g (goal.at.returns-in_err-taking-clause-safe g c).After-prepare_redo) c.in_err-taking.ensures.counts
+    refuses c.from_residual-in_err-again.result c.in_err-again.field-0.0 (grind (arith, common_steps, found.1, found.2)) c.in_err-again.ensures.kind c.if-self.false refl refl refl
+    (stayed g (goal.at.returns-in_err-again-clause-safe g c).After-prepare_redo) c.in_err-again.ensures.counts
     (λ h. (h.0, h.2, omega (arith, h.1, read.no_failure), omega (arith, h.3, read.no_failure))) (λ h. (h.0, h.2, h.1 ∙ read.no_failure)))
 
 pub returns-in-Ok-clause-safe : goal.returns-in-Ok-clause-safe
 returns-in-Ok-clause-safe g c =
-    let same = c.in_ok-taking.ensures.no_failure in
+    let same = c.in_ok-again.ensures.no_failure in
     rw (← c.self.view_is) (accepts c.if-self.false (one_more _ (none_failed (stayed g (goal.at.returns-in-Ok-clause-safe g c).After-prepare_redo) (same.0, same.2, same.1 ∙ c.in_ok-read.ensures.looks.no_failure)) c.in-Ok.ensures.steps_on))
 
 pub returns-clause-safe : goal.returns-clause-safe
 returns-clause-safe g c =
-    let same = c.in_ok-taking.ensures.no_failure in
+    let same = c.in_ok-again.ensures.no_failure in
     rw (← c.self.view_is) (interrupts c.if-self.false refl refl refl (one_more _ (none_failed (stayed g (goal.at.returns-clause-safe g c).After-prepare_redo) (same.0, same.2, same.1 ∙ c.in_ok-read.ensures.looks.no_failure)) c.in-Err.ensures.steps_on))
 
 -- what is found behind an interruption
@@ -159,9 +161,9 @@ pub returns-clause-survives : goal.returns-clause-survives
 returns-clause-survives g c =
     rw (← c.self.view_is) (λ dh th rh s ready has y new redo image_there there redo_there.
     let before = stayed g (goal.at.returns-clause-survives g c).After-prepare_redo in
-    let on = c.in_ok-taking.ensures.settled dh (c.in_ok-read.ensures.looks.honesty.1 rh) th in
+    let on = c.in_ok-again.ensures.settled dh (c.in_ok-read.ensures.looks.honesty.1 rh) th in
     let rest = rest_step before (λ d t u i rest. rest) dh th rh s ready has in
-    found_some _ _ _ redo_of _ _ (rw c.in_ok-taking.ensures.count at
+    found_some _ _ _ redo_of _ _ (rw c.in_ok-again.ensures.ready.count at
     (c.in-Err.ensures.survives (before.device_honesty.1 dh) (before.text_honesty.1 th) (before.other_honesty.1 rh) (record { device = on.device; store = on.redo; redo = on.store }) s rest (omega (arith, ready.count)) y new redo image_there there redo_there)))
 
 -- and where it is made
@@ -172,10 +174,10 @@ returns-in-Ok-clause-survives g c =
     let d = before.device_honesty.1 dh in
     let t = before.text_honesty.1 th in
     let u = before.other_honesty.1 rh in
-    let on = c.in_ok-taking.ensures.settled dh (c.in_ok-read.ensures.looks.honesty.1 rh) th in
+    let on = c.in_ok-again.ensures.settled dh (c.in_ok-read.ensures.looks.honesty.1 rh) th in
     let settled = c.in-Ok.ensures.settles d t u (record { device = on.device; store = on.redo; redo = on.store }) in
     let done = rest_step before c.in-Ok.ensures.found dh th rh s ready has (omega (arith, ready.count)) in
-    found_of _ _ _ _ (rw c.in_ok-taking.ensures.count at
+    found_of _ _ _ _ (rw c.in_ok-again.ensures.ready.count at
     (found_at_rest _ _ _ _ _ _ (redo_of _ s) done.rest done.undone (settled.device y image_there) (settled.store new there) (settled.redo redo redo_there))))
 
 -- what a refusal leaves to be found was to be found before
@@ -185,8 +187,8 @@ returns-in_err-read-clause-found_before g c =
     record { device_before = λ h x there. there; text_before = λ h x there. there; other_before = c.read_undone.ensures.survives } in
     rw (← c.self.view_is) (any_fault _ before)
 
-pub returns-in_err-taking-clause-found_before : goal.returns-in_err-taking-clause-found_before
-returns-in_err-taking-clause-found_before g c =
+pub returns-in_err-again-clause-found_before : goal.returns-in_err-again-clause-found_before
+returns-in_err-again-clause-found_before g c =
     let taken = c.prepare_redo.ensures.found_before in
     let before : FoundBefore g.D.Device.honest g.T.TextStore.honest g.D.Device.survives g.T.TextStore.survives c.self.inside.device c.self.inside.store c.self.inside.redo_text c.prepare_redo.new.device c.prepare_redo.new.to c.prepare_redo.new.from =
     record {

@@ -5,6 +5,7 @@ use Rattle.bx_entries.specs.Text.{ended}
 use Rattle.bx_entries.proofs.WriterLemmas.{save_long}
 use Rattle.bx_journal.specs.inner.Ranges.{rest_text}
 use Rattle.bx_journal.proofs.PageLemmas.{paged_is, paged_more, paged_all, paged_length, part_is, part_front, part_behind, part_last, at_err}
+use Rattle.bx_journal.proofs.PrefixLemmas.{prefix_by}
 use Rattle.bx_journal.proofs.FadeLemmas.{fades_front, fades_is, fades_behind, fades_last}
 use Rattle.bx_journal.proofs.write.ranges.put_head_from.Goals as goal
 
@@ -71,6 +72,11 @@ returns-clause-long g c th =
       save_long c.args.number,
     ))
     (c.append_page.ensures.ok (c.in_ok-put_words.ensures.goes_on.honesty.1 mid))
+
+pub returns-clause-front : goal.returns-clause-front
+returns-clause-front g c th =
+    let mid = c.in_ok-put_pages.ensures.store_honesty.1 th in
+    on_ok_weaker c.append_page.result (prefix_by _ _ (prefix_by _ _ (c.in_ok-put_pages.ensures.front th) (c.in_ok-put_words.ensures.ok mid).text_is)) (c.append_page.ensures.ok (c.in_ok-put_words.ensures.goes_on.honesty.1 mid))
 
 pub returns-in_err-put_pages-clause-fades : goal.returns-in_err-put_pages-clause-fades
 returns-in_err-put_pages-clause-fades g c dh th =

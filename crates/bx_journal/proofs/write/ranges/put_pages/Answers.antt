@@ -1,8 +1,9 @@
-use Rattle.std.proofs.Common.{◌≡◌, ℕ, List, ◌++◌, length, ap, refl, ◌∙◌, subst, arith, append_assoc, length-append}
-use Rattle.bx_image.proofs.Devices.{GoesOn_then}
+use Rattle.std.proofs.Common.{◌≡◌, ℕ, List, [], ◌++◌, length, ap, sym, refl, ◌∙◌, subst, arith, append_assoc, append-nil, length-append}
+use Rattle.bx_image.proofs.Devices.{GoesOn_refl, GoesOn_then}
 use Rattle.bx_journal.specs.inner.Ranges.{rest_text}
 use Rattle.bx_journal.proofs.PageLemmas.{part_last, part_all, part_front, part_is, paged_all, at_err}
 use Rattle.bx_journal.proofs.FadeLemmas.{fades_within}
+use Rattle.bx_journal.proofs.PrefixLemmas.{prefix_by, prefix_self}
 use Rattle.bx_journal.proofs.write.ranges.put_pages.Goals as goal
 
 pub returns-in_err-append_page-clause-fault : goal.returns-in_err-append_page-clause-fault
@@ -55,6 +56,7 @@ loop-now-preserved g c =
         ap length none,
         c.in_ok-now.ensures.long,
       );
+      front = λ th. prefix_by _ _ (before.front th) (c.in_ok-append_page.ensures.ok (before.store_goes_on.honesty.1 th));
       room = omega (arith, before.room, c.in_ok-append_page.ensures.room, c.in_ok-now.ensures.room);
       window = c.in_ok-now.ensures.window ∙ before.window;
       image = λ dh. c.in_ok-now.ensures.image (before.device_goes_on.honesty.1 dh) ∙ before.image dh;
@@ -62,6 +64,24 @@ loop-now-preserved g c =
       device_goes_on = GoesOn_then _ _ _ _ _ _ _ before.device_goes_on c.in_ok-now.ensures.goes_on;
       store_goes_on = GoesOn_then _ _ _ _ _ _ _ before.store_goes_on c.in_ok-append_page.ensures.goes_on;
     }
+
+pub loop-now-init : goal.loop-now-init
+loop-now-init g c = record {
+  place = c.requires.place;
+  puts = λ dh th. (c.args.page.now.items, refl, record { added = []; text_is = sym (append-nil (g.T.TextStore.text c.args.store.now)); bytes_are = refl });
+  fades = λ dh th. record { fade = λ n rest all. all };
+  long = λ th. refl;
+  front = λ th. prefix_self (g.T.TextStore.text c.args.store.now);
+  room = omega arith;
+  window = refl;
+  image = λ dh. refl;
+  survives = λ dh y there. there;
+  device_goes_on = GoesOn_refl g.D.Device.honest g.D.Device.room g.D.Device.failures c.args.device.now;
+  store_goes_on = GoesOn_refl g.T.TextStore.honest g.T.TextStore.room g.T.TextStore.failures c.args.store.now;
+}
+
+pub returns-clause-front : goal.returns-clause-front
+returns-clause-front g c th = c.loop-now.invariant.front th
 
 pub returns-in_err-append_page-clause-fades : goal.returns-in_err-append_page-clause-fades
 returns-in_err-append_page-clause-fades g c dh th =

@@ -2,6 +2,7 @@ use Rattle.std.proofs.Common.{◌≡◌, ◌+◌, ◌≤◌, ◌++◌, length, L
 use Rattle.std.specs.Prelude.{vec_capacity}
 use Rattle.bx_image.specs.Device.{GoesOn}
 use Rattle.bx_image.specs.Power.{FadesBehind, NoMore}
+use Rattle.bx_entries.specs.Text.{IsPrefix}
 use Rattle.bx_journal.specs.inner.Page.{IsPaged}
 use Rattle.bx_journal.specs.inner.Ranges.{rest_text, rest_len, IsPlace}
 use Rattle.bx_journal.proofs.write.ranges.put_pages.Given as goal
@@ -20,6 +21,7 @@ invariant-loop-now g l =
           → FadesBehind (store.text l.fn.store) (l.fn.page.items ++ rest_text (device.image l.fn.device) l.ranges l.fn.place) (store.survives l.fn.store) (store.survives l.store);
       long : store.honest l.fn.store → length (store.text l.store) + length l.page.items + rest_len l.ranges l.now
           ≡ length (store.text l.fn.store) + length l.fn.page.items + rest_len l.ranges l.fn.place;
+      front : store.honest l.fn.store → IsPrefix (store.text l.fn.store) (store.text l.store);
       room : vec_capacity l.fn.page ≤ vec_capacity l.page;
       window : length l.window ≡ length l.fn.window;
       image : device.honest l.fn.device → device.image l.device ≡ device.image l.fn.device;
