@@ -16,7 +16,7 @@ pub record EntryLines : Type 0 where
 abbrev pub entry_in : EntryLines → Entry
 entry_in c = c.entry
 
--- all lines of entries, of which the newest comes first
+-- all lines of entries, which are given the newest first
 unfoldable pub lines_of : List EntryLines → List (List ℕ)
 lines_of [] = []
 lines_of (c ∷ older) = lines_of older ++ c.first ∷ (c.saved ++ save_line (suc (length older)) ∷ c.last ∷ [])

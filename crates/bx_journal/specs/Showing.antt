@@ -4,7 +4,12 @@ use Rattle.std.specs.Io.KnownBytes.{Appends}
 use Rattle.bx_entries.specs.Finished.{IsFinished}
 use Rattle.bx_entries.specs.Kept.{Run, Kept}
 use Rattle.bx_entries.specs.Ranges.{ranges_text}
-use Rattle.bx_entries.specs.Text.{Entry}
+use Rattle.bx_entries.specs.Shown.{shown}
+use Rattle.bx_entries.specs.Text.{Entry, IsDamagedAt}
+use Rattle.bx_journal.specs.declared.look.ShowFault.{ShowFault}
+use Rattle.bx_journal.specs.declared.look.ShowFault.TheVariants.{Text, Io}
+use Rattle.bx_journal.specs.declared.session.fault.SessionFault.TheVariants.{Damaged}
+use Rattle.bx_journal.specs.Fault.{DeviceFault}
 
 -- how many bytes a record has
 abbrev pub bytes_of : Kept → ℕ
@@ -32,3 +37,9 @@ ranges_rows (e ∷ older) = ranges_rows older ++ ranges_row (suc (length older))
 -- where the text is finished entries alone, their rows were written
 abbrev pub RangesOf : List ℕ → Option (List ℕ) → Option (List ℕ) → Type 0
 RangesOf text old new = (entries : List Entry) → IsFinished text entries → Appends old new (ranges_rows entries)
+
+-- which fault a log with ranges answers: the line at which the text is damaged, or one that the text doesn't make
+abbrev pub StopsLog : Type 0 → List ℕ → ShowFault → Type 0
+StopsLog honest text (Text (Damaged line)) = honest → IsDamagedAt (shown text) line
+StopsLog honest text (Text fault) = DeviceFault fault
+StopsLog honest text (Io fault) = Unit {0}

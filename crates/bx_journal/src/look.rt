@@ -1,8 +1,8 @@
 //! A look at the changes of a text, without a session: nothing is recovered, and the text stays.
-ghost use Rattle.std.specs.Prelude.{◌≡◌, ◌<◌, OnOk};
+ghost use Rattle.std.specs.Prelude.{◌≡◌, ◌<◌, OnOk, IfErr};
 ghost use Rattle.bx_journal.specs.declared.look.ShowFault.TheVariants.{Text as OfText, Io as OfIo};
 ghost use Rattle.bx_journal.specs.declared.session.fault.SessionFault.TheVariants.{NoMemory as OutOfMemory, DeviceFailed as CallFailed};
-ghost use Rattle.bx_journal.specs.Showing.{RangesOf};
+ghost use Rattle.bx_journal.specs.Showing.{RangesOf, StopsLog};
 
 mod entries;
 mod marks;
@@ -75,6 +75,7 @@ pub fn log_ranges<T: TextStore, A: Allocator + Clone, W: Write>(
 ) -> Result<(), ShowFault>
     requires { T.failures store.old < u64.MAX }
     ensures rows { T.honest store.old → OnOk result (RangesOf (T.text store.old) (W.contents out.old) (W.contents out.new)) }
+    ensures fault { IfErr result (StopsLog (T.honest store.old) (T.text store.old)) }
     ensures text { T.honest store.old → T.text store.new ≡ T.text store.old }
 {
     let marks = match all_marks(alloc, store) {

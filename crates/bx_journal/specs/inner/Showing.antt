@@ -15,6 +15,9 @@ use Rattle.bx_journal.specs.inner.Devices.{LooksAt}
 use Rattle.bx_journal.specs.inner.Recovery.{FindFault}
 use Rattle.bx_journal.specs.Showing.{after_text}
 use Rattle.bx_journal.specs.declared.look.ranges.Done.{Done}
+use Rattle.bx_journal.specs.declared.look.ShowFault.{ShowFault}
+use Rattle.bx_journal.specs.declared.look.ShowFault.TheVariants.{Text, Io}
+use Rattle.bx_journal.specs.Fault.{DeviceFault}
 
 -- whole lines at a place, before `len`, lead from a marking and marks to others; they are the store's, where that is honest
 pub record IsMarkedAt (honest : Type 0) (stored : List ℕ) (at len : ℕ) (from : Marking) (old new : List Mark) (l : MarkedLines) : Type 0 where
@@ -111,3 +114,8 @@ mark_rows text n (mark ∷ marks) = mark_row text n mark ++ mark_rows text (suc 
 -- the places of a mark lie in order within a length
 abbrev pub LiesWithin : ℕ → Mark → Type 0
 LiesWithin len mark = (mark.from ≤ mark.to) × (mark.to ≤ len)
+
+-- which fault writing what is read of a text answers
+abbrev pub PutFault : ShowFault → Type 0
+PutFault (Text fault) = DeviceFault fault
+PutFault (Io fault) = Unit {0}

@@ -1,7 +1,7 @@
 //! The entries of a text that are marked, a row for each.
-ghost use Rattle.std.specs.Prelude.{◌≡◌, ◌<◌, ◌≤◌, ◌++◌, ℕ, All, OnOk, length, string_bytes};
+ghost use Rattle.std.specs.Prelude.{◌≡◌, ◌<◌, ◌≤◌, ◌++◌, ℕ, All, OnOk, IfErr, length, string_bytes};
 ghost use Rattle.std.specs.Io.KnownBytes.{Appends};
-ghost use Rattle.bx_journal.specs.inner.Showing.{LiesWithin, Stays, mark_row, mark_rows, places_at, row_front};
+ghost use Rattle.bx_journal.specs.inner.Showing.{LiesWithin, PutFault, Stays, mark_row, mark_rows, places_at, row_front};
 
 use crate::look::ShowFault;
 use crate::look::marks::WINDOW;
@@ -31,7 +31,8 @@ fn put_front<A: Allocator + Clone, W: Write>(
     written: u64,
     out: &mut W,
 ) -> Result<u64, ShowFault>
-    ensures { OnOk result (Appends (W.contents out.old) (W.contents out.new) (row_front number mark)) }
+    ensures front { OnOk result (Appends (W.contents out.old) (W.contents out.new) (row_front number mark)) }
+    ensures kind { IfErr result PutFault }
 {
     let mut front = String::new(alloc.clone()?);
     push_front(&mut front, number, mark)?;
@@ -51,6 +52,7 @@ fn put_places<T: TextStore, A: Allocator + Clone, W: Write>(
     requires within { T.honest store.old → mark.to ≤ length (T.text store.old) }
     requires order { mark.from ≤ mark.to }
     ensures put { T.honest store.old → OnOk result (Appends (W.contents out.old) (W.contents out.new) (places_at (T.text store.old) mark)) }
+    ensures kind { IfErr result PutFault }
     ensures stays { Stays T.honest T.text T.failures result store.old store.new }
 {
     if mark.saved == 0 {
@@ -73,6 +75,7 @@ fn put_row<T: TextStore, A: Allocator + Clone, W: Write>(
     requires within { T.honest store.old → mark.to ≤ length (T.text store.old) }
     requires order { mark.from ≤ mark.to }
     ensures row { T.honest store.old → OnOk result (Appends (W.contents out.old) (W.contents out.new) (mark_row (T.text store.old) number mark)) }
+    ensures kind { IfErr result PutFault }
     ensures stays { Stays T.honest T.text T.failures result store.old store.new }
 {
     let front = put_front(alloc, number, mark, written, out)?;
@@ -90,6 +93,7 @@ pub fn put_rows<T: TextStore, A: Allocator + Clone, W: Write>(
     requires countable { T.failures store.old < u64.MAX }
     requires lie { (len : ℕ) × (T.honest store.old → len ≤ length (T.text store.old)) × All (LiesWithin len) marks.now }
     ensures rows { T.honest store.old → OnOk result (Appends (W.contents out.old) (W.contents out.new) (mark_rows (T.text store.old) 1 marks.now)) }
+    ensures kind { IfErr result PutFault }
     ensures text { T.honest store.old → T.text store.new ≡ T.text store.old }
 {
     let mut window = vec![in alloc.clone()?; 0u8; WINDOW as usize]?;

@@ -45,4 +45,4 @@ returns-clause-put g c h =
     ok_weaker c.put.result
     (λ put. put_all (g.T.TextStore.honest c.args.store.now) (g.T.TextStore.text c.args.store.now) c.args.mark c.loop-done.done (g.W.Write.contents c.args.out.now) (g.W.Write.contents c.loop-done.out)
     (g.W.Write.contents c.put.new.out) last (omega (arith, inv.within)) inv.put ends put h)
-    (subst (λ b. OnOk c.put.result (Appends (g.W.Write.contents c.loop-done.out) (g.W.Write.contents c.put.new.out) b)) c.as_bytes.ensures.value c.put.ensures)
+    (subst (λ b. OnOk c.put.result (Appends (g.W.Write.contents c.loop-done.out) (g.W.Write.contents c.put.new.out) b)) c.as_bytes.ensures.value c.put.ensures.put)
