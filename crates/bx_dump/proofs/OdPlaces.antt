@@ -7,7 +7,7 @@ use Rattle.std.proofs.lemmas.Bool.{cases_Bool, cases_lt, lt-ltb, le-ltb, agree_b
 use Rattle.std.proofs.lemmas.Slice.Eq.{bytes_eq-Decides}
 use Rattle.bx_text.specs.Field.{left_filled}
 use Rattle.bx_dump.specs.Lines.{in_lines}
-use Rattle.bx_dump.specs.inner.Decimal.{words, amount, front, char_at, last_char, signed_cells, unsigned_cells}
+use Rattle.bx_dump.specs.inner.Decimal.{words, char_at, last_char, signed_cells, unsigned_cells}
 use Rattle.bx_dump.specs.inner.Od.{value_text}
 use Rattle.bx_dump.specs.declared.od.options.Size.TheVariants.{Two}
 use Rattle.bx_dump.specs.declared.od.options.NumForm.TheVariants as form

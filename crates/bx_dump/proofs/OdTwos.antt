@@ -1,5 +1,5 @@
 -- od's decimal values of two bytes, lane by lane.
-use Rattle.std.proofs.Common.{◌≡◌, ℕ, zero, suc, ◌+◌, ◌-◌, ◌*◌, ◌/◌, ◌%◌, ◌^◌, ◌<◌, ◌≤◌, ltb, ltb-true, ltb-false, cond, Bool, true, false, List, [], ◌∷◌, ◌++◌, map, length, replicate, Fits, w8, w16, take, subst, refl, ap, ◌∙◌, arith, inl, inr}
+use Rattle.std.proofs.Common.{◌≡◌, ℕ, zero, suc, ◌+◌, ◌-◌, ◌*◌, ◌/◌, ◌%◌, ◌^◌, ◌<◌, ltb, ltb-false, cond, Bool, true, false, List, [], ◌∷◌, ◌++◌, map, length, replicate, Fits, w8, w16, take, subst, refl, ap, ◌∙◌, arith, inl, inr}
 use Rattle.std.proofs.Math.Nat.{div-le_self}
 use Rattle.std.proofs.lemmas.Bool.{cases_Bool}
 use Rattle.std.proofs.lemmas.Simd.{Each2-splat, Each1-all, pick_l_whole}

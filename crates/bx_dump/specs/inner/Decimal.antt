@@ -1,5 +1,5 @@
 -- What proofs alone need: decimal numbers of two bytes by their characters, and of four bytes.
-use Rattle.std.specs.Prelude.{ℕ, ◌+◌, ◌-◌, ◌*◌, ◌/◌, ◌%◌, Bool, true, false, ◌&&◌, nat_le, nat_lt, if◌then◌else◌, List, [], ◌∷◌}
+use Rattle.std.specs.Prelude.{ℕ, ◌+◌, ◌-◌, ◌*◌, ◌/◌, ◌%◌, Bool, true, false, nat_le, nat_lt, if◌then◌else◌, List, [], ◌∷◌}
 use Rattle.bx_dump.specs.Od.{value_of}
 
 -- each two bytes as a number, the lower one first

@@ -1,4 +1,4 @@
-use Rattle.std.proofs.Common.{◌≡◌, ◌++◌, length, refl, arith, ap, ◌∙◌}
+use Rattle.std.proofs.Common.{◌≡◌, ◌++◌, length, refl, ap, ◌∙◌}
 use Rattle.std.specs.List.{flat_map}
 use Rattle.bx_dump.specs.declared.od.options.NumForm.TheVariants as form
 use Rattle.bx_dump.proofs.OdFours.{cell, fours_length, four_parts, four_values, both_taken}

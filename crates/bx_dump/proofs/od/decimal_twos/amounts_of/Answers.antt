@@ -1,4 +1,4 @@
-use Rattle.std.proofs.Common.{sym, ◌∙◌}
+use Rattle.std.proofs.Common.{◌∙◌}
 use Rattle.bx_dump.proofs.OdTwos.{amounts_are, amounts_same}
 use Rattle.bx_dump.proofs.od.decimal_twos.amounts_of.Goals.{then-signed, else-signed}
 use Rattle.bx_dump.proofs.od.decimal_twos.amounts_of.Goals as goal

@@ -1,7 +1,6 @@
-use Rattle.std.proofs.Common.{◌≡◌, List, ℕ, map, subst, sym, ap, ◌∙◌, arith, Fits, w8, ◌/◌}
-use lib.Lanes.{Each1, zip2}
-use Rattle.bx_dump.specs.inner.Decimal.{amount, front, char_at}
-use Rattle.bx_dump.proofs.OdTwos.{lanes, chars_are, chars_fit, same, divides, div16}
+use Rattle.std.proofs.Common.{subst, sym, ◌∙◌, arith, Fits, w8}
+use lib.Lanes.{Each1}
+use Rattle.bx_dump.proofs.OdTwos.{lanes, chars_are, chars_fit, same, divides}
 use Rattle.bx_dump.proofs.od.decimal_twos.chars_at.Goals as goal
 
 pub nonzero_div-upper : goal.nonzero_div-upper

@@ -1,4 +1,4 @@
-use Rattle.std.proofs.Common.{true, ◌≡◌, List, ℕ, map, replicate, subst, sym, ap, ◌∙◌, arith, Fits, w8}
+use Rattle.std.proofs.Common.{true, List, ℕ, map, replicate, subst, sym, ◌∙◌, Fits, w8}
 use lib.Lanes.{Each1, zip2, sel_l, top}
 use Rattle.bx_dump.proofs.OdTwos.{below, first_are, chars_fit, same}
 use Rattle.bx_dump.proofs.od.decimal_twos.first_chars.Goals as goal

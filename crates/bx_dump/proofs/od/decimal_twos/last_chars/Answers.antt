@@ -1,4 +1,4 @@
-use Rattle.std.proofs.Common.{◌≡◌, List, ℕ, map, replicate, subst, sym, ap, ◌∙◌, arith, Fits, w8}
+use Rattle.std.proofs.Common.{List, ℕ, replicate, subst, sym, ap, ◌∙◌, arith, Fits, w8}
 use lib.Lanes.{Each1, zip2}
 use Rattle.bx_dump.proofs.OdTwos.{add16, sub16, mul16, div16, last_are, last_fit, same, divides}
 use Rattle.bx_dump.proofs.od.decimal_twos.last_chars.Goals as goal
