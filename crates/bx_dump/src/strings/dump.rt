@@ -1,8 +1,8 @@
 //! The printable runs of an input.
-ghost use Rattle.std.specs.Prelude.{◌≡◌, ℕ, ◌+◌, ◌-◌, ◌*◌, ◌^◌, ◌<◌, ◌≤◌, [], List, ◌++◌, length, take, not, IfOk, IfErr};
+ghost use Rattle.std.specs.Prelude.{◌≡◌, ℕ, ◌+◌, ◌-◌, ◌*◌, ◌^◌, ◌<◌, ◌≤◌, [], List, ◌++◌, length, take, codes, not, IfOk, IfErr};
 ghost use Rattle.std.specs.List.{prefix_len};
 ghost use Rattle.bx_dump.specs.inner.Runs.{Keeps, Scans, StopsScan, known_text, waiting};
-ghost use Rattle.bx_dump.specs.inner.Scan.{scan_run, cost_of, end_text, AllPrint, EndsQuiet, IsQuiet};
+ghost use Rattle.bx_dump.specs.inner.Scan.{scan_run, scan_text, cost_of, end_text, AllPrint, EndsQuiet, IsQuiet};
 ghost use Rattle.bx_text.specs.Ascii.{is_printable};
 ghost use Rattle.bx_dump.specs.Pages.{WritesAll, WritesFrontOf};
 ghost use Rattle.bx_dump.specs.Strings.{place_text, strings_of};
@@ -13,6 +13,7 @@ use crate::strings::lanes::{four_in, printing_in};
 use crate::strings::options::StringsOptions;
 use bx_text::{IoFault, Meter, ShortText, State, dec_field, emit_after, hex_field, oct_field};
 use std::io::{Read, Write};
+use std::simd::prelude::*;
 
 /// How many bytes of a run are kept at most.
 const KEPT: usize = 4096;
@@ -249,14 +250,98 @@ impl Runs {
     }
 }
 
+/// Puts bytes in front at a place of the page: 16 are copied, and as many as are asked for count.
+#[inline(always)]
+fn put_sixteen(page: &mut [u8], at: usize, bytes: &[u8], len: usize)
+    requires few { len ≤ 16 }
+    requires inside { 16 ≤ length bytes.now }
+    requires room { at + 16 ≤ length page.old }
+    ensures { take (at + len) page.new ≡ take at page.old ++ take len bytes.now }
+{
+    u8x16::from_slice(bytes).copy_to_slice(&mut page[at..at + 16]);
+}
+
+/// Puts this many bytes in front at a place of the page.
+#[inline(always)]
+fn put_some(page: &mut [u8], at: usize, bytes: &[u8], len: usize)
+    requires inside { len ≤ length bytes.now }
+    requires room { at + len ≤ length page.old }
+    ensures { take (at + len) page.new ≡ take at page.old ++ take len bytes.now }
+{
+    if len <= 16 && bytes.len() >= 16 && page.len() - at >= 16 {
+        put_sixteen(page, at, bytes, len);
+    } else {
+        put_at(page, at, &bytes[..len]);
+    }
+}
+
+/// Puts this many bytes in front at a place of the page, and a newline.
+#[inline(always)]
+fn put_row(page: &mut [u8], at: usize, bytes: &[u8], len: usize)
+    requires inside { len ≤ length bytes.now }
+    requires room { at + len + 1 ≤ length page.old }
+    ensures { take (at + len + 1) page.new ≡ take at page.old ++ (take len bytes.now ++ codes "\n") }
+{
+    put_some(page, at, bytes, len);
+    page[at + len] = b'\n';
+}
+
+/// Puts the line of a run of this many bytes, which stands at `at`, and answers how long it is.
+#[inline(always)]
+fn put_line(page: &mut [u8], offsets: Address, at: u64, bytes: &[u8], len: usize) -> usize
+    requires inside { len ≤ length bytes.now }
+    requires room { 25 + len ≤ length page.old }
+    ensures most { result ≤ length page.old }
+    ensures text { take result page.new ≡ place_text offsets at ++ (take len bytes.now ++ codes "\n") }
+    ensures cost { result + 1 ≤ cost_of offsets + len }
+{
+    if let Address::Without = offsets {
+        put_row(page, 0, bytes, len);
+        return len + 1;
+    }
+    let text = place(offsets, at);
+    let front = text.as_bytes();
+    put_at(page, 0, front);
+    put_row(page, front.len(), bytes, len);
+    front.len() + len + 1
+}
+
+/// Skips what has no run that is long enough, and puts the line of the one behind it, where that ends in these bytes.
+fn put_first(page: &mut [u8], least: usize, offsets: Address, at: u64, bytes: &[u8]) -> Step
+    requires some { 0 < least }
+    requires address { at + length bytes.now < 2 ^ 64 }
+    requires room { 24 + length bytes.now ≤ length page.old }
+    ensures taken { result.taken ≤ length bytes.now }
+    ensures text { take result.used page.new ≡ scan_text least offsets at [] (take result.taken bytes.now) }
+    ensures none { scan_run [] (take result.taken bytes.now) ≡ [] }
+    ensures cost { result.used + 2 ≤ result.taken + cost_of offsets }
+{
+    let quiet = skippable_len(bytes, least);
+    let rest = &bytes[quiet..];
+    let run = printable_len(rest);
+    if run == rest.len() {
+        return Step {
+            taken: quiet,
+            used: 0,
+        };
+    }
+    let taken = quiet + run + 1;
+    if run < least {
+        return Step { taken, used: 0 };
+    }
+    let used = put_line(page, offsets, at + quiet as u64, rest, run);
+    Step { taken, used }
+}
+
 impl Runs {
-    /// Puts what is known with the bytes in front that all print, or all do not.
+    /// Puts what is known with the bytes in front: up to the end of the first run, or what is left of it.
     fn step(&mut self, page: &mut [u8], at: u64, bytes: &[u8]) -> Step
         requires least { 0 < self.old.least }
         requires few { self.old.least ≤ 4096 }
         requires size { length self.old.kept ≡ 4096 }
         requires within { self.old.count ≤ self.old.least }
         requires some { 0 < length bytes.now }
+        requires address { at + length bytes.now < 2 ^ 64 }
         requires room { 24 + waiting self.old + length bytes.now ≤ length page.old }
         ensures some { 0 < result.taken }
         ensures taken { result.taken ≤ length bytes.now }
@@ -271,9 +356,9 @@ impl Runs {
         ensures cost { result.used + waiting self.new + 2 ≤ waiting self.old + result.taken + cost_of self.old.offsets }
     {
         if self.count == 0 {
-            let taken = skippable_len(bytes, self.least);
-            if taken > 0 {
-                return Step { taken, used: 0 };
+            let first = put_first(page, self.least, self.offsets, at, bytes);
+            if first.taken > 0 {
+                return first;
             }
         }
         let run = printable_len(bytes);
