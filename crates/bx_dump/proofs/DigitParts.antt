@@ -146,7 +146,7 @@ module _ (base : ℕ) (big : 2 ≤ base) where
       (λ z. let e = ap length (digits_onto-more i j base false n [] is z) in omega (arith, e, onto_long j (n / base) (g ∷ [])))
       (cases_eq (n / base) 0)
 
-  digits_some : (i j m : ℕ) → i ≡ 64 → i ≡ j + 1 → 0 < length (digits base false m)
+  pub digits_some : (i j m : ℕ) → i ≡ 64 → i ≡ j + 1 → 0 < length (digits base false m)
   digits_some i j m e is = omega (arith, onto_some i j m is, ap length (digits_start i base false m e))
 
   -- a number of at least a power has a digit more

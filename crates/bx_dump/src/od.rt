@@ -13,5 +13,6 @@ mod octal_lanes;
 pub(crate) mod options;
 mod values;
 
+pub(crate) use decimal::put_eight;
 pub use dump::od;
 pub use options::{Address, Kind, NumForm, OdOptions, Size};

@@ -2,6 +2,7 @@
 mod dump;
 mod lanes;
 mod options;
+mod places;
 
 pub use dump::strings;
 pub use options::StringsOptions;

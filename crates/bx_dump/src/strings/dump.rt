@@ -11,15 +11,16 @@ use crate::driver::pages::BLOCK;
 use crate::od::options::Address;
 use crate::strings::lanes::{four_in, printing_in};
 use crate::strings::options::StringsOptions;
-use bx_text::{IoFault, Meter, ShortText, State, dec_field, emit_after, hex_field, oct_field};
+use crate::strings::places::{put_at, put_place};
+use bx_text::{IoFault, Meter, State, emit_after};
 use std::io::{Read, Write};
 use std::simd::prelude::*;
 
 /// How many bytes of a run are kept at most.
 const KEPT: usize = 4096;
 
-/// How many bytes of text there is room for.
-const PAGE: usize = 98304;
+/// How many bytes of text there is room for: 26 for each byte of a block, and a run that was kept.
+const PAGE: usize = 430112;
 
 /// The run that the bytes so far end in: its bytes while it is short, and that it is long enough from then on.
 #[derive(Drop)]
@@ -141,29 +142,6 @@ fn skippable_len(bytes: &[u8], least: usize) -> usize
     skippable_windows(bytes, least)
 }
 
-/// The place of a run, and a space.
-fn place(offsets: Address, at: u64) -> ShortText<24>
-    ensures { result ≡ place_text offsets at }
-{
-    let mut text = ShortText::new();
-    match offsets {
-        Address::Octal => text.push_all(oct_field(at, 0).as_bytes()),
-        Address::Decimal => text.push_all(dec_field(i128::from(at), 0, b' ').as_bytes()),
-        Address::Hexadecimal => text.push_all(hex_field(at, 0, false).as_bytes()),
-        Address::Without => return text,
-    }
-    text.push(b' ');
-    text
-}
-
-/// Copies the bytes to a place of the page.
-fn put_at(page: &mut [u8], at: usize, bytes: &[u8])
-    requires { at + length bytes.now ≤ length page.old }
-    ensures { take (at + length bytes.now) page.new ≡ take at page.old ++ bytes.now }
-{
-    page[at..at + bytes.len()].copy_from_slice(bytes);
-}
-
 impl Runs {
     /// No run, before the first byte.
     fn new(o: &StringsOptions) -> Self
@@ -188,11 +166,9 @@ fn put_front(page: &mut [u8], offsets: Address, at: u64, kept: &[u8]) -> usize
     ensures most { result ≤ 24 + length kept.now }
     ensures cost { result + 2 ≤ cost_of offsets + length kept.now }
 {
-    let text = place(offsets, at.saturating_sub(kept.len() as u64));
-    let front = text.as_bytes();
-    put_at(page, 0, front);
-    put_at(page, front.len(), kept);
-    front.len() + kept.len()
+    let front = put_place(page, offsets, at.saturating_sub(kept.len() as u64));
+    put_at(page, front, kept);
+    front + kept.len()
 }
 
 impl Runs {
@@ -295,15 +271,9 @@ fn put_line(page: &mut [u8], offsets: Address, at: u64, bytes: &[u8], len: usize
     ensures text { take result page.new ≡ place_text offsets at ++ (take len bytes.now ++ codes "\n") }
     ensures cost { result + 1 ≤ cost_of offsets + len }
 {
-    if let Address::Without = offsets {
-        put_row(page, 0, bytes, len);
-        return len + 1;
-    }
-    let text = place(offsets, at);
-    let front = text.as_bytes();
-    put_at(page, 0, front);
-    put_row(page, front.len(), bytes, len);
-    front.len() + len + 1
+    let front = put_place(page, offsets, at);
+    put_row(page, front, bytes, len);
+    front + len + 1
 }
 
 /// Skips what has no run that is long enough, and puts the line of the one behind it, where that ends in these bytes.
@@ -372,18 +342,6 @@ impl Runs {
     }
 }
 
-/// How many bytes are put at once: what they stand for fits a page.
-fn block_len(offsets: Address) -> usize
-    ensures least { 3584 ≤ result }
-    ensures fits { 4096 + 32 + cost_of offsets * result ≤ PAGE }
-    ensures most { result ≤ BLOCK }
-{
-    match offsets {
-        Address::Without => BLOCK,
-        _ => 3584,
-    }
-}
-
 impl Runs {
     /// Puts what is known with more bytes, which stand from `at` on.
     fn put(&mut self, page: &mut [u8], at: u64, bytes: &[u8]) -> usize
@@ -424,8 +382,7 @@ fn scan_pages<R: Read, W: Write>(
     requires few { runs.old.least ≤ 4096 }
     requires size { length runs.old.kept ≡ 4096 }
     requires fresh { runs.old.count ≡ 0 }
-    requires block { 3584 ≤ length block.old }
-    requires most { length block.old ≤ 2 ^ 14 }
+    requires block { length block.old ≡ BLOCK }
     requires page { length page.old ≡ PAGE }
     requires room { 4096 + 32 + cost_of runs.old.offsets * length block.old ≤ PAGE }
     ensures ok { IfOk result (Scans runs.old runs.new (R.remaining r.old) (R.remaining r.new) (W.contents w.old) (W.contents w.new)) }
@@ -465,9 +422,7 @@ pub fn strings<R: Read, W: Write>(r: &mut R, w: &mut W, o: &StringsOptions) -> R
     ensures err { IfErr result (WritesFrontOf (strings_of o.now) (R.remaining r.old) (R.remaining r.new) (W.contents w.old) (W.contents w.new)) }
 {
     let mut runs = Runs::new(o);
-    let len = block_len(o.offsets);
-    let mut block = [0; BLOCK];
-    let done = match scan_pages(r, w, &mut runs, &mut block[..len], &mut [0; PAGE]) {
+    let done = match scan_pages(r, w, &mut runs, &mut [0; BLOCK], &mut [0; PAGE]) {
         Ok(done) => done,
         Err(fault) => return Err(fault),
     };

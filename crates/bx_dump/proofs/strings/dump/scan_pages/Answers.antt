@@ -51,7 +51,7 @@ returns-in-Err-emit_after-clause-err g c =
     let fill = c.in-Ok.ensures in
     let few : length (now.0 ++ chunk) ≤ 2 ^ 40 =
     omega (arith, length-append now.0 chunk, length-take-le c.in-Ok.n c.fill.new.buf (omega (arith, fill.bound)), now.1, fill.taken, fill.limit, before.limit, c.fill.new.self.within) in
-    let block : length chunk ≤ 2 ^ 14 = omega (arith, length-take-le c.in-Ok.n c.fill.new.buf (omega (arith, fill.bound)), fill.bound, c.fill.auto.buf, before.block, c.requires.most) in
+    let block : length chunk ≤ 2 ^ 14 = omega (arith, length-take-le c.in-Ok.n c.fill.new.buf (omega (arith, fill.bound)), fill.bound, c.fill.auto.buf, before.block, c.requires.block) in
     write_stop 0 (scan_text runs.least runs.offsets 0 []) _ _ _ _ _ (scan_text runs.least runs.offsets 0 [] now.0) now.0 chunk page c.loop-n.written c.in-Err-emit_after.fault
     (Consumes-trans _ _ _ _ _ now.2 fill.bytes) few block (omega (arith, now.4)) now.3 now.4 is c.in-Err-emit_after.ensures.err
 
@@ -90,7 +90,7 @@ loop-n-preserved g c =
     let put = rw (before.least, before.offsets, c.taken-at.ensures) at (c.put-used.ensures.text (scan_run [] now.0) now.5) in
     let is = scan_goes runs.least runs.offsets now.0 chunk page c.loop-n.meter.taken now.1 put in
     let size : length page ≡ c.put-used.result = length-take-le c.put-used.result c.put-used.new.page (omega (arith, c.put-used.ensures.most, c.put-used.auto.page)) in
-    let whole : 3584 ≤ c.in-Ok.n = omega (arith, c.if-n-block.false, c.fill.auto.buf, before.block, c.requires.block) in
+    let whole : 16384 ≤ c.in-Ok.n = omega (arith, c.if-n-block.false, c.fill.auto.buf, before.block, c.requires.block) in
     record {
       open_now = fill.full (omega (arith, c.fill.auto.buf, c.if-n-block.false)) ∙ before.open_now;
       limit = fill.limit ∙ before.limit;

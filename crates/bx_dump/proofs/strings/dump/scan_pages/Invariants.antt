@@ -10,7 +10,7 @@ invariant-loop-n g l = record {
   open_now : l.meter.state ≡ Open;
   limit : l.meter.limit ≡ 2 ^ 40;
   block : length l.block ≡ length l.initial.block;
-  page : length l.page ≡ 98304;
+  page : length l.page ≡ 430112;
   few : l.written ≤ 28 * l.meter.taken;
   least : l.runs.least ≡ l.initial.runs.least;
   offsets : l.runs.offsets ≡ l.initial.runs.offsets;
