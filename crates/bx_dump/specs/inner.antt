@@ -1,4 +1,5 @@
 -- What no public contract names.
+pub mod Bits
 pub mod Cells
 pub mod Dumped
 pub mod Emitting

@@ -118,7 +118,7 @@ pub fn put_fours(field: &mut [u8], cells: &[u8])
 
 /// Puts 16 bytes as text.
 #[inline(always)]
-fn put_shown(field: &mut [u8], bytes: &[u8])
+pub fn put_shown(field: &mut [u8], bytes: &[u8])
     requires field { length field.old ≡ 16 }
     requires bytes { length bytes.now ≡ 16 }
     ensures { field.new ≡ map shown_byte bytes.now }

@@ -1,4 +1,5 @@
 //! xxd: its lines, the declaration around the items of a C array, and its dump.
+mod binary;
 mod cells;
 mod columns;
 mod dump;

@@ -3,6 +3,7 @@ ghost use Rattle.std.specs.Prelude.{◌≡◌, ℕ, ◌+◌, ◌-◌, ◌*◌, �
 ghost use Rattle.std.specs.List.{flat_map};
 ghost use Rattle.bx_dump.specs.inner.Xxd.{cell_of, cell_width, columns_line, columns_width, lines_of};
 
+use crate::xxd::binary::put_six;
 use crate::xxd::cells::{put_at, put_bits, put_body, put_pairs};
 use crate::xxd::lines::{LineForm, Put};
 use bx_text::put_address;
@@ -151,6 +152,40 @@ fn put_full(
     }
 }
 
+/// Puts the line of the first six of 16 bytes, for an address of 8 digits.
+#[inline(always)]
+fn put_line_of_6(line: &mut [u8], at: u32, bytes: &[u8])
+    requires line { length line.old ≡ 72 }
+    requires bytes { length bytes.now ≡ 16 }
+    ensures { line.new ≡ columns_line Digits.Binary 6 1 at (take 6 bytes.now) }
+{
+    let (address, body) = line.split_at_mut(8);
+    put_address(address, at);
+    put_six(body, bytes);
+}
+
+/// Puts all lines of six bytes for which 16 can be looked at, for addresses of 8 digits.
+fn put_lines_of_6(text: &mut [u8], at: u32, bytes: &[u8]) -> Put
+    requires room { 86 * ((length bytes.now + 5) / 6) ≤ length text.old }
+    requires address { at + length bytes.now < 2 ^ 32 }
+    ensures inside { 6 * result.lines ≤ length bytes.now }
+    ensures most { result.used ≤ 86 * result.lines }
+    ensures text { take result.used text.new ≡ lines_of Digits.Binary 6 1 at bytes.now result.lines }
+{
+    let lines = bytes.len().saturating_sub(10) / 6;
+    for k in 0..lines {
+        put_line_of_6(
+            &mut text[72 * k..72 * k + 72],
+            at + (6 * k) as u32,
+            &bytes[6 * k..6 * k + 16],
+        );
+    }
+    Put {
+        lines,
+        used: 72 * lines,
+    }
+}
+
 impl LineForm for Columns {
     ghost line = { λ c. columns_line c.digits c.cols c.group };
 
@@ -193,6 +228,16 @@ impl LineForm for Columns {
         front + size
     }
 
+    fn put_alone(&self, text: &mut [u8], at: u64, bytes: &[u8]) -> Put {
+        if at + bytes.len() as u64 >= 1 << 32 {
+            return Put { lines: 0, used: 0 };
+        }
+        match (self.digits, self.cols, self.group) {
+            (Digits::Binary, 6, 1) => put_lines_of_6(text, at as u32, bytes),
+            _ => Put { lines: 0, used: 0 },
+        }
+    }
+
     fn put_common(&self, text: &mut [u8], at: u64, bytes: &[u8], cells: &[u8]) -> Put {
         if at + bytes.len() as u64 >= 1 << 32 {
             return Put { lines: 0, used: 0 };
@@ -201,7 +246,6 @@ impl LineForm for Columns {
         match (self.digits.width(), self.cols, self.group) {
             (2, 16, 2) => put_full(self, text, at, bytes, cells, 16, 32, 40, 4, 8),
             (2, 32, 4) => put_full(self, text, at, bytes, cells, 32, 64, 72, 8, 8),
-            (8, 6, 1) => put_full(self, text, at, bytes, cells, 6, 48, 54, 8, 6),
             _ => Put { lines: 0, used: 0 },
         }
     }

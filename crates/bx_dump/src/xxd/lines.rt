@@ -62,6 +62,15 @@ pub trait LineForm {
         ensures most { result ≤ room self.now }
         ensures text { take result text.new ≡ line self.now at bytes.now };
 
+    /// Puts the first lines at the front, those of them for which there is code of their own that needs no digits.
+    fn put_alone(&self, text: &mut [u8], at: u64, bytes: &[u8]) -> Put
+        requires room { room self.now * ((length bytes.now + cols self.now - 1) / cols self.now) ≤ length text.old }
+        requires few { length bytes.now ≤ 16384 }
+        requires address { at ≤ 2 ^ 63 + 2 ^ 40 }
+        ensures inside { cols self.now * result.lines ≤ length bytes.now }
+        ensures most { result.used ≤ room self.now * result.lines }
+        ensures text { take result.used text.new ≡ in_lines (line self.now) (cols self.now) at (take (cols self.now * result.lines) bytes.now) };
+
     /// Puts the first lines at the front, those of them for which there is code of their own.
     fn put_common(&self, text: &mut [u8], at: u64, bytes: &[u8], cells: &[u8]) -> Put
         requires room { room self.now * ((length bytes.now + cols self.now - 1) / cols self.now) ≤ length text.old }
@@ -125,6 +134,32 @@ fn put_lines<F: LineForm>(form: &F, text: &mut [u8], at: u64, bytes: &[u8], cell
     used
 }
 
+/// Puts the lines for some bytes, the digits of those that need them in front into `cells`, and answers how long they are.
+fn put_text<F: LineForm>(
+    form: &F,
+    text: &mut [u8],
+    cells: &mut [u8],
+    at: u64,
+    bytes: &[u8],
+) -> usize
+    requires room { F.room form.now * ((length bytes.now + F.cols form.now - 1) / F.cols form.now) ≤ length text.old }
+    requires small { length text.old ≤ 65536 }
+    requires few { length bytes.now ≤ 16384 }
+    requires address { at + length bytes.now ≤ 2 ^ 63 + 2 ^ 40 }
+    requires cells { F.width form.now * length bytes.now ≤ length cells.old }
+    ensures within { result ≤ length text.old }
+    ensures text { take result text.new ≡ in_lines (F.line form.now) (F.cols form.now) at bytes.now }
+{
+    form.even();
+    let first = form.put_alone(text, at, bytes);
+    let begin = form.line_len() * first.lines;
+    let rest = &bytes[begin..];
+    let (digits, _) = cells.split_at_mut(form.cell_len() * rest.len());
+    form.put_cells(digits, rest);
+    let (_, more) = text.split_at_mut(first.used);
+    first.used + put_lines(form, more, at + begin as u64, rest, digits)
+}
+
 /// Lines of a form, with the place of the first byte.
 #[derive(Drop)]
 pub struct Lines<F: LineForm> {
@@ -166,11 +201,8 @@ impl<F: LineForm> Pages for Lines<F> {
     }
 
     fn put(&mut self, page: &mut [u8], done: u64, bytes: &[u8]) -> usize {
-        self.form.even();
         let (text, cells) = page.split_at_mut(65536);
-        let (cells, _) = cells.split_at_mut(self.form.cell_len() * bytes.len());
-        self.form.put_cells(cells, bytes);
-        put_lines(&self.form, text, self.start + done, bytes, cells)
+        put_text(&self.form, text, cells, self.start + done, bytes)
     }
 
     fn grows(&self) {}

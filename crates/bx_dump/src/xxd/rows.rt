@@ -1,13 +1,16 @@
 //! Lines of xxd without an address: plain digits, and items of a C array.
-ghost use Rattle.std.specs.Prelude.{◌≡◌, ℕ, ◌+◌, ◌-◌, ◌*◌, ◌/◌, ◌<◌, ◌≤◌, [], ◌∷◌, ◌++◌, length, take};
+ghost use Rattle.std.specs.Prelude.{◌≡◌, ℕ, ◌+◌, ◌-◌, ◌*◌, ◌/◌, ◌<◌, ◌≤◌, false, List, [], ◌∷◌, ◌++◌, length, take, codes};
 ghost use Rattle.std.specs.List.{flat_map};
 ghost use Rattle.bx_text.specs.Dump.{pair_of};
+ghost use Rattle.bx_dump.specs.Laws.{items};
 ghost use Rattle.bx_dump.specs.Lines.{in_lines};
 ghost use Rattle.bx_dump.specs.inner.Rows.{include_line, next_item, plain_line};
 
+use crate::hex_lanes::put_sixteen;
 use crate::xxd::cells::put_pairs;
 use crate::xxd::lines::{LineForm, Put};
 use bx_text::digits_of;
+use std::simd::prelude::*;
 
 /// Lines of hexadecimal digits alone.
 #[derive(Clone, Copy)]
@@ -30,33 +33,33 @@ impl Plain {
     }
 }
 
-/// Puts a full line.
+/// Puts a full line: 30 bytes as 16 and 16, of which two are put twice.
 #[inline(always)]
-fn put_thirty(line: &mut [u8], cells: &[u8])
+fn put_thirty(line: &mut [u8], bytes: &[u8], upper: bool)
     requires line { length line.old ≡ 61 }
-    requires cells { length cells.now ≡ 60 }
-    ensures { line.new ≡ cells.now ++ 10 ∷ [] }
+    requires bytes { length bytes.now ≡ 30 }
+    ensures { line.new ≡ flat_map (pair_of upper) bytes.now ++ 10 ∷ [] }
 {
-    let mut digits = [0; 60];
-    digits.copy_from_slice(cells);
-    let (front, end) = line.split_at_mut(60);
-    front.copy_from_slice(&digits);
-    end.copy_from_slice(b"\n");
+    put_sixteen(&mut line[..32], &bytes[..16], upper);
+    put_sixteen(&mut line[28..60], &bytes[14..], upper);
+    line[60] = b'\n';
 }
 
-/// Puts all full lines of 30 bytes.
-fn put_lines_of_30(form: &Plain, text: &mut [u8], at: u64, bytes: &[u8], cells: &[u8]) -> Put
-    requires cols { form.now.cols ≡ 30 }
+/// Puts all full lines of 30 bytes. `upper` is written out at the call, so that the loop is made for it.
+#[inline(always)]
+fn put_lines_of_30(text: &mut [u8], at: u64, bytes: &[u8], upper: bool) -> Put
     requires room { 61 * ((length bytes.now + 29) / 30) ≤ length text.old }
-    requires cells { cells.now ≡ flat_map (pair_of form.now.upper) bytes.now }
-    requires long { length cells.now ≡ 2 * length bytes.now }
     ensures inside { 30 * result.lines ≤ length bytes.now }
     ensures most { result.used ≤ 61 * result.lines }
-    ensures text { take result.used text.new ≡ in_lines (plain_line form.now.upper) 30 at (take (30 * result.lines) bytes.now) }
+    ensures text { take result.used text.new ≡ in_lines (plain_line upper) 30 at (take (30 * result.lines) bytes.now) }
 {
     let lines = bytes.len() / 30;
     for k in 0..lines {
-        put_thirty(&mut text[61 * k..61 * k + 61], &cells[60 * k..60 * k + 60]);
+        put_thirty(
+            &mut text[61 * k..61 * k + 61],
+            &bytes[30 * k..30 * k + 30],
+            upper,
+        );
     }
     Put {
         lines,
@@ -98,12 +101,16 @@ impl LineForm for Plain {
         cells.len() + 1
     }
 
-    fn put_common(&self, text: &mut [u8], at: u64, bytes: &[u8], cells: &[u8]) -> Put {
-        if self.cols == 30 {
-            put_lines_of_30(self, text, at, bytes, cells)
-        } else {
-            Put { lines: 0, used: 0 }
+    fn put_alone(&self, text: &mut [u8], at: u64, bytes: &[u8]) -> Put {
+        match (self.cols, self.upper) {
+            (30, true) => put_lines_of_30(text, at, bytes, true),
+            (30, false) => put_lines_of_30(text, at, bytes, false),
+            _ => Put { lines: 0, used: 0 },
         }
+    }
+
+    fn put_common(&self, _text: &mut [u8], _at: u64, _bytes: &[u8], _cells: &[u8]) -> Put {
+        Put { lines: 0, used: 0 }
     }
 
     fn even(&self) {}
@@ -136,6 +143,68 @@ impl Items {
         ensures { result.cols ≡ cols }
     {
         Items { cols }
+    }
+}
+
+/// Puts 12 items by their digits, with what stands in front of a line behind another.
+#[inline(always)]
+fn put_digits(line: &mut [u8], digits: &[u8; 32])
+    requires { length line.old ≡ 74 }
+    ensures { (bytes : List ℕ) → length bytes ≡ 16 → digits.now ≡ flat_map (pair_of false) bytes → line.new ≡ codes ",\n  " ++ items (take 12 bytes) }
+{
+    let cells = u8x32::from_array(*digits);
+    let signs = u8x32::from_array(*b",\n 0x                           ");
+    let front: u8x32 = cells.shuffle(
+        signs,
+        [
+            32, 33, 34, 34, 35, 36, 0, 1, 32, 34, 35, 36, 2, 3, 32, 34, 35, 36, 4, 5, 32, 34, 35,
+            36, 6, 7, 32, 34, 35, 36, 8, 9,
+        ],
+    );
+    let middle: u8x32 = cells.shuffle(
+        signs,
+        [
+            32, 34, 35, 36, 10, 11, 32, 34, 35, 36, 12, 13, 32, 34, 35, 36, 14, 15, 32, 34, 35, 36,
+            16, 17, 32, 34, 35, 36, 18, 19, 32, 34,
+        ],
+    );
+    let back: u8x8 = cells.shuffle(signs, [35, 36, 20, 21, 32, 34, 35, 36]);
+    let (first, rest) = line.split_at_mut(32);
+    let (second, rest) = rest.split_at_mut(32);
+    let (third, last) = rest.split_at_mut(8);
+    front.copy_to_slice(first);
+    middle.copy_to_slice(second);
+    back.copy_to_slice(third);
+    last.copy_from_slice(&digits[22..24]);
+}
+
+/// Puts the line of the first 12 of 16 bytes behind another line.
+#[inline(always)]
+fn put_twelve(line: &mut [u8], bytes: &[u8])
+    requires line { length line.old ≡ 74 }
+    requires bytes { length bytes.now ≡ 16 }
+    ensures { line.new ≡ codes ",\n  " ++ items (take 12 bytes.now) }
+{
+    let mut digits = [0; 32];
+    put_sixteen(&mut digits, bytes, false);
+    put_digits(line, &digits);
+}
+
+/// Puts the lines of 12 items, all behind another, for which 16 bytes can be looked at.
+fn put_lines_of_12(text: &mut [u8], at: u64, bytes: &[u8]) -> Put
+    requires behind { 0 < at }
+    requires room { 76 * ((length bytes.now + 11) / 12) ≤ length text.old }
+    ensures inside { 12 * result.lines ≤ length bytes.now }
+    ensures most { result.used ≤ 76 * result.lines }
+    ensures text { take result.used text.new ≡ in_lines include_line 12 at (take (12 * result.lines) bytes.now) }
+{
+    let lines = bytes.len().saturating_sub(4) / 12;
+    for k in 0..lines {
+        put_twelve(&mut text[74 * k..74 * k + 74], &bytes[12 * k..12 * k + 16]);
+    }
+    Put {
+        lines,
+        used: 74 * lines,
     }
 }
 
@@ -179,6 +248,14 @@ impl LineForm for Items {
         }
         line.copy_from_slice(items);
         front + items.len()
+    }
+
+    fn put_alone(&self, text: &mut [u8], at: u64, bytes: &[u8]) -> Put {
+        if self.cols == 12 && at > 0 {
+            put_lines_of_12(text, at, bytes)
+        } else {
+            Put { lines: 0, used: 0 }
+        }
     }
 
     fn put_common(&self, _text: &mut [u8], _at: u64, _bytes: &[u8], _cells: &[u8]) -> Put {

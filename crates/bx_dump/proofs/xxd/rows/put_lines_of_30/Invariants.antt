@@ -5,4 +5,4 @@ use Rattle.bx_dump.proofs.xxd.rows.put_lines_of_30.Given as goal
 
 -- the lines so far
 abbrev pub invariant-loop-k : goal.invariant-loop-k
-invariant-loop-k l = take (61 * l.k) l.text ≡ in_lines (plain_line l.form.upper) 30 l.at (take (30 * l.k) l.bytes)
+invariant-loop-k l = take (61 * l.k) l.text ≡ in_lines (plain_line l.upper) 30 l.at (take (30 * l.k) l.bytes)

@@ -5,19 +5,17 @@ use Rattle.bx_dump.specs.Lines.{in_lines}
 use Rattle.bx_dump.proofs.LinesLemmas.{in_lines-append, count_most}
 use Rattle.bx_dump.proofs.xxd.lines.LinesPages.put.Goals as goal
 
-pub split_at_mut-cells-requires : goal.split_at_mut-cells-requires
-split_at_mut-cells-requires g c =
+pub put_text-requires-clause-cells : goal.put_text-requires-clause-cells
+put_text-requires-clause-cells g c =
     let p = c.args.self.now in
     let n = length c.args.bytes.now in
     let W = g.F.LineForm.width p.form in
     let block = g.F.LineForm.cols p.form * p.lines in
-    let value : c.cell_len.result * n ≡ W * n = ap (λ w. w * n) c.cell_len.ensures.value in
     let inside : W * n ≤ W * block = mul-le-mul_left {m = n} {n = block} W c.requires.fits in
-    let room : length c.split_at_mut-text.result.1.now ≡ 65536 = omega (arith, c.split_at_mut-text.ensures.back_len, c.requires.page) in
-    omega (arith, p.narrow)
+    omega (arith, p.narrow, c.split_at_mut-text.ensures.back_len, c.requires.page)
 
-pub put_lines-requires-clause-room : goal.put_lines-requires-clause-room
-put_lines-requires-clause-room g c =
+pub put_text-requires-clause-room : goal.put_text-requires-clause-room
+put_text-requires-clause-room g c =
     let p = c.args.self.now in
     let n = length c.args.bytes.now in
     let C = g.F.LineForm.cols p.form in
@@ -33,12 +31,12 @@ returns-clause-text g c input len seen =
     let line = g.F.LineForm.line p.form in
     let C = g.F.LineForm.cols p.form in
     let bytes = c.args.bytes.now in
-    let rest = c.put_cells.new.cells ++ c.split_at_mut-cells.result.1.now in
-    let front : take c.put_lines.result (c.put_lines.new.text ++ rest) ≡ take c.put_lines.result c.put_lines.new.text =
-    take-append-le c.put_lines.result c.put_lines.new.text rest (omega (arith, c.put_lines.ensures.within, c.put_lines.auto.text)) in
+    let rest = c.put_text.new.cells in
+    let front : take c.put_text.result (c.put_text.new.text ++ rest) ≡ take c.put_text.result c.put_text.new.text =
+    take-append-le c.put_text.result c.put_text.new.text rest (omega (arith, c.put_text.ensures.within, c.put_text.auto.text)) in
     let place : p.start + length input ≡ p.start + c.args.done = ap (λ n. p.start + n) len in
     in_lines-append line C p.start seen.0 input bytes p.broad seen.1
-    ∙ ap (λ t. in_lines line C p.start input ++ t) (ap (λ n. in_lines line C n bytes) place ∙ sym (front ∙ c.put_lines.ensures.text))
+    ∙ ap (λ t. in_lines line C p.start input ++ t) (ap (λ n. in_lines line C n bytes) place ∙ sym (front ∙ c.put_text.ensures.text))
 
 pub returns-clause-seen : goal.returns-clause-seen
 returns-clause-seen g c input len seen whole =

@@ -2,5 +2,5 @@ use Rattle.bx_dump.specs.inner.Rows.{plain_line}
 use Rattle.bx_dump.proofs.LinesLemmas.{lines_zero}
 use Rattle.bx_dump.proofs.xxd.rows.PlainLineForm.put_common.Goals as goal
 
-pub returns-else-self-eq30-clause-text : goal.returns-else-self-eq30-clause-text
-returns-else-self-eq30-clause-text c = lines_zero (plain_line c.args.self.now.upper) c.args.self.now.cols c.args.at c.args.bytes.now c.args.self.now.some
+pub returns-clause-text : goal.returns-clause-text
+returns-clause-text c = lines_zero (plain_line c.args.self.now.upper) c.args.self.now.cols c.args._at c.args._bytes.now c.args.self.now.some
