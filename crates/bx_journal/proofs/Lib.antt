@@ -19,6 +19,7 @@ pub mod PrefixLemmas
 pub mod PageLemmas
 pub mod LookLemmas
 pub mod PartLemmas
+pub mod RestoreLemmas
 pub mod RangeLemmas
 pub mod FadeLemmas
 pub mod StepSurvivors

@@ -16,6 +16,7 @@ pub mod Recovery
 pub mod Redo
 pub mod RedoFound
 pub mod RedoLaws
+pub mod Restoring
 pub mod Rows
 pub mod Showing
 pub mod Standing

@@ -7,3 +7,4 @@ pub(crate) mod redo_entry;
 pub(crate) mod redo_text;
 pub(crate) mod settle;
 pub(crate) mod undo_entry;
+pub(crate) mod windows;
