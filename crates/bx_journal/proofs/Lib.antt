@@ -20,6 +20,7 @@ pub mod PageLemmas
 pub mod LookLemmas
 pub mod PartLemmas
 pub mod RestoreLemmas
+pub mod StandLemmas
 pub mod RangeLemmas
 pub mod FadeLemmas
 pub mod StepSurvivors
@@ -45,6 +46,7 @@ pub mod TouchedLemmas
 pub mod RedoLoop
 pub mod RedoingLemmas
 pub mod StandingLoop
+pub mod TornLemmas
 pub mod RecoverLemmas
 pub mod Refused
 pub mod JudgeLemmas

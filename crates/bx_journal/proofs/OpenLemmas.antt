@@ -25,7 +25,6 @@ use Rattle.bx_entries.proofs.ShownLemmas.{shown_short, take_shown}
 use Rattle.bx_journal.specs.inner.Opening.{LookFault}
 use Rattle.bx_entries.proofs.ReadLemmas.{length-entries_of}
 use Rattle.bx_journal.proofs.Sane.{IsSane, read_sane, have_lengths, length-restore}
-use Rattle.bx_journal.proofs.TailLemmas.{begins_at, begin_mark, tail_at, counted_at}
 
 pub some_same : {A : Type 0} (x y : A) → Some x ≡ Some y → x ≡ y
 some_same x y e = cc
@@ -36,9 +35,6 @@ read_once text bytes j r read same reads =
     let here : Reads bytes r = subst (λ t. Reads t r) same reads in
     some_same (reading_of j.entries.items j.stage) r (sym read.reads.lines ∙ here.lines)
 
-sane_of : {A : Type 0} → (bytes : List ℕ) (j : JournalRead A) → HasRead bytes j → IsSane (reading_of j.entries.items j.stage)
-sane_of bytes j read = read_sane (split bytes).lines (reading_of j.entries.items j.stage) read.reads.lines
-
 pub begins_told : (es : List Entry) (n : ℕ) → IfSome (told_by es) (λ told. n ≡ told) → may_begin es n ≡ true
 begins_told [] n h = refl
 begins_told (e ∷ es) n h = by_after e.after h
@@ -46,20 +42,6 @@ begins_told (e ∷ es) n h = by_after e.after h
     by_after : (after : Option ℕ) → IfSome after (λ told. n ≡ told) → may_begin (record { saved = e.saved; after = after } ∷ es) n ≡ true
     by_after None h = refl
     by_after (Some told) h = grind (arith, common_steps)
-
--- the length that the newest entry tells is the image's, so that those below have theirs
-pub lengths_early : {A : Type 0} → (bytes x y : List ℕ) (j : JournalRead A) → HasRead bytes j → y ≡ x → IfSome (told_by (entries_of j.entries.items)) (λ n. length x ≡ n) → HaveLengths (entries_of j.entries.items) y
-lengths_early bytes x y j read is told =
-    let sane = sane_of bytes j read in
-    subst (HaveLengths (entries_of j.entries.items)) (sym is) (have_lengths (entries_of j.entries.items) x sane.0 (begins_told (entries_of j.entries.items) (length x) told))
-
-pub lengths_ending : {A : Type 0} → (bytes x : List ℕ) (j : JournalRead A) (v : Version) (kept : Saved A) (begins saved : ℕ) → HasRead bytes j → j.stage ≡ EndingRead v kept begins saved
-    → HaveLengths (entries_of j.entries.items) (image_at (stage_of j.stage) x)
-lengths_ending bytes x j v kept begins saved read is =
-    let es : List Entry = entries_of j.entries.items in
-    let sane : IsSane (reading_of j.entries.items (EndingRead v kept begins saved)) = subst (λ s. IsSane (reading_of j.entries.items s)) is (sane_of bytes j read) in
-    let may : may_begin es (length (restore (kept_of kept) x)) ≡ true = ap (may_begin es) (length-restore (kept_of kept) x) ∙ sane.1.1 in
-    subst (λ s. HaveLengths es (image_at (stage_of s) x)) (sym is) (have_lengths es (restore (kept_of kept) x) sane.0 may)
 
 pub differs_of : (es : List Entry) (x : List ℕ) (n : ℕ) → told_by es ≡ Some n → (length x ≡ n → ⊥) → Differs es x n
 differs_of [] x n told apart = absurd (cc)
@@ -73,71 +55,6 @@ same_lengths (e ∷ es) x n lengths differs = differs.1 (by_after e.after length
     by_after : (after : Option ℕ) → IfSome after (λ told. length x ≡ told) → after ≡ Some n → length x ≡ n
     by_after None h is = absurd (cc)
     by_after (Some told) h is = let same : told ≡ n = cc in h ∙ same
-
-how_dropped : (es : List Entry) (text : List ℕ) (n : ℕ) → drop n (shown text) ≡ (split (shown text)).rest → n ≤ length (shown text) → (n ≡ length text → ⊥) → Dropped ≡ how_of (record { entries = es; stage = Between }) (left_over text)
-how_dropped es text n rest within short =
-    let long : length (left_over text) ≡ length (split (shown text)).rest + (length text - length (shown text)) =
-    length-append (split (shown text)).rest (drop (length (shown text)) text) ∙ ap (λ k. length (split (shown text)).rest + k) (length-drop (length (shown text)) text) in
-    by_rest (left_over text) (λ none. short (omega (arith, within, ap length rest, length-drop n (shown text), long, none, shown_short text)))
-  where
-    by_rest : (r : List ℕ) → (length r ≡ 0 → ⊥) → Dropped ≡ how_of (record { entries = es; stage = Between }) r
-    by_rest [] some = absurd (some refl)
-    by_rest (b ∷ r) some = refl
-
--- what is left where the text is cut at the place at which what is unfinished begins
-pub opened_at : {A : Type 0} → (text bytes x new y : List ℕ) (j : JournalRead A) (how : How) (changes : ℕ) → HasRead (shown bytes) j → text ≡ bytes → HaveLengths (entries_of j.entries.items) (image_at (stage_of j.stage) x)
-    → y ≡ image_at (stage_of j.stage) x → new ≡ take (begins_at j.stage j.whole) text → changes ≡ length j.entries.items → how ≡ how_of (reading_of j.entries.items j.stage) (left_over bytes)
-    → IsOpened text x (reading_of j.entries.items j.stage) new y how changes
-opened_at text bytes x new y j how changes read same lengths image cut counted is =
-    let es : List Entry = entries_of j.entries.items in
-    let mark : IsMark (shown bytes) (begins_at j.stage j.whole) (record { entries = es; stage = Between }) = begin_mark (shown bytes) j.entries.items j.stage j.whole read.places.mark read.places.marked in
-    let kept : new ≡ take (begins_at j.stage j.whole) (shown bytes) = cut ∙ ap (take (begins_at j.stage j.whole)) same ∙ take_shown (begins_at j.stage j.whole) bytes mark.within in
-    let reads : Reads (take (begins_at j.stage j.whole) (shown bytes)) (record { entries = es; stage = Between }) = record { lines = mark.lines; rest = subst (IsRest es Between) (sym mark.whole) (inl refl) } in
-    record {
-      stands = record {
-        entries = es;
-        reads = subst (λ t. Reads t (record { entries = es; stage = Between })) (sym kept) reads;
-        whole = ap (λ t. (split t).rest) kept ∙ mark.whole;
-        lengths = subst (HaveLengths es) (sym image) lengths;
-        stack_is = ap (stack_of es) (sym image);
-      };
-      changes_are = counted ∙ sym (length-entries_of j.entries.items);
-      how_is = is ∙ ap (λ t. how_of (reading_of j.entries.items j.stage) (left_over t)) (sym same);
-    }
-
-pub opened_dropped : {A : Type 0} → (text bytes x new : List ℕ) (j : JournalRead A) (changes : ℕ) → HasRead (shown bytes) j → j.stage ≡ BetweenRead → text ≡ bytes → (j.whole ≡ length bytes → ⊥)
-    → HaveLengths (entries_of j.entries.items) (image_at (stage_of j.stage) x) → new ≡ take j.whole text → changes ≡ length j.entries.items
-    → IsOpened text x (reading_of j.entries.items j.stage) new x Dropped changes
-opened_dropped text bytes x new j changes read is same short lengths cut counted =
-    let image : x ≡ image_at (stage_of j.stage) x = sym (ap (λ s. image_at (stage_of s) x) is) in
-    let place : j.whole ≡ begins_at j.stage j.whole = sym (ap (λ s. begins_at s j.whole) is) in
-    let how : Dropped ≡ how_of (reading_of j.entries.items j.stage) (left_over bytes) =
-    how_dropped (entries_of j.entries.items) bytes j.whole read.places.rest read.places.mark.within short ∙ ap (λ s. how_of (reading_of j.entries.items s) (left_over bytes)) (sym is) in
-    opened_at text bytes x new x j Dropped changes read same lengths image (cut ∙ ap (λ k. take k text) place) counted how
-
-pub opened_saving : {A : Type 0} → (text bytes x new : List ℕ) (j : JournalRead A) (changes : ℕ) (v : Version) (len : ℕ) (runs : _) (begins : ℕ) → HasRead (shown bytes) j → j.stage ≡ SavingRead v len runs begins → text ≡ bytes
-    → HaveLengths (entries_of j.entries.items) (image_at (stage_of j.stage) x) → new ≡ take begins text → changes ≡ length j.entries.items
-    → IsOpened text x (reading_of j.entries.items j.stage) new x Dropped changes
-opened_saving text bytes x new j changes v len runs begins read is same lengths cut counted =
-    let image : x ≡ image_at (stage_of j.stage) x = sym (ap (λ s. image_at (stage_of s) x) is) in
-    let place : begins ≡ begins_at j.stage j.whole = sym (ap (λ s. begins_at s j.whole) is) in
-    let how : Dropped ≡ how_of (reading_of j.entries.items j.stage) (left_over bytes) = ap (λ s. how_of (reading_of j.entries.items s) (left_over bytes)) (sym is) in
-    opened_at text bytes x new x j Dropped changes read same lengths image (cut ∙ ap (λ k. take k text) place) counted how
-
-pub opened_ending : {A : Type 0} → (text bytes x new y : List ℕ) (j : JournalRead A) (changes : ℕ) (v : Version) (kept : Saved A) (begins saved : ℕ) → HasRead (shown bytes) j → j.stage ≡ EndingRead v kept begins saved → text ≡ bytes
-    → HaveLengths (entries_of j.entries.items) (image_at (stage_of j.stage) x) → y ≡ restore (kept_of kept) x → new ≡ take begins text → changes ≡ length j.entries.items
-    → IsOpened text x (reading_of j.entries.items j.stage) new y (Restored (changes + 1)) changes
-opened_ending text bytes x new y j changes v kept begins saved read is same lengths restored cut counted =
-    let image : y ≡ image_at (stage_of j.stage) x = restored ∙ sym (ap (λ s. image_at (stage_of s) x) is) in
-    let place : begins ≡ begins_at j.stage j.whole = sym (ap (λ s. begins_at s j.whole) is) in
-    let number : changes + 1 ≡ suc (length (entries_of j.entries.items)) = omega (arith, counted, length-entries_of j.entries.items) in
-    let how : Restored (changes + 1) ≡ how_of (reading_of j.entries.items j.stage) (left_over bytes) =
-    ap Restored number ∙ ap (λ s. how_of (reading_of j.entries.items s) (left_over bytes)) (sym is) in
-    opened_at text bytes x new y j (Restored (changes + 1)) changes read same lengths image (cut ∙ ap (λ k. take k text) place) counted how
-
-pub counted_of : {A : Type 0} → (text bytes x : List ℕ) (stack : List (List ℕ)) (j : JournalRead A) → HasRead bytes j → text ≡ bytes → Recovers text x stack → length stack ≡ suc (length j.entries.items)
-counted_of text bytes x stack j read same rec =
-    counted_at text x stack j (stage_of j.stage) (begins_at j.stage j.whole) (tail_at text bytes x stack j j.stage read refl same rec)
 
 -- a fault between reading and the first write is one of opening
 pub look_opens : (H : Type 0) (es : List Entry) (x y : List ℕ) (r : Reading) (e : SessionFault) → H → r.entries ≡ es → image_at r.stage x ≡ y → LookFault H es y e → OpenFault r x e

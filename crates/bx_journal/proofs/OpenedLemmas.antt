@@ -9,7 +9,7 @@ use Rattle.bx_journal.specs.declared.session.fault.SessionFault.{SessionFault}
 use Rattle.bx_journal.specs.declared.session.fault.SessionFault.TheVariants.{NoMemory, TooLarge, DeviceFailed, Damaged, TooFew, JournalFull, Interrupted, Broken, LengthDiffers, NothingToRedo, RedoDamaged}
 use Rattle.bx_journal.specs.declared.recovery.journal.Found.{Found}
 use Rattle.bx_journal.specs.declared.recovery.journal.Found.TheVariants.{Finished, Unfinished}
-use Rattle.bx_entries.specs.declared.read.whole.JournalRead.{JournalRead}
+use Rattle.bx_journal.specs.declared.recovery.journal.Torn.{Torn}
 use Rattle.bx_entries.specs.declared.read.window.Counted.{Counted}
 use Rattle.bx_journal.specs.Calls.{AfterFault, Differs, OpenFault}
 use Rattle.bx_journal.specs.Images.{Images}
@@ -27,9 +27,9 @@ use Rattle.bx_journal.specs.Stack.{Recovers, image_at}
 use Rattle.bx_entries.specs.inner.Tally.{IsCounted}
 use Rattle.bx_entries.specs.Text.{Between, Entry, IsAccepted, Reading, Reads}
 use Rattle.bx_journal.proofs.Judged.{undamaged}
-use Rattle.bx_journal.proofs.OpenLemmas.{counted_of, differs_of}
+use Rattle.bx_journal.proofs.OpenLemmas.{differs_of}
 use Rattle.bx_entries.proofs.ReadLoop.{marked_few}
-use Rattle.bx_journal.proofs.RecoverLemmas.{unfinished_apart}
+use Rattle.bx_journal.proofs.TornLemmas.{torn_stack}
 use Rattle.bx_journal.proofs.RedoText.{empty_is_redo, one_list}
 use Rattle.bx_journal.proofs.Refused.{none_refused}
 use Rattle.bx_journal.proofs.CountedLemmas.{counted_differs, counted_once, counted_opened, counted_stack}
@@ -76,23 +76,20 @@ module _ (H : Type 0) (text : List ℕ) (r : Reading) (h : H) (reads : Reads tex
   find_redo m (RedoDamaged line) f = absurd f
 
 -- what was found is of the store's text
-pub found_counted : {A : Type 0} → (H : Type 0) (text : List ℕ) (f : Found A) (n : Counted) → IsFoundIn H text f → f ≡ Finished n → H → IsCounted text n.count n.told
+pub found_counted : (H : Type 0) (text : List ℕ) (f : Found) (n : Counted) → IsFoundIn H text f → f ≡ Finished n → H → IsCounted text n.count n.told
 found_counted H text f n found is h =
     let i : IsCountedIn H text n.count n.told = subst (IsFoundIn H text) is found in
     subst (λ t. IsCounted t n.count n.told) (sym (i.is h)) i.counted
 
-pub found_read : {A : Type 0} → (H : Type 0) (text : List ℕ) (f : Found A) (j : JournalRead A) → IsFoundIn H text f → f ≡ Unfinished j → IsUnfinishedIn H text j
-found_read H text f j found is = subst (IsFoundIn H text) is found
+pub found_torn : (H : Type 0) (text : List ℕ) (f : Found) (t : Torn) → IsFoundIn H text f → f ≡ Unfinished t → IsUnfinishedIn H text t
+found_torn H text f t found is = subst (IsFoundIn H text) is found
 
-pub found_unclean : {A : Type 0} → (H : Type 0) (text : List ℕ) (j : JournalRead A) → IsUnfinishedIn H text j → H → IsClean text → ⊥
-found_unclean H text j i h clean =
-    let here : IsClean i.text = subst IsClean (i.is h) clean in
-    unfinished_apart i.text j (subst (λ t. HasRead t j) (clean_shown i.text here.0 here.1) i.read) i.unfinished here
+pub found_unclean : (H : Type 0) (text : List ℕ) (t : Torn) → IsUnfinishedIn H text t → H → IsClean text → ⊥
+found_unclean H text t i h = (i.torn h).unfinished
 
 -- this many changes fit in a journal
-pub found_few : {A : Type 0} → (H : Type 0) (text x : List ℕ) (stack : List (List ℕ)) (j : JournalRead A) → IsUnfinishedIn H text j → H → Recovers (shown text) x stack → changes_of stack ≤ 65535
-found_few H text x stack j i h rec =
-    omega (arith, counted_of (shown text) (shown i.text) x stack j i.read (ap shown (i.is h)) rec, marked_few (shown i.text) [] j.entries.items j.stage j.whole i.read.places.marked)
+pub found_few : (H : Type 0) (text x : List ℕ) (stack : List (List ℕ)) (t : Torn) → IsUnfinishedIn H text t → H → Recovers (shown text) x stack → changes_of stack ≤ 65535
+found_few H text x stack t i h rec = omega (arith, torn_stack (shown text) (shown text) x stack t (i.torn h).reading (i.torn h).torn refl rec, i.few)
 
 told_holds : (told : Option ℕ) (x : List ℕ) → ((n : ℕ) → told ≡ Some n → (length x ≡ n → ⊥) → ⊥) → HasToldLength told x
 told_holds None x apart = tt

@@ -19,11 +19,10 @@ use Rattle.bx_journal.specs.inner.Recovery.{FinishedFault, HasToldLength, Recove
 use Rattle.bx_journal.specs.Redo.{IsClean, IsRefusedAt}
 use Rattle.bx_entries.specs.inner.Tally.{IsCounted}
 use Rattle.bx_entries.specs.Shown.{shown}
-use Rattle.bx_entries.proofs.ShownLemmas.{shown_short}
+use Rattle.bx_entries.proofs.CleanLemmas.{clean_shown}
 use Rattle.bx_entries.specs.Text.{Entry, Between, Reading, Reads}
 use Rattle.bx_journal.proofs.OpenLemmas.{read_once}
 use Rattle.bx_entries.proofs.ReadLemmas.{length-entries_of}
-use Rattle.bx_journal.proofs.TailLemmas.{begins_at, begin_mark}
 use Rattle.bx_journal.proofs.Tails.{rest_none}
 
 -- finished entries alone that were read are counted
@@ -50,17 +49,8 @@ unfinished_apart text j read unfinished clean =
     let same = read_once text text j (record { entries = clean.0; stage = Between }) read refl clean.1.reads in
     unfinished (between_back j.stage (ap (λ (r : Reading). r.stage) same)) (omega (arith, ap length (read.places.rest ∙ clean.1.whole), length-drop j.whole text, read.places.mark.within))
 
--- an entry that has its save line begins within the text
-pub ending_begins : {A : Type 0} → (text bytes : List ℕ) (j : JournalRead A) (v : Version) (kept : Saved A) (begins saved : ℕ) → HasRead (shown bytes) j → j.stage ≡ EndingRead v kept begins saved → text ≡ bytes
-    → begins ≤ length text
-ending_begins text bytes j v kept begins saved read is same =
-    let mark = begin_mark (shown bytes) j.entries.items j.stage j.whole read.places.mark read.places.marked in
-    omega (arith, mark.within, ap (λ s. begins_at s j.whole) is, ap length same, shown_short bytes)
-
-pub stage_begins : {A : Type 0} → (text bytes : List ℕ) (j : JournalRead A) (stage : StageRead A) → HasRead (shown bytes) j → j.stage ≡ stage → text ≡ bytes → begins_at stage j.whole ≤ length text
-stage_begins text bytes j stage read is same =
-    let mark = begin_mark (shown bytes) j.entries.items j.stage j.whole read.places.mark read.places.marked in
-    omega (arith, mark.within, ap (λ s. begins_at s j.whole) is, ap length same, shown_short bytes)
+pub unfinished_shown : {A : Type 0} → (text : List ℕ) (j : JournalRead A) → HasRead (shown text) j → (j.stage ≡ BetweenRead → j.whole ≡ length text → ⊥) → IsClean text → ⊥
+unfinished_shown text j read unfinished clean = unfinished_apart text j (subst (λ t. HasRead t j) (clean_shown text clean.0 clean.1) read) unfinished clean
 
 -- a fault between reading and the first write is one of taking back
 pub look_kind : (H : Type 0) (es : List Entry) (x : List ℕ) (e : SessionFault) → LookFault H es x e → RecoverFault e

@@ -28,23 +28,3 @@ pub begin_mark : {A : Type 0} → (text : List ℕ) (es : List (EntryRead A)) (s
 begin_mark text es BetweenRead at mark m = mark
 begin_mark text es (SavingRead v len runs begins) at mark m = m.1
 begin_mark text es (EndingRead v kept begins saved) at mark m = m.1
-
-pub tail_at : {A : Type 0} → (text bytes x : List ℕ) (stack : List (List ℕ)) (j : JournalRead A) (stage : StageRead A) → HasRead bytes j → j.stage ≡ stage → text ≡ bytes → Recovers text x stack
-    → HasTail text x stack (entries_of j.entries.items) (stage_of stage) (begins_at stage j.whole)
-tail_at text bytes x stack j stage read is same rec =
-    let es : List Entry = entries_of j.entries.items in
-    let marked : IsMarked bytes [] j.entries.items stage j.whole = subst (λ s. IsMarked bytes [] j.entries.items s j.whole) is read.places.marked in
-    let mark : IsMark bytes j.whole (reading_of j.entries.items stage) = subst (λ s. IsMark bytes j.whole (reading_of j.entries.items s)) is read.places.mark in
-    let reads : Reads bytes (reading_of j.entries.items stage) = subst (λ s. Reads bytes (reading_of j.entries.items s)) is read.reads in
-    tail_of text x stack (entries_of j.entries.items) (stage_of stage) (begins_at stage j.whole) rec
-    (subst (λ t. Reads t (reading_of j.entries.items stage)) (sym same) reads)
-    (subst (λ t. IsMark t (begins_at stage j.whole) (record { entries = entries_of j.entries.items; stage = Between })) (sym same) (begin_mark bytes j.entries.items stage j.whole mark marked))
-
-pub counted_at : {A : Type 0} → (text x : List ℕ) (stack : List (List ℕ)) (j : JournalRead A) (stage : Stage) (n : ℕ) → HasTail text x stack (entries_of j.entries.items) stage n → length stack ≡ suc (length j.entries.items)
-counted_at text x stack j stage n t = counted_stack text x stack (entries_of j.entries.items) stage n t ∙ ap suc (length-entries_of j.entries.items)
-
-pub ending_within : {A : Type 0} → (bytes : List ℕ) (j : JournalRead A) (v : Version) (kept : Saved A) (begins saved : ℕ) → HasRead bytes j → j.stage ≡ EndingRead v kept begins saved → AllWithin kept.len (map run_of kept.runs)
-ending_within bytes j v kept begins saved read is =
-    let reads : Reads bytes (reading_of j.entries.items (EndingRead v kept begins saved)) = subst (λ s. Reads bytes (reading_of j.entries.items s)) is read.reads in
-    let sane = read_sane (split bytes).lines (reading_of j.entries.items (EndingRead v kept begins saved)) reads.lines in
-    sane.1.0

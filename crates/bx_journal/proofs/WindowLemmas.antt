@@ -15,7 +15,7 @@ use Rattle.bx_journal.specs.declared.session.fault.SessionFault.{SessionFault}
 use Rattle.bx_journal.specs.declared.session.fault.SessionFault.TheVariants.{NoMemory, TooLarge, DeviceFailed, Damaged, TooFew, JournalFull, Interrupted, Broken, LengthDiffers, NothingToRedo, RedoDamaged}
 use Rattle.bx_journal.specs.Undoing.{AgainFault, IsOutOfStep}
 use Rattle.bx_journal.specs.inner.Devices.{FaultCounts, LooksAt}
-use Rattle.bx_journal.specs.inner.Recovery.{FindFault, FindsText, IsFoundIn}
+use Rattle.bx_journal.specs.inner.Recovery.{FindFault, FindsText, IsFoundIn, IsTornIn}
 use Rattle.bx_journal.specs.inner.Windows.{IsPassed, IsCountedTo, IsFrontCounted, IsAllCounted}
 
 -- a front of a window that was filled
@@ -81,9 +81,9 @@ looks_before {failures = failures} {r = r} {new = new} first next = record {
 
 -- what is said of a text behind a call that only looked at it
 module _ {T V : Type 0} {honest : T → Type 0} {text : T → List ℕ} {failures : T → ℕ} {v : V} {old now : T} (first : LooksAt honest text failures (Ok v) old now) where
-  found_is : {A : Type 0} → (f : Found A) → IsFoundIn (honest now) (text now) f → IsFoundIn (honest old) (text old) f
+  found_is : (f : Found) → IsFoundIn (honest now) (text now) f → IsFoundIn (honest old) (text old) f
   found_is (Finished counted) f = record { text = f.text; is = λ h. sym (first.same h) ∙ f.is (first.honesty.1 h); counted = f.counted; few = f.few }
-  found_is (Unfinished journal) f = record { text = f.text; is = λ h. sym (first.same h) ∙ f.is (first.honesty.1 h); read = f.read; unfinished = f.unfinished }
+  found_is (Unfinished torn) f = record { torn = λ h. subst (λ t. IsTornIn t torn) (first.same h) (f.torn (first.honesty.1 h)); few = f.few; order = f.order }
 
   fault_is : (e : SessionFault) → FindFault (honest now) (shown (text now)) e → FindFault (honest old) (shown (text old)) e
   fault_is NoMemory f = tt
@@ -114,7 +114,7 @@ module _ {T V : Type 0} {honest : T → Type 0} {text : T → List ℕ} {failure
   pub again_behind : {W : Type 0} → (count : ℕ) (r : Result W SessionFault) → IfErr r (AgainFault (honest now) (text now) count) → IfErr r (AgainFault (honest old) (text old) count)
   again_behind count r fault = IfErr-weaker r (AgainFault (honest now) (text now) count) (AgainFault (honest old) (text old) count) (again_is count) fault
 
-  pub text_behind : {A : Type 0} {new : T} → (r : Result (Found A) SessionFault) → FindsText honest text failures r now new → FindsText honest text failures r old new
+  pub text_behind : {new : T} → (r : Result Found SessionFault) → FindsText honest text failures r now new → FindsText honest text failures r old new
   text_behind r next = record {
     found = IfOk-weaker r (IsFoundIn (honest now) (text now)) (IsFoundIn (honest old) (text old)) found_is next.found;
     fault = IfErr-weaker r (FindFault (honest now) (shown (text now))) (FindFault (honest old) (shown (text old))) fault_is next.fault;

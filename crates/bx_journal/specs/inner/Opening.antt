@@ -1,10 +1,10 @@
 -- What proofs alone need: what opening a pair finds and leaves.
-use Rattle.std.specs.Prelude.{◌≤◌, ℕ, List}
+use Rattle.std.specs.Prelude.{◌<◌, ◌≤◌, ℕ, Option, List, length, IfSome, vec_capacity}
 use Rattle.bx_journal.specs.declared.session.fault.SessionFault.{SessionFault}
 use Rattle.bx_journal.specs.declared.session.fault.SessionFault.TheVariants.{LengthDiffers}
 use Rattle.bx_journal.specs.Fault.{DeviceFault}
-use Rattle.bx_entries.specs.declared.read.types.StageRead.{StageRead}
-use Rattle.bx_entries.specs.declared.read.types.StageRead.TheVariants.{Between as BetweenRead, Saving as SavingRead, Ending as EndingRead}
+use Rattle.bx_journal.specs.declared.protocol.windows.Buffers.{Buffers}
+use Rattle.bx_journal.specs.declared.protocol.windows.Mark.{Mark}
 use Rattle.bx_entries.specs.Text.{Entry}
 use Rattle.bx_journal.specs.Calls.{Differs}
 
@@ -14,7 +14,9 @@ LookFault honest es x (LengthDiffers n) = honest → Differs es x n
 LookFault honest es x e = DeviceFault e
 
 -- restoring what is unfinished takes no more memory
-abbrev pub HasRoomFor : {A : Type 0} → StageRead A → ℕ → Type 0
-HasRoomFor BetweenRead room = Unit {0}
-HasRoomFor (SavingRead v len runs begins) room = Unit {0}
-HasRoomFor (EndingRead v kept begins saved) room = kept.len ≤ room
+abbrev pub HasRoomFor : Option Mark → ℕ → Type 0
+HasRoomFor mark room = IfSome mark (λ m. m.len ≤ room)
+
+-- the buffers have a window for the longest line, and room for a part
+abbrev pub HasBuffersFor : {A : Type 0} → Option Mark → Buffers A → Type 0
+HasBuffersFor mark b = IfSome mark (λ m. (m.longest ≤ length b.window.items) × (0 < vec_capacity b.parts))

@@ -4,7 +4,6 @@ use Rattle.bx_journal.specs.declared.session.answers.How.TheVariants.{Clean}
 use Rattle.bx_journal.specs.declared.session.answers.Recovered.{Recovered}
 use Rattle.bx_journal.specs.declared.session.fault.SessionFault.{SessionFault}
 use Rattle.bx_journal.specs.declared.session.fault.SessionFault.TheVariants.{RedoDamaged}
-use Rattle.bx_entries.specs.declared.read.whole.JournalRead.{JournalRead}
 use Rattle.bx_entries.specs.Shown.{shown}
 use Rattle.bx_entries.specs.Text.{Reading, Reads}
 use Rattle.bx_journal.specs.Calls.{AfterFault}
@@ -14,17 +13,19 @@ use Rattle.bx_journal.specs.Opened.{IsPairSame}
 use Rattle.bx_journal.specs.Opening.{IsOpened}
 use Rattle.bx_journal.specs.Power.{Found}
 use Rattle.bx_journal.specs.Redo.{RefusesRedoAt}
-use Rattle.bx_journal.specs.Stack.{Recovers}
-use Rattle.bx_journal.specs.inner.Recovery.{HasLengths, HasUndoneCount, IsOpenedOf, KeepsUndone}
+use Rattle.bx_journal.specs.Stack.{HaveLengths, Recovers, image_at}
+use Rattle.bx_journal.specs.inner.Recovery.{HasUndoneCount, KeepsUndone}
 
 -- whatever the journal reads as, what is left stands for what that recovers
 abbrev pub Opens : {D T E : Type 0} → (D → List ℕ) → (T → List ℕ) → D → T → D → T → Result Recovered E → Type 0
 Opens image text d t d_new t_new result =
     (r : Reading) → Reads (shown (text t)) r → IfOk result (λ o. IsOpened (text t) (image d) r (text t_new) (image d_new) o.how o.changes)
 
--- the same of a journal that was read, whose lengths are those of the images
-abbrev pub OpensRead : {D T A E : Type 0} → JournalRead A → (D → List ℕ) → (T → List ℕ) → D → T → D → T → Result Recovered E → Type 0
-OpensRead j image text d t d_new t_new result = HasLengths j (image d) → IfOk result (IsOpenedOf j (text t) (image d) (text t_new) (image d_new))
+-- the same where the lengths that its entries record are those of the images
+abbrev pub OpensRead : {D T E : Type 0} → (D → List ℕ) → (T → List ℕ) → D → T → D → T → Result Recovered E → Type 0
+OpensRead image text d t d_new t_new result =
+    (r : Reading) → Reads (shown (text t)) r → HaveLengths r.entries (image_at r.stage (image d))
+    → IfOk result (λ o. IsOpened (text t) (image d) r (text t_new) (image d_new) o.how o.changes)
 
 -- as many changes are reported as the stack has that opening finds
 abbrev pub CountsStack : {E : Type 0} → List ℕ → List ℕ → Result Recovered E → Type 0

@@ -1,25 +1,25 @@
 -- What proofs alone need: what opening finds in a journal's text, and what it leaves of the redo text.
-use Rattle.std.specs.Prelude.{◌≡◌, ◌⊎◌, ◌≤◌, ℕ, Option, Some, List, length, IfSome, Result, IfOk, IfErr, MatchResult, OnOk, OnErr}
+use Rattle.std.specs.Prelude.{◌≡◌, ◌⊎◌, ◌≤◌, ℕ, Option, None, Some, List, length, IfSome, Result, IfOk, IfErr, MatchResult, OnOk, OnErr}
 use Rattle.bx_journal.specs.declared.session.answers.Recovered.{Recovered}
 use Rattle.bx_journal.specs.declared.session.fault.SessionFault.{SessionFault}
 use Rattle.bx_journal.specs.declared.session.fault.SessionFault.TheVariants.{DeviceFailed, Damaged, Interrupted, LengthDiffers, RedoDamaged}
 use Rattle.bx_journal.specs.Fault.{DeviceFault}
 use Rattle.bx_journal.specs.declared.recovery.journal.Found.{Found}
 use Rattle.bx_journal.specs.declared.recovery.journal.Found.TheVariants.{Finished, Unfinished}
-use Rattle.bx_entries.specs.declared.read.whole.JournalRead.{JournalRead}
-use Rattle.bx_entries.specs.declared.read.types.StageRead.TheVariants.{Between as BetweenRead}
-use Rattle.bx_entries.specs.inner.Journal.{HasRead}
+use Rattle.bx_journal.specs.declared.protocol.windows.Mark.{Mark}
+use Rattle.bx_journal.specs.declared.recovery.journal.Torn.{Torn}
+use Rattle.bx_entries.specs.inner.Mark.{IsMark}
 use Rattle.bx_journal.specs.Judging.{RefusesRedo}
-use Rattle.bx_journal.specs.Opening.{IsOpened}
 use Rattle.bx_journal.specs.inner.Devices.{LooksAt}
 use Rattle.bx_journal.specs.inner.Opening.{LookFault}
 use Rattle.bx_journal.specs.Phase.{IsAtRest}
-use Rattle.bx_journal.specs.Stack.{HaveLengths, Recovers, image_at}
-use Rattle.bx_journal.specs.Redo.{IsRedoOf, IsRefusedAt, found_undone}
-use Rattle.bx_entries.specs.inner.Parsed.{entries_of, reading_of, stage_of}
+use Rattle.bx_journal.specs.Stack.{Recovers, image_at}
+use Rattle.bx_journal.specs.Redo.{IsClean, IsRedoOf, IsRefusedAt, found_undone}
+use Rattle.bx_journal.specs.inner.Restoring.{StandsAt}
+use Rattle.bx_entries.specs.Parsed.{told_by}
 use Rattle.bx_entries.specs.inner.Tally.{IsCounted}
 use Rattle.bx_entries.specs.Shown.{shown}
-use Rattle.bx_entries.specs.Text.{IsDamagedAt}
+use Rattle.bx_entries.specs.Text.{Stage, Between, Saving, Ending, Reading, Reads, IsDamagedAt}
 
 -- this many finished entries alone were counted: the store's, where that is honest
 pub record IsCountedIn (honest : Type 0) (stored : List ℕ) (count : ℕ) (told : Option ℕ) : Type 0 where
@@ -28,25 +28,40 @@ pub record IsCountedIn (honest : Type 0) (stored : List ℕ) (count : ℕ) (told
   pub counted : IsCounted text count told
   pub few : count ≤ 65535
 
--- a journal was read that isn't finished entries alone: the store's, where that is honest
-pub record IsUnfinishedIn {A : Type 0} (honest : Type 0) (stored : List ℕ) (j : JournalRead A) : Type 0 where
-  pub text : List ℕ
-  pub is : honest → stored ≡ text
-  pub read : HasRead (shown text) j
-  pub unfinished : j.stage ≡ BetweenRead → j.whole ≡ length text → ⊥
+-- where the change of what is unfinished was under way its record stands at a mark, and elsewhere there is no mark
+abbrev pub HasMark : List ℕ → Stage → Option Mark → Type 0
+HasMark text Between None = Unit {0}
+HasMark text (Saving v s) None = Unit {0}
+HasMark text (Ending v s) (Some mark) = StandsAt text mark s
+HasMark text Between (Some mark) = ⊥
+HasMark text (Saving v s) (Some mark) = ⊥
+HasMark text (Ending v s) None = ⊥
+
+-- what is unfinished at the end of a text that reads so
+pub record IsTorn (text : List ℕ) (r : Reading) (t : Torn) : Type 0 where
+  pub reads : Reads text r
+  pub begins : IsMark text t.begins (record { entries = r.entries; stage = Between })
+  pub count : t.count ≡ length r.entries
+  pub told : t.told ≡ told_by r.entries
+  pub few : t.count ≤ 65535
+  pub mark : HasMark text r.stage t.mark
+
+-- so does this text, which isn't finished entries alone
+pub record IsTornIn (text : List ℕ) (t : Torn) : Type 0 where
+  pub reading : Reading
+  pub torn : IsTorn (shown text) reading t
+  pub unfinished : IsClean text → ⊥
+
+-- something unfinished was found at the end of a journal: of the store's, where that is honest
+pub record IsUnfinishedIn (honest : Type 0) (stored : List ℕ) (t : Torn) : Type 0 where
+  pub torn : honest → IsTornIn stored t
+  pub few : t.count ≤ 65535
+  pub order : IfSome t.mark (λ m. m.lines ≤ m.saved)
 
 -- what was found is the store's, where that is honest
-abbrev pub IsFoundIn : {A : Type 0} → Type 0 → List ℕ → Found A → Type 0
+abbrev pub IsFoundIn : Type 0 → List ℕ → Found → Type 0
 IsFoundIn honest stored (Finished counted) = IsCountedIn honest stored counted.count counted.told
-IsFoundIn honest stored (Unfinished journal) = IsUnfinishedIn honest stored journal
-
--- the lengths that the entries of a journal tell are those of the images
-abbrev pub HasLengths : {A : Type 0} → JournalRead A → List ℕ → Type 0
-HasLengths j x = HaveLengths (entries_of j.entries.items) (image_at (stage_of j.stage) x)
-
--- what opening leaves stands for the journal that was read
-abbrev pub IsOpenedOf : {A : Type 0} → JournalRead A → List ℕ → List ℕ → List ℕ → List ℕ → Recovered → Type 0
-IsOpenedOf j text x new y o = IsOpened text x (reading_of j.entries.items j.stage) new y o.how o.changes
+IsFoundIn honest stored (Unfinished torn) = IsUnfinishedIn honest stored torn
 
 -- a sound pair keeps its stack: at rest, or behind a fault so that opening finds it again
 abbrev pub KeepsStack : {T E : Type 0} → Result T E → List ℕ → List ℕ → List ℕ → List ℕ → Type 0
@@ -59,7 +74,7 @@ FindFault honest text (Damaged line) = honest → IsDamagedAt text line
 FindFault honest text e = DeviceFault e
 
 -- A call that looks at what a journal's text is: it answers that, or why the text can't be read
-pub record FindsText {T A : Type 0} (honest : T → Type 0) (text : T → List ℕ) (failures : T → ℕ) (result : Result (Found A) SessionFault) (old new : T)
+pub record FindsText {T : Type 0} (honest : T → Type 0) (text : T → List ℕ) (failures : T → ℕ) (result : Result Found SessionFault) (old new : T)
     : Type 0 where
   pub found : IfOk result (IsFoundIn (honest old) (text old))
   pub fault : IfErr result (FindFault (honest old) (shown (text old)))
@@ -98,8 +113,8 @@ abbrev pub LengthFault : Type 0 → Option ℕ → List ℕ → SessionFault →
 LengthFault honest told x e = (e ≡ DeviceFailed) ⊎ ((n : ℕ) × (e ≡ LengthDiffers n) × (honest → HasOtherLength told x n))
 
 -- which fault may come between reading a journal and the first write
-abbrev pub LookReadFault : {A : Type 0} → Type 0 → JournalRead A → List ℕ → SessionFault → Type 0
-LookReadFault honest j x e = LookFault honest (entries_of j.entries.items) (image_at (stage_of j.stage) x) e
+abbrev pub LookReadFault : Type 0 → Reading → List ℕ → SessionFault → Type 0
+LookReadFault honest r x e = LookFault honest r.entries (image_at r.stage x) e
 
 -- the same of an image and a redo text, which are honest by themselves
 abbrev pub FaultBeside : Type 0 → Type 0 → List ℕ → List ℕ → ℕ → Option ℕ → SessionFault → Type 0

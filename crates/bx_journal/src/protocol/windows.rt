@@ -15,7 +15,7 @@ use crate::protocol::image::{restore_len, restore_part};
 use bx_entries::{Part, parts_in};
 use bx_image::{Device, DeviceFailed};
 use bx_store::TextStore;
-use std::alloc::Allocator;
+use std::alloc::{Allocator, Global};
 
 /// Where the record of an entry stands in a text: its saved lines begin at `lines`, and its `save` line ends at `saved`. The image
 /// that it restores has the length `len`, and no line up to there is longer than `longest`, newline included.
@@ -25,6 +25,13 @@ pub struct Mark {
     pub saved: u64,
     pub len: u64,
     pub longest: u64,
+}
+
+/// What restoring a record takes before its first write: a window of its text, and the parts of one.
+#[derive(Drop)]
+pub struct Buffers<A: Allocator = Global> {
+    pub window: Vec<u8, A>,
+    pub parts: Vec<Part, A>,
 }
 
 /// Writes the parts of a window to an image of at most this length.

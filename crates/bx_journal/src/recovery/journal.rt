@@ -1,24 +1,35 @@
 //! What reading a journal finds when a pair is opened for recovery.
-ghost use Rattle.std.specs.Prelude.{◌≡◌, ◌<◌, ◌≤◌, List, ℕ, length, IfSome, IfNone};
+ghost use Rattle.std.specs.Prelude.{◌≡◌, ◌^◌, ◌<◌, ◌≤◌, List, ℕ, length, IfSome, IfNone};
 ghost use Rattle.bx_entries.specs.Shown.{shown};
 ghost use Rattle.bx_entries.specs.inner.Journal.{HasRead};
 ghost use Rattle.bx_entries.specs.inner.Tally.{IsCounted};
 
 use crate::SessionFault;
+use crate::protocol::windows::Mark;
 use crate::recovery::windows::count_text;
 use crate::session::fault::of_text;
 use crate::session::read::read_journal;
-use bx_entries::{Counted, JournalRead, StageRead, shown_len, told_length};
+use bx_entries::{Counted, JournalRead, StageRead, Version, shown_len, told_length};
 use bx_store::TextStore;
-use std::alloc::{Allocator, Global};
+use std::alloc::Allocator;
+
+/// What is unfinished at the end of a text: `count` finished entries stand before it, the last of which records the length `told`,
+/// and it begins at `begins`. Where its `save` line stands, its record stands at a mark.
+#[derive(Clone, Copy)]
+pub struct Torn {
+    pub count: u32,
+    pub told: Option<u64>,
+    pub begins: u64,
+    pub mark: Option<Mark>,
+}
 
 /// What a journal's text is.
-#[derive(Drop)]
-pub enum Found<A: Allocator = Global> {
+#[derive(Clone, Copy)]
+pub enum Found {
     /// Finished entries alone, which were counted.
     Finished(Counted),
     /// Anything else that is accepted: something is to be cut off or taken back.
-    Unfinished(JournalRead<A>),
+    Unfinished(Torn),
 }
 
 /// The count of what was read in the front of a text of this many bytes, where it is finished entries alone and all of the text.
@@ -44,7 +55,60 @@ fn as_counted<A: Allocator>(journal: &JournalRead<A>, len: u64) -> Option<Counte
     }
 }
 
-ghost use Rattle.bx_journal.specs.inner.Recovery.{FindsText};
+ghost use Rattle.bx_journal.specs.inner.Recovery.{FindsText, IsTorn};
+ghost use Rattle.bx_entries.specs.inner.Parsed.{reading_of};
+ghost use Rattle.bx_entries.specs.inner.Line.{start_size as size_of};
+
+/// How long the line is that begins an entry.
+fn start_size(version: Version) -> u64
+    ensures { result ≡ size_of version }
+{
+    match version {
+        Version::First => 24,
+        Version::Second => 33,
+    }
+}
+
+/// What is unfinished in a text that was read.
+fn as_torn<A: Allocator>(journal: &JournalRead<A>) -> Torn
+    requires read { (text : List ℕ) × HasRead text journal.now × (length text < 2 ^ 64) }
+    ensures torn { (text : List ℕ) → HasRead text journal.now → IsTorn text (reading_of journal.now.entries.items journal.now.stage) result }
+    ensures few { result.count ≤ 65535 }
+    ensures order { IfSome result.mark (λ m. m.lines ≤ m.saved) }
+{
+    let count = journal.entries.len() as u32;
+    let told = told_length(&journal.entries);
+    match &journal.stage {
+        StageRead::Between => Torn {
+            count,
+            told,
+            begins: journal.whole,
+            mark: None,
+        },
+        StageRead::Saving { begins, .. } => Torn {
+            count,
+            told,
+            begins: *begins,
+            mark: None,
+        },
+        StageRead::Ending {
+            version,
+            kept,
+            begins,
+            saved,
+        } => Torn {
+            count,
+            told,
+            begins: *begins,
+            mark: Some(Mark {
+                lines: *begins + start_size(*version) + 1,
+                saved: *saved,
+                len: kept.len,
+                longest: *saved,
+            }),
+        },
+    }
+}
 
 /// What is read of a text.
 fn as_shown<A: Allocator>(bytes: Vec<u8, A>) -> Vec<u8, A>
@@ -60,7 +124,7 @@ fn as_shown<A: Allocator>(bytes: Vec<u8, A>) -> Vec<u8, A>
 fn read_whole<T: TextStore, A: Allocator + Clone>(
     alloc: &A,
     store: &mut T,
-) -> Result<Found<A>, SessionFault>
+) -> Result<Found, SessionFault>
     requires { T.failures store.old < u64.MAX }
     ensures { FindsText T.honest T.text T.failures result store.old store.new }
 {
@@ -75,7 +139,7 @@ fn read_whole<T: TextStore, A: Allocator + Clone>(
     };
     match as_counted(&journal, len) {
         Some(counted) => Ok(Found::Finished(counted)),
-        None => Ok(Found::Unfinished(journal)),
+        None => Ok(Found::Unfinished(as_torn(&journal))),
     }
 }
 
@@ -84,7 +148,7 @@ fn read_whole<T: TextStore, A: Allocator + Clone>(
 pub fn read_text<T: TextStore, A: Allocator + Clone>(
     alloc: &A,
     store: &mut T,
-) -> Result<Found<A>, SessionFault>
+) -> Result<Found, SessionFault>
     requires { T.failures store.old < u64.MAX }
     ensures { FindsText T.honest T.text T.failures result store.old store.new }
 {

@@ -1,16 +1,18 @@
 //! Rolling an unfinished entry back.
-ghost use Rattle.std.specs.Prelude.{◌≡◌, ◌↔◌, ◌<◌, ◌≤◌, length, take, OnOk, OnErr, map, is_err};
-ghost use Rattle.bx_image.specs.Change.{AllWithin, restore};
+ghost use Rattle.std.specs.Prelude.{◌≡◌, ◌↔◌, ◌<◌, ◌≤◌, Some, length, take, OnOk, OnErr, is_err};
+ghost use Rattle.bx_image.specs.Change.{restore};
 ghost use Rattle.bx_image.specs.Device.{GoesOn};
 ghost use Rattle.bx_image.specs.Power.{Only};
 ghost use Rattle.bx_journal.specs.inner.Fading.{BackSurvives, RestSurvives, TailSurvives};
-ghost use Rattle.bx_entries.specs.Kept.{run_of, kept_of};
+ghost use Rattle.bx_entries.specs.Kept.{Kept};
 ghost use Rattle.bx_entries.specs.Shown.{shown};
+ghost use Rattle.bx_journal.specs.inner.Opening.{HasBuffersFor};
+ghost use Rattle.bx_journal.specs.inner.Restoring.{StandsAt};
 ghost use Rattle.bx_journal.specs.inner.Step.{StopsTail, TailRests, TailStops, TakesTail};
 ghost use Rattle.bx_journal.specs.inner.Devices.{OneMore};
 
-use crate::protocol::image::restore_image;
-use bx_image::{Device, DeviceFailed, Saved};
+use crate::protocol::windows::{Buffers, Mark, restore_windows};
+use bx_image::{Device, DeviceFailed};
 use bx_store::TextStore;
 use std::alloc::Allocator;
 
@@ -32,32 +34,39 @@ pub fn drop_tail<T: TextStore>(store: &mut T, begins: u64) -> Result<(), DeviceF
     store.sync()
 }
 
-/// Takes back the change of an entry that has its save line and no end, and cuts the entry off.
+/// Takes back the change of an entry that has its save line and no end, and cuts the entry off. Its record is read from the text, a
+/// window at a time.
 pub fn take_back<D: Device, T: TextStore, A: Allocator>(
     device: &mut D,
     store: &mut T,
-    kept: Saved<A>,
+    buffers: &mut Buffers<A>,
+    mark: Mark,
     begins: u64,
 ) -> Result<(), DeviceFailed>
     requires device_countable { D.failures device.old < u64.MAX }
     requires store_countable { T.failures store.old < u64.MAX }
     requires within_text { T.honest store.old → begins ≤ length (T.text store.old) }
-    requires within { AllWithin kept.len (map run_of kept.runs) }
-    requires image_room { kept.len ≤ D.room device.old }
-    ensures ok { D.honest device.old → T.honest store.old
-        → TakesTail D.image T.text (kept_of kept) begins device.old store.old device.new store.new result }
-    ensures fault { D.honest device.old → T.honest store.old
-        → StopsTail D.image T.text (kept_of kept) begins device.old store.old device.new store.new result }
-    ensures image { D.honest device.old → OnOk result (D.image device.new ≡ restore (kept_of kept) (D.image device.old)) }
+    requires within_mark { T.honest store.old → mark.saved ≤ length (T.text store.old) }
+    requires order { mark.lines ≤ mark.saved }
+    requires buffers { HasBuffersFor (Some mark) buffers.old }
+    requires image_room { mark.len ≤ D.room device.old }
+    ensures ok { D.honest device.old → T.honest store.old → (s : Kept) → StandsAt (T.text store.old) mark s
+        → TakesTail D.image T.text s begins device.old store.old device.new store.new result }
+    ensures fault { D.honest device.old → T.honest store.old → (s : Kept) → StandsAt (T.text store.old) mark s
+        → StopsTail D.image T.text s begins device.old store.old device.new store.new result }
+    ensures image { D.honest device.old → T.honest store.old → (s : Kept) → StandsAt (T.text store.old) mark s
+        → OnOk result (D.image device.new ≡ restore s (D.image device.old)) }
     ensures text { T.honest store.old → OnOk result (T.text store.new ≡ take begins (T.text store.old)) }
-    ensures survives { D.honest device.old → T.honest store.old → Only (D.image device.old) (D.survives device.old) → Only (T.text store.old) (T.survives store.old)
-        → BackSurvives (kept_of kept) (shown (T.text store.old)) (D.image device.old) begins (D.survives device.new) (T.survives store.new) }
+    ensures survives { D.honest device.old → T.honest store.old → (s : Kept) → StandsAt (T.text store.old) mark s
+        → Only (D.image device.old) (D.survives device.old) → Only (T.text store.old) (T.survives store.old)
+        → BackSurvives s (shown (T.text store.old)) (D.image device.old) begins (D.survives device.new) (T.survives store.new) }
     ensures device_honesty { D.honest device.new ↔ D.honest device.old }
     ensures store_honesty { T.honest store.new ↔ T.honest store.old }
     ensures room { D.room device.old ≤ D.room device.new }
     ensures no_failure { OnOk result ((D.failures device.new ≡ D.failures device.old) × (T.failures store.new ≡ T.failures store.old)) }
     ensures failure { OnErr result (OneMore (D.failures device.old) (T.failures store.old) (D.failures device.new) (T.failures store.new)) }
 {
-    restore_image(device, kept)?;
+    let window = buffers.window.as_mut_slice();
+    restore_windows(device, store, window, &mut buffers.parts, mark)?;
     drop_tail(store, begins)
 }

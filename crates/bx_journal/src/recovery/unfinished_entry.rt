@@ -1,7 +1,6 @@
 //! An unfinished entry at the end of a journal, and how opening discards it or rolls it back.
 ghost use Rattle.std.specs.Prelude.{◌≡◌, ◌↔◌, ◌⊎◌, Some, ◌+◌, ◌<◌, ◌≤◌, [], List, ℕ, length, OnOk, OnErr, IfOk, IfErr, IfSome, MatchResult};
 ghost use Rattle.bx_journal.specs.Calls.{AfterFault, OpenFault};
-ghost use Rattle.bx_entries.specs.inner.Journal.{HasRead};
 ghost use Rattle.bx_journal.specs.Opened.{RefusesDiffering};
 ghost use Rattle.bx_journal.specs.Opening.{RefusesText};
 ghost use Rattle.bx_journal.specs.inner.Devices.{AreBelow, AreCounted, AreUnfailed, HaveStayed, LooksAt, OneMore, StepsOn};
@@ -9,26 +8,29 @@ ghost use Rattle.bx_journal.specs.inner.Fading.{OpeningSurvives, PairSurvives};
 ghost use Rattle.bx_journal.specs.inner.Written.{AreSettled};
 ghost use Rattle.bx_image.specs.Power.{Only};
 ghost use Rattle.bx_journal.specs.Power.{RecoverySurvives};
-ghost use Rattle.bx_journal.specs.inner.Opening.{HasRoomFor};
-ghost use Rattle.bx_entries.specs.inner.Parsed.{entries_of};
+ghost use Rattle.bx_journal.specs.inner.Opening.{HasBuffersFor, HasRoomFor, LookFault};
 ghost use Rattle.bx_journal.specs.Recovery.{OpenKind};
 ghost use Rattle.bx_journal.specs.inner.Recovering.{CountsStack, FindsAgain, KeepsFoundUndone, KeepsRedoText, Opens, OpensRead, SparesClean, SparesPair, TellsRefused, TellsUndone, TellsUnfit};
-ghost use Rattle.bx_journal.specs.inner.Recovery.{HasLengths, IsUnfinishedIn, KeepsStack, LengthFault, LookReadFault, RecoverFault};
+ghost use Rattle.bx_journal.specs.inner.Recovery.{IsTorn, IsUnfinishedIn, KeepsStack, LengthFault, LookReadFault, RecoverFault};
 ghost use Rattle.bx_journal.specs.Redo.{IsClean};
+ghost use Rattle.bx_journal.specs.Stack.{HaveLengths, image_at};
 ghost use Rattle.bx_entries.specs.Shown.{shown};
 ghost use Rattle.bx_entries.specs.Text.{IsAccepted, IsDamagedAt, Reading, Reads};
 ghost use Rattle.bx_journal.specs.Undoing.{HasLeft};
 
 use crate::protocol::redo_text::cut_redo;
 use crate::protocol::settle::settle;
+use crate::protocol::windows::{Buffers, Mark};
 use crate::recovery::finished_journal::open_finished;
-use crate::recovery::journal::{Found, read_text};
+use crate::recovery::journal::{Found, Torn, read_text};
 use crate::recovery::take_back::{drop_tail, take_back};
 use crate::{How, Recovered, SessionFault};
-use bx_entries::{JournalRead, StageRead, told_length};
 use bx_image::{Device, DeviceFailed};
 use bx_store::TextStore;
 use std::alloc::Allocator;
+
+/// No saved line that `bx` writes is shorter, its newline included.
+const SHORTEST_LINE: usize = 53;
 
 /// Whether the image has the length that the last entry tells, if it tells one.
 pub fn check_length<D: Device>(device: &mut D, told: Option<u64>) -> Result<(), SessionFault>
@@ -46,24 +48,20 @@ pub fn check_length<D: Device>(device: &mut D, told: Option<u64>) -> Result<(), 
 }
 
 /// Compares the image's length with the one that the last finished entry tells, or makes room for what is to be
-/// restored. An entry that has its save line begins with the length that was recorded, so there is nothing to compare.
-fn prepare<D: Device, A: Allocator>(
-    device: &mut D,
-    journal: &JournalRead<A>,
-) -> Result<(), SessionFault>
+/// restored, which has a length that was told before.
+fn prepare<D: Device>(device: &mut D, torn: Torn) -> Result<(), SessionFault>
     requires { D.failures device.old < u64.MAX }
-    ensures lengths { D.honest device.old → (bytes : List ℕ) → HasRead bytes journal.now
-        → OnOk result (HasLengths journal.now (D.image device.old)) }
-    ensures fault { IfErr result (LookReadFault (D.honest device.old) journal.now (D.image device.old)) }
-    ensures room { OnOk result (HasRoomFor journal.now.stage (D.room device.new)) }
+    ensures lengths { D.honest device.old → (text : List ℕ) (r : Reading) → IsTorn text r torn
+        → OnOk result (HaveLengths r.entries (image_at r.stage (D.image device.old))) }
+    ensures fault { (text : List ℕ) (r : Reading) → IsTorn text r torn → IfErr result (LookReadFault (D.honest device.old) r (D.image device.old)) }
+    ensures kind { IfErr result (LookFault ⊥ [] []) }
+    ensures room { OnOk result (HasRoomFor torn.mark (D.room device.new)) }
     ensures looks { LooksAt D.honest D.image D.failures result device.old device.new }
 {
-    let told = told_length(&journal.entries);
-    match &journal.stage {
-        StageRead::Between => check_length(device, told),
-        StageRead::Saving { .. } => check_length(device, told),
-        StageRead::Ending { kept, .. } => {
-            device.reserve(kept.len)?;
+    match torn.mark {
+        None => check_length(device, torn.told),
+        Some(mark) => {
+            device.reserve(mark.len)?;
             Ok(())
         }
     }
@@ -73,55 +71,43 @@ fn prepare<D: Device, A: Allocator>(
 fn cut_unfinished<D: Device, T: TextStore, A: Allocator>(
     device: &mut D,
     store: &mut T,
-    journal: JournalRead<A>,
+    buffers: &mut Buffers<A>,
+    torn: Torn,
 ) -> Result<Recovered, DeviceFailed>
     requires device_countable { D.failures device.old < u64.MAX }
     requires store_countable { T.failures store.old < u64.MAX }
-    requires read { IsUnfinishedIn (T.honest store.old) (T.text store.old) journal }
-    requires room { HasRoomFor journal.stage (D.room device.old) }
-    ensures opened { D.honest device.old → T.honest store.old → OpensRead journal D.image T.text device.old store.old device.new store.new result }
-    ensures left { T.honest store.old → OnOk result (HasLeft (T.text store.old) (T.text store.new) (entries_of journal.entries.items)) }
+    requires found { IsUnfinishedIn (T.honest store.old) (T.text store.old) torn }
+    requires room { HasRoomFor torn.mark (D.room device.old) }
+    requires buffers { HasBuffersFor torn.mark buffers.old }
+    ensures opened { D.honest device.old → T.honest store.old → OpensRead D.image T.text device.old store.old device.new store.new result }
+    ensures left { T.honest store.old → (r : Reading) → Reads (shown (T.text store.old)) r → OnOk result (HasLeft (T.text store.old) (T.text store.new) r.entries) }
     ensures unclean { IfOk result (λ o. (o.how ≡ How.Clean → ⊥) × (o.undone ≡ 0)) }
     ensures keeps { D.honest device.old → T.honest store.old
         → KeepsStack result (T.text store.old) (D.image device.old) (T.text store.new) (D.image device.new) }
     ensures survives { D.honest device.old → T.honest store.old → Only (D.image device.old) (D.survives device.old) → Only (T.text store.old) (T.survives store.old)
         → PairSurvives (T.text store.old) (D.image device.old) (D.survives device.new) (T.survives store.new) }
-    ensures changes { IfOk result (λ o. o.changes ≡ length journal.entries.items) }
+    ensures changes { IfOk result (λ o. o.changes ≡ torn.count) }
     ensures device_honesty { D.honest device.new ↔ D.honest device.old }
     ensures store_honesty { T.honest store.new ↔ T.honest store.old }
     ensures no_failure { OnOk result ((D.failures device.new ≡ D.failures device.old) × (T.failures store.new ≡ T.failures store.old)) }
     ensures failure { OnErr result (OneMore (D.failures device.old) (T.failures store.old) (D.failures device.new) (T.failures store.new)) }
 {
-    let JournalRead {
-        entries,
-        stage,
-        whole,
-    } = journal;
-    let changes = entries.len() as u32;
-    match stage {
-        StageRead::Between => {
-            drop_tail(store, whole)?;
+    match torn.mark {
+        None => {
+            drop_tail(store, torn.begins)?;
             Ok(Recovered {
                 how: How::Dropped,
-                changes,
+                changes: torn.count,
                 undone: 0,
             })
         }
-        StageRead::Saving { begins, .. } => {
-            drop_tail(store, begins)?;
-            Ok(Recovered {
-                how: How::Dropped,
-                changes,
-                undone: 0,
-            })
-        }
-        StageRead::Ending { kept, begins, .. } => {
-            take_back(device, store, kept, begins)?;
+        Some(mark) => {
+            take_back(device, store, buffers, mark, torn.begins)?;
             Ok(Recovered {
                 how: How::Restored {
-                    number: changes + 1,
+                    number: torn.count + 1,
                 },
-                changes,
+                changes: torn.count,
                 undone: 0,
             })
         }
@@ -134,17 +120,19 @@ fn finish<D: Device, T: TextStore, A: Allocator>(
     device: &mut D,
     store: &mut T,
     redo_text: &mut T,
-    journal: JournalRead<A>,
+    buffers: &mut Buffers<A>,
+    torn: Torn,
 ) -> Result<Recovered, DeviceFailed>
     requires countable { AreBelow u64.MAX (D.failures device.old) (T.failures store.old) (T.failures redo_text.old) }
-    requires read { IsUnfinishedIn (T.honest store.old) (T.text store.old) journal }
-    requires room { HasRoomFor journal.stage (D.room device.old) }
-    ensures opened { D.honest device.old → T.honest store.old → OpensRead journal D.image T.text device.old store.old device.new store.new result }
-    ensures left { T.honest store.old → OnOk result (HasLeft (T.text store.old) (T.text store.new) (entries_of journal.entries.items)) }
+    requires found { IsUnfinishedIn (T.honest store.old) (T.text store.old) torn }
+    requires room { HasRoomFor torn.mark (D.room device.old) }
+    requires buffers { HasBuffersFor torn.mark buffers.old }
+    ensures opened { D.honest device.old → T.honest store.old → OpensRead D.image T.text device.old store.old device.new store.new result }
+    ensures left { T.honest store.old → (r : Reading) → Reads (shown (T.text store.old)) r → OnOk result (HasLeft (T.text store.old) (T.text store.new) r.entries) }
     ensures unclean { IfOk result (λ o. (o.how ≡ How.Clean → ⊥) × (o.undone ≡ 0)) }
     ensures keeps { D.honest device.old → T.honest store.old
         → KeepsStack result (T.text store.old) (D.image device.old) (T.text store.new) (D.image device.new) }
-    ensures changes { IfOk result (λ o. o.changes ≡ length journal.entries.items) }
+    ensures changes { IfOk result (λ o. o.changes ≡ torn.count) }
     ensures emptied { T.honest redo_text.old → OnOk result (T.text redo_text.new ≡ []) }
     ensures emptied_first { T.honest redo_text.old → OnErr result ((store.new ≡ store.old) ⊎ (T.text redo_text.new ≡ [])) }
     ensures survives { D.honest device.old → T.honest store.old → T.honest redo_text.old
@@ -153,45 +141,70 @@ fn finish<D: Device, T: TextStore, A: Allocator>(
     ensures steps_on { StepsOn D.honest T.honest D.failures T.failures result device.old store.old redo_text.old device.new store.new redo_text.new }
 {
     cut_redo(redo_text, 0)?;
-    cut_unfinished(device, store, journal)
+    cut_unfinished(device, store, buffers, torn)
+}
+
+/// The memory that restoring takes: as much for a record of any length.
+fn buffers_for<A: Allocator + Clone>(
+    alloc: &A,
+    mark: Option<Mark>,
+) -> Result<Buffers<A>, SessionFault>
+    ensures buffers { IfOk result (HasBuffersFor mark) }
+    ensures fault { IfErr result (λ e. e ≡ SessionFault.NoMemory) }
+{
+    let size = match mark {
+        None => 0,
+        Some(at) => at.longest as usize,
+    };
+    let window = vec![in alloc.clone()?; 0u8; size]?;
+    let parts = Vec::with_capacity(alloc.clone()?, size / SHORTEST_LINE + 1)?;
+    Ok(Buffers { window, parts })
 }
 
 /// What opening takes before its first write, with all on the disk that the three have.
-fn get_ready<D: Device, T: TextStore, A: Allocator>(
+fn get_ready<D: Device, T: TextStore, A: Allocator + Clone>(
+    alloc: &A,
     device: &mut D,
     store: &mut T,
     redo_text: &mut T,
-    journal: &JournalRead<A>,
-) -> Result<(), SessionFault>
+    torn: Torn,
+) -> Result<Buffers<A>, SessionFault>
     requires countable { AreBelow u64.MAX (D.failures device.old) (T.failures store.old) (T.failures redo_text.old) }
-    ensures lengths { D.honest device.old → (bytes : List ℕ) → HasRead bytes journal.now
-        → OnOk result (HasLengths journal.now (D.image device.old)) }
-    ensures fault { IfErr result (LookReadFault (D.honest device.old) journal.now (D.image device.old)) }
-    ensures room { OnOk result (HasRoomFor journal.now.stage (D.room device.new)) }
+    ensures lengths { D.honest device.old → (text : List ℕ) (r : Reading) → IsTorn text r torn
+        → OnOk result (HaveLengths r.entries (image_at r.stage (D.image device.old))) }
+    ensures fault { (text : List ℕ) (r : Reading) → IsTorn text r torn → IfErr result (LookReadFault (D.honest device.old) r (D.image device.old)) }
+    ensures kind { IfErr result (LookFault ⊥ [] []) }
+    ensures room { OnOk result (HasRoomFor torn.mark (D.room device.new)) }
+    ensures buffers { IfOk result (HasBuffersFor torn.mark) }
     ensures settled { D.honest device.old → T.honest store.old → T.honest redo_text.old
         → OnOk result (AreSettled D.image T.text D.survives T.survives device.new store.new redo_text.new) }
     ensures stayed { HaveStayed D.honest T.honest D.image T.text device.old store.old redo_text.old device.new store.new redo_text.new }
     ensures no_failure { AreUnfailed D.failures T.failures device.old store.old redo_text.old device.new store.new redo_text.new result }
     ensures counts { AreCounted D.failures T.failures device.old store.old redo_text.old device.new store.new redo_text.new result }
 {
-    if let Err(fault) = prepare(device, journal) {
+    let buffers = match buffers_for(alloc, torn.mark) {
+        Ok(buffers) => buffers,
+        Err(fault) => return Err(fault),
+    };
+    if let Err(fault) = prepare(device, torn) {
         return Err(fault);
     }
     match settle(device, store, redo_text) {
-        Ok(()) => Ok(()),
+        Ok(()) => Ok(buffers),
         Err(_) => Err(SessionFault::DeviceFailed),
     }
 }
 
-/// Takes back what is unfinished in a journal that was read.
-pub fn recover_read<D: Device, T: TextStore, A: Allocator>(
+/// Takes back what is unfinished at the end of a journal.
+pub fn recover_read<D: Device, T: TextStore, A: Allocator + Clone>(
+    alloc: &A,
     device: &mut D,
     store: &mut T,
     redo_text: &mut T,
-    journal: JournalRead<A>,
+    torn: Torn,
 ) -> Result<Recovered, SessionFault>
     requires countable { AreBelow u64.MAX (D.failures device.old) (T.failures store.old) (T.failures redo_text.old) }
-    requires read { IsUnfinishedIn (T.honest store.old) (T.text store.old) journal }
+    requires found { IsUnfinishedIn (T.honest store.old) (T.text store.old) torn }
     ensures opened { D.honest device.old → T.honest store.old → Opens D.image T.text device.old store.old device.new store.new result }
     ensures left { T.honest store.old → (r : Reading) → Reads (shown (T.text store.old)) r → OnOk result (HasLeft (T.text store.old) (T.text store.new) r.entries) }
     ensures unclean { IfOk result (λ o. (o.how ≡ How.Clean → ⊥) × (o.undone ≡ 0)) }
@@ -215,10 +228,11 @@ pub fn recover_read<D: Device, T: TextStore, A: Allocator>(
     ensures no_failure { AreUnfailed D.failures T.failures device.old store.old redo_text.old device.new store.new redo_text.new result }
     ensures counts { AreCounted D.failures T.failures device.old store.old redo_text.old device.new store.new redo_text.new result }
 {
-    if let Err(fault) = get_ready(device, store, redo_text, &journal) {
-        return Err(fault);
-    }
-    match finish(device, store, redo_text, journal) {
+    let mut buffers = match get_ready(alloc, device, store, redo_text, torn) {
+        Ok(buffers) => buffers,
+        Err(fault) => return Err(fault),
+    };
+    match finish(device, store, redo_text, &mut buffers, torn) {
         Ok(found) => Ok(found),
         Err(_) => Err(SessionFault::Interrupted),
     }
@@ -273,6 +287,6 @@ pub fn recover<D: Device, T: TextStore, A: Allocator + Clone>(
     };
     match found {
         Found::Finished(counted) => open_finished(alloc, device, redo_text, counted),
-        Found::Unfinished(journal) => recover_read(device, store, redo_text, journal),
+        Found::Unfinished(torn) => recover_read(alloc, device, store, redo_text, torn),
     }
 }

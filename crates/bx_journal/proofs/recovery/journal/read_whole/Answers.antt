@@ -2,7 +2,10 @@ use Rattle.std.proofs.Common.{◌≡◌, ◌≤◌, ◌∙◌, length, take_all,
 use Rattle.bx_entries.specs.Shown.{shown}
 use Rattle.bx_entries.specs.inner.Journal.{HasRead}
 use Rattle.bx_entries.specs.inner.Tally.{IsCounted}
+use Rattle.bx_entries.specs.inner.Parsed.{reading_of}
 use Rattle.bx_entries.proofs.ShownLemmas.{shown_is_front, shown_short}
+use Rattle.bx_journal.specs.inner.Recovery.{IsTornIn}
+use Rattle.bx_journal.proofs.RecoverLemmas.{unfinished_shown}
 use Rattle.bx_journal.proofs.recovery.journal.read_whole.Goals as goal
 
 pub returns-in-Some : goal.returns-in-Some
@@ -23,16 +26,18 @@ returns-in-Some g c =
       looks = record { same = search rules; honesty = search rules; no_failure = c.in-Ok.ensures.goes_on.counted; counts = tt };
     }
 
-pub returns-in-None : goal.returns-in-None
-returns-in-None g c =
+pub returns : goal.returns
+returns g c =
     let bytes = c.in-Ok.bytes in
+    let j = c.in-Ok-read_journal.journal in
     let long : c.len-len.result ≡ length bytes.items = omega (arith, c.len-len.ensures, bytes.ok.0, bytes.ok.1) in
+    let read : HasRead (shown bytes.items) j = subst (λ t. HasRead t j) c.as_shown.ensures c.in-Ok-read_journal.ensures.read in
     record {
       found = record {
-        text = bytes.items;
-        is = λ th. sym (c.in-Ok.ensures.bytes th);
-        read = subst (λ t. HasRead t c.in-Ok-read_journal.journal) c.as_shown.ensures c.in-Ok-read_journal.ensures.read;
-        unfinished = λ is all. c.in-None.ensures.none is (all ∙ sym long);
+        torn = λ th. subst (λ t. IsTornIn t c.as_torn.result) (c.in-Ok.ensures.bytes th)
+            (record { reading = reading_of j.entries.items j.stage; torn = c.as_torn.ensures.torn (shown bytes.items) read; unfinished = unfinished_shown bytes.items j read (λ is all. c.in-None.ensures.none is (all ∙ sym long)) });
+        few = c.as_torn.ensures.few;
+        order = c.as_torn.ensures.order;
       };
       fault = tt;
       looks = record { same = search rules; honesty = search rules; no_failure = c.in-Ok.ensures.goes_on.counted; counts = tt };

@@ -8,8 +8,7 @@ use Rattle.bx_journal.specs.Stack.{Recovers}
 use Rattle.bx_entries.specs.Shown.{shown}
 use Rattle.bx_entries.proofs.CleanLemmas.{clean_shown}
 use Rattle.bx_entries.specs.Text.{Between, IsAccepted, Reads}
-use Rattle.bx_entries.specs.inner.Parsed.{reading_of}
-use Rattle.bx_journal.proofs.OpenedLemmas.{emptied_keeps, emptied_undone, find_silent, finished_silent, unfinished_matches, err_then, find_opens, find_redo, find_refuses, finished_accepted, finished_faults, finished_kept, finished_opened, finished_other, finished_stack, finished_unfit, found_counted, found_few, found_read, found_unclean, recover_kind, unfinished_finds}
+use Rattle.bx_journal.proofs.OpenedLemmas.{emptied_keeps, emptied_undone, find_silent, finished_silent, unfinished_matches, err_then, find_opens, find_redo, find_refuses, finished_accepted, finished_faults, finished_kept, finished_opened, finished_other, finished_stack, finished_unfit, found_counted, found_few, found_torn, found_unclean, recover_kind, unfinished_finds}
 use Rattle.bx_journal.proofs.LeftLemmas.{left_whole}
 use Rattle.bx_journal.proofs.CountedLemmas.{counted_rest, ok_always}
 use Rattle.bx_journal.proofs.recovery.unfinished_entry.recover.Goals as goal
@@ -82,8 +81,8 @@ returns-in-Finished-clause-redo_kept g c dh th rh s finds =
 pub returns-in-Unfinished-clause-unfinished : goal.returns-in-Unfinished-clause-unfinished
 returns-in-Unfinished-clause-unfinished g c th =
     let text : List ℕ = g.T.TextStore.text c.args.store.now in
-    let i = found_read (g.T.TextStore.honest c.args.store.now) text c.in-Ok.found c.in-Unfinished.journal c.in-Ok.ensures.found c.in-Unfinished.is in
-    err_then _ c.recover_read.result (found_unclean (g.T.TextStore.honest c.args.store.now) text c.in-Unfinished.journal i th)
+    let i = found_torn (g.T.TextStore.honest c.args.store.now) text c.in-Ok.found c.in-Unfinished.torn c.in-Ok.ensures.found c.in-Unfinished.is in
+    err_then _ c.recover_read.result (found_unclean (g.T.TextStore.honest c.args.store.now) text c.in-Unfinished.torn i th)
 
 pub returns-in-Unfinished-clause-undone : goal.returns-in-Unfinished-clause-undone
 returns-in-Unfinished-clause-undone g c dh th rh =
@@ -92,8 +91,8 @@ returns-in-Unfinished-clause-undone g c dh th rh =
 pub returns-in-Unfinished-clause-redo_unfit : goal.returns-in-Unfinished-clause-redo_unfit
 returns-in-Unfinished-clause-redo_unfit g c dh th rh line r =
     let text : List ℕ = g.T.TextStore.text c.args.store.now in
-    let i = found_read (g.T.TextStore.honest c.args.store.now) text c.in-Ok.found c.in-Unfinished.journal c.in-Ok.ensures.found c.in-Unfinished.is in
-    absurd (found_unclean (g.T.TextStore.honest c.args.store.now) text c.in-Unfinished.journal i th (r.entries, r.finished))
+    let i = found_torn (g.T.TextStore.honest c.args.store.now) text c.in-Ok.found c.in-Unfinished.torn c.in-Ok.ensures.found c.in-Unfinished.is in
+    absurd (found_unclean (g.T.TextStore.honest c.args.store.now) text c.in-Unfinished.torn i th (r.entries, r.finished))
 
 pub returns-in-Unfinished-clause-keeps_undone : goal.returns-in-Unfinished-clause-keeps_undone
 returns-in-Unfinished-clause-keeps_undone g c dh th rh s finds =
@@ -109,10 +108,10 @@ returns-in-Unfinished-clause-finds_err g c dh th rh s finds =
     let x : List ℕ = g.D.Device.image c.args.device.now in
     let same = c.read_text.ensures.looks.same th in
     let mid = c.read_text.ensures.looks.honesty.1 th in
-    let i = found_read (g.T.TextStore.honest c.args.store.now) text c.in-Ok.found c.in-Unfinished.journal c.in-Ok.ensures.found c.in-Unfinished.is in
+    let i = found_torn (g.T.TextStore.honest c.args.store.now) text c.in-Ok.found c.in-Unfinished.torn c.in-Ok.ensures.found c.in-Unfinished.is in
     unfinished_finds text x (g.T.TextStore.text c.args.redo_text.now) _ _ _ s finds
-    (found_unclean (g.T.TextStore.honest c.args.store.now) text c.in-Unfinished.journal i th)
-    (found_few (g.T.TextStore.honest c.args.store.now) text x s.stack c.in-Unfinished.journal i th finds.recovers)
+    (found_unclean (g.T.TextStore.honest c.args.store.now) text c.in-Unfinished.torn i th)
+    (found_few (g.T.TextStore.honest c.args.store.now) text x s.stack c.in-Unfinished.torn i th finds.recovers)
     c.recover_read.result
     (c.recover_read.ensures.keeps dh mid s.stack (subst (λ t. Recovers (shown t) x s.stack) (sym same) finds.recovers)).1
     (store_text _ g.T.TextStore.text c.recover_read.result _ _ _ same (c.recover_read.ensures.emptied_first mid rh))
@@ -150,14 +149,14 @@ returns-in-Finished-clause-differs g c dh th r n reads differs =
 pub returns-in-Unfinished-clause-accepted : goal.returns-in-Unfinished-clause-accepted
 returns-in-Unfinished-clause-accepted g c th =
     let text : List ℕ = g.T.TextStore.text c.args.store.now in
-    let i = found_read (g.T.TextStore.honest c.args.store.now) text c.in-Ok.found c.in-Unfinished.journal c.in-Ok.ensures.found c.in-Unfinished.is in
-    ok_always c.recover_read.result (reading_of c.in-Unfinished.journal.entries.items c.in-Unfinished.journal.stage, subst (λ t. Reads (shown t) (reading_of c.in-Unfinished.journal.entries.items c.in-Unfinished.journal.stage)) (sym (i.is th)) i.read.reads)
+    let i = found_torn (g.T.TextStore.honest c.args.store.now) text c.in-Ok.found c.in-Unfinished.torn c.in-Ok.ensures.found c.in-Unfinished.is in
+    ok_always c.recover_read.result ((i.torn th).reading, (i.torn th).torn.reads)
 
 pub returns-in-Unfinished-clause-unaccepted : goal.returns-in-Unfinished-clause-unaccepted
 returns-in-Unfinished-clause-unaccepted g c th none =
     let text : List ℕ = g.T.TextStore.text c.args.store.now in
-    let i = found_read (g.T.TextStore.honest c.args.store.now) text c.in-Ok.found c.in-Unfinished.journal c.in-Ok.ensures.found c.in-Unfinished.is in
-    absurd (none (reading_of c.in-Unfinished.journal.entries.items c.in-Unfinished.journal.stage, subst (λ t. Reads (shown t) (reading_of c.in-Unfinished.journal.entries.items c.in-Unfinished.journal.stage)) (sym (i.is th)) i.read.reads))
+    let i = found_torn (g.T.TextStore.honest c.args.store.now) text c.in-Ok.found c.in-Unfinished.torn c.in-Ok.ensures.found c.in-Unfinished.is in
+    absurd (none ((i.torn th).reading, (i.torn th).torn.reads))
 
 pub returns-in-Err-clause-survives : goal.returns-in-Err-clause-survives
 returns-in-Err-clause-survives g c dh th rh s found = find_silent _ _ _ c.in-Err.fault c.in-Err.ensures.fault
