@@ -7,7 +7,7 @@ pub(crate) mod ranges;
 pub(crate) mod rows;
 pub(crate) mod runs;
 pub(crate) mod shown;
-mod tail;
+pub(crate) mod tail;
 pub(crate) mod take_line;
 pub(crate) mod types;
 pub(crate) mod whole;

@@ -53,6 +53,8 @@ pub mod JudgeLemmas
 pub mod OpenedLemmas
 pub mod LeftLemmas
 pub mod WindowLemmas
+pub mod WalkLemmas
+pub mod ShownTail
 pub mod ListLemmas
 pub mod LastLemmas
 pub mod Reopening

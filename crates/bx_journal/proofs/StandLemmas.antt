@@ -25,7 +25,7 @@ use Rattle.bx_journal.specs.inner.Restoring.{AllShorter, StandsAt}
 use Rattle.bx_journal.proofs.RestoreLemmas.{line_gives, lines_more, same_reading}
 
 -- lines that are a text are shorter than it
-joined_shorter : (most : ℕ) (ls : List (List ℕ)) → length (joined ls) ≤ most → AllShorter most ls
+pub joined_shorter : (most : ℕ) (ls : List (List ℕ)) → length (joined ls) ≤ most → AllShorter most ls
 joined_shorter most [] le = tt
 joined_shorter most (l ∷ ls) le =
     let long = length-append (ended l) (joined ls) in
@@ -36,9 +36,9 @@ pub lines_shorter : (text : List ℕ) (most : ℕ) → (split text).rest ≡ [] 
 lines_shorter text most whole le = joined_shorter most (split text).lines (omega (arith, le, ap length (joined_lines text whole)))
 
 -- the version and the length of an entry stay among its lines
-record StaysOf (v w : Version) (k s : Kept) : Type 0 where
-  version : v ≡ w
-  len : k.len ≡ s.len
+pub record StaysOf (v w : Version) (k s : Kept) : Type 0 where
+  pub version : v ≡ w
+  pub len : k.len ≡ s.len
 
 stage_version : (v w : Version) (k s : Kept) → Ending v k ≡ Ending w s → v ≡ w
 stage_version v w k s e = cc
@@ -62,7 +62,7 @@ ending_of es v w k s (l ∷ ls) e =
     let n = next_ending es v k l b.0 b.1 in
     absurd (omega (arith, lines_more ls b.0 (record { entries = es; stage = Ending w s }) b.2, ap (λ (p : Reading). length p.entries) n.1))
 
-saving_of : (es : List Entry) (v w : Version) (k s : Kept) (ls : List (List ℕ)) → after_lines (record { entries = es; stage = Saving v k }) ls ≡ Some (record { entries = es; stage = Ending w s }) → StaysOf v w k s
+pub saving_of : (es : List Entry) (v w : Version) (k s : Kept) (ls : List (List ℕ)) → after_lines (record { entries = es; stage = Saving v k }) ls ≡ Some (record { entries = es; stage = Ending w s }) → StaysOf v w k s
 unfolding after_lines
 saving_of es v w k s [] e =
     absurd (saving_apart v w k s (ap (λ (r : Reading). r.stage) (same_reading (record { entries = es; stage = Saving v k }) (record { entries = es; stage = Ending w s }) e)))

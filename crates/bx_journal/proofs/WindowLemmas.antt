@@ -1,8 +1,9 @@
 -- Counting in windows: a window more.
-use Rattle.std.proofs.Common.{◌≡◌, ℕ, ◌+◌, ◌-◌, ◌≤◌, Bool, List, ◌++◌, length, take, drop, ap, sym, ◌∙◌, subst, arith, length-append, length-take, Result, Ok}
+use Rattle.std.proofs.Common.{◌≡◌, ℕ, ◌+◌, ◌-◌, ◌≤◌, Bool, List, ◌++◌, length, take, drop, ap, sym, ◌∙◌, subst, arith, length-append, length-take, Option, None, Some, Result, Ok}
 use Rattle.bx_entries.specs.Shown.{shown}
 use Rattle.bx_entries.proofs.TallyLemmas.{take_less, take_sum}
-use Rattle.std.specs.Prelude.{IfErr, OnOk}
+use Rattle.std.specs.Prelude.{IfErr, IfSome, OnOk}
+use Rattle.bx_entries.specs.inner.Tally.{IsTallied, IsPassed as IsPassedIn}
 use Rattle.std.proofs.lemmas.List.{take_all}
 use Rattle.std.proofs.lemmas.Result.{IfErr-weaker, IfOk-weaker}
 use Rattle.bx_entries.specs.Text.{IsDamagedAt}
@@ -24,6 +25,21 @@ front_of n m window from less is =
     let more : n + (m - n) ≡ m = omega (arith, less, ap length is, length-take m from) in
     ap (take n) is ∙ ap (λ k. take n (take k from)) (sym more) ∙ take_less n (m - n) from
 
+-- what is counted of a window that was read
+pub passed_some : (honest : Type 0) (stored : List ℕ) (only : Bool) (at len size : ℕ) (t : Tally) (window : List ℕ) (found : Option Passed) → (honest → window ≡ take size (drop at stored))
+    → IfSome found (λ p. p.taken ≤ length window) → ((front : List ℕ) (n : ℕ) → IsTallied only front t n → IfSome found (IsPassedIn only front n window))
+    → IfSome found (λ p. p.lines ≤ p.taken) → (t.count ≤ 65535 → IfSome found (λ p. p.tally.count ≤ 65535)) → at + length window ≤ len → IfSome found (IsPassed honest stored only at len t)
+passed_some honest stored only at len size t window None is within leads lines few le = tt
+passed_some honest stored only at len size t window (Some p) is within leads lines few le = record {
+  bytes = take p.taken window;
+  is = λ h. front_of p.taken size window (drop at stored) within (is h);
+  long = omega (arith, length-take p.taken window, within);
+  leads = leads;
+  within = omega (arith, within, le);
+  lines = lines;
+  few = few;
+}
+
 -- a window of a store that is the same as before
 pub passed_from : (honest now : Type 0) (stored text : List ℕ) (only : Bool) (at len : ℕ) (t : Tally) (p : Passed) → (honest → now) → (honest → text ≡ stored) → IsPassed now text only at len t p
     → IsPassed honest stored only at len t p
@@ -32,7 +48,6 @@ passed_from honest now stored text only at len t p still same passed = record {
   is = λ h. passed.is (still h) ∙ ap (λ l. take p.taken (drop at l)) (same h);
   long = passed.long;
   leads = passed.leads;
-  some = passed.some;
   within = passed.within;
   lines = passed.lines;
   few = passed.few;

@@ -3,5 +3,6 @@ mod finished_journal;
 pub(crate) mod journal;
 mod judge;
 pub(crate) mod take_back;
+mod torn;
 pub(crate) mod unfinished_entry;
 pub(crate) mod windows;

@@ -3,14 +3,16 @@ ghost use Rattle.std.specs.Prelude.{◌≡◌, ◌↔◌, ◌<◌, ◌≤◌, Li
 ghost use Rattle.bx_entries.specs.inner.Front.{IsNumberFront, IsStartFront};
 ghost use Rattle.std.specs.Prelude.{◌^◌};
 ghost use Rattle.bx_entries.specs.Line.{digits_of, start_line as start_words};
-ghost use Rattle.bx_entries.specs.Text.{Between as Resting, Saving as Keeping, Ending as Closing, Entry, IsPrefix, IsRest, is_short as short};
+ghost use Rattle.bx_entries.specs.Text.{Between as Resting, Saving as Keeping, Ending as Closing, Entry, IsPrefix, IsRest, Reading, is_short as short};
 ghost use Rattle.bx_entries.specs.Parsed.{told_by};
 ghost use Rattle.bx_entries.specs.inner.Parsed.{stage_of};
+ghost use Rattle.bx_entries.specs.inner.Tally.{tally_of};
 ghost use Rattle.bx_entries.specs.declared.format.version.Version.{Version as Form};
 ghost use Rattle.bx_entries.specs.Kept.{Kept as Record};
 
 use crate::format::version::width_of;
 use crate::format::words::{end_head, number, push_number, save_text, start_head};
+use crate::read::count::{Place, Tally};
 use crate::read::take_line::MOST_CHANGES;
 use crate::{StageRead, Version};
 use bx_image::MAX_LEN;
@@ -134,5 +136,18 @@ pub fn rest_fits<A: Allocator>(
         StageRead::Between => rest_between(number, told, rest),
         StageRead::Saving { .. } => rest_saving(number, rest),
         StageRead::Ending { version, .. } => rest_ending(number, *version, rest),
+    }
+}
+
+/// Whether what follows the last newline may stand there, in a text whose lines lead to this tally.
+pub fn rest_may_follow(tally: Tally, rest: &[u8]) -> bool
+    requires { tally.count ≤ 65535 }
+    ensures { (r : Reading) → tally_of r ≡ tally → IsTrue result → IsRest r.entries r.stage rest.now }
+{
+    let number = tally.count + 1;
+    match tally.place {
+        Place::Between => rest_between(number, tally.told, rest),
+        Place::Saving { .. } => rest_saving(number, rest),
+        Place::Ending { version } => rest_ending(number, version, rest),
     }
 }

@@ -1,9 +1,13 @@
 -- What proofs alone need: a store's text that is counted in windows.
-use Rattle.std.specs.Prelude.{◌≡◌, ◌<◌, ◌≤◌, ℕ, ◌+◌, Bool, List, ◌++◌, length, take, drop}
+use Rattle.std.specs.Prelude.{◌≡◌, ◌≤◌, ℕ, ◌+◌, Bool, IsTrue, ◌==◌, not, List, ◌++◌, length, take, drop}
+use Rattle.std.specs.List.{list_all}
 use Rattle.bx_entries.specs.declared.read.count.Tally.{Tally}
 use Rattle.bx_entries.specs.declared.read.types.Front.{Front}
 use Rattle.bx_entries.specs.declared.read.window.Passed.{Passed}
 use Rattle.bx_journal.specs.declared.recovery.windows.CountedText.{CountedText}
+use Rattle.bx_journal.specs.declared.recovery.windows.Walk.{Walk}
+use Rattle.bx_entries.specs.Text.{split}
+use Rattle.bx_journal.specs.inner.Restoring.{AllShorter}
 use Rattle.bx_entries.specs.inner.Tally.{IsTallied, IsCountedAll}
 
 -- whole lines at a place, before `len`, lead from a tally to another; they are the store's, where that is honest
@@ -12,7 +16,6 @@ pub record IsPassed (honest : Type 0) (stored : List ℕ) (only_second : Bool) (
   pub is : honest → bytes ≡ take p.taken (drop at stored)
   pub long : length bytes ≡ p.taken
   pub leads : (front : List ℕ) (n : ℕ) → IsTallied only_second front t n → IsTallied only_second (front ++ bytes) p.tally (n + p.lines)
-  pub some : 0 < p.taken
   pub within : at + p.taken ≤ len
   pub lines : p.lines ≤ p.taken
   pub few : t.count ≤ 65535 → p.tally.count ≤ 65535
@@ -39,3 +42,19 @@ pub record IsAllCounted (honest : Type 0) (stored : List ℕ) (only_second : Boo
   pub is : honest → stored ≡ text
   pub counted : IsCountedAll only_second text c.counted.count c.counted.told c.lines
   pub few : c.counted.count ≤ 65535
+
+-- the lines of a text were walked along up to a place, which lead to a tally; no line of the store's, where that is honest, is as long as the window
+pub record IsWalkedTo (honest : Type 0) (stored : List ℕ) (only_second : Bool) (size len : ℕ) (w : Walk) : Type 0 where
+  pub counted : IsCountedTo honest stored only_second w.at w.tally w.lines
+  pub below : w.at ≤ len
+  pub lines : w.lines ≤ w.at
+  pub few : w.tally.count ≤ 65535
+  pub short : AllShorter size (split counted.front).lines
+
+-- the byte is no zero
+abbrev pub is_no_zero : ℕ → Bool
+is_no_zero b = not (b == 0)
+
+-- no byte of a text is one
+abbrev pub HasNoZero : List ℕ → Type 0
+HasNoZero text = IsTrue (list_all is_no_zero text)

@@ -60,7 +60,7 @@ ghost use Rattle.bx_entries.specs.inner.Parsed.{reading_of};
 ghost use Rattle.bx_entries.specs.inner.Line.{start_size as size_of};
 
 /// How long the line is that begins an entry.
-fn start_size(version: Version) -> u64
+pub fn start_size(version: Version) -> u64
     ensures { result ≡ size_of version }
 {
     match version {

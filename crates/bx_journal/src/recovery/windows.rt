@@ -4,7 +4,7 @@ ghost use Rattle.bx_image.specs.Device.{GoesOn};
 ghost use Rattle.bx_image.specs.Power.{NoMore};
 ghost use Rattle.bx_journal.specs.inner.Devices.{LooksAt};
 ghost use Rattle.bx_journal.specs.inner.Fault.{LacksOrFails};
-ghost use Rattle.bx_journal.specs.inner.Windows.{IsAllCounted, IsFrontCounted, IsPassed};
+ghost use Rattle.bx_journal.specs.inner.Windows.{IsAllCounted, IsFrontCounted, IsPassed, IsWalkedTo};
 
 use crate::SessionFault;
 use bx_entries::{
@@ -15,10 +15,10 @@ use bx_store::TextStore;
 use std::alloc::Allocator;
 
 /// This many bytes of a text are read at a time.
-const WINDOW: u64 = 262_144;
+pub const WINDOW: u64 = 262_144;
 
 /// More entries than a text can have.
-const ALL: u32 = MOST_CHANGES + 1;
+pub const ALL: u32 = MOST_CHANGES + 1;
 
 /// What a text's entries were counted as, and how many lines it has.
 #[derive(Clone, Copy)]
@@ -27,9 +27,17 @@ pub struct CountedText {
     pub lines: u64,
 }
 
+/// How far the lines of a text were walked along: up to the place `at` they are this many, and lead to a tally.
+#[derive(Clone, Copy)]
+pub struct Walk {
+    pub tally: Tally,
+    pub at: u64,
+    pub lines: u64,
+}
+
 /// Counts the whole lines of the window at a place, in a text of `len` bytes: those up to the end of the entry whose
-/// number is the limit. It answers none where no line ends in it, or one isn't counted.
-fn pass_window<T: TextStore>(
+/// number is the limit. It answers none where one isn't counted.
+pub fn pass_window<T: TextStore>(
     store: &mut T,
     window: &mut [u8],
     at: u64,
@@ -42,6 +50,8 @@ fn pass_window<T: TextStore>(
     requires within { T.honest store.old → len ≤ length (T.text store.old) }
     requires below { at ≤ len }
     ensures passed { IfOk result (λ found. IfSome found (IsPassed (T.honest store.old) (T.text store.old) only_second at len tally)) }
+    ensures size { IfOk result (λ found. IfSome found (λ p. p.taken ≤ length window.old)) }
+    ensures window { length window.new ≡ length window.old }
     ensures text { T.honest store.old → T.text store.new ≡ T.text store.old }
     ensures survives { T.honest store.old → NoMore (T.survives store.old) (T.survives store.new) }
     ensures goes_on { GoesOn T.honest T.room T.failures (is_err result) store.old store.new }
@@ -49,29 +59,23 @@ fn pass_window<T: TextStore>(
     let more = (window.len() as u64).min(len - at) as usize;
     let (now, _) = window.split_at_mut(more);
     store.read_at(at, now)?;
-    let Some(passed) = count_lines(tally, now, only_second, limit) else {
-        return Ok(None);
-    };
-    if passed.taken == 0 {
-        return Ok(None);
-    }
-    Ok(Some(passed))
+    Ok(count_lines(tally, now, only_second, limit))
 }
 
-/// Counts the first entries of a text of `len` bytes, a window at a time: as many as the limit says, or all. What is left of
-/// a window's last line is read again with the next one. It answers none where the text is anything but finished entries up
-/// to there, with `only_second` also where one tells no length, and where a line is longer than the window.
-fn count_windows<T: TextStore>(
+/// Walks along the lines of a text of `len` bytes, a window at a time: up to the end of the entry whose number is the limit, or as far as
+/// whole lines go. What is left of a window's last line is read again with the next one. It answers none where a line is out of
+/// place, with `only_second` also where an entry tells no length.
+pub fn walk_windows<T: TextStore>(
     store: &mut T,
     window: &mut [u8],
     len: u64,
     only_second: bool,
     limit: u32,
-) -> Result<Option<Front>, DeviceFailed>
+) -> Result<Option<Walk>, DeviceFailed>
     requires countable { T.failures store.old < u64.MAX }
     requires long { T.honest store.old → len ≡ length (T.text store.old) }
-    ensures counted { IfOk result (λ found. IfSome found (IsFrontCounted (T.honest store.old) (T.text store.old) only_second)) }
-    ensures within { IfOk result (λ found. IfSome found (λ f. f.at ≤ len)) }
+    ensures walked { IfOk result (λ found. IfSome found (IsWalkedTo (T.honest store.old) (T.text store.old) only_second (length window.old) len)) }
+    ensures window { length window.new ≡ length window.old }
     ensures text { T.honest store.old → T.text store.new ≡ T.text store.old }
     ensures survives { T.honest store.old → NoMore (T.survives store.old) (T.survives store.new) }
     ensures goes_on { GoesOn T.honest T.room T.failures (is_err result) store.old store.new }
@@ -84,18 +88,50 @@ fn count_windows<T: TextStore>(
         let Some(passed) = found else {
             return Ok(None);
         };
+        if passed.taken == 0 {
+            return Ok(Some(Walk { tally, at, lines }));
+        }
         at += passed.taken as u64;
         lines += passed.lines;
         tally = passed.tally;
     }
-    let Some(counted) = counted_by(tally) else {
+    Ok(Some(Walk { tally, at, lines }))
+}
+
+/// Counts the first entries of a text of `len` bytes, a window at a time: as many as the limit says, or all. It answers none where the
+/// text is anything but finished entries up to there, with `only_second` also where one tells no length, and where a line is
+/// longer than the window.
+pub fn count_windows<T: TextStore>(
+    store: &mut T,
+    window: &mut [u8],
+    len: u64,
+    only_second: bool,
+    limit: u32,
+) -> Result<Option<Front>, DeviceFailed>
+    requires countable { T.failures store.old < u64.MAX }
+    requires long { T.honest store.old → len ≡ length (T.text store.old) }
+    ensures counted { IfOk result (λ found. IfSome found (IsFrontCounted (T.honest store.old) (T.text store.old) only_second)) }
+    ensures window { length window.new ≡ length window.old }
+    ensures within { IfOk result (λ found. IfSome found (λ f. f.at ≤ len)) }
+    ensures text { T.honest store.old → T.text store.new ≡ T.text store.old }
+    ensures survives { T.honest store.old → NoMore (T.survives store.old) (T.survives store.new) }
+    ensures goes_on { GoesOn T.honest T.room T.failures (is_err result) store.old store.new }
+{
+    let found = walk_windows(store, window, len, only_second, limit)?;
+    let Some(walk) = found else {
+        return Ok(None);
+    };
+    if walk.at < len && walk.tally.count < limit {
+        return Ok(None);
+    }
+    let Some(counted) = counted_by(walk.tally) else {
         return Ok(None);
     };
     Ok(Some(Front {
         count: counted.count,
         told: counted.told,
-        at,
-        lines,
+        at: walk.at,
+        lines: walk.lines,
     }))
 }
 

@@ -1,15 +1,9 @@
-use Rattle.std.proofs.Common.{take, drop, arith, length-take}
-use Rattle.bx_journal.proofs.WindowLemmas.{front_of}
+use Rattle.std.proofs.Common.{take, drop, length, arith, length-take}
+use Rattle.bx_journal.proofs.WindowLemmas.{passed_some}
 use Rattle.bx_journal.proofs.recovery.windows.pass_window.Goals as goal
 
 pub returns-clause-passed : goal.returns-clause-passed
-returns-clause-passed g c = record {
-  bytes = take c.in-Some.passed.taken c.read_at.new.buf;
-  is = λ h. front_of c.in-Some.passed.taken _ c.read_at.new.buf (drop c.args.at (g.T.TextStore.text c.args.store.now)) c.in-Some.ensures.within (c.in_ok-read_at.ensures.bytes h);
-  long = omega (arith, length-take c.in-Some.passed.taken c.read_at.new.buf, c.in-Some.ensures.within);
-  leads = c.in-Some.ensures.tallied;
-  some = omega arith;
-  within = omega (arith, c.in-Some.ensures.within, c.read_at.auto.buf, c.split_at_mut-now.ensures.front_len, c.min-more.ensures, c.requires.below);
-  lines = c.in-Some.ensures.lines;
-  few = c.in-Some.ensures.few;
-}
+returns-clause-passed g c =
+    passed_some (g.T.TextStore.honest c.args.store.now) (g.T.TextStore.text c.args.store.now) c.args.only_second c.args.at c.args.len (length c.split_at_mut-now.result.0.now) c.args.tally c.read_at.new.buf c.count_lines.result
+    (λ h. c.in_ok-read_at.ensures.bytes h) c.count_lines.ensures.within c.count_lines.ensures.tallied c.count_lines.ensures.lines c.count_lines.ensures.few
+    (omega (arith, c.read_at.auto.buf, c.split_at_mut-now.ensures.front_len, c.min-more.ensures, c.requires.below))

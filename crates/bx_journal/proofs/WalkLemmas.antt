@@ -1,0 +1,264 @@
+-- The lines of a text that was walked along, and what is unfinished at its end.
+use Rattle.std.proofs.Common.{◌≡◌, ◌⊎◌, inl, inr, ℕ, ◌+◌, ◌-◌, ◌<◌, ◌≤◌, Bool, true, false, not, List, [], ◌∷◌, ◌++◌, length, length-append, take, take_all, drop, length-take, length-drop, refl, ap, sym, ◌∙◌, subst, arith, append-nil, append_assoc, Option, Some, None}
+use Rattle.std.specs.Prelude.{◌&&◌, if◌then◌else◌}
+use Rattle.std.specs.List.{list_all}
+use Rattle.std.proofs.lemmas.List.Folds.{list_all-append}
+use Rattle.bx_entries.specs.Kept.{Kept}
+use Rattle.bx_entries.specs.Shown.{before_zero, from_zero, has_end, is_left, shown}
+use Rattle.bx_entries.specs.Text.{Entry, Stage, Between, Saving, Ending, Reading, Reads, IsRest, joined, split, start, next_at, after_lines}
+use Rattle.bx_entries.specs.inner.Mark.{IsMark}
+use Rattle.bx_entries.proofs.Inverse.{bind_some, next_between, next_ending, next_saving}
+use Rattle.bx_entries.specs.declared.read.count.Tally.{Tally}
+use Rattle.bx_entries.specs.declared.read.window.Passed.{Passed}
+use Rattle.bx_entries.specs.declared.format.version.Version.{Version}
+use Rattle.bx_entries.specs.declared.read.count.Place.TheVariants.{Between as BetweenPlace, Saving as SavingPlace, Ending as EndingPlace}
+use Rattle.bx_entries.specs.Parsed.{told_by}
+use Rattle.bx_entries.specs.inner.Tally.{IsTallied, place_of, tally_of}
+use Rattle.bx_entries.proofs.ReadLoop.{drop_twice}
+use Rattle.bx_entries.proofs.Runs.{after_lines-append}
+use Rattle.bx_entries.proofs.Splits.{split-append, split-plain}
+use Rattle.bx_entries.proofs.Foreign.{joined_lines, no_way_back}
+use Rattle.bx_entries.specs.Finished.{IsFinished}
+use Rattle.bx_entries.specs.declared.read.types.Front.{Front}
+use Rattle.bx_entries.specs.inner.Plain.{HasNoNewline}
+use Rattle.bx_journal.specs.declared.protocol.windows.Mark.{Mark}
+use Rattle.bx_journal.specs.declared.recovery.windows.Walk.{Walk}
+use Rattle.bx_journal.specs.inner.Recovery.{HasMark, IsTorn, IsTornIn}
+use Rattle.std.proofs.lemmas.List.{take-append-drop}
+use Rattle.bx_journal.specs.inner.Restoring.{AllShorter, StandsAt}
+use Rattle.bx_journal.specs.inner.Windows.{HasNoZero, IsFrontCounted, IsPassed, IsWalkedTo, is_no_zero}
+use Rattle.bx_entries.proofs.TallyLemmas.{has_form, take_sum}
+use Rattle.bx_journal.proofs.RestoreLemmas.{lines_more, same_reading}
+use Rattle.bx_journal.proofs.ShownTail.{shown_tail}
+use Rattle.bx_journal.proofs.StandLemmas.{joined_shorter, saving_of}
+use Rattle.bx_journal.proofs.Tails.{joined_rest}
+
+-- where no entry was finished the finished entries are the same
+entries_next : (es : List Entry) (stage : Stage) (line : List ℕ) (q : Reading) → next_at es stage line ≡ Some q → length q.entries ≤ length es → q.entries ≡ es
+entries_next es Between line q e le = let b = next_between es line q e in ap (λ (p : Reading). p.entries) b.2
+entries_next es (Saving v s) line q e le =
+    elim (next_saving es v s line q e) [
+      | inl is ↦ ap (λ (p : Reading). p.entries) is.1
+      | inr is ↦ ap (λ (p : Reading). p.entries) is.2
+    ]
+entries_next es (Ending v s) line q e le =
+    let n = next_ending es v s line q e in
+    absurd (omega (arith, le, ap (λ (p : Reading). length p.entries) n.1))
+
+pub entries_same : (ls : List (List ℕ)) (r q : Reading) → after_lines r ls ≡ Some q → length r.entries ≡ length q.entries → r.entries ≡ q.entries
+unfolding after_lines
+entries_same [] r q e long = let same : r ≡ q = cc in ap (λ (p : Reading). p.entries) same
+entries_same (l ∷ ls) r q e long =
+    let b = bind_some (λ p. after_lines p ls) (next_at r.entries r.stage l) q e in
+    let more = lines_more ls b.0 q b.2 in
+    let first : b.0.entries ≡ r.entries = entries_next r.entries r.stage l b.0 b.1 (omega (arith, more, long)) in
+    sym first ∙ entries_same ls b.0 q b.2 (omega (arith, long, ap length first))
+
+-- with the lines of a window no line is as long as the windows are
+pub shorter_append : (most : ℕ) (a b : List (List ℕ)) → AllShorter most a → AllShorter most b → AllShorter most (a ++ b)
+shorter_append most [] b h k = k
+shorter_append most (l ∷ a) b h k = (h.0, shorter_append most a b h.1 k)
+
+pub window_shorter : (bytes : List ℕ) (most : ℕ) → length bytes ≤ most → AllShorter most (split bytes).lines
+window_shorter bytes most le =
+    joined_shorter most (split bytes).lines (omega (arith, le, ap length (joined_rest bytes), length-append (joined (split bytes).lines) (split bytes).rest))
+
+-- nothing was walked
+pub walked_none : (honest : Type 0) (stored : List ℕ) (only : Bool) (size len : ℕ) (t : Tally) → IsTallied only [] t 0 → t.count ≡ 0
+    → IsWalkedTo honest stored only size len (record { tally = t; at = 0; lines = 0 })
+unfolding split
+walked_none honest stored only size len t none zero_ = record {
+  counted = record { front = []; is = λ h. refl; long = refl; tallied = none };
+  below = omega arith;
+  lines = omega arith;
+  few = omega (arith, zero_);
+  short = tt;
+}
+
+-- a window more
+pub walked_on : (honest : Type 0) (stored : List ℕ) (only : Bool) (size len at lines : ℕ) (t : Tally) (p : Passed) → IsWalkedTo honest stored only size len (record { tally = t; at = at; lines = lines })
+    → IsPassed honest stored only at len t p → p.taken ≤ size → IsWalkedTo honest stored only size len (record { tally = p.tally; at = at + p.taken; lines = lines + p.lines })
+walked_on honest stored only size len at lines t p to passed fits =
+    record {
+      counted = record {
+        front = to.counted.front ++ passed.bytes;
+        long = omega (arith, length-append to.counted.front passed.bytes, to.counted.long, passed.long);
+        is = λ h. ap (λ l. l ++ passed.bytes) (to.counted.is h) ∙ ap (λ l. take at stored ++ l) (passed.is h) ∙ sym (take_sum at p.taken stored);
+        tallied = passed.leads to.counted.front lines to.counted.tallied;
+      };
+      below = passed.within;
+      lines = omega (arith, to.lines, passed.lines);
+      few = passed.few to.few;
+      short = subst (AllShorter size) (sym (ap (λ s. s.lines) (split-append to.counted.front passed.bytes to.counted.tallied.whole)))
+          (shorter_append size (split to.counted.front).lines (split passed.bytes).lines to.short (window_shorter passed.bytes size (omega (arith, passed.long, fits))));
+    }
+
+-- the lines between two places
+pub lines_between : (text : List ℕ) (p q : Reading) (n m : ℕ) → IsMark text n p → IsMark text m q → n ≤ m → after_lines p (split (take (m - n) (drop n text))).lines ≡ Some q
+lines_between text p q n m first next le =
+    let a : List ℕ = take n text in
+    let b : List ℕ = take (m - n) (drop n text) in
+    let count : n + (m - n) ≡ m = omega (arith, le) in
+    let is : take m text ≡ a ++ b = ap (λ i. take i text) (sym count) ∙ take_sum n (m - n) text in
+    let both = ap split is ∙ split-append a b first.whole in
+    sym (after_lines-append start p (split a).lines (split b).lines first.lines) ∙ ap (after_lines start) (sym (ap (λ s. s.lines) both)) ∙ next.lines
+
+-- of the bytes from a place on some more
+pub no_zero_more : (text : List ℕ) (from at n : ℕ) → from ≤ at → HasNoZero (take (at - from) (drop from text)) → HasNoZero (take n (drop at text)) → HasNoZero (take (at + n - from) (drop from text))
+no_zero_more text from at n le before next =
+    let m : ℕ = at - from in
+    let rest : List ℕ = drop from text in
+    let count : at + n - from ≡ m + n = omega (arith, le) in
+    let place : drop m rest ≡ drop at text = drop_twice from m text ∙ ap (λ i. drop i text) (omega (arith, le)) in
+    let is : take (at + n - from) rest ≡ take m rest ++ take n (drop at text) = ap (λ i. take i rest) count ∙ take_sum m n rest ∙ ap (λ u. take m rest ++ take n u) place in
+    subst HasNoZero (sym is) (list_all-append is_no_zero (take m rest) (take n (drop at text)) ∙ rw (before, next) refl)
+
+saving_form : (stage : Stage) (w : Version) (len : ℕ) → place_of stage ≡ SavingPlace w len → (k : Kept) × (stage ≡ Saving w k) × (k.len ≡ len)
+saving_form stage w len is = has_form stage (SavingPlace w len) is
+
+-- the first line of an entry records the length of its record
+pub len_of : (text : List ℕ) (from at : ℕ) (r : Reading) (v w : Version) (s : Kept) (len : ℕ) (t : Tally) (p : Passed) → IsMark text from (record { entries = r.entries; stage = Between }) → IsMark text at r
+    → tally_of r ≡ t → r.stage ≡ Ending v s → IsPassed (Unit {0}) text false from at (record { count = t.count; told = t.told; place = BetweenPlace }) p → p.tally.place ≡ SavingPlace w len → len ≡ s.len
+len_of text from at r v w s len t p first last is stage passed place =
+    let front : List ℕ = take from text in
+    let count : length r.entries ≡ t.count = ap (λ (u : Tally). u.count) is in
+    let told : told_by r.entries ≡ t.told = ap (λ (u : Tally). u.told) is in
+    let here : IsTallied false front (record { count = t.count; told = t.told; place = BetweenPlace }) (length (split front).lines) = record {
+      reading = record { entries = r.entries; stage = Between };
+      reads = first.lines;
+      whole = first.whole;
+      many = refl;
+      is = ap (λ n. record { count = n; told = told_by r.entries; place = BetweenPlace }) count ∙ ap (λ m. record { count = t.count; told = m; place = BetweenPlace }) told;
+      tell = λ only. absurd (let f : false ≡ true = only in cc);
+    } in
+    let next = passed.leads front (length (split front).lines) here in
+    let q : Reading = next.reading in
+    let text_is : front ++ passed.bytes ≡ take (from + p.taken) text = ap (λ u. front ++ u) (passed.is tt) ∙ sym (take_sum from p.taken text) in
+    let mark : IsMark text (from + p.taken) q = record {
+      within = omega (arith, passed.within, last.within);
+      lines = subst (λ u. after_lines start (split u).lines ≡ Some q) text_is next.reads;
+      whole = subst (λ u. (split u).rest ≡ []) text_is next.whole;
+    } in
+    let up = lines_between text (record { entries = r.entries; stage = Between }) q from (from + p.taken) first mark (omega arith) in
+    let on = lines_between text q r (from + p.taken) at mark last passed.within in
+    let least = lines_more _ (record { entries = r.entries; stage = Between }) q up in
+    let most = lines_more _ q r on in
+    let same : q.entries ≡ r.entries = entries_same _ q r on (omega (arith, least, most)) in
+    let k = saving_form q.stage w len (ap (λ (u : Tally). u.place) next.is ∙ place) in
+    let led : after_lines (record { entries = r.entries; stage = Saving w k.0 }) (split (take (at - (from + p.taken)) (drop (from + p.taken) text))).lines ≡ Some (record { entries = r.entries; stage = Ending v s }) =
+    subst (λ st. after_lines (record { entries = r.entries; stage = Saving w k.0 }) (split (take (at - (from + p.taken)) (drop (from + p.taken) text))).lines ≡ Some (record { entries = r.entries; stage = st })) stage
+    (subst (λ st. after_lines (record { entries = r.entries; stage = st }) (split (take (at - (from + p.taken)) (drop (from + p.taken) text))).lines ≡ Some r) k.1
+    (subst (λ es. after_lines (record { entries = es; stage = q.stage }) (split (take (at - (from + p.taken)) (drop (from + p.taken) text))).lines ≡ Some r) same on)) in
+    sym k.2 ∙ (saving_of r.entries w v k.0 s _ led).len
+
+pub no_zero_none : (text : List ℕ) (from : ℕ) → HasNoZero (take (from - from) (drop from text))
+no_zero_none text from = let e : from - from ≡ 0 = omega arith in rw e refl
+
+pub no_zero_all : (text : List ℕ) (from at : ℕ) → length text ≤ at → from ≤ at → HasNoZero (take (at - from) (drop from text)) → HasNoZero (drop from text)
+no_zero_all text from at le order h = subst HasNoZero (take_all (at - from) (drop from text) (omega (arith, length-drop from text, le, order))) h
+
+pub passed_surely : (H : Type 0) (text : List ℕ) (only : Bool) (at len : ℕ) (t : Tally) (p : Passed) → H → IsPassed H text only at len t p → IsPassed (Unit {0}) text only at len t p
+passed_surely H text only at len t p h passed = record { bytes = passed.bytes; is = λ u. passed.is h; long = passed.long; leads = passed.leads; within = passed.within; lines = passed.lines; few = passed.few }
+
+whole_between : (text : List ℕ) (p q : Reading) (n m : ℕ) → IsMark text n p → IsMark text m q → n ≤ m → (split (take (m - n) (drop n text))).rest ≡ []
+whole_between text p q n m first next le =
+    let a : List ℕ = take n text in
+    let b : List ℕ = take (m - n) (drop n text) in
+    let count : n + (m - n) ≡ m = omega (arith, le) in
+    let is : take m text ≡ a ++ b = ap (λ i. take i text) (sym count) ∙ take_sum n (m - n) text in
+    sym (ap (λ s. s.rest) (ap split is ∙ split-append a b first.whole)) ∙ next.whole
+
+no_lines : (ls : List (List ℕ)) → length ls ≡ 0 → length (joined ls) ≡ 0
+no_lines [] h = refl
+no_lines (l ∷ ls) h = absurd (omega (arith, h))
+
+-- where the text is finished entries alone, they end where it ends
+finished_end : (text : List ℕ) (f w : ℕ) (r : Reading) (es : List Entry) → IsMark text f (record { entries = r.entries; stage = Between }) → IsMark text w r → f ≤ w → Reads text r → (split text).rest ≡ drop w text → IsFinished text es
+    → f ≡ length text
+finished_end text f w r es first last le reads rest fin =
+    let same : r ≡ record { entries = es; stage = Between } = same_reading r (record { entries = es; stage = Between }) (sym reads.lines ∙ fin.reads.lines) in
+    let stage : r.stage ≡ Between = ap (λ (q : Reading). q.stage) same in
+    let b : List ℕ = take (w - f) (drop f text) in
+    let led : after_lines (record { entries = r.entries; stage = Between }) (split b).lines ≡ Some (record { entries = r.entries; stage = Between }) =
+    subst (λ st. after_lines (record { entries = r.entries; stage = Between }) (split b).lines ≡ Some (record { entries = r.entries; stage = st })) stage (lines_between text (record { entries = r.entries; stage = Between }) r f w first last le) in
+    let none = no_lines (split b).lines (no_way_back r.entries (split b).lines led) in
+    let all : length b ≡ 0 = sym (ap length (joined_lines b (whole_between text (record { entries = r.entries; stage = Between }) r f w first last le))) ∙ none in
+    omega (arith, all, length-take (w - f) (drop f text), length-drop f text, le, last.within, ap length (sym rest ∙ fin.whole), length-drop w text)
+
+-- what was found at the end of a text that was walked along is unfinished there
+pub torn_found : (text : List ℕ) (size len : ℕ) (w : Walk) (f : Front) (mark : Option Mark) → IsWalkedTo (Unit {0}) text false size len w → IsFrontCounted (Unit {0}) text false f → len ≡ length text
+    → f.count ≡ w.tally.count → f.at ≤ w.at → (f.at ≡ len → ⊥)
+    → ((r : Reading) → tally_of r ≡ w.tally → IsRest r.entries r.stage (drop w.at text) × HasNoNewline (drop w.at text)) → HasNoZero (drop f.at text)
+    → ((r : Reading) → IsMark text f.at (record { entries = r.entries; stage = Between }) → IsMark text w.at r → tally_of r ≡ w.tally → AllShorter size (split (take w.at text)).lines → HasMark text r.stage mark)
+    → IsTornIn text (record { count = f.count; told = f.told; begins = f.at; mark = mark })
+torn_found text size len w f mark walked front long count le some rest plain find =
+    let t = walked.counted.tallied in
+    let r : Reading = t.reading in
+    let is : walked.counted.front ≡ take w.at text = walked.counted.is tt in
+    let last : IsMark text w.at r = record {
+      within = omega (arith, walked.below, long);
+      lines = subst (λ u. after_lines start (split u).lines ≡ Some r) is t.reads;
+      whole = subst (λ u. (split u).rest ≡ []) is t.whole;
+    } in
+    let c = front.counted.counted in
+    let f_is : front.front ≡ take f.at text = front.is tt in
+    let p : Reading = record { entries = c.entries; stage = Between } in
+    let here : IsMark text f.at p = record {
+      within = omega (arith, le, walked.below, long);
+      lines = subst (λ u. after_lines start (split u).lines ≡ Some p) f_is c.finished.reads.lines;
+      whole = subst (λ u. (split u).rest ≡ []) f_is c.finished.whole;
+    } in
+    let many : length c.entries ≡ length r.entries = omega (arith, c.counted, count, ap (λ (u : Tally). u.count) t.is) in
+    let same : c.entries ≡ r.entries = entries_same _ p r (lines_between text p r f.at w.at here last le) many in
+    let first : IsMark text f.at (record { entries = r.entries; stage = Between }) = subst (λ es. IsMark text f.at (record { entries = es; stage = Between })) same here in
+    let finished : IsFinished (take f.at text) c.entries = subst (λ u. IsFinished u c.entries) f_is c.finished in
+    let parts : take f.at text ++ drop f.at text ≡ text = take-append-drop f.at text in
+    let all : shown text ≡ text = subst (λ u. shown u ≡ u) parts (shown_tail (take f.at text) (drop f.at text) c.entries finished plain) in
+    let behind = rest r t.is in
+    let both = ap split (sym (take-append-drop w.at text)) ∙ split-append (take w.at text) (drop w.at text) last.whole ∙ ap (λ s. record { lines = (split (take w.at text)).lines ++ s.lines; rest = s.rest }) (split-plain (drop w.at text) behind.1) in
+    let lines : (split text).lines ≡ (split (take w.at text)).lines = ap (λ s. s.lines) both ∙ append-nil (split (take w.at text)).lines in
+    let reads : Reads text r = record {
+      lines = ap (after_lines start) lines ∙ last.lines;
+      rest = subst (IsRest r.entries r.stage) (sym (ap (λ s. s.rest) both)) behind.0;
+    } in
+    let torn : IsTorn text r (record { count = f.count; told = f.told; begins = f.at; mark = mark }) = record {
+      reads = reads;
+      begins = first;
+      count = c.counted ∙ ap length same;
+      told = c.told_is ∙ ap told_by same;
+      few = front.few;
+      mark = find r first last t.is (subst (λ u. AllShorter size (split u).lines) is walked.short);
+    } in
+    record {
+      reading = r;
+      torn = subst (λ u. IsTorn u r (record { count = f.count; told = f.told; begins = f.at; mark = mark })) (sym all) torn;
+      unfinished = λ clean. some (finished_end text f.at w.at r clean.0 first last le reads (ap (λ s. s.rest) both) clean.1 ∙ sym long);
+    }
+
+-- what a text's tally says of where a record stands
+pub mark_between : (text : List ℕ) (r : Reading) (t : Tally) → tally_of r ≡ t → t.place ≡ BetweenPlace → HasMark text r.stage None
+mark_between text r t is place =
+    let form : r.stage ≡ Between = has_form r.stage BetweenPlace (ap (λ (u : Tally). u.place) is ∙ place) in
+    subst (λ stage. HasMark text stage None) (sym form) tt
+
+pub mark_saving : (text : List ℕ) (r : Reading) (t : Tally) (w : Version) (len : ℕ) → tally_of r ≡ t → t.place ≡ SavingPlace w len → HasMark text r.stage None
+mark_saving text r t w len is place =
+    let k = saving_form r.stage w len (ap (λ (u : Tally). u.place) is ∙ place) in
+    subst (λ stage. HasMark text stage None) (sym k.1) tt
+
+pub mark_ending : (text : List ℕ) (r : Reading) (t : Tally) (w : Version) (m : Mark) → tally_of r ≡ t → t.place ≡ EndingPlace w → ((s : Kept) → r.stage ≡ Ending w s → StandsAt text m s) → HasMark text r.stage (Some m)
+mark_ending text r t w m is place stands =
+    let form : (s : Kept) × (r.stage ≡ Ending w s) = has_form r.stage (EndingPlace w) (ap (λ (u : Tally). u.place) is ∙ place) in
+    subst (λ stage. HasMark text stage (Some m)) (sym form.1) (stands form.0 form.1)
+
+pub walked_surely : (H : Type 0) (text : List ℕ) (only : Bool) (size len : ℕ) (w : Walk) → H → IsWalkedTo H text only size len w → IsWalkedTo (Unit {0}) text only size len w
+walked_surely H text only size len w h walked = record {
+  counted = record { front = walked.counted.front; is = λ u. walked.counted.is h; long = walked.counted.long; tallied = walked.counted.tallied };
+  below = walked.below;
+  lines = walked.lines;
+  few = walked.few;
+  short = walked.short;
+}
+
+pub front_surely : (H : Type 0) (stored text : List ℕ) (only : Bool) (f : Front) → H → stored ≡ text → IsFrontCounted H stored only f → IsFrontCounted (Unit {0}) text only f
+front_surely H stored text only f h same c = record { front = c.front; is = λ u. c.is h ∙ ap (take f.at) same; long = c.long; counted = c.counted; lines = c.lines; few = c.few }
