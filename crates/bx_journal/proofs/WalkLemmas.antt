@@ -262,3 +262,13 @@ walked_surely H text only size len w h walked = record {
 
 pub front_surely : (H : Type 0) (stored text : List ℕ) (only : Bool) (f : Front) → H → stored ≡ text → IsFrontCounted H stored only f → IsFrontCounted (Unit {0}) text only f
 front_surely H stored text only f h same c = record { front = c.front; is = λ u. c.is h ∙ ap (take f.at) same; long = c.long; counted = c.counted; lines = c.lines; few = c.few }
+
+-- what was walked along of a store is so of it later
+pub walked_after : (H now : Type 0) (stored text : List ℕ) (only : Bool) (size more len : ℕ) (w : Walk) → (now → H) → (H → text ≡ stored) → more ≡ size → IsWalkedTo H stored only size len w → IsWalkedTo now text only more len w
+walked_after H now stored text only size more len w back same long walked = record {
+  counted = record { front = walked.counted.front; is = λ n. walked.counted.is (back n) ∙ ap (take w.at) (sym (same (back n))); long = walked.counted.long; tallied = walked.counted.tallied };
+  below = walked.below;
+  lines = walked.lines;
+  few = walked.few;
+  short = subst (λ k. AllShorter k (split walked.counted.front).lines) (sym long) walked.short;
+}

@@ -1,15 +1,17 @@
 //! What reading a journal finds when a pair is opened for recovery.
-ghost use Rattle.std.specs.Prelude.{◌≡◌, ◌^◌, ◌<◌, ◌≤◌, List, ℕ, length, IfSome, IfNone};
+ghost use Rattle.std.specs.Prelude.{◌≡◌, ◌^◌, ◌<◌, ◌≤◌, List, ℕ, length, is_err, IfOk, IfErr, IfSome, IfNone};
 ghost use Rattle.bx_entries.specs.Shown.{shown};
 ghost use Rattle.bx_entries.specs.inner.Journal.{HasRead};
 ghost use Rattle.bx_entries.specs.inner.Tally.{IsCounted};
 
 use crate::SessionFault;
 use crate::protocol::windows::Mark;
-use crate::recovery::windows::count_text;
+use crate::recovery::torn::find_torn;
+use crate::recovery::windows::{ALL, WINDOW, walk_windows};
 use crate::session::fault::of_text;
 use crate::session::read::read_journal;
-use bx_entries::{Counted, JournalRead, StageRead, Version, shown_len, told_length};
+use bx_entries::{Counted, JournalRead, StageRead, Version, counted_by, shown_len, told_length};
+use bx_image::DeviceFailed;
 use bx_store::TextStore;
 use std::alloc::Allocator;
 
@@ -55,7 +57,10 @@ fn as_counted<A: Allocator>(journal: &JournalRead<A>, len: u64) -> Option<Counte
     }
 }
 
-ghost use Rattle.bx_journal.specs.inner.Recovery.{FindsText, IsTorn};
+ghost use Rattle.bx_image.specs.Device.{GoesOn};
+ghost use Rattle.bx_journal.specs.inner.Devices.{LooksAt};
+ghost use Rattle.bx_journal.specs.inner.Fault.{LacksOrFails};
+ghost use Rattle.bx_journal.specs.inner.Recovery.{FindsText, IsFoundIn, IsTorn};
 ghost use Rattle.bx_entries.specs.inner.Parsed.{reading_of};
 ghost use Rattle.bx_entries.specs.inner.Line.{start_size as size_of};
 
@@ -143,8 +148,57 @@ fn read_whole<T: TextStore, A: Allocator + Clone>(
     }
 }
 
-/// Reads a journal's text. It changes nothing. A text of finished entries alone is counted in windows, and only what isn't
-/// counted so is read whole.
+/// What a text of `len` bytes is, found a window at a time: nothing of it is kept. It answers none where that can't be found so.
+fn find_in<T: TextStore>(
+    store: &mut T,
+    window: &mut [u8],
+    len: u64,
+) -> Result<Option<Found>, DeviceFailed>
+    requires countable { T.failures store.old < u64.MAX }
+    requires long { T.honest store.old → len ≡ length (T.text store.old) }
+    ensures found { IfOk result (λ found. IfSome found (IsFoundIn (T.honest store.old) (T.text store.old))) }
+    ensures text { T.honest store.old → T.text store.new ≡ T.text store.old }
+    ensures goes_on { GoesOn T.honest T.room T.failures (is_err result) store.old store.new }
+{
+    let walked = walk_windows(store, window, len, false, ALL)?;
+    let Some(walk) = walked else {
+        return Ok(None);
+    };
+    if walk.at == len {
+        if let Some(counted) = counted_by(walk.tally) {
+            return Ok(Some(Found::Finished(counted)));
+        }
+    }
+    if window.is_empty() {
+        return Ok(None);
+    }
+    let found = find_torn(store, window, len, walk)?;
+    let Some(torn) = found else {
+        return Ok(None);
+    };
+    Ok(Some(Found::Unfinished(torn)))
+}
+
+/// What a text is, found in as much memory for any length. It answers none where it can't be found so: where the text is damaged, has a
+/// zero in what is unfinished, or a very long line.
+fn find_text<T: TextStore, A: Allocator + Clone>(
+    alloc: &A,
+    store: &mut T,
+) -> Result<Option<Found>, SessionFault>
+    requires { T.failures store.old < u64.MAX }
+    ensures found { IfOk result (λ found. IfSome found (IsFoundIn (T.honest store.old) (T.text store.old))) }
+    ensures fault { IfErr result LacksOrFails }
+    ensures looks { LooksAt T.honest T.text T.failures result store.old store.new }
+{
+    let len = store.len()?;
+    let size = WINDOW.min(len) as usize;
+    let mut window = vec![in alloc.clone()?; 0u8; size]?;
+    let found = find_in(store, window.as_mut_slice(), len)?;
+    Ok(found)
+}
+
+/// Reads a journal's text. It changes nothing. What the text is, is found a window at a time, and only what isn't found so is read
+/// whole.
 pub fn read_text<T: TextStore, A: Allocator + Clone>(
     alloc: &A,
     store: &mut T,
@@ -152,12 +206,12 @@ pub fn read_text<T: TextStore, A: Allocator + Clone>(
     requires { T.failures store.old < u64.MAX }
     ensures { FindsText T.honest T.text T.failures result store.old store.new }
 {
-    let counted = match count_text(alloc, store, false) {
-        Ok(counted) => counted,
+    let found = match find_text(alloc, store) {
+        Ok(found) => found,
         Err(fault) => return Err(fault),
     };
-    match counted {
-        Some(found) => Ok(Found::Finished(found.counted)),
+    match found {
+        Some(what) => Ok(what),
         None => read_whole(alloc, store),
     }
 }
