@@ -43,10 +43,6 @@ pub begun_pop : {B honest : Type 0} (x : List ℕ) (n : ℕ) (rs : List (Vec Spa
     → IsBegun honest x n r.items page place
 begun_pop {honest = honest} x n rs r page place begun = subst (λ us. IsFirstBegun honest x n us page place) (reverse_last rs r) begun
 
-pub begun_push : {B honest : Type 0} (x : List ℕ) (n : ℕ) (rs : List (Vec Span B)) (r : Vec Span B) (page : List ℕ) (place : Place) → IsBegun honest x n r.items page place
-    → IsFirstBegun honest x n (reverse (rs ++ r ∷ [])) page place
-begun_push {honest = honest} x n rs r page place begun = subst (λ us. IsFirstBegun honest x n us page place) (sym (reverse_last rs r)) begun
-
 pub over_pop : {B : Type 0} (rs : List (Vec Span B)) (r : Vec Span B) → entries_over (rs ++ r ∷ []) ≡ entries_over rs + (80 + left_len r.items 0)
 over_pop [] r = omega arith
 over_pop (f ∷ rs) r = omega (arith, over_pop rs r)

@@ -1,4 +1,4 @@
--- What some undos, or some redos, will take of the image: for each entry, the newest first, a record.
+-- What some undos will take of the image: for each entry, the newest first, a record.
 use Rattle.std.specs.Prelude.{◌≡◌, ◌≤◌, ℕ, ◌+◌, List, [], ◌∷◌, length, reverse}
 use Rattle.bx_image.specs.declared.change.Change.{Change}
 use Rattle.bx_image.specs.declared.change.TheConstants.{MAX_LEN}

@@ -1,39 +1,14 @@
 -- What writing the entry of a change leaves, where image, journal and redo text are honest.
 use Rattle.std.specs.Prelude.{◌∷◌, ℕ, List, take, Result, OnOk, OnErr}
 use Rattle.bx_image.specs.declared.change.Change.{Change}
-use Rattle.bx_image.specs.declared.record.Saved.{Saved}
 use Rattle.bx_image.specs.Change.{effect}
 use Rattle.bx_image.specs.Power.{Only}
 use Rattle.bx_entries.specs.Shown.{shown}
-use Rattle.bx_entries.specs.Entry.{head_text}
-use Rattle.bx_entries.specs.Kept.{kept_of}
 use Rattle.bx_journal.specs.declared.protocol.redo_text.RedoCut.{RedoCut}
 use Rattle.bx_journal.specs.Phase.{IsAtRest, RecoversEither}
 use Rattle.bx_journal.specs.inner.Redo.{LeavesEither}
 use Rattle.bx_journal.specs.inner.Step.{WritesEntry}
 use Rattle.bx_journal.specs.inner.Turns.{place_of, side_of}
-
--- image and journal are at rest, and the changed image is the newest of their stack
-abbrev pub EntryRests : {D T A V E : Type 0} → (D → Type 0) → (D → List ℕ) → (T → Type 0) → (T → List ℕ) → Change A → ℕ → Saved A → List ℕ → D → T → D → T
-    → Result V E → Type 0
-EntryRests honest image text_honest text c number kept end_line d t d_new t_new result =
-    honest d → text_honest t → (stack : List (List ℕ)) → WritesEntry c (text t) (image d) stack (head_text number (kept_of kept)) end_line
-    → OnOk result (IsAtRest (text t_new) (image d_new) (effect c (image d) ∷ stack))
-
--- where it is stopped, opening finds the old stack or the new one
-abbrev pub EntryStops : {D T A V E : Type 0} → (D → Type 0) → (D → List ℕ) → (T → Type 0) → (T → List ℕ) → Change A → ℕ → Saved A → List ℕ → D → T → D → T
-    → Result V E → Type 0
-EntryStops honest image text_honest text c number kept end_line d t d_new t_new result =
-    honest d → text_honest t → (stack : List (List ℕ)) → WritesEntry c (text t) (image d) stack (head_text number (kept_of kept)) end_line
-    → OnErr result (RecoversEither (text t_new) (image d_new) stack (effect c (image d) ∷ stack))
-
--- and with the redo text, whose end is cut, all is as before, as behind it, or the journal is unfinished
-abbrev pub Left : {D T A V E : Type 0} → (D → Type 0) → (D → List ℕ) → (T → Type 0) → (T → List ℕ) → Change A → ℕ → Saved A → List ℕ → RedoCut → D → T → T → D
-    → T → T → Result V E → Type 0
-Left honest image text_honest text c number kept end_line cut d t u d_new t_new u_new result =
-    honest d → text_honest t → text_honest u → (stack : List (List ℕ)) → WritesEntry c (text t) (image d) stack (head_text number (kept_of kept)) end_line
-    → OnErr result (LeavesEither (text t_new) (image d_new) (text u_new) (side_of stack (image d) (text u))
-    (side_of (effect c (image d) ∷ stack) (effect c (image d)) (take (place_of cut) (text u))))
 
 -- the image and both texts are on the disk as they are
 pub record AreSettled {D T : Type 0} (image : D → List ℕ) (text : T → List ℕ) (survives : D → List ℕ → Type 0) (text_survives : T → List ℕ → Type 0) (d : D) (t u : T)
@@ -42,16 +17,7 @@ pub record AreSettled {D T : Type 0} (image : D → List ℕ) (text : T → List
   pub store : Only (text t) (text_survives t)
   pub redo : Only (text u) (text_survives u)
 
--- Behind a loss of power, where all three were on the disk before, all is found as before the change, as behind it, or the journal is unfinished
-abbrev pub EntrySurvives : {D T A : Type 0} → (D → Type 0) → (D → List ℕ) → (D → List ℕ → Type 0) → (T → Type 0) → (T → List ℕ) → (T → List ℕ → Type 0)
-    → Change A → ℕ → Saved A → List ℕ → RedoCut → D → T → T → D → T → T → Type 0
-EntrySurvives honest image survives text_honest text text_survives c number kept end_line cut d t u d_new t_new u_new =
-    honest d → text_honest t → text_honest u → AreSettled image text survives text_survives d t u
-    → (stack : List (List ℕ)) → WritesEntry c (text t) (image d) stack (head_text number (kept_of kept)) end_line
-    → (y new redo : List ℕ) → survives d_new y → text_survives t_new new → text_survives u_new redo
-    → LeavesEither (shown new) y redo (side_of stack (image d) (text u)) (side_of (effect c (image d) ∷ stack) (effect c (image d)) (take (place_of cut) (text u)))
-
--- and where the change is made, all three are on the disk
+-- where the change is made, all three are on the disk
 abbrev pub EntrySettles : {D T V E : Type 0} → (D → Type 0) → (D → List ℕ) → (D → List ℕ → Type 0) → (T → Type 0) → (T → List ℕ) → (T → List ℕ → Type 0)
     → D → T → T → D → T → T → Result V E → Type 0
 EntrySettles honest image survives text_honest text text_survives d t u d_new t_new u_new result =
