@@ -1,5 +1,5 @@
 -- The binary digits of six bytes, lane by lane, and the line that they stand in.
-use Rattle.std.proofs.Common.{◌≡◌, ℕ, zero, suc, ◌+◌, ◌<◌, Bool, true, false, cond, eqb, List, [], ◌∷◌, ◌++◌, map, length, take, drop, get_or, bit_and, Fits, w8, refl, sym, ap, ◌∙◌, subst, arith}
+use Rattle.std.proofs.Common.{◌≡◌, ℕ, zero, suc, ◌<◌, Bool, true, false, cond, eqb, List, [], ◌∷◌, ◌++◌, length, take, drop, get_or, bit_and, Fits, w8, refl, ap, ◌∙◌, subst}
 use Rattle.std.specs.Prelude.{codes, slice_set, bytes_eq}
 use Rattle.std.specs.List.{flat_map, range_with_len}
 use Rattle.std.proofs.lemmas.Bool.{agree_below_at}

@@ -1,7 +1,6 @@
-use Rattle.std.proofs.Common.{◌≡◌, ◌+◌, ◌-◌, ◌≤◌, ◌++◌, length, take, drop, ap, ◌∙◌, arith}
+use Rattle.std.proofs.Common.{◌≡◌, ◌+◌, ◌-◌, ◌++◌, length, take, drop, ap, ◌∙◌, arith}
 use Rattle.std.proofs.lemmas.List.{length-drop, length-take-le, take-append-le, take-take, take_all}
 use Rattle.std.proofs.lemmas.Simd.{length-chunk, put_chunk_whole}
-use borrow.Rule.Slice.PartMut.{mid_of}
 use lib.Lanes.{chunk}
 use Rattle.bx_dump.proofs.strings.places.put_last.Goals as goal
 
