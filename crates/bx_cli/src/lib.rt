@@ -22,7 +22,9 @@ mod plan;
 
 pub use behind::run_dump_behind;
 pub use beside::unlike_line;
-pub use bx_commands::{Command, Fault, Form, Reply, change_from, log_text, run_all, run_read};
+pub use bx_commands::{
+    Command, Fault, Form, Reply, change_from, change_if_read, log_text, run_all,
+};
 pub use dump::{Done, run_dump};
 pub use hint::{Known, Misuse, hint_text, misuse_of};
 pub use job::{

@@ -83,7 +83,7 @@ fn run_redo<D: Device, T: TextStore, A: Allocator + Clone>(
 }
 
 /// Makes the change of a text that was read, or refuses it for the text's fault.
-pub fn run_read<D: Device, T: TextStore, A: Allocator + Clone>(
+pub fn change_if_read<D: Device, T: TextStore, A: Allocator + Clone>(
     session: &mut Session<D, T, A>,
     read: Result<Change<A>, ReadFault>,
 ) -> Reply
@@ -115,7 +115,7 @@ fn run_dd<D: Device, T: TextStore, A: Allocator + Clone>(
 }
 
 /// Puts a dump onto the image. The whole text is read first, and dropped before the change is made.
-fn run_dump<D: Device, T: TextStore, A: Allocator + Clone>(
+fn revert_dump<D: Device, T: TextStore, A: Allocator + Clone>(
     alloc: &A,
     session: &mut Session<D, T, A>,
     text: &mut Bytes<A>,
@@ -130,11 +130,11 @@ fn run_dump<D: Device, T: TextStore, A: Allocator + Clone>(
 {
     let change = change_of_dump(alloc, text.as_slice(), offset);
     drop_text(text);
-    run_read(session, change)
+    change_if_read(session, change)
 }
 
 /// Puts plain hexadecimal onto the image. The whole text is read first, and dropped before the change is made.
-fn run_plain<D: Device, T: TextStore, A: Allocator + Clone>(
+fn revert_plain<D: Device, T: TextStore, A: Allocator + Clone>(
     alloc: &A,
     session: &mut Session<D, T, A>,
     text: &mut Bytes<A>,
@@ -148,7 +148,7 @@ fn run_plain<D: Device, T: TextStore, A: Allocator + Clone>(
 {
     let change = change_of_plain(alloc, text.as_slice(), at);
     drop_text(text);
-    run_read(session, change)
+    change_if_read(session, change)
 }
 
 /// Gives the memory of a text back that was read, which leaves an empty one.
@@ -180,8 +180,8 @@ fn run_one<D: Device, T: TextStore, R: Read, A: Allocator + Clone>(
         session.old command.old command.new result session.new }
 {
     match command {
-        Command::Revert { text, offset } => run_dump(alloc, session, text, *offset),
-        Command::RevertPlain { text, at } => run_plain(alloc, session, text, *at),
+        Command::Revert { text, offset } => revert_dump(alloc, session, text, *offset),
+        Command::RevertPlain { text, at } => revert_plain(alloc, session, text, *at),
         Command::Dd { operands, input } => {
             let made = change_of_dd(alloc, operands, input);
             run_dd(session, made)

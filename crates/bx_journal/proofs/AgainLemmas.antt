@@ -18,7 +18,7 @@ use Rattle.std.specs.Prelude.{All}
 use Rattle.std.proofs.lemmas.List.Elements.{All-head, All-tail, All-nil, All-cons, All-weaker, All-append}
 use Rattle.std.proofs.lemmas.List.{take_more}
 use Rattle.bx_image.specs.Change.{AllWithin}
-use Rattle.bx_journal.proofs.Sane.{AreSane, read_sane}
+use Rattle.bx_journal.proofs.ReadingLemmas.{AreSane, read_sane}
 use Rattle.bx_journal.proofs.UndoLoop.{kept_more}
 
 count_same : {A : Type 0} → (bytes : List ℕ) (j : JournalRead A) (count : ℕ) (h : HasCount bytes count) → HasRead bytes j → reading_of j.entries.items j.stage ≡ record { entries = h.0; stage = Between }

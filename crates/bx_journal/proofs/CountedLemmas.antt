@@ -15,7 +15,7 @@ use Rattle.std.proofs.Math.ListN.{drop_of_length-le}
 use Rattle.bx_entries.specs.inner.Tally.{IsCounted}
 use Rattle.bx_journal.proofs.OpenLemmas.{begins_told, differs_of, one_told, same_lengths, some_same}
 use Rattle.bx_journal.proofs.Phases.{length-stack_of}
-use Rattle.bx_journal.proofs.Sane.{read_sane, have_lengths}
+use Rattle.bx_journal.proofs.ReadingLemmas.{read_sane, have_lengths}
 
 pub left_none : (text : List ℕ) → shown text ≡ text → (split text).rest ≡ [] → left_over text ≡ []
 left_none text same whole = ap (λ t. (split t).rest ++ drop (length t) text) same ∙ ap (λ r. r ++ drop (length text) text) whole ∙ drop_of_length-le text (omega arith)

@@ -4,7 +4,7 @@ pub mod Cuts
 pub mod UndoSteps
 pub mod LawProofs
 pub mod ChangeSteps
-pub mod Sane
+pub mod ReadingLemmas
 pub mod Tails
 pub mod TailLemmas
 pub mod UndoLoop
@@ -26,9 +26,9 @@ pub mod FadeLemmas
 pub mod StepSurvivors
 pub mod ImageLemmas
 pub mod RedoText
-pub mod Sharper
+pub mod EndLineLemmas
 pub mod StepFound
-pub mod Pushed
+pub mod UndoAppends
 pub mod TurnLemmas
 pub mod StopLemmas
 pub mod Shapes
@@ -38,7 +38,7 @@ pub mod AgainTaken
 pub mod WrittenAgain
 pub mod TakingLemmas
 pub mod DeviceLemmas
-pub mod Stayed
+pub mod LookedLemmas
 pub mod SafeLemmas
 pub mod EntryLoop
 pub mod LoopLemmas

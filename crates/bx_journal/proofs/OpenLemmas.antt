@@ -24,7 +24,7 @@ use Rattle.bx_entries.specs.Shown.{shown}
 use Rattle.bx_entries.proofs.ShownLemmas.{shown_short, take_shown}
 use Rattle.bx_journal.specs.inner.Opening.{LookFault}
 use Rattle.bx_entries.proofs.ReadLemmas.{length-entries_of}
-use Rattle.bx_journal.proofs.Sane.{IsSane, read_sane, have_lengths, length-restore}
+use Rattle.bx_journal.proofs.ReadingLemmas.{IsSane, read_sane, have_lengths, length-restore}
 
 pub some_same : {A : Type 0} (x y : A) → Some x ≡ Some y → x ≡ y
 some_same x y e = cc

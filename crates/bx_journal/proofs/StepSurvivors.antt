@@ -25,7 +25,7 @@ use Rattle.bx_journal.specs.Power.{Found}
 use Rattle.bx_entries.proofs.CleanLemmas.{clean_shown}
 use Rattle.bx_journal.proofs.TurnLemmas.{rest_is_found}
 use Rattle.bx_journal.proofs.ChangeSteps.{head_ok, head_fault, end_ok}
-use Rattle.bx_journal.proofs.Sharper.{end_is_sharp, cut_is_sharp}
+use Rattle.bx_journal.proofs.EndLineLemmas.{end_is_sharp, cut_is_sharp}
 use Rattle.bx_journal.proofs.Tails.{joined_rest, rest_plain, tail_fault}
 use Rattle.bx_store.specs.Store.{IsPartlyCut}
 use Rattle.bx_entries.specs.Text.{Entry, Stage, Between, Reading, split}

@@ -15,7 +15,7 @@ use Rattle.bx_entries.specs.inner.Mark.{IsMark}
 use Rattle.bx_entries.specs.inner.Journal.{HasRead}
 use Rattle.bx_entries.specs.inner.Parsed.{entries_of, stage_of, reading_of, IsMarked}
 use Rattle.bx_entries.proofs.ReadLemmas.{length-entries_of}
-use Rattle.bx_journal.proofs.Sane.{read_sane}
+use Rattle.bx_journal.proofs.ReadingLemmas.{read_sane}
 use Rattle.bx_journal.proofs.Tails.{tail_of, counted_stack}
 
 -- where what is unfinished begins

@@ -24,7 +24,7 @@ use Rattle.bx_journal.specs.inner.Recovery.{HasMark, IsTorn}
 use Rattle.bx_journal.specs.inner.Restoring.{AllShorter, StandsAt}
 use Rattle.bx_journal.specs.inner.Step.{HasTail}
 use Rattle.bx_journal.proofs.OpenLemmas.{begins_told}
-use Rattle.bx_journal.proofs.Sane.{IsSane, have_lengths, length-restore, read_sane}
+use Rattle.bx_journal.proofs.ReadingLemmas.{IsSane, have_lengths, length-restore, read_sane}
 use Rattle.bx_journal.proofs.Tails.{counted_stack, tail_of}
 
 same_reading : (q r : Reading) → Some q ≡ Some r → q ≡ r

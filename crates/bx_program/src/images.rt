@@ -8,7 +8,7 @@ use crate::files::text_file::TextFile;
 use crate::files::{Made, SessionFiles, existing, trio};
 use crate::folders::keep_names;
 use crate::stopped::{Devices, Stopped};
-use bx_cli::{Access, Command, Durability, Fault, Reply, Texts, log_text, run_all, run_read};
+use bx_cli::{Access, Command, Durability, Fault, Reply, Texts, change_if_read, log_text, run_all};
 use bx_image::{Change, Device, FileImage, SystemFile};
 use bx_journal::{How, Session, SessionFault};
 use bx_read::ReadFault;
@@ -198,7 +198,7 @@ where
         made,
         ..
     } = opened;
-    match run_read(&mut session, read) {
+    match change_if_read(&mut session, read) {
         Reply::Refused(fault) => {
             let trio = session.close();
             let devices = Devices { trio, image, texts };

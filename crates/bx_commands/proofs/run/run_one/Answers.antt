@@ -2,10 +2,10 @@ use Rattle.std.proofs.Common.{refl}
 use Rattle.bx_commands.proofs.run.run_one.Goals as goal
 
 pub returns-in-Revert : goal.returns-in-Revert
-returns-in-Revert g c = record { runs = rw (c.in-Revert.is, c.run_dump.ensures.left) (refl, c.run_dump.ensures.tells, c.run_dump.ensures.obeys) }
+returns-in-Revert g c = record { runs = rw (c.in-Revert.is, c.revert_dump.ensures.left) (refl, c.revert_dump.ensures.tells, c.revert_dump.ensures.obeys) }
 
 pub returns-in-RevertPlain : goal.returns-in-RevertPlain
-returns-in-RevertPlain g c = record { runs = rw (c.in-RevertPlain.is, c.run_plain.ensures.left) (refl, c.run_plain.ensures.tells, c.run_plain.ensures.obeys) }
+returns-in-RevertPlain g c = record { runs = rw (c.in-RevertPlain.is, c.revert_plain.ensures.left) (refl, c.revert_plain.ensures.tells, c.revert_plain.ensures.obeys) }
 
 pub returns-in-Dd : goal.returns-in-Dd
 returns-in-Dd g c =

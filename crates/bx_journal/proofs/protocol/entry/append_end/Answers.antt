@@ -2,7 +2,7 @@ use Rattle.std.proofs.Common.{ℕ, List, ◌++◌, length, sym, ◌∙◌, ap, a
 use Rattle.std.proofs.lemmas.Result.{on_ok_weaker}
 use Rattle.bx_journal.proofs.PageLemmas.{at_err}
 use Rattle.bx_journal.proofs.ChangeSteps.{end_ok}
-use Rattle.bx_journal.proofs.Sharper.{end_is_sharp}
+use Rattle.bx_journal.proofs.EndLineLemmas.{end_is_sharp}
 use Rattle.bx_journal.proofs.StepSurvivors.{left_behind, end_survives}
 use Rattle.bx_journal.proofs.protocol.entry.append_end.Goals as goal
 

@@ -14,7 +14,7 @@ use Rattle.bx_journal.specs.inner.Redo.{LeavesEither, RecoversOpen}
 use Rattle.bx_journal.specs.inner.Turns.{place_of, side_of}
 use Rattle.bx_journal.proofs.StopLemmas.{before_stops, within_old, last_stops}
 use Rattle.bx_journal.proofs.Phases.{open_recovers}
-use Rattle.bx_journal.proofs.Sharper.{either_of}
+use Rattle.bx_journal.proofs.EndLineLemmas.{either_of}
 use Rattle.bx_entries.specs.Shown.{shown}
 use Rattle.bx_image.specs.Power.{Only}
 use Rattle.bx_journal.specs.inner.Fading.{AllStayOpenFor}

@@ -11,7 +11,7 @@ use Rattle.bx_entries.specs.Text.{Ending}
 use Rattle.bx_journal.specs.inner.Turns.{kept_text, side_of}
 use Rattle.bx_journal.proofs.Tails.{tail_moves}
 use Rattle.bx_journal.proofs.Phases.{open_recovers}
-use Rattle.bx_journal.proofs.Sharper.{cut_is_sharp, either_below}
+use Rattle.bx_journal.proofs.EndLineLemmas.{cut_is_sharp, either_below}
 use Rattle.bx_journal.proofs.StopLemmas.{first_stops, within_new, behind_stops}
 use Rattle.bx_journal.proofs.UndoSteps.{first_ok, first_tail}
 use Rattle.bx_entries.specs.Shown.{shown}

@@ -14,7 +14,7 @@ use Rattle.bx_journal.proofs.TurnLemmas.{change_stops}
 use Rattle.bx_journal.proofs.Performed.{appended, performs, top_of_stands}
 use Rattle.bx_journal.specs.inner.Devices.{HaveStayed}
 use Rattle.bx_journal.proofs.SafeLemmas.{any_fault}
-use Rattle.bx_journal.proofs.Stayed.{pair_stays, rest_step}
+use Rattle.bx_journal.proofs.LookedLemmas.{pair_stays, rest_step}
 use Rattle.bx_journal.specs.inner.Step.{WritesEntry}
 use Rattle.bx_journal.proofs.Ready.{IsPrepared, writes_entry, top_of_rest}
 use Rattle.bx_journal.proofs.StepSurvivors.{found_at_rest, found_either, found_of}

@@ -12,7 +12,7 @@ use Rattle.bx_image.proofs.Survivors.{NoMore_then}
 use Rattle.bx_journal.proofs.DeviceLemmas.{one_more}
 use Rattle.bx_journal.specs.Power.{FoundBefore}
 use Rattle.bx_journal.proofs.SafeLemmas.{accepts, any_fault, interrupts, refuses}
-use Rattle.bx_journal.proofs.Stayed.{left_since, looked_at, none_failed, pair_step, read_since, rest_step, standing_step, taken_step}
+use Rattle.bx_journal.proofs.LookedLemmas.{left_since, looked_at, none_failed, pair_step, read_since, rest_step, standing_step, taken_step}
 use Rattle.bx_journal.specs.Images.{undo_of}
 use Rattle.bx_journal.proofs.LoopLemmas.{standing}
 use Rattle.bx_journal.proofs.StepSurvivors.{found_at_rest, found_of, found_some}

@@ -1,6 +1,6 @@
 use Rattle.std.proofs.Common.{◌≡◌, ◌-◌, ◌∙◌, length, drop, ap, arith}
 use Rattle.bx_journal.proofs.DeviceLemmas.{both_ways}
-use Rattle.bx_journal.proofs.Stayed.{found_then}
+use Rattle.bx_journal.proofs.LookedLemmas.{found_then}
 use Rattle.bx_journal.proofs.UndoLoop.{kept_more}
 use Rattle.bx_journal.proofs.session.prepare.ranges.prepare_redo.Goals as goal
 

@@ -1,7 +1,7 @@
 use Rattle.std.proofs.Common.{refl}
 use Rattle.bx_image.specs.declared.change.Change.{Change}
 use Rattle.bx_commands.proofs.Obeys.{read_refused}
-use Rattle.bx_commands.proofs.run.run_read.Goals as goal
+use Rattle.bx_commands.proofs.run.change_if_read.Goals as goal
 
 pub returns-in-Ok : goal.returns-in-Ok
 returns-in-Ok g c = record { obeys = rw c.in-Ok.is c.run_change.ensures.obeys; tells = c.run_change.ensures.tells }

@@ -1,15 +1,15 @@
 use Rattle.bx_commands.proofs.Obeys.{obeys_next}
 use Rattle.bx_commands.proofs.Joined.{dump_step}
-use Rattle.bx_commands.proofs.run.run_dump.Goals as goal
+use Rattle.bx_commands.proofs.run.revert_dump.Goals as goal
 
 pub returns : goal.returns
 returns g c =
     let change = c.change_of_dump-change in
     record {
       obeys = obeys_next g.D.Device.honest g.T.TextStore.honest g.D.Device.image g.T.TextStore.text g.D.Device.survives g.T.TextStore.survives g.D.Device.failures g.T.TextStore.failures
-          (λ before after. dump_step c.args.text.now c.args.offset change.result before after c.run_read.result
+          (λ before after. dump_step c.args.text.now c.args.offset change.result before after c.change_if_read.result
           (rw c.as_slice.ensures at change.ensures.change) (rw c.as_slice.ensures at change.ensures.fault))
-          c.run_read.ensures.obeys;
+          c.change_if_read.ensures.obeys;
       left = c.drop_text.ensures;
-      tells = c.run_read.ensures.tells;
+      tells = c.change_if_read.ensures.tells;
     }
