@@ -22,9 +22,9 @@ PHRASES = {
 }
 # for each place the most that there may be of each phrase, in their order
 CEILINGS = {
-    "documents": (1, 0, 0, 0, 0),
-    "comments of code": (2, 4, 0, 0, 2),
-    "comments of definitions": (2, 1, 0, 0, 0),
+    "documents": (0, 0, 0, 0, 0),
+    "comments of code": (0, 0, 0, 0, 2),
+    "comments of definitions": (0, 0, 0, 0, 0),
 }
 
 

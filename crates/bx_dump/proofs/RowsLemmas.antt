@@ -39,7 +39,7 @@ row_behind at bytes some =
     let other : (at == 0) ≡ false = ne_eqb at 0 (λ e. omega arith) in
     rw other refl
 
--- a line of 30 bytes, of which two were put twice
+-- a line of 30 bytes; two of them were put twice
 abbrev pub IsThirty : Bool → List ℕ → List ℕ → Type 0
 IsThirty upper bytes rest =
     slice_set (put_mid 28 32 (flat_map (pair_of upper) (take 16 bytes) ++ rest) (flat_map (pair_of upper) (drop 14 bytes))) 60 10 ≡ flat_map (pair_of upper) bytes ++ 10 ∷ []

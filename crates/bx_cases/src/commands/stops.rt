@@ -114,7 +114,7 @@ pub struct Run<'a, 'b> {
     pub step: u64,
 }
 
-/// A run on devices of which one fails, and what it leaves opened again. Tells how often it was stopped, if a call failed: once
+/// A run on devices where one fails, and what it leaves opened again. Tells how often it was stopped, if a call failed: once
 /// for each thing that may be found, and how often these were.
 fn one_stop<D: Device + Drop, T: TextStore + Drop, M: Medium<D, T>, B: Behind>(
     alloc: Global,

@@ -34,7 +34,7 @@ pub struct Fused {
     pub pass: u64,
 }
 
-/// Devices of which one may fail.
+/// Devices where one may fail.
 pub type FusedDevices<D, T> = Devices<FuseImage<D>, FuseText<T>>;
 
 pub type FusedSession<D, T> = Session<FuseImage<D>, FuseText<T>>;
@@ -71,7 +71,7 @@ fn fused_text<T: TextStore + Drop>(
     Ok(FuseText::new(text, fused.pass, fused.part, fused.once))
 }
 
-/// Devices one of which fails.
+/// Devices where one fails.
 fn fuse<D: Device + Drop, T: TextStore + Drop>(
     devices: Devices<D, T>,
     fused: Fused,
@@ -88,7 +88,7 @@ fn fuse<D: Device + Drop, T: TextStore + Drop>(
     })
 }
 
-/// Devices that hold this, one of which fails.
+/// Devices that hold this, where one fails.
 pub fn in_fused<D: Device + Drop, T: TextStore + Drop, M: Medium<D, T>>(
     alloc: Global,
     medium: &M,

@@ -41,7 +41,7 @@ fn middle_digits(bytes: u8x16) -> u8x16
     )
 }
 
-/// The last 8 characters, of which the first two are among those before.
+/// The last 8 characters. The first two of them are among those before.
 #[inline(always)]
 fn last_digits(bytes: u8x16) -> u8x8
     ensures { result ≡ drop 46 (spaced_bits (take 6 bytes)) }

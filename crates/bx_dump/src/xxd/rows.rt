@@ -33,7 +33,7 @@ impl Plain {
     }
 }
 
-/// Puts a full line: 30 bytes as 16 and 16, of which two are put twice.
+/// Puts a full line: 30 bytes as 16 and 16, so that two are put twice.
 #[inline(always)]
 fn put_thirty(line: &mut [u8], bytes: &[u8], upper: bool)
     requires line { length line.old ≡ 61 }

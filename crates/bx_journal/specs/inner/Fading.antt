@@ -32,7 +32,7 @@ AllStayOpenFor c x survives = (y : List ℕ) → survives y → StaysOpenFor c x
 abbrev pub AllStayOpen : Kept → List ℕ → (List ℕ → Type 0) → Type 0
 AllStayOpen s x survives = (y : List ℕ) → survives y → StaysOpen s x y
 
--- of an image of which a record is restored in part: what the record leaves out is there as it was
+-- of an image whose record is restored in part: what the record leaves out is there as it was
 abbrev pub AllKeepUnmapped : Kept → List ℕ → (List ℕ → Type 0) → Type 0
 AllKeepUnmapped s x survives = (y : List ℕ) → survives y → KeepsUnmapped s x y
 

@@ -15,7 +15,7 @@ abbrev pub AllShorter : ℕ → List (List ℕ) → Type 0
 AllShorter most [] = Unit {0}
 AllShorter most (line ∷ lines) = (length line < most) × AllShorter most lines
 
--- The saved lines of this record begin at the one place, and its save line ends at the other. No line up to there is longer than told
+-- The saved lines of this record begin at the one place, and its save line ends at the other. No line up to there is longer than recorded
 pub record StandsAt (text : List ℕ) (m : Mark) (s : Kept) : Type 0 where
   pub entries : List Entry
   pub version : Version

@@ -82,7 +82,8 @@ pub fn restore_part<D: Device>(device: &mut D, at: u64, bytes: &[u8]) -> Result<
     ensures ok { D.honest device.old → OnOk result (D.image device.new ≡ place (D.image device.old) at bytes.now) }
     ensures keeps { D.honest device.old → (s : Kept) → IsPartOf s at (length bytes.now) → KeepsUnmapped s (D.image device.old) (D.image device.new) }
     ensures phase { D.honest device.old → (s : Kept) → IsPartOf s at (length bytes.now) → StaysOpen s (D.image device.old) (D.image device.new) }
-    ensures survives { D.honest device.old → (s : Kept) → IsPartOf s at (length bytes.now) → Follows (KeepsUnmapped s) (D.survives device.old) (D.survives device.new) }
+    ensures survives { D.honest device.old → (s : Kept) → IsPartOf s at (length bytes.now)
+        → Follows (KeepsUnmapped s) (D.survives device.old) (D.survives device.new) }
     ensures goes_on { GoesOn D.honest D.room D.failures (is_err result) device.old device.new }
 {
     device.write_at(at, bytes)

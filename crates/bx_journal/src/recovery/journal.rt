@@ -15,8 +15,8 @@ use bx_image::DeviceFailed;
 use bx_store::TextStore;
 use std::alloc::Allocator;
 
-/// What is unfinished at the end of a text: `count` finished entries stand before it, the last of which records the length `told`,
-/// and it begins at `begins`. Where its `save` line stands, its record stands at a mark.
+/// What is unfinished at the end of a text: `count` finished entries stand before it, the last one records the length `told`, and it
+/// begins at `begins`. Where its `save` line stands, its record stands at a mark.
 #[derive(Clone, Copy)]
 pub struct Torn {
     pub count: u32,

@@ -26,7 +26,8 @@ pub fn drop_tail<T: TextStore>(store: &mut T, begins: u64) -> Result<(), DeviceF
     ensures shown_stops { T.honest store.old → TailStops (shown (T.text store.old)) begins (shown (T.text store.new)) result }
     ensures settled { T.honest store.old → OnOk result (Only (T.text store.new) (T.survives store.new)) }
     ensures survives { T.honest store.old → Only (T.text store.old) (T.survives store.old) → TailSurvives (T.text store.old) begins (T.survives store.new) }
-    ensures shown_survives { T.honest store.old → Only (T.text store.old) (T.survives store.old) → RestSurvives (shown (T.text store.old)) begins (T.survives store.new) }
+    ensures shown_survives { T.honest store.old → Only (T.text store.old) (T.survives store.old)
+        → RestSurvives (shown (T.text store.old)) begins (T.survives store.new) }
     ensures text { T.honest store.old → OnOk result (T.text store.new ≡ take begins (T.text store.old)) }
     ensures goes_on { GoesOn T.honest T.room T.failures (is_err result) store.old store.new }
 {

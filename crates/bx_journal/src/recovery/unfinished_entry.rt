@@ -47,8 +47,8 @@ pub fn check_length<D: Device>(device: &mut D, told: Option<u64>) -> Result<(), 
     Ok(())
 }
 
-/// Compares the image's length with the one that the last finished entry tells, or makes room for what is to be
-/// restored, which has a length that was told before.
+/// Compares the image's length with the one that the last finished entry records, or makes room for what is to be
+/// restored, whose length the unfinished entry records.
 fn prepare<D: Device>(device: &mut D, torn: Torn) -> Result<(), SessionFault>
     requires { D.failures device.old < u64.MAX }
     ensures lengths { D.honest device.old → (text : List ℕ) (r : Reading) → IsTorn text r torn
