@@ -710,7 +710,20 @@ little_memory() {
         "$bx" dd if=new of=img conv=notrunc 2> err
     )
     say "$([ $? = 0 ] && cmp -s new img && echo 1)" "dd of 64 MiB, no more address space than 88473 KiB" "$(tail -n 1 err)"
+    little_memory_of_steps
     rm -f new before dump plain
+}
+
+# Behind that dd: a redo holds what it restores, an undo what it overwrites too, and an opening that rolls back neither.
+little_memory_of_steps() {
+    within "undo of 64 MiB" 156058 before undo img
+    within "redo of 64 MiB" 88473 new redo img
+    truncate -s -32 img.bxj
+    (
+        ulimit -v 20000
+        "$bx" log img > out 2> recovered
+    )
+    say "$([ $? = 0 ] && cmp -s before img && echo 1)" "a change of 64 MiB rolled back in 20000 KiB of address space" "$(cat recovered)"
 }
 
 # Kills a run after so many seconds, and takes back the changes that it left.

@@ -381,20 +381,42 @@ fn reads_refused(alloc: Global, rt: &impl Abort, len: usize, reads: u64) -> Resu
     Ok(())
 }
 
-// Behind an entry that tells its length stands a front of a first line, a first line, or an entry up to its save line. The
-// journal's length is read, a window of it, what is left behind that, and then all of it. Of the first two the image's length
-// is read. No read comes behind the first write.
+// Behind an entry that records its length stands a front of a first line, a first line, or an entry up to its save line. The
+// journal's length is read, its text in windows, what follows the last newline, the text up to what is unfinished once more,
+// and that again for zeros. Of the first two the image's length is read, and of the last its first line.
 #[test]
 fn reads_of_recoveries_fail(rt: HostRuntime) -> Result<(), Fail> {
     let alloc = rt.alloc();
-    reads_refused(alloc, &rt, 150, 4)?;
-    reads_refused(alloc, &rt, 167, 3)?;
-    reads_refused(alloc, &rt, 234, 3)?;
+    reads_refused(alloc, &rt, 150, 6)?;
+    reads_refused(alloc, &rt, 167, 5)?;
+    reads_refused(alloc, &rt, 234, 6)?;
     for len in [150, 167] {
         let passes = (0, NONE, NONE);
         assert_refused(alloc, &rt, unfinished(len), passes, REFUSED, NO_STEP)?;
     }
-    opening_recovers(alloc, &rt, 150, (4, 1), How::Dropped)?;
-    opening_recovers(alloc, &rt, 167, (3, 1), How::Dropped)?;
-    opening_recovers(alloc, &rt, 234, (3, 0), How::Restored { number: 2 })
+    opening_recovers(alloc, &rt, 150, (6, 1), How::Dropped)?;
+    opening_recovers(alloc, &rt, 167, (5, 1), How::Dropped)?;
+    opening_recovers(alloc, &rt, 234, (8, 0), How::Restored { number: 2 })
+}
+
+// The saved lines of an entry are read once more while it is rolled back, here in two windows: where one of these reads fails the
+// opening is interrupted, and the next one rolls the entry back.
+#[test]
+fn reads_of_a_rollback_fail(rt: HostRuntime) -> Result<(), Fail> {
+    let alloc = rt.alloc();
+    let restored = found(How::Restored { number: 2 }, 1, 0);
+    let stopped = Err(SessionFault::Interrupted);
+    for pass in [6, 7] {
+        let left = left_by(
+            alloc,
+            &rt,
+            unfinished(234),
+            (NONE, pass, 0),
+            stopped,
+            NO_STEP,
+        )?;
+        let opened = reopened(alloc, &rt, &left, restored)?;
+        assert_held(&rt, &opened, (b"a", front(MADE_TWO, 133), b""));
+    }
+    Ok(())
 }
