@@ -1,7 +1,17 @@
 -- The log of a session as text.
 use Rattle.std.specs.Prelude.{ℕ, List, ◌++◌, codes, decimal}
+use Rattle.bx_journal.specs.declared.look.ShowFault.TheVariants as look
 use Rattle.bx_journal.specs.declared.session.answers.LogRow.{LogRow}
+use Rattle.bx_journal.specs.Showing.{StopsLog}
+use Rattle.bx_commands.specs.declared.fault.Fault.{Fault}
+use Rattle.bx_commands.specs.declared.fault.Fault.TheVariants as of
 
 -- a change's number, the length before it, and how many bytes were saved
 abbrev pub log_line : LogRow → List ℕ
 log_line row = decimal row.number ++ codes " " ++ decimal row.old_len ++ codes " " ++ decimal row.saved ++ codes "\n"
+
+-- which fault a log with ranges answers: one of a look at the changes of the text
+abbrev pub StopsListing : Type 0 → List ℕ → Fault → Type 0
+StopsListing honest text (of.Session fault) = StopsLog honest text (look.Text fault)
+StopsListing honest text (of.Io fault) = StopsLog honest text (look.Io fault)
+StopsListing honest text _ = ⊥

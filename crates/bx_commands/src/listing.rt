@@ -1,13 +1,16 @@
 //! The log of a session as text.
-ghost use Rattle.std.specs.Prelude.{◌≡◌, ◌++◌, IfOk, OnOk, IsOkUnless, string_bytes};
+ghost use Rattle.std.specs.Prelude.{◌≡◌, ◌<◌, ◌++◌, IfErr, IfOk, OnOk, IsOkUnless, string_bytes};
 ghost use Rattle.std.specs.List.{flat_map};
-ghost use Rattle.bx_commands.specs.Listing.{log_line};
+ghost use Rattle.bx_journal.specs.Showing.{RangesOf};
+ghost use Rattle.bx_commands.specs.Listing.{StopsListing, log_line};
 
 use crate::Fault;
-use bx_journal::LogRow;
+use bx_journal::{LogRow, ShowFault, log_ranges};
+use bx_store::TextStore;
 use bx_text::IoFault;
 use std::alloc::{AllocError, Allocator};
-use std::fmt::Write;
+use std::fmt::Write as _;
+use std::io::Write;
 
 /// A line for each change: its number, the length before it, and how many bytes were saved, in decimal. The one fault is
 /// want of memory.
@@ -27,4 +30,26 @@ fn push_row<A: Allocator>(text: &mut String<A>, row: LogRow) -> Result<(), Alloc
     ensures { OnOk result (string_bytes text.new ≡ string_bytes text.old ++ log_line row) }
 {
     write!(text, "{} {} {}\n", row.number, row.old_len, row.saved)
+}
+
+/// Writes a line for each change of a journal's text that is finished entries alone, the oldest first: its number, the lengths
+/// before and after it, how many bytes were saved, and at which ranges. The text stays.
+///
+/// # Errors
+/// As of `bx_journal::log_ranges`.
+pub fn list_ranges<T: TextStore, A: Allocator + Clone, W: Write>(
+    alloc: &A,
+    store: &mut T,
+    out: &mut W,
+) -> Result<(), Fault>
+    requires { T.failures store.old < u64.MAX }
+    ensures rows { T.honest store.old → OnOk result (RangesOf (T.text store.old) (W.contents out.old) (W.contents out.new)) }
+    ensures fault { IfErr result (StopsListing (T.honest store.old) (T.text store.old)) }
+    ensures text { T.honest store.old → T.text store.new ≡ T.text store.old }
+{
+    match log_ranges(alloc, store, out) {
+        Ok(()) => Ok(()),
+        Err(ShowFault::Text(fault)) => Err(Fault::Session(fault)),
+        Err(ShowFault::Io(fault)) => Err(Fault::Io(fault)),
+    }
 }
