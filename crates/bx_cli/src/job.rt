@@ -163,6 +163,8 @@ pub enum Job {
     },
     /// Lists the changes that stand.
     Log {
+        /// Whether each line has the length after the change too, and where the saved bytes stand.
+        verbose: bool,
         /// The name of the image.
         image: Name,
         /// The names of its texts.

@@ -250,13 +250,19 @@ static REDO: [Row; 3] = [
     },
 ];
 
-static LOG: [Row; 2] = [
+static LOG: [Row; 3] = [
     JOURNAL,
     Row {
         id: "unsynced",
         short: 'U',
         value: None,
         help: "Do not wait for the disk where a stopped change is taken back first",
+    },
+    Row {
+        id: "verbose",
+        short: 'v',
+        value: None,
+        help: "Show the length after each change too, and which bytes were saved",
     },
 ];
 
@@ -460,7 +466,7 @@ fn log<'a>(alloc: Global) -> Result<Command<'a>, AllocError> {
     let command = Command::new(alloc, "log")
         .about("List the changes of an image, the oldest first")
         .after_help(
-            "Each line has a change's number, the image's bytes before it, and the bytes that were saved.\n\nEXAMPLES:\n  bx log disk.img\n  bx log -J other.bxj disk.img",
+            "Each line has a change's number, the image's bytes before it, and the bytes that were saved; with -v the bytes\nbefore and after it, the bytes that were saved, and their ranges.\n\nEXAMPLES:\n  bx log disk.img\n  bx log -v disk.img\n  bx log -J other.bxj disk.img",
         );
     with_mounted(
         alloc,

@@ -361,6 +361,7 @@ fn redo(alloc: Global, m: &ArgMatches<'_>) -> Result<Job, Fault> {
 fn log(alloc: Global, m: &ArgMatches<'_>) -> Result<Job, Fault> {
     let (image, texts) = image_and_texts(alloc, m)?;
     Ok(Job::Log {
+        verbose: m.get_flag("verbose"),
         image,
         texts,
         access: access(m),

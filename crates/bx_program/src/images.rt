@@ -7,15 +7,19 @@ use crate::files::open::Purpose;
 use crate::files::text_file::TextFile;
 use crate::files::{Made, SessionFiles, existing, trio};
 use crate::folders::keep_names;
+use crate::paged::Paged;
 use crate::stopped::{Devices, Stopped};
-use bx_cli::{Access, Command, Durability, Fault, Reply, Texts, change_if_read, log_text, run_all};
+use bx_cli::{
+    Access, Command, Durability, Fault, Reply, Texts, change_if_read, list_ranges, log_text,
+    run_all,
+};
 use bx_image::{Change, Device, FileImage, SystemFile};
 use bx_journal::{How, Session, SessionFault};
 use bx_read::ReadFault;
 use bx_store::{FileText, TextStore};
 use bx_text::{Name, NoMemory};
 use std::fs::File;
-use std::io::Read;
+use std::io::{Read, Write};
 use std::rt::Files;
 
 type FileSession = Session<FileImage, FileText<TextFile>>;
@@ -228,6 +232,31 @@ where
         Some(Reply::Refused(fault)) => Err(*fault),
         Some(reply) => Ok(*reply),
         None => Err(Fault::from(NoMemory)),
+    }
+}
+
+/// Writes the changes of a session that was just opened, a line with ranges each, the oldest first.
+pub fn log_places<'a, R, W: Write>(
+    rt: &R,
+    opened: OpenSession,
+    image: &'a Name,
+    texts: &'a Texts,
+    out: &mut W,
+) -> Result<(), Stopped<'a>>
+where
+    R: AllocGlobal,
+    requires { ⟦<FileText<TextFile> as TextStore>⟧.failures opened.session.store ≡ 0 }
+{
+    let (device, mut store, redo_text) = opened.session.close();
+    let mut page = Paged::new(rt.alloc(), out);
+    match list_ranges(&rt.alloc(), &mut store, &mut page) {
+        Ok(()) => Ok(page.put()?),
+        Err(fault) => {
+            let fault = page.stopped.map_or(fault, Fault::Io);
+            let trio = (device, store, redo_text);
+            let devices = Devices { trio, image, texts };
+            Err(devices.stopped(fault))
+        }
     }
 }
 

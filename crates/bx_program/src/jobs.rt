@@ -6,7 +6,7 @@ use crate::copies::{copy_onto, tell};
 use crate::hints::remarks::Remarks;
 use crate::hints::seen::{Seen, Watched};
 use crate::hints::show_fault;
-use crate::images::{finish, finish_read, log, open_session, open_to_look};
+use crate::images::{finish, finish_read, log, log_places, open_session, open_to_look};
 use crate::input::{Placed, file, open, standard};
 use crate::stopped::{Noted, STANDARD_INPUT, Stopped};
 use crate::streams::Held;
@@ -171,10 +171,11 @@ where
             remarks,
         )?,
         Job::Log {
+            verbose,
             image,
             texts,
             access,
-        } => show_log(rt, image, texts, *access, out)?,
+        } => show_log(rt, *verbose, image, texts, *access, out)?,
     }
     Ok(None)
 }
@@ -271,6 +272,7 @@ where
 /// Shows the changes that stand.
 fn show_log<'a, R, W: Write>(
     rt: &R,
+    verbose: bool,
     image: &'a Name,
     texts: &'a Texts,
     access: Access,
@@ -280,6 +282,9 @@ where
     R: Files<File = File> + Eprint + AllocGlobal,
 {
     let session = open_to_look(rt, image, texts, access)?;
+    if verbose {
+        return log_places(rt, session, image, texts, out);
+    }
     let text = log(rt, session, image, texts)?;
     Ok(show(out, text.as_str())?)
 }

@@ -9,6 +9,7 @@ mod hints;
 mod images;
 mod input;
 mod jobs;
+mod paged;
 mod stopped;
 mod streams;
 mod tally;

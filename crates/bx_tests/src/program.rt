@@ -303,7 +303,7 @@ made.j :=
 log -J made.j made.img -> done
 no made.j.redo
 made.j := change2 00000001 0000000000000004|
-log -J made.j made.img -> done
+log -v -J made.j made.img -> done
 made.j has 0
 no made.j.redo
 undo -k 0 -J made.j made.img -> done

@@ -260,10 +260,14 @@ fn field_of(alloc: Global, job: &Job, name: &str) -> Field {
             access,
         } => step_field(alloc, Some(*count), *access, image, texts, name),
         Job::Log {
+            verbose,
             image,
             texts,
             access,
-        } => step_field(alloc, None, *access, image, texts, name),
+        } => match name {
+            "verbose" => flag(alloc, *verbose),
+            _ => step_field(alloc, None, *access, image, texts, name),
+        },
         Job::Help { .. } => Ok(None),
     }
 }
