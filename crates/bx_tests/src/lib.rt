@@ -16,4 +16,6 @@ mod heaps;
 #[cfg(test)]
 mod program;
 #[cfg(test)]
+mod ranges;
+#[cfg(test)]
 mod sessions;
