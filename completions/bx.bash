@@ -76,7 +76,7 @@ _bx() {
     dd) options='-J -U --mounted' ;;
     revert) options='-J -U -f -p -s --mounted' ;;
     undo | redo) options='-J -U -k --mounted' ;;
-    log) options='-J -U --mounted' ;;
+    log) options='-J -U -v --mounted' ;;
     *) return ;;
     esac
     case $command:$prev in

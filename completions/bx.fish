@@ -106,4 +106,5 @@ complete -c bx -n '__fish_seen_subcommand_from redo' -s k -x -d 'Changes to make
 
 complete -c bx -n '__fish_seen_subcommand_from log' -s J -r -F -d 'Journal of the image'
 complete -c bx -n '__fish_seen_subcommand_from log' -s U -d 'Do not wait where a change is taken back'
+complete -c bx -n '__fish_seen_subcommand_from log' -s v -d 'Show lengths and ranges too'
 complete -c bx -n '__fish_seen_subcommand_from log' -l mounted -d 'Take a change of a mounted device back'

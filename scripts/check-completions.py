@@ -70,7 +70,7 @@ OPTIONS = [
     ("bx revert -", "JUfps", MOUNTED),
     ("bx undo -", "JUk", MOUNTED),
     ("bx redo -", "JUk", MOUNTED),
-    ("bx log -", "JU", MOUNTED),
+    ("bx log -", "JUv", MOUNTED),
     ("bx dd -", "JU", MOUNTED),
 ]
 
