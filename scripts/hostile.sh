@@ -509,7 +509,7 @@ streams() {
     letters 1000000 a > text_bytes # more than a pipe holds, so that the writer meets the closed end
     head -c 100000 "$bx" > bytes
     patched > text
-    for command in "xxd bytes" "xxd -i bytes" "xxd -p bytes" "od bytes" "hexdump -C bytes" "strings bytes" "xxd --help" "log img" "undo -k 0 img"; do
+    for command in "xxd bytes" "xxd -i bytes" "xxd -p bytes" "od bytes" "hexdump -C bytes" "strings bytes" "xxd --help" "log img" "log -v img" "undo -k 0 img"; do
         fresh ABxyEFGH text
         # shellcheck disable=SC2086
         timeout 60 "$bx" $command > /dev/full 2> err < /dev/null
@@ -1322,6 +1322,7 @@ failing_calls() {
     each_request "redo" ABCDEFGH none redo img
     each_request "redo over a journal" ABxyEFGH text redo img
     each_request "log" ABxyEFGH text log img
+    each_request "log -v" ABxyEFGH text log -v img
     fresh ABCDEFGH none
     : > input
     shimmed n 0 revert -f dump img && "$bx" log img > out && [ "$(cat out)" = "1 8 2" ] \
