@@ -20,8 +20,3 @@ def below(crates, name):
             found.add(other)
             todo += crates[other]
     return [other for other in crates if other in found]
-
-
-def chain(crates, name):
-    """How many crates the longest chain has that begins at a crate and goes up."""
-    return 1 + max((chain(crates, other) for other, others in crates.items() if name in others), default=0)
