@@ -17,7 +17,6 @@ import crates
 CYCLES = {
     "bx_journal": {"protocol", "recovery", "session"},
     "bx_program": {"files", "folders", "stopped"},
-    "bx_read": {"full", "lines", "runs"},
 }
 
 

@@ -1,11 +1,12 @@
 //! Whole dumps, in which lines that go on with one another are one run.
-ghost use Rattle.std.specs.Prelude.{◌≡◌, ◌⊎◌, ◌+◌, ◌^◌, ◌<◌, ◌≤◌, ◌==◌, ◌++◌, ℕ, List, length, Ok, Err, MatchResult, IfOk, IfErr, All};
+ghost use Rattle.std.specs.Prelude.{◌≡◌, ◌⊎◌, ◌+◌, ◌^◌, ◌<◌, ◌≤◌, ◌++◌, ℕ, List, length, Ok, Err, MatchResult, IfOk, IfErr, All};
 ghost use Rattle.bx_read.specs.Text.{lines_of, answers, dump_pieces, contents, gathered};
 ghost use Rattle.bx_read.specs.Runs.{joined};
 ghost use Rattle.bx_read.specs.Lines.{coming};
 ghost use Rattle.bx_read.specs.inner.NextLine.{piece_of, IsNextLine, lines_left, joined_of, runs_with, runs_then};
 
 use crate::fault::ReadFault;
+use crate::full::rows::goes_on;
 use crate::full::{ENDED, FullLine};
 use crate::line::Line;
 use crate::lines::DumpLines;
@@ -152,12 +153,4 @@ fn grow<'a, A: Allocator>(
         lines.take_row(at, bytes)?;
     }
     Ok(None)
-}
-
-/// Whether what begins at `next` goes on with this many bytes at `at`.
-#[inline]
-pub fn goes_on(at: u64, count: usize, next: u64) -> bool
-    ensures { result ≡ (next == at + count) }
-{
-    next >= at && next - at == count as u64
 }

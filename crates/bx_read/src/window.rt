@@ -5,7 +5,8 @@ ghost use Rattle.bx_read.specs.Runs.{joined};
 ghost use Rattle.bx_read.specs.inner.Window.{newlines, JoinsBehind, TakesText};
 
 use crate::fault::ReadFault;
-use crate::runs::{gather_runs, goes_on};
+use crate::full::rows::goes_on;
+use crate::runs::gather_runs;
 use bx_text::{Bytes, Piece};
 use memchr::memrchr;
 use std::alloc::{Allocator, Global};

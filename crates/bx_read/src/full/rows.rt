@@ -1,11 +1,10 @@
 //! Full lines that go on with a run, as most lines of most dumps do.
-ghost use Rattle.std.specs.Prelude.{◌≡◌, ◌≤◌, ◌+◌, length, MatchResult, IfSome};
+ghost use Rattle.std.specs.Prelude.{◌≡◌, ◌≤◌, ◌+◌, ◌==◌, length, MatchResult, IfSome};
 ghost use Rattle.bx_read.specs.inner.Full.{IsFull};
 ghost use Rattle.bx_read.specs.inner.Rows.{GoesOn};
 
 use crate::fault::ReadFault;
 use crate::full::{ENDED, full_line};
-use crate::runs::goes_on;
 use std::alloc::Allocator;
 
 /// What stands behind lines that were taken, and how many they were.
@@ -13,6 +12,14 @@ use std::alloc::Allocator;
 pub struct Taken<'a> {
     pub rest: &'a [u8],
     pub count: usize,
+}
+
+/// Whether what begins at `next` goes on with this many bytes at `at`.
+#[inline]
+pub fn goes_on(at: u64, count: usize, next: u64) -> bool
+    ensures { result ≡ (next == at + count) }
+{
+    next >= at && next - at == count as u64
 }
 
 /// The bytes of the full line that the text begins with, where it goes on with this many bytes at an address.
