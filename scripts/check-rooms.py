@@ -16,7 +16,6 @@ import crates
 # the rooms of a crate that still reach one another
 CYCLES = {
     "bx_journal": {"protocol", "recovery", "session"},
-    "bx_program": {"files", "folders", "stopped"},
 }
 
 

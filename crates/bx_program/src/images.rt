@@ -2,13 +2,14 @@
 ghost use Rattle.std.specs.Prelude.{◌≡◌, IfOk};
 ghost use Rattle.bx_commands.specs.Command.{IsNear};
 
+use crate::devices::Devices;
 use crate::files::look::look_at_all;
 use crate::files::open::Purpose;
 use crate::files::text_file::TextFile;
 use crate::files::{Made, SessionFiles, existing, trio};
 use crate::folders::keep_names;
 use crate::paged::Paged;
-use crate::stopped::{Devices, Stopped};
+use crate::stopped::Stopped;
 use bx_cli::{
     Access, Command, Durability, Fault, Reply, Texts, change_if_read, list_ranges, log_text,
     run_all,

@@ -2,6 +2,7 @@
 #![tactic(auto)]
 
 mod copies;
+mod devices;
 mod files;
 mod fitting;
 mod folders;
