@@ -3,10 +3,10 @@ ghost use Rattle.std.specs.Prelude.{◌≡◌, ◌≤◌, ◌≢◌, length, All
 ghost use Rattle.bx_read.specs.inner.Full.{IsFull};
 ghost use Rattle.bx_read.specs.Line.{line_piece};
 
-mod lanes;
+pub(crate) mod lanes;
 pub(crate) mod rows;
 
-use crate::full::lanes::{columns_of, eight_of};
+use crate::full::lanes::{columns_of, parse_address};
 
 /// A line with its newline, by what it gives.
 #[derive(Clone, Copy)]
@@ -37,7 +37,7 @@ pub fn full_line(text: &[u8]) -> Option<FullLine>
     {
         return None;
     }
-    let at = eight_of(address)?;
+    let at = parse_address(address)?;
     let bytes = columns_of(columns)?;
     if has_newline(shown) {
         return None;
@@ -58,7 +58,7 @@ pub fn full_text(line: &[u8]) -> Option<FullLine>
     if colon[0] != b':' || colon[1] != b' ' || gap[0] != b' ' || gap[1] != b' ' {
         return None;
     }
-    let at = eight_of(address)?;
+    let at = parse_address(address)?;
     let bytes = columns_of(columns)?;
     Some(FullLine { at, bytes })
 }

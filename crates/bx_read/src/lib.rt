@@ -27,6 +27,7 @@ mod window;
 
 pub use dump::read_dump;
 pub use fault::ReadFault;
+pub use full::lanes::parse_address;
 pub use full::{FullLine, full_text};
 pub use line::Line;
 pub use lines::DumpLines;

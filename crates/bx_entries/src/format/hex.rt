@@ -35,7 +35,7 @@ fn values_of(text: u8x16) -> u8x16
 
 /// Whether these are values of digits.
 #[inline(always)]
-pub fn are_digits(values: u8x16) -> bool
+fn are_digits(values: u8x16) -> bool
     ensures { IsTrue result → (k : ℕ) → k < 16 → slice_index values k ≤ 15 }
 {
     values.simd_gt(u8x16::splat(15)).to_bitmask() == 0

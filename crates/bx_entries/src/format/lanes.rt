@@ -1,12 +1,9 @@
 //! The form of sixteen bytes at once.
-ghost use Rattle.std.specs.Prelude.{◌≡◌, ◌^◌, ◌<◌, ◌≤◌, ◌++◌, if◌then◌else◌, ℕ, All, map, length, slice_index, true, IsTrue, IfSome};
-ghost use Rattle.std.specs.Char.{digit_value};
-ghost use Rattle.std.specs.Str.Parse.{digits_value};
-ghost use Rattle.bx_read.specs.Digits.{is_hex};
+ghost use Rattle.std.specs.Prelude.{◌≡◌, ◌<◌, ◌≤◌, ℕ, length, slice_index, true, IsTrue, IfSome};
 ghost use Rattle.bx_entries.specs.inner.Form.{fits, HasColumns, HasForm, IsFullAt};
 
-use crate::format::hex::are_digits;
 use crate::format::newline::has_newline;
+use bx_read::parse_address;
 use std::simd::prelude::*;
 
 /// How far each byte is off a form: 0 where it is the form's own byte, or where the form has 0 and it is a lower-case digit.
@@ -67,45 +64,6 @@ fn has_columns(text: &[u8]) -> bool
     has_form(&text[35..], u8x16::from_array(LAST))
 }
 
-/// Eight bytes, and the same once more.
-#[inline(always)]
-fn twice_of(text: &[u8]) -> u8x16
-    requires { length text.now ≡ 8 }
-    ensures { result ≡ text.now ++ text.now }
-{
-    let once = u8x8::from_slice(text);
-    once.shuffle(once, [0, 1, 2, 3, 4, 5, 6, 7, 8, 9, 10, 11, 12, 13, 14, 15])
-}
-
-/// The value of each digit of either case, and 255 for other bytes.
-#[inline(always)]
-fn values_of(text: u8x16) -> u8x16
-    ensures { result ≡ map (λ c. if is_hex c then digit_value c else 255) text }
-{
-    let digit = text - u8x16::splat(b'0');
-    let letter = (text | u8x16::splat(0x20)) - u8x16::splat(b'a');
-    let letters = letter
-        .simd_le(u8x16::splat(5))
-        .select(letter + u8x16::splat(10), u8x16::splat(255));
-    digit.simd_le(u8x16::splat(9)).select(digit, letters)
-}
-
-/// The number that 8 digits write, or none where one of them isn't a digit.
-#[inline(always)]
-fn eight_of(digits: &[u8]) -> Option<u64>
-    requires { length digits.now ≡ 8 }
-    ensures { IfSome result (λ n. (n ≡ digits_value 16 digits.now) × (n < 2 ^ 32) × All (λ c. IsTrue (is_hex c)) digits.now) }
-{
-    let values = values_of(twice_of(digits));
-    if !are_digits(values) {
-        return None;
-    }
-    let high: u8x4 = values.shuffle(values, [0, 2, 4, 6]);
-    let low: u8x4 = values.shuffle(values, [1, 3, 5, 7]);
-    let bytes = (high << u8x4::splat(4)) + low;
-    Some(u64::from(u32::from_be_bytes(bytes.to_array())))
-}
-
 /// The address of the full line with lower-case digits that the text begins with. Nothing is decoded.
 #[inline(always)]
 pub fn full_address(text: &[u8]) -> Option<u64>
@@ -117,5 +75,5 @@ pub fn full_address(text: &[u8]) -> Option<u64>
     if text[67] != b'\n' || !has_columns(text) || has_newline(&text[51..67]) {
         return None;
     }
-    eight_of(&text[..8])
+    parse_address(&text[..8])
 }

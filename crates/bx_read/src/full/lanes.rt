@@ -75,9 +75,9 @@ fn pairs_in(first: u8x16, second: u8x16) -> Option<[u8; 16]>
     Some(((high << u8x16::splat(4)) + low).to_array())
 }
 
-/// The number that 8 digits write, or none where one of them isn't a digit.
+/// The address that 8 digits write, in either case. Nothing is said of other bytes.
 #[inline(always)]
-pub fn eight_of(digits: &[u8]) -> Option<u64>
+pub fn parse_address(digits: &[u8]) -> Option<u64>
     requires { length digits.now ≡ 8 }
     ensures { IfSome result (λ n. (n ≡ digits_value 16 digits.now) × (n < 2 ^ 32) × All (λ c. IsTrue (is_hex c)) digits.now) }
 {

@@ -14,6 +14,6 @@ pub returns : goal.returns
 returns c =
     let text = c.args.text.now in
     let long : 68 ≤ length text = omega arith in
-    weaker c.eight_of.result (λ n. (n ≡ digits_value 16 (take 8 text)) × (n < 2 ^ 32) × All (λ c. IsTrue (is_hex c)) (take 8 text)) (λ at. IsFullAt at text)
+    weaker c.parse_address.result (λ n. (n ≡ digits_value 16 (take 8 text)) × (n < 2 ^ 32) × All (λ c. IsTrue (is_hex c)) (take 8 text)) (λ at. IsFullAt at text)
     (λ at is. full_at text long (c.has_columns.ensures c.if-not-has_columns.false) at c.if-text-ne10.false (c.has_newline.ensures c.if-has_newline.false) is.0 is.1 is.2)
-    c.eight_of.ensures
+    c.parse_address.ensures

@@ -2,7 +2,7 @@ use Rattle.std.proofs.Common.{◌≡◌, ◌++◌, map, ap, ◌∙◌, arith}
 use Rattle.std.proofs.lemmas.List.{get_or_default}
 use Rattle.bx_read.specs.Digits.{is_hex}
 use Rattle.bx_read.proofs.LaneLemmas.{value, eight_is, eight_are}
-use Rattle.bx_read.proofs.full.lanes.eight_of.Goals as goal
+use Rattle.bx_read.proofs.full.lanes.parse_address.Goals as goal
 
 pub returns : goal.returns
 returns c =
