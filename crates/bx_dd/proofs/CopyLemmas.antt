@@ -6,6 +6,7 @@ use Rattle.std.proofs.lemmas.List.{length-append, length-drop, length-take, take
 use Rattle.std.proofs.Common.{drop_of_length-le}
 use Rattle.std.specs.Io.KnownBytes.{Appends, Consumes, IsAtEnd}
 use Rattle.bx_text.proofs.KnownLemmas.{Appends-nil, Consumes-nil, Consumes-trans}
+use Rattle.bx_text.proofs.StreamLemmas.{read_within}
 use Rattle.bx_text.specs.Stream.{IsReadCause}
 use Rattle.bx_text.specs.inner.Stream.{StopsAfter}
 use Rattle.bx_text.specs.Writing.{WritesFront}
@@ -24,7 +25,7 @@ use Rattle.bx_dd.specs.Output.{converted, cut_records, joined, shaped}
 use Rattle.bx_dd.specs.inner.Output.{fitted, line_of}
 use Rattle.bx_dd.specs.inner.Standing.{HasSizes, last_of}
 use Rattle.bx_dd.specs.Streaming.{IsCopy, IsCopyAhead, IsCopyFault, StopsCopy}
-use Rattle.bx_dd.specs.inner.Streaming.{CopiesRest, Flows, Goes, Stage, StopsFlow, StopsPass, StopsSkip, StopsStage, most_of, unit_of, written_by}
+use Rattle.bx_dd.specs.inner.Streaming.{CopiesRest, Flows, Goes, Stage, StopsFlow, StopsPass, StopsStage, most_of, unit_of, written_by}
 use Rattle.bx_dd.proofs.ConvertLemmas.{joined_none}
 use Rattle.bx_dd.proofs.RecordsLemmas.{Stands_last, Stands_none, cut_nil, shaped_nil, take_nil}
 use Rattle.bx_dd.proofs.TransferLemmas.{asked_skip, drop_read}
@@ -174,13 +175,6 @@ read_cause NoMemory wanted room total n w size is p = absurd p
 read_cause (WriteFailed m) wanted room total n w size is p = absurd p
 read_cause SkipPastEnd wanted room total n w size is p = absurd p
 
-read_within : (e : IoFault) (wanted room n : ℕ) → IsReadCause e wanted room n → n ≤ wanted
-read_within ReadFailed wanted room n p = omega (arith, p.0)
-read_within InputTooLong wanted room n p = omega (arith, p.0, p.1)
-read_within NoMemory wanted room n p = absurd p
-read_within (WriteFailed m) wanted room n p = absurd p
-read_within SkipPastEnd wanted room n p = absurd p
-
 -- the lengths of a buffer's part that was read into, and of the input with what was read
 pub read_sizes : (buf new input : List ℕ) (have want n : ℕ) → have + want ≤ length buf → length new ≡ length (take (have + want - have) (drop have buf)) → n ≤ length new →
     (length new ≡ want) × (length (input ++ take n new) ≡ length input + n)
@@ -228,22 +222,6 @@ write_stops form r0 r1 s n input most before NoMemory reads within few ahead sto
 write_stops form r0 r1 s n input most before ReadFailed reads within few ahead stop = absurd stop
 write_stops form r0 r1 s n input most before InputTooLong reads within few ahead stop = absurd stop
 write_stops form r0 r1 s n input most before SkipPastEnd reads within few ahead stop = absurd stop
-
-skip_cause : (fault : IoFault) (less wanted taken n : ℕ) → taken ≤ 2 ^ 40 → taken + less ≤ wanted → IsReadCause fault less (2 ^ 40 - taken) n → IsReadCause fault wanted (2 ^ 40) (taken + n)
-skip_cause ReadFailed less wanted taken n le most p = (omega (arith, p.0), omega (arith, p.1))
-skip_cause InputTooLong less wanted taken n le most p = (omega (arith, p.0), omega (arith, p.1))
-skip_cause NoMemory less wanted taken n le most p = absurd p
-skip_cause (WriteFailed m) less wanted taken n le most p = absurd p
-skip_cause SkipPastEnd less wanted taken n le most p = absurd p
-
-pub skip_after : (r0 r1 r2 : Option (List ℕ)) (input : List ℕ) (less wanted taken : ℕ) (fault : IoFault) → length input ≡ taken → taken ≤ 2 ^ 40 → taken + less ≤ wanted →
-    Consumes r0 r1 input → StopsAfter r1 r2 less (2 ^ 40 - taken) fault → StopsSkip wanted r0 r2 fault
-skip_after r0 r1 r2 input less wanted taken fault len few most reads stop =
-    let all : length (input ++ stop.0) ≡ taken + length stop.0 = omega (arith, length-append input stop.0) in record {
-      input = input ++ stop.0;
-      consumed = Consumes-trans r0 r1 r2 input stop.0 reads stop.1;
-      cause = rw all (skip_cause fault less wanted taken (length stop.0) few most stop.2);
-    }
 
 -- the input ended
 module _ {form : Form} {s n : Option (List ℕ)} {input pending waits kept : List ℕ} {k count : ℕ} {was_cut : Bool} (stage : Stage form s n input pending waits k kept was_cut count) (sizes : HasSizes form) (put : List ℕ) (is : put ≡ joined form pending) where
@@ -365,17 +343,17 @@ skip_fault NoMemory wanted n size p = absurd p
 skip_fault (WriteFailed m) wanted n size p = absurd p
 skip_fault SkipPastEnd wanted n size p = absurd p
 
-pub stopped_skip : {A : Type 0} (plan : Plan A) (r0 r1 w : Option (List ℕ)) (e : IoFault) → StopsSkip (plan.skip * plan.ibs) r0 r1 e → StopsCopy plan r0 r1 w w e
+pub stopped_skip : {A : Type 0} (plan : Plan A) (r0 r1 w : Option (List ℕ)) (e : IoFault) → StopsAfter r0 r1 (plan.skip * plan.ibs) (2 ^ 40) e → StopsCopy plan r0 r1 w w e
 stopped_skip plan r0 r1 w e stop = record {
   read = (
-    stop.input,
-    stop.consumed,
-    asked_skip plan.ibs plan.skip (length stop.input) plan.count (read_within e (plan.skip * plan.ibs) (2 ^ 40) (length stop.input) stop.cause),
+    stop.0,
+    stop.1,
+    asked_skip plan.ibs plan.skip (length stop.0) plan.count (read_within e (plan.skip * plan.ibs) (2 ^ 40) (length stop.0) stop.2),
   );
   written = 0;
   appended = Appends-nil w;
-  cause = skip_fault e (plan.skip * plan.ibs) (length stop.input) (length (output_of plan stop.input)) stop.cause;
-  ahead = read_ahead (output_of plan) stop.input e (plan.skip * plan.ibs) (2 ^ 40) (length stop.input) stop.cause;
+  cause = skip_fault e (plan.skip * plan.ibs) (length stop.0) (length (output_of plan stop.0)) stop.2;
+  ahead = read_ahead (output_of plan) stop.0 e (plan.skip * plan.ibs) (2 ^ 40) (length stop.0) stop.2;
 }
 
 -- the rest of an input, behind what was skipped

@@ -6,32 +6,16 @@ use Rattle.std.proofs.Math.Seq.{take-append-add, drop-append-add}
 use Rattle.std.proofs.lemmas.Bool.{cases_order}
 use Rattle.bx_text.specs.declared.fault.IoFault.{IoFault}
 use Rattle.bx_text.specs.declared.fault.IoFault.TheVariants.{NoMemory, ReadFailed, WriteFailed, InputTooLong, SkipPastEnd}
-use Rattle.bx_text.specs.Stream.{IsReadCause}
+use Rattle.bx_text.specs.Stream.{IsReadCause, Skips}
 use Rattle.bx_text.specs.inner.Stream.{StopsAfter}
 use Rattle.bx_text.specs.Writing.{WritesFront}
 use Rattle.bx_text.proofs.KnownLemmas.{Appends-trans, Consumes-trans, Appends-nil, Consumes-nil}
+use Rattle.bx_text.proofs.StreamLemmas.{cause_more, read_within}
 use Rattle.bx_dump.specs.inner.Dumped.{IsDumpFault, KeepsUp}
 use Rattle.bx_dump.proofs.DumpLemmas.{cause_longer, keeps_read, keeps_along, keeps_whole}
 use Rattle.bx_dump.specs.Dumped.{IsDumpStop}
 use Rattle.bx_dump.specs.Pages.{Dump, WritesAll, WritesFrontOf, part_of}
-use Rattle.bx_dump.specs.inner.Pages.{WritesPart, WritesFrontBut, capped, IsEndOf, WritesRest, Skips, StopsAt, IsLast}
-
--- more bytes were read before the fault
-cause_after : (fault : IoFault) (less wanted taken n : ℕ) → taken ≤ 2 ^ 40 → taken + less ≤ wanted → IsReadCause fault less (2 ^ 40 - taken) n →
-    IsReadCause fault wanted (2 ^ 40) (taken + n)
-cause_after ReadFailed less wanted taken n le most p = (omega (arith, p.0), omega (arith, p.1))
-cause_after InputTooLong less wanted taken n le most p = (omega (arith, p.0), omega (arith, p.1))
-cause_after NoMemory less wanted taken n le most p = absurd p
-cause_after (WriteFailed m) less wanted taken n le most p = absurd p
-cause_after SkipPastEnd less wanted taken n le most p = absurd p
-
--- no more was read than was asked for
-read_within : (fault : IoFault) (wanted room n : ℕ) → IsReadCause fault wanted room n → n ≤ wanted
-read_within ReadFailed wanted room n p = omega (arith, p.0)
-read_within InputTooLong wanted room n p = omega (arith, p.0, p.1)
-read_within NoMemory wanted room n p = absurd p
-read_within (WriteFailed m) wanted room n p = absurd p
-read_within SkipPastEnd wanted room n p = absurd p
+use Rattle.bx_dump.specs.inner.Pages.{WritesPart, WritesFrontBut, capped, IsEndOf, WritesRest, IsLast}
 
 -- why a read stopped is why a dump did
 dump_cause : (fault : IoFault) (wanted n written size : ℕ) → IsReadCause fault wanted (2 ^ 40) n → IsDumpFault fault n written size
@@ -63,15 +47,6 @@ asked_at_end : (limit : Option ℕ) (skip n : ℕ) (r : Option (List ℕ)) → I
 asked_at_end None skip n r p = tt
 asked_at_end (Some most) skip n r p = p.0
 
-pub stops_after : (r0 r1 r2 : Option (List ℕ)) (input : List ℕ) (less wanted taken : ℕ) (fault : IoFault) → length input ≡ taken → taken ≤ 2 ^ 40 → taken + less ≤ wanted →
-    Consumes r0 r1 input → StopsAfter r1 r2 less (2 ^ 40 - taken) fault → StopsAt wanted (2 ^ 40) r0 r2 fault
-stops_after r0 r1 r2 input less wanted taken fault len few most reads stop =
-    let all : length (input ++ stop.0) ≡ taken + length stop.0 = omega (arith, length-append input stop.0) in record {
-      input = input ++ stop.0;
-      consumed = Consumes-trans r0 r1 r2 input stop.0 reads stop.1;
-      cause = rw all (cause_after fault less wanted taken (length stop.0) few most stop.2);
-    }
-
 -- the bytes so far, and more of what follows
 capped_more : (limit : Option ℕ) (xs more : List ℕ) → IfSome limit (λ most. length xs ≤ most) → (rest : List ℕ) × (capped limit (xs ++ more) ≡ xs ++ rest)
 capped_more None xs more within = (more, refl)
@@ -101,7 +76,7 @@ rest_read_stop text limit before r0 r1 r2 w0 w1 input from taken less fault len 
           (omega (arith, length-append input stop.0, read_within fault less (2 ^ 40 - taken) (length stop.0) stop.2)) within;
       within = omega (arith, ap length is, length-append (text input) more.0);
       appended = rw front writes;
-      cause = rw all (dump_cause fault (taken + less) (taken + length stop.0) (before + length (text input)) _ (cause_after fault less (taken + less) taken (length stop.0) few (omega arith) stop.2));
+      cause = rw all (dump_cause fault (taken + less) (taken + length stop.0) (before + length (text input)) _ (cause_more fault less (taken + less) (2 ^ 40 - taken) (2 ^ 40) (length stop.0) (taken + length stop.0) taken stop.2 refl (omega arith) (omega arith)));
       ahead = keeps_read fault less (2 ^ 40 - taken) (length stop.0) 0 (length (text input)) (λ xs. text (capped limit xs)) (input ++ stop.0) stop.2;
     }
 
@@ -176,7 +151,7 @@ end_short skip n None r less p = p
 end_short skip n (Some most) r less p = (omega arith, inl p)
 
 -- all was skipped, and the rest dumped
-pub part_whole : (text : List ℕ → List ℕ) (skip : ℕ) (limit : Option ℕ) (r0 r1 r2 w0 w1 : Option (List ℕ)) (read written : ℕ) → Skips true skip r0 r1 →
+pub part_whole : (text : List ℕ → List ℕ) (skip : ℕ) (limit : Option ℕ) (r0 r1 r2 w0 w1 : Option (List ℕ)) (read written : ℕ) → Skips true skip (2 ^ 40) r0 r1 →
     WritesRest text skip limit r1 r2 w0 w1 read written → WritesPart (λ xs. text (part_of skip limit xs)) skip limit r0 r2 w0 w1 read written
 part_whole text skip limit r0 r1 r2 w0 w1 read written front rest =
     let len = front.whole refl in
@@ -194,7 +169,7 @@ part_whole text skip limit r0 r1 r2 w0 w1 read written front rest =
     }
 
 -- the input ended among the bytes to skip
-pub part_short : (text : List ℕ → List ℕ) (skip : ℕ) (limit : Option ℕ) (r0 r1 w : Option (List ℕ)) → text [] ≡ [] → Skips false skip r0 r1 →
+pub part_short : (text : List ℕ → List ℕ) (skip : ℕ) (limit : Option ℕ) (r0 r1 w : Option (List ℕ)) → text [] ≡ [] → Skips false skip (2 ^ 40) r0 r1 →
     WritesPart (λ xs. text (part_of skip limit xs)) skip limit r0 r1 w w 0 0
 part_short text skip limit r0 r1 w empty front =
     let short = front.short refl in
@@ -209,19 +184,19 @@ part_short text skip limit r0 r1 w empty front =
     }
 
 -- a fault among the bytes to skip
-pub front_skip : (slack : ℕ) (text : List ℕ → List ℕ) (skip : ℕ) (limit : Option ℕ) (before : ℕ) (r0 r1 w : Option (List ℕ)) (fault : IoFault) → StopsAt skip (2 ^ 40) r0 r1 fault →
+pub front_skip : (slack : ℕ) (text : List ℕ → List ℕ) (skip : ℕ) (limit : Option ℕ) (before : ℕ) (r0 r1 w : Option (List ℕ)) (fault : IoFault) → StopsAfter r0 r1 skip (2 ^ 40) fault →
     WritesFrontBut slack text skip limit 0 before r0 r1 w w fault
 front_skip slack text skip limit before r0 r1 w fault stop =
-    let none : take 0 (text stop.input) ≡ [] = refl in
-    let zero_more : 0 + length stop.input ≡ length stop.input = omega arith in record {
-      input = stop.input;
+    let none : take 0 (text stop.0) ≡ [] = refl in
+    let zero_more : 0 + length stop.0 ≡ length stop.0 = omega arith in record {
+      input = stop.0;
       written = 0;
-      consumed = stop.consumed;
-      asked = asked_among limit skip (length stop.input) (read_within fault skip (2 ^ 40) (length stop.input) stop.cause);
+      consumed = stop.1;
+      asked = asked_among limit skip (length stop.0) (read_within fault skip (2 ^ 40) (length stop.0) stop.2);
       within = omega arith;
       appended = Appends-nil w;
-      cause = rw zero_more (dump_cause fault skip (length stop.input) (before + 0) _ stop.cause);
-      ahead = keeps_read fault skip (2 ^ 40) (length stop.input) slack 0 text stop.input stop.cause;
+      cause = rw zero_more (dump_cause fault skip (length stop.0) (before + 0) _ stop.2);
+      ahead = keeps_read fault skip (2 ^ 40) (length stop.0) slack 0 text stop.0 stop.2;
     }
 
 -- a block ahead, behind them
@@ -243,7 +218,7 @@ keeps_behind slack text skip limit skipped input written InputTooLong len p = tt
 keeps_behind slack text skip limit skipped input written SkipPastEnd len p = tt
 
 -- a fault after them
-pub front_behind : (slack : ℕ) (text : List ℕ → List ℕ) (skip : ℕ) (limit : Option ℕ) (before : ℕ) (r0 r1 r2 w0 w1 : Option (List ℕ)) (fault : IoFault) → Skips true skip r0 r1 →
+pub front_behind : (slack : ℕ) (text : List ℕ → List ℕ) (skip : ℕ) (limit : Option ℕ) (before : ℕ) (r0 r1 r2 w0 w1 : Option (List ℕ)) (fault : IoFault) → Skips true skip (2 ^ 40) r0 r1 →
     WritesFrontBut slack (λ xs. text (capped limit xs)) 0 limit skip before r1 r2 w0 w1 fault →
     WritesFrontBut slack (λ xs. text (part_of skip limit xs)) skip limit 0 before r0 r2 w0 w1 fault
 front_behind slack text skip limit before r0 r1 r2 w0 w1 fault front rest =

@@ -1,5 +1,6 @@
 pub mod FieldLemmas
 pub mod KnownLemmas
+pub mod StreamLemmas
 pub mod FixedLemmas
 pub mod PartsLemmas
 pub mod RangeLemmas

@@ -1,10 +1,9 @@
 -- What proofs alone need: what a copy to a writer reads and writes, and where it stands in between.
 -- ---- a whole copy
-use Rattle.std.specs.Prelude.{◌≡◌, ◌≢◌, ℕ, ◌+◌, ◌-◌, ◌*◌, ◌%◌, ◌^◌, ◌≤◌, ◌⊎◌, Bool, true, false, ◌||◌, if◌then◌else◌, List, [], ◌++◌, length, take, Option, None, Some, Result, Ok, Err}
+use Rattle.std.specs.Prelude.{◌≡◌, ◌≢◌, ℕ, ◌+◌, ◌-◌, ◌*◌, ◌%◌, ◌^◌, ◌≤◌, ◌⊎◌, Bool, ◌||◌, if◌then◌else◌, List, [], ◌++◌, length, take, Option, None, Some, Result, Ok, Err}
 use Rattle.std.specs.Io.KnownBytes.{Appends, Consumes, IsAtEnd}
 use Rattle.bx_text.specs.declared.fault.IoFault.{IoFault}
 use Rattle.bx_text.specs.declared.fault.IoFault.TheVariants.{WriteFailed}
-use Rattle.bx_text.specs.Stream.{IsReadCause}
 use Rattle.bx_text.specs.Writing.{WritesFront}
 use Rattle.bx_dd.specs.declared.counts.Counts.{Counts}
 use Rattle.bx_dd.specs.declared.form.Form.{Form}
@@ -105,17 +104,3 @@ pub record StopsPass (form : Form) (most before : ℕ) (r0 r1 w0 w1 : Option (Li
   pub appended : Appends w0 w1 (take written (converted form input))
   pub cause : IsCopyFault fault (before + length input) written (length (converted form input))
   pub ahead : IsCopyAhead (converted form) input fault
-
--- Bytes were skipped: all that were asked for, or fewer up to the input's end.
-pub record Skips (all : Bool) (count : ℕ) (r0 r1 : Option (List ℕ)) : Type 0 where
-  pub input : List ℕ
-  pub consumed : Consumes r0 r1 input
-  pub few : length input ≤ 2 ^ 40
-  pub whole : all ≡ true → length input ≡ count
-  pub short : all ≡ false → (length input ≤ count) × IsAtEnd r1
-
--- Some of the bytes were skipped, and then no more could be read.
-pub record StopsSkip (count : ℕ) (r0 r1 : Option (List ℕ)) (fault : IoFault) : Type 0 where
-  pub input : List ℕ
-  pub consumed : Consumes r0 r1 input
-  pub cause : IsReadCause fault count (2 ^ 40) (length input)

@@ -5,7 +5,7 @@ ghost use Rattle.bx_dd.specs.Plan.{form_of};
 ghost use Rattle.bx_dd.specs.inner.Standing.{HasSizes};
 ghost use Rattle.bx_dd.specs.Streaming.{IsCopy, StopsCopy};
 ghost use Rattle.bx_dd.specs.inner.Paged.{CountsAll, Finishes, Flushes, GoesOn, PassesBy, StopsFinish, StopsFlush, StopsStageOf};
-ghost use Rattle.bx_dd.specs.inner.Streaming.{CopiesRest, Grows, IsFresh, StopsPass, Skips, StopsSkip, most_of, unit_of};
+ghost use Rattle.bx_dd.specs.inner.Streaming.{CopiesRest, Grows, IsFresh, StopsPass, most_of, unit_of};
 ghost use Rattle.bx_dd.specs.declared.form.Shape.TheVariants.{Flat, Unblock};
 
 use crate::convert::records::{Tail, push_rest, push_shaped};
@@ -103,7 +103,7 @@ fn copy_with<R: Read, W: Write, A: Allocator, P: Allocator>(
     let form = plan.form();
     let buf = input.as_mut_slice();
     let mut meter = Meter::new(LIMIT);
-    let all = match skip_bytes(&mut meter, r, plan.skip * plan.ibs, buf) {
+    let all = match meter.skip(r, plan.skip * plan.ibs, buf) {
         Ok(all) => all,
         Err(fault) => return Err(fault),
     };
@@ -170,35 +170,6 @@ fn counts(form: Form, read: u64, written: u64, tail: Tail) -> Counts
         part_out: (written % form.obs).min(1),
         cut: if tail.over { tail.cut + 1 } else { tail.cut },
     }
-}
-
-/// Reads bytes and forgets them, and tells whether there were this many.
-fn skip_bytes<R: Read>(
-    meter: &mut Meter,
-    r: &mut R,
-    count: u64,
-    buf: &mut [u8],
-) -> Result<bool, IoFault>
-    requires open { meter.old.state ≡ State.Open }
-    requires first { meter.old.taken ≡ 0 }
-    requires limit { meter.old.limit ≡ 2 ^ 40 }
-    requires room { 0 < length buf.old }
-    ensures limit { meter.new.limit ≡ 2 ^ 40 }
-    ensures ok { IfOk result (λ all. Skips all count (R.remaining r.old) (R.remaining r.new)) }
-    ensures open { IfOk result (λ all. all ≡ true → (meter.new.state ≡ State.Open) × (meter.new.taken ≡ count)) }
-    ensures err { IfErr result (StopsSkip count (R.remaining r.old) (R.remaining r.new)) }
-{
-    while meter.taken() < count {
-        let want = (count - meter.taken()).min(buf.len() as u64) as usize;
-        let n = match meter.fill(r, &mut buf[..want]) {
-            Ok(n) => n,
-            Err(fault) => return Err(fault),
-        };
-        if n < want {
-            return Ok(false);
-        }
-    }
-    Ok(true)
 }
 
 /// Converts the whole units in front of a buffer, and moves what is left to its front.

@@ -3,9 +3,10 @@ use Rattle.std.specs.Prelude.{◌≡◌, ℕ, ◌+◌, ◌^◌, ◌⊎◌, List,
 use Rattle.bx_text.specs.declared.fault.IoFault.{IoFault}
 use Rattle.bx_text.specs.declared.fault.IoFault.TheVariants.{SkipPastEnd}
 use Rattle.bx_text.specs.Fold.{folded}
+use Rattle.bx_text.specs.inner.Stream.{StopsAfter}
 use Rattle.bx_dump.specs.Od.{od_line}
 use Rattle.bx_dump.specs.OdDump.{EndsBefore}
-use Rattle.bx_dump.specs.inner.Pages.{StopsAt, StopsNext, WritesNext}
+use Rattle.bx_dump.specs.inner.Pages.{StopsNext, WritesNext}
 use Rattle.bx_dump.specs.declared.driver.pages.Part.{Part}
 use Rattle.bx_dump.specs.declared.od.options.OdOptions.{OdOptions}
 
@@ -23,4 +24,4 @@ StopsOdLines o taken r0 r1 w0 w1 fault = StopsNext (od_lines o) taken o.limit 0 
 
 -- the input ended among the bytes to skip, or a read stopped
 abbrev pub StopsShort : ℕ → Option (List ℕ) → Option (List ℕ) → IoFault → Type 0
-StopsShort count r0 r1 fault = (fault ≡ SkipPastEnd) × EndsBefore count r0 r1 ⊎ StopsAt count (2 ^ 40) r0 r1 fault
+StopsShort count r0 r1 fault = (fault ≡ SkipPastEnd) × EndsBefore count r0 r1 ⊎ StopsAfter r0 r1 count (2 ^ 40) fault

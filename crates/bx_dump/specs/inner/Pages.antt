@@ -1,9 +1,8 @@
 -- What proofs alone need: what a dump of a part of an input reads and writes.
-use Rattle.std.specs.Prelude.{◌≡◌, ℕ, ◌+◌, ◌^◌, ◌<◌, ◌≤◌, ◌⊎◌, Bool, true, false, List, length, take, Option, None, Some, IfSome, Result, IfOk, IfErr, MatchOption}
+use Rattle.std.specs.Prelude.{◌≡◌, ℕ, ◌+◌, ◌^◌, ◌≤◌, ◌⊎◌, List, length, take, Option, None, Some, IfSome, Result, IfOk, IfErr, MatchOption}
 use Rattle.std.specs.Option.{option_map_or}
 use Rattle.std.specs.Io.KnownBytes.{Appends, Consumes, IsAtEnd}
 use Rattle.bx_text.specs.declared.fault.IoFault.{IoFault}
-use Rattle.bx_text.specs.Stream.{IsReadCause}
 use Rattle.bx_dump.specs.Pages.{part_of}
 use Rattle.bx_dump.specs.inner.Dumped.{IsDumpFault, KeepsUp}
 use Rattle.bx_dump.specs.declared.driver.pages.Part.{Part}
@@ -82,17 +81,3 @@ StopsTextOf slack text skip limit before r0 r1 w0 w1 fault =
 abbrev pub StopsPart : (List ℕ → List ℕ) → ℕ → Option ℕ → ℕ → Option (List ℕ) → Option (List ℕ) → Option (List ℕ) → Option (List ℕ) → Result Part IoFault
     → Type 0
 StopsPart text skip limit before r0 r1 w0 w1 outcome = IfErr outcome (StopsTextOf 0 text skip limit before r0 r1 w0 w1)
-
--- Some bytes were read of `wanted` that were asked for, and then no more could be.
-pub record StopsAt (wanted room : ℕ) (r0 r1 : Option (List ℕ)) (fault : IoFault) : Type 0 where
-  pub input : List ℕ
-  pub consumed : Consumes r0 r1 input
-  pub cause : IsReadCause fault wanted room (length input)
-
--- Bytes were skipped: all that were asked for, or fewer up to the input's end.
-pub record Skips (all : Bool) (count : ℕ) (r0 r1 : Option (List ℕ)) : Type 0 where
-  pub input : List ℕ
-  pub consumed : Consumes r0 r1 input
-  pub few : length input ≤ 2 ^ 40
-  pub whole : all ≡ true → length input ≡ count
-  pub short : all ≡ false → (length input < count) × IsAtEnd r1

@@ -1,6 +1,6 @@
 //! Dumps of inputs, a page of text at a time.
-ghost use Rattle.std.specs.Prelude.{◌≡◌, ℕ, ◌+◌, ◌-◌, ◌^◌, ◌<◌, ◌≤◌, true, List, [], ◌++◌, length, take, Option, IfOk, IfErr, IfSome, Some};
-ghost use Rattle.bx_dump.specs.inner.Pages.{Skips, StopsAt, StopsOn, StopsPart, WritesOn, WritesTextOf};
+ghost use Rattle.std.specs.Prelude.{◌≡◌, ℕ, ◌+◌, ◌-◌, ◌^◌, ◌<◌, ◌≤◌, true, List, [], ◌++◌, length, take, Option, IfOk, IfSome, Some};
+ghost use Rattle.bx_dump.specs.inner.Pages.{StopsOn, StopsPart, WritesOn, WritesTextOf};
 
 use bx_text::{IoFault, Meter, State, emit_after};
 use std::io::{Read, Write};
@@ -54,35 +54,6 @@ pub trait Pages {
 pub struct Part {
     pub read: u64,
     pub written: u64,
-}
-
-/// Reads bytes away, and answers whether there were this many.
-pub fn skip<R: Read>(
-    meter: &mut Meter,
-    r: &mut R,
-    count: u64,
-    block: &mut [u8],
-) -> Result<bool, IoFault>
-    requires open { meter.old.state ≡ State.Open }
-    requires first { meter.old.taken ≡ 0 }
-    requires limit { meter.old.limit ≡ 2 ^ 40 }
-    requires block { 0 < length block.old }
-    ensures limit { meter.new.limit ≡ 2 ^ 40 }
-    ensures ok { IfOk result (λ all. Skips all count (R.remaining r.old) (R.remaining r.new)) }
-    ensures open { IfOk result (λ all. all ≡ true → (meter.new.state ≡ State.Open) × (meter.new.taken ≡ count)) }
-    ensures err { IfErr result (StopsAt count (2 ^ 40) (R.remaining r.old) (R.remaining r.new)) }
-{
-    while meter.taken() < count {
-        let want = (count - meter.taken()).min(block.len() as u64) as usize;
-        let n = match meter.fill(r, &mut block[..want]) {
-            Ok(n) => n,
-            Err(fault) => return Err(fault),
-        };
-        if n < want {
-            return Ok(false);
-        }
-    }
-    Ok(true)
 }
 
 /// How many bytes are read next, where `size` are a block and `done` were dumped.
@@ -165,7 +136,7 @@ pub fn dump_part<R: Read, W: Write, P: Pages>(
 {
     let mut meter = Meter::new(LIMIT);
     let mut block = [0; BLOCK];
-    match skip(&mut meter, r, from, &mut block) {
+    match meter.skip(r, from, &mut block) {
         Ok(true) => {}
         Ok(false) => {
             return Ok(Part {

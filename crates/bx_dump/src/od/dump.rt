@@ -1,12 +1,12 @@
 //! od's dump.
 ghost use Rattle.std.specs.Prelude.{◌≡◌, ◌⊎◌, ℕ, ◌+◌, ◌^◌, ◌<◌, ◌≤◌, true, length, Err, IfOk, IfErr, OnOk, OnErr};
+ghost use Rattle.bx_text.specs.Stream.{Skips};
 ghost use Rattle.bx_dump.specs.OdDump.{Reaches, StopsOd, od_of};
 ghost use Rattle.bx_dump.specs.inner.OdDump.{StopsOdLines, StopsShort, WritesOdLines};
 ghost use Rattle.bx_dump.specs.Pages.{WritesAll};
-ghost use Rattle.bx_dump.specs.inner.Pages.{Skips};
 
 use crate::driver::folded::FoldedPages;
-use crate::driver::pages::{BLOCK, LIMIT, PAGE, Part, dump_pages, skip};
+use crate::driver::pages::{BLOCK, LIMIT, PAGE, Part, dump_pages};
 use crate::od::lines::{OdLines, end_line};
 use crate::od::options::OdOptions;
 use bx_text::{IoFault, Meter, State, emit_after};
@@ -19,11 +19,11 @@ fn reach<R: Read>(meter: &mut Meter, r: &mut R, count: u64, block: &mut [u8]) ->
     requires limit { meter.old.limit ≡ 2 ^ 40 }
     requires block { 0 < length block.old }
     ensures limit { meter.new.limit ≡ 2 ^ 40 }
-    ensures ok { OnOk result (Skips true count (R.remaining r.old) (R.remaining r.new)) }
+    ensures ok { OnOk result (Skips true count (2 ^ 40) (R.remaining r.old) (R.remaining r.new)) }
     ensures open { OnOk result ((meter.new.state ≡ State.Open) × (meter.new.taken ≡ count)) }
     ensures err { IfErr result (StopsShort count (R.remaining r.old) (R.remaining r.new)) }
 {
-    match skip(meter, r, count, block) {
+    match meter.skip(r, count, block) {
         Ok(true) => Ok(()),
         Ok(false) => Err(IoFault::SkipPastEnd),
         Err(fault) => Err(fault),

@@ -6,11 +6,10 @@ use Rattle.bx_dump.specs.Od.{od_line, od_end, od_text}
 use Rattle.std.specs.Io.KnownBytes.{Consumes}
 use Rattle.bx_text.specs.declared.fault.IoFault.{IoFault}
 use Rattle.bx_text.specs.declared.fault.IoFault.TheVariants.{WriteFailed, SkipPastEnd}
-use Rattle.bx_text.specs.Stream.{IsReadCause}
+use Rattle.bx_text.specs.Stream.{IsReadCause, Skips}
 use Rattle.bx_dump.specs.OdDump.{Reaches, od_of}
 use Rattle.bx_dump.specs.inner.OdDump.{StopsShort}
 use Rattle.bx_dump.specs.Pages.{part_of}
-use Rattle.bx_dump.specs.inner.Pages.{Skips}
 use Rattle.bx_dump.proofs.EndLemmas.{od_end_few}
 use Rattle.bx_dump.proofs.PagesLemmas.{all_of, front_of, part_whole, part_then, stop_then, front_then, front_behind}
 use Rattle.bx_dump.proofs.od.dump.od.Goals as goal
@@ -21,10 +20,10 @@ same_fault a b e = cc
 -- no write fails among them
 short_reads : (count n : ℕ) (r0 r1 : Option (List ℕ)) (fault : IoFault) → fault ≡ WriteFailed n → StopsShort count r0 r1 fault → ⊥
 short_reads count n r0 r1 fault is (inl short) = let wrong : WriteFailed n ≡ SkipPastEnd = sym is ∙ short.0 in cc
-short_reads count n r0 r1 fault is (inr stop) = subst (λ (f : IoFault). IsReadCause f count (2 ^ 40) (length stop.input)) is stop.cause
+short_reads count n r0 r1 fault is (inr stop) = subst (λ (f : IoFault). IsReadCause f count (2 ^ 40) (length stop.0)) is stop.2
 
 -- the bytes to skip, and then more
-reaches_behind : (count : ℕ) (r0 r1 r2 : Option (List ℕ)) (input : List ℕ) → Skips true count r0 r1 → Consumes r1 r2 input → Reaches count r0 r2
+reaches_behind : (count : ℕ) (r0 r1 r2 : Option (List ℕ)) (input : List ℕ) → Skips true count (2 ^ 40) r0 r1 → Consumes r1 r2 input → Reaches count r0 r2
 reaches_behind count r0 r1 r2 input front rest = (
   front.input ++ input,
   Consumes-trans r0 r1 r2 front.input input front.consumed rest,
