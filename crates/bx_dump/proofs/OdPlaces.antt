@@ -7,7 +7,7 @@ use Rattle.std.proofs.lemmas.Bool.{cases_Bool, cases_lt, lt-ltb, le-ltb, agree_b
 use Rattle.std.proofs.lemmas.Slice.Eq.{bytes_eq-Decides}
 use Rattle.bx_text.specs.Field.{left_filled}
 use Rattle.bx_dump.specs.Lines.{in_lines}
-use Rattle.bx_dump.specs.inner.Decimal.{words, char_at, last_char, signed_cells, unsigned_cells}
+use Rattle.bx_dump.specs.inner.Decimal.{words, char_at, last_char, cells, form_of}
 use Rattle.bx_dump.specs.inner.Od.{value_text}
 use Rattle.bx_dump.specs.declared.od.options.Size.TheVariants.{Two}
 use Rattle.bx_dump.specs.declared.od.options.NumForm.TheVariants as form
@@ -163,26 +163,25 @@ unsigned_one v fits = level_four false v (omega arith) (λ f. absurd (Rattle.std
 value_is : (a b : ℕ) → a + 256 * (b + 256 * 0) ≡ a + 256 * b
 value_is a b = omega arith
 
-signed_value : (at a b : ℕ) → a < 256 → b < 256 → value_text (Number form.Signed Two) at (a ∷ b ∷ []) ≡ signed_cells (a + 256 * b)
+signed_value : (at a b : ℕ) → a < 256 → b < 256 → value_text (Number form.Signed Two) at (a ∷ b ∷ []) ≡ cells true (a + 256 * b)
 signed_value at a b small_a small_b =
     ap (λ v. 32 ∷ left_filled 32 6 (cond (ltb v 32768) (digits 10 false v) (45 ∷ digits 10 false (65536 - v)))) (value_is a b) ∙ ap (λ t. 32 ∷ t) (signed_one (a + 256 * b) (omega arith))
 
-unsigned_value : (at a b : ℕ) → a < 256 → b < 256 → value_text (Number form.Unsigned Two) at (a ∷ b ∷ []) ≡ unsigned_cells (a + 256 * b)
+unsigned_value : (at a b : ℕ) → a < 256 → b < 256 → value_text (Number form.Unsigned Two) at (a ∷ b ∷ []) ≡ cells false (a + 256 * b)
 unsigned_value at a b small_a small_b = ap (λ v. 32 ∷ left_filled 32 5 (digits 10 false v)) (value_is a b) ∙ ap (λ t. 32 ∷ t) (unsigned_one (a + 256 * b) (omega arith))
 
-module _ (line : ℕ → List ℕ → List ℕ) (cells : ℕ → List ℕ) (one : (at a b : ℕ) → a < 256 → b < 256 → line at (a ∷ b ∷ []) ≡ cells (a + 256 * b)) where
+module _ (line : ℕ → List ℕ → List ℕ) (cell : ℕ → List ℕ) (one : (at a b : ℕ) → a < 256 → b < 256 → line at (a ∷ b ∷ []) ≡ cell (a + 256 * b)) where
   -- the values of whole pairs of bytes
-  pub word_values : (n : ℕ) (bytes : List ℕ) → length bytes ≡ 2 * n → ((k : ℕ) → get_or bytes k 0 < 256) → (at : ℕ) → flat_map cells (words bytes) ≡ in_lines line 2 at bytes
+  pub word_values : (n : ℕ) (bytes : List ℕ) → length bytes ≡ 2 * n → ((k : ℕ) → get_or bytes k 0 < 256) → (at : ℕ) → flat_map cell (words bytes) ≡ in_lines line 2 at bytes
   word_values n [] long small at = sym (in_lines-none line 2 at (omega arith))
   word_values zero (a ∷ rest) long small at = absurd (omega arith)
   word_values (suc n) (a ∷ []) long small at = absurd (omega arith)
   word_values (suc n) (a ∷ b ∷ rest) long small at =
-      let first : in_lines line 2 at (a ∷ b ∷ []) ≡ cells (a + 256 * b) = in_lines-one line 2 at (a ∷ b ∷ []) (omega arith) (omega arith) ∙ one at a b (small 0) (small 1) in
+      let first : in_lines line 2 at (a ∷ b ∷ []) ≡ cell (a + 256 * b) = in_lines-one line 2 at (a ∷ b ∷ []) (omega arith) (omega arith) ∙ one at a b (small 0) (small 1) in
       let others = word_values n rest (omega arith) (λ k. small (suc (suc k))) (at + 2) in
-      sym (in_lines-append line 2 at 1 (a ∷ b ∷ []) rest (omega arith) refl ∙ ap (λ t. t ++ in_lines line 2 (at + 2) rest) first ∙ ap (λ t. cells (a + 256 * b) ++ t) (sym others))
+      sym (in_lines-append line 2 at 1 (a ∷ b ∷ []) rest (omega arith) refl ∙ ap (λ t. t ++ in_lines line 2 (at + 2) rest) first ∙ ap (λ t. cell (a + 256 * b) ++ t) (sym others))
 
-pub signed_values : (bytes : List ℕ) → length bytes ≡ 16 → ((k : ℕ) → get_or bytes k 0 < 256) → flat_map signed_cells (words bytes) ≡ in_lines (value_text (Number form.Signed Two)) 2 0 bytes
-signed_values bytes long small = word_values (value_text (Number form.Signed Two)) signed_cells signed_value 8 bytes long small 0
-
-pub unsigned_values : (bytes : List ℕ) → length bytes ≡ 16 → ((k : ℕ) → get_or bytes k 0 < 256) → flat_map unsigned_cells (words bytes) ≡ in_lines (value_text (Number form.Unsigned Two)) 2 0 bytes
-unsigned_values bytes long small = word_values (value_text (Number form.Unsigned Two)) unsigned_cells unsigned_value 8 bytes long small 0
+pub twos_values : (signed : Bool) (bytes : List ℕ) → length bytes ≡ 16 → ((k : ℕ) → get_or bytes k 0 < 256) →
+    flat_map (cells signed) (words bytes) ≡ in_lines (value_text (Number (form_of signed) Two)) 2 0 bytes
+twos_values true bytes long small = word_values (value_text (Number form.Signed Two)) (cells true) signed_value 8 bytes long small 0
+twos_values false bytes long small = word_values (value_text (Number form.Unsigned Two)) (cells false) unsigned_value 8 bytes long small 0

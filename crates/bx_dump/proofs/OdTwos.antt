@@ -1,11 +1,11 @@
 -- od's decimal values of two bytes, lane by lane.
-use Rattle.std.proofs.Common.{◌≡◌, ℕ, zero, suc, ◌+◌, ◌-◌, ◌*◌, ◌/◌, ◌%◌, ◌^◌, ◌<◌, ltb, ltb-false, cond, Bool, true, false, List, [], ◌∷◌, ◌++◌, map, length, replicate, Fits, w8, w16, take, subst, refl, ap, ◌∙◌, arith, inl, inr}
+use Rattle.std.proofs.Common.{◌≡◌, ℕ, zero, suc, ◌+◌, ◌-◌, ◌*◌, ◌/◌, ◌%◌, ◌^◌, ◌<◌, ◌≤◌, ltb, ltb-false, cond, Bool, true, false, List, [], ◌∷◌, ◌++◌, map, length, replicate, Fits, w8, w16, take, subst, refl, ap, ◌∙◌, arith, inl, inr}
 use Rattle.std.proofs.Math.Nat.{div-le_self}
 use Rattle.std.proofs.lemmas.Bool.{cases_Bool}
 use Rattle.std.proofs.lemmas.Simd.{Each2-splat, Each1-all, pick_l_whole}
-use Rattle.std.specs.List.{flat_map, range_with_len}
+use Rattle.std.specs.List.{flat_map}
 use lib.Lanes.{zip2, pick_l, sel_l, top, number_l, digits_l, Each1, Each2}
-use Rattle.bx_dump.specs.inner.Decimal.{words, amount, front, char_at, last_char, signed_cells, unsigned_cells}
+use Rattle.bx_dump.specs.inner.Decimal.{words, amount, front, char_at, last_char, cells, cells_len}
 
 -- what is done to the lanes
 abbrev pub below : ℕ → ℕ → ℕ
@@ -98,18 +98,18 @@ chars_are zero power signed (v ∷ vs) long fits = absurd (omega arith)
 chars_are (suc n) power signed (v ∷ vs) long fits = let one = char_one power signed v fits.0.fits in let more = chars_are n power signed vs (omega arith) fits.1 in λ i. one i ∷ more i
 
 -- the character in front of the fifth digit
-first_one : (v : ℕ) → v < 65536 → cond (top 15 (below (amount true v) 10000)) 32 (front true v) ≡ char_at true 100000 v
-first_one v fits =
-    let a = amount true v in
-    let small = amount_fits true v fits in
+first_one : (signed : Bool) (v : ℕ) → v < 65536 → cond (top 15 (below (amount signed v) 10000)) 32 (front signed v) ≡ char_at signed 100000 v
+first_one signed v fits =
+    let a = amount signed v in
+    let small = amount_fits signed v fits in
     let less = Rattle.std.proofs.lemmas.Bool.lt-ltb a 100000 (omega arith) in
     elim (cases_Bool (ltb a 10000)) [ inl f ↦ rw (less, f) refl | inr f ↦ rw (less, f) refl ]
 
-pub first_are : (n : ℕ) (vs : List ℕ) → length vs ≡ n → Each1 (Fits w16) vs →
-    sel_l (map (top 15) (zip2 below (map (amount true) vs) (replicate n 10000))) (replicate n 32) (map (front true) vs) ≡ map (char_at true 100000) vs
-first_are n [] long fits = refl
-first_are zero (v ∷ vs) long fits = absurd (omega arith)
-first_are (suc n) (v ∷ vs) long fits = let one = first_one v fits.0.fits in let more = first_are n vs (omega arith) fits.1 in λ i. one i ∷ more i
+pub first_are : (n : ℕ) (signed : Bool) (vs : List ℕ) → length vs ≡ n → Each1 (Fits w16) vs →
+    sel_l (map (top 15) (zip2 below (map (amount signed) vs) (replicate n 10000))) (replicate n 32) (map (front signed) vs) ≡ map (char_at signed 100000) vs
+first_are n signed [] long fits = refl
+first_are zero signed (v ∷ vs) long fits = absurd (omega arith)
+first_are (suc n) signed (v ∷ vs) long fits = let one = first_one signed v fits.0.fits in let more = first_are n signed vs (omega arith) fits.1 in λ i. one i ∷ more i
 
 -- the last digit
 pub last_are : (n : ℕ) (signed : Bool) (vs : List ℕ) → length vs ≡ n → Each1 (Fits w16) vs → let ns = map (amount signed) vs in
@@ -149,28 +149,23 @@ pub divides : (xs : List ℕ) (n y : ℕ) → 0 < y → Each2 (λ (a b : ℕ). 0
 divides xs n y some = Each2-splat (λ (a b : ℕ). 0 < b) xs n y (Each1-all (λ a. 0 < y) (λ a. some) xs)
 
 -- the characters of each value, one value behind the other
-abbrev side_by_side : List ℕ → List ℕ → List ℕ
-side_by_side a b = pick_l 0 (a ++ b) (range_with_len 0 16)
+abbrev pub columns : Bool → List ℕ → List ℕ
+columns signed v =
+    ((map (char_at signed 10) v ++ map (last_char signed) v) ++ (map (char_at signed 1000) v ++ map (char_at signed 100) v))
+    ++ ((map (char_at signed 100000) v ++ map (char_at signed 10000) v) ++ replicate 16 32)
 
-abbrev four_by_four : List ℕ → List ℕ → List ℕ
-four_by_four a b = pick_l 0 (a ++ b) (range_with_len 0 32)
+abbrev pub signed_places : List ℕ
+signed_places = 48 ∷ 32 ∷ 40 ∷ 16 ∷ 24 ∷ 0 ∷ 8 ∷ 48 ∷ 33 ∷ 41 ∷ 17 ∷ 25 ∷ 1 ∷ 9 ∷ 48 ∷ 34 ∷ 42 ∷ 18 ∷ 26 ∷ 2 ∷ 10 ∷ 48 ∷ 35 ∷ 43 ∷ 19 ∷ 27 ∷ 3 ∷ 11 ∷ 48 ∷ 36 ∷ 44 ∷ 20 ∷ 28 ∷ 4 ∷ 12 ∷ 48 ∷ 37 ∷ 45 ∷ 21 ∷ 29 ∷ 5 ∷ 13 ∷ 48 ∷ 38 ∷ 46 ∷ 22 ∷ 30 ∷ 6 ∷ 14 ∷ 48 ∷ 39 ∷ 47 ∷ 23 ∷ 31 ∷ 7 ∷ 15 ∷ 48 ∷ 48 ∷ 48 ∷ 48 ∷ 48 ∷ 48 ∷ 48 ∷ 48 ∷ []
 
-abbrev pub signed_layout : List ℕ → List ℕ → List ℕ → List ℕ → List ℕ → List ℕ → List ℕ
-signed_layout tens ones thousands hundreds firsts fives =
-    pick_l 0 (four_by_four (side_by_side tens ones) (side_by_side thousands hundreds) ++ four_by_four (side_by_side firsts fives) (replicate 16 32)) (48 ∷ 32 ∷ 40 ∷ 16 ∷ 24 ∷ 0 ∷ 8 ∷ 48 ∷ 33 ∷ 41 ∷ 17 ∷ 25 ∷ 1 ∷ 9 ∷ 48 ∷ 34 ∷ 42 ∷ 18 ∷ 26 ∷ 2 ∷ 10 ∷ 48 ∷ 35 ∷ 43 ∷ 19 ∷ 27 ∷ 3 ∷ 11 ∷ 48 ∷ 36 ∷ 44 ∷ 20 ∷ 28 ∷ 4 ∷ 12 ∷ 48 ∷ 37 ∷ 45 ∷ 21 ∷ 29 ∷ 5 ∷ 13 ∷ 48 ∷ 38 ∷ 46 ∷ 22 ∷ 30 ∷ 6 ∷ 14 ∷ 48 ∷ 39 ∷ 47 ∷ 23 ∷ 31 ∷ 7 ∷ 15 ∷ 48 ∷ 48 ∷ 48 ∷ 48 ∷ 48 ∷ 48 ∷ 48 ∷ 48 ∷ [])
+abbrev pub unsigned_places : List ℕ
+unsigned_places = 48 ∷ 40 ∷ 16 ∷ 24 ∷ 0 ∷ 8 ∷ 48 ∷ 41 ∷ 17 ∷ 25 ∷ 1 ∷ 9 ∷ 48 ∷ 42 ∷ 18 ∷ 26 ∷ 2 ∷ 10 ∷ 48 ∷ 43 ∷ 19 ∷ 27 ∷ 3 ∷ 11 ∷ 48 ∷ 44 ∷ 20 ∷ 28 ∷ 4 ∷ 12 ∷ 48 ∷ 45 ∷ 21 ∷ 29 ∷ 5 ∷ 13 ∷ 48 ∷ 46 ∷ 22 ∷ 30 ∷ 6 ∷ 14 ∷ 48 ∷ 47 ∷ 23 ∷ 31 ∷ 7 ∷ 15 ∷ 48 ∷ 48 ∷ 48 ∷ 48 ∷ 48 ∷ 48 ∷ 48 ∷ 48 ∷ 48 ∷ 48 ∷ 48 ∷ 48 ∷ 48 ∷ 48 ∷ 48 ∷ 48 ∷ []
 
-abbrev pub unsigned_layout : List ℕ → List ℕ → List ℕ → List ℕ → List ℕ → List ℕ
-unsigned_layout tens ones thousands hundreds fives =
-    pick_l 0 (four_by_four (side_by_side tens ones) (side_by_side thousands hundreds) ++ four_by_four (side_by_side fives (replicate 8 32)) (replicate 16 32)) (40 ∷ 32 ∷ 16 ∷ 24 ∷ 0 ∷ 8 ∷ 40 ∷ 33 ∷ 17 ∷ 25 ∷ 1 ∷ 9 ∷ 40 ∷ 34 ∷ 18 ∷ 26 ∷ 2 ∷ 10 ∷ 40 ∷ 35 ∷ 19 ∷ 27 ∷ 3 ∷ 11 ∷ 40 ∷ 36 ∷ 20 ∷ 28 ∷ 4 ∷ 12 ∷ 40 ∷ 37 ∷ 21 ∷ 29 ∷ 5 ∷ 13 ∷ 40 ∷ 38 ∷ 22 ∷ 30 ∷ 6 ∷ 14 ∷ 40 ∷ 39 ∷ 23 ∷ 31 ∷ 7 ∷ 15 ∷ 40 ∷ 40 ∷ 40 ∷ 40 ∷ 40 ∷ 40 ∷ 40 ∷ 40 ∷ 40 ∷ 40 ∷ 40 ∷ 40 ∷ 40 ∷ 40 ∷ 40 ∷ 40 ∷ [])
+pub signed_is : (v : List ℕ) → length v ≡ 8 → take 56 (pick_l 0 (columns true v) signed_places) ≡ flat_map (cells true) v
+signed_is v long = subst (λ l. take 56 (pick_l 0 (columns true l) signed_places) ≡ flat_map (cells true) l) (pick_l_whole 0 v 8 long) refl
 
-pub signed_is : (v : List ℕ) → length v ≡ 8 →
-    take 56 (signed_layout (map (char_at true 10) v) (map (last_char true) v) (map (char_at true 1000) v) (map (char_at true 100) v) (map (char_at true 100000) v) (map (char_at true 10000) v)) ≡ flat_map signed_cells v
-signed_is v long =
-    subst (λ l. take 56 (signed_layout (map (char_at true 10) l) (map (last_char true) l) (map (char_at true 1000) l) (map (char_at true 100) l) (map (char_at true 100000) l) (map (char_at true 10000) l)) ≡ flat_map signed_cells l)
-    (pick_l_whole 0 v 8 long) refl
+pub unsigned_is : (v : List ℕ) → length v ≡ 8 → take 48 (pick_l 0 (columns false v) unsigned_places) ≡ flat_map (cells false) v
+unsigned_is v long = subst (λ l. take 48 (pick_l 0 (columns false l) unsigned_places) ≡ flat_map (cells false) l) (pick_l_whole 0 v 8 long) refl
 
-pub unsigned_is : (v : List ℕ) → length v ≡ 8 →
-    take 48 (unsigned_layout (map (char_at false 10) v) (map (last_char false) v) (map (char_at false 1000) v) (map (char_at false 100) v) (map (char_at false 10000) v)) ≡ flat_map unsigned_cells v
-unsigned_is v long =
-    subst (λ l. take 48 (unsigned_layout (map (char_at false 10) l) (map (last_char false) l) (map (char_at false 1000) l) (map (char_at false 100) l) (map (char_at false 10000) l)) ≡ flat_map unsigned_cells l)
-    (pick_l_whole 0 v 8 long) refl
+pub cells_fit : (signed : Bool) → cells_len signed ≤ 64
+cells_fit true = omega arith
+cells_fit false = omega arith

@@ -1,5 +1,7 @@
 -- What proofs alone need: decimal numbers of two bytes by their characters, and of four bytes.
 use Rattle.std.specs.Prelude.{ℕ, ◌+◌, ◌-◌, ◌*◌, ◌/◌, ◌%◌, Bool, true, false, nat_le, nat_lt, if◌then◌else◌, List, [], ◌∷◌}
+use Rattle.bx_dump.specs.declared.od.options.NumForm.{NumForm}
+use Rattle.bx_dump.specs.declared.od.options.NumForm.TheVariants as form
 use Rattle.bx_dump.specs.Od.{value_of}
 
 -- each two bytes as a number, the lower one first
@@ -28,11 +30,19 @@ abbrev pub last_char : Bool → ℕ → ℕ
 last_char signed v = 48 + amount signed v % 10
 
 -- a space and its characters
-abbrev pub signed_cells : ℕ → List ℕ
-signed_cells v = 32 ∷ char_at true 100000 v ∷ char_at true 10000 v ∷ char_at true 1000 v ∷ char_at true 100 v ∷ char_at true 10 v ∷ last_char true v ∷ []
+abbrev pub cells : Bool → ℕ → List ℕ
+cells true v = 32 ∷ char_at true 100000 v ∷ char_at true 10000 v ∷ char_at true 1000 v ∷ char_at true 100 v ∷ char_at true 10 v ∷ last_char true v ∷ []
+cells false v = 32 ∷ char_at false 10000 v ∷ char_at false 1000 v ∷ char_at false 100 v ∷ char_at false 10 v ∷ last_char false v ∷ []
 
-abbrev pub unsigned_cells : ℕ → List ℕ
-unsigned_cells v = 32 ∷ char_at false 10000 v ∷ char_at false 1000 v ∷ char_at false 100 v ∷ char_at false 10 v ∷ last_char false v ∷ []
+-- how long those of eight numbers are
+abbrev pub cells_len : Bool → ℕ
+cells_len true = 56
+cells_len false = 48
+
+-- numbers in two's complement, or without a sign
+abbrev pub form_of : Bool → NumForm
+form_of true = form.Signed
+form_of false = form.Unsigned
 
 -- each four bytes as a number, the lowest one first
 abbrev pub fours : List ℕ → List ℕ

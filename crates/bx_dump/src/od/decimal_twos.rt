@@ -1,7 +1,7 @@
 //! od's decimal values of two bytes, lane by lane.
-ghost use Rattle.std.specs.Prelude.{◌≡◌, true, ◌≤◌, length, map, take};
+ghost use Rattle.std.specs.Prelude.{◌≡◌, ◌≤◌, ◌++◌, length, map, take};
 ghost use Rattle.std.specs.List.{flat_map};
-ghost use Rattle.bx_dump.specs.inner.Decimal.{words, amount, front, char_at, last_char, signed_cells, unsigned_cells};
+ghost use Rattle.bx_dump.specs.inner.Decimal.{words, amount, front, char_at, last_char, cells, cells_len, form_of};
 ghost use Rattle.bx_dump.specs.inner.Od.{values_text};
 
 use crate::od::options::{Kind, NumForm, Size};
@@ -63,12 +63,12 @@ fn chars_at(values: u16x8, signed: bool, power: u16) -> u8x8
 
 /// The character of each value in front of its fifth digit.
 #[inline(always)]
-fn first_chars(values: u16x8) -> u8x8
-    ensures { result ≡ map (char_at true 100000) values }
+fn first_chars(values: u16x8, signed: bool) -> u8x8
+    ensures { result ≡ map (char_at signed 100000) values }
 {
-    amounts_of(values, true)
+    amounts_of(values, signed)
         .simd_lt(u16x8::splat(10000))
-        .select(u16x8::splat(b' ' as u16), fronts_of(values, true))
+        .select(u16x8::splat(b' ' as u16), fronts_of(values, signed))
         .cast::<u8>()
 }
 
@@ -83,88 +83,71 @@ fn last_chars(values: u16x8, signed: bool) -> u8x8
     digits.cast::<u8>()
 }
 
-/// A space and the characters of each value in two's complement, and spaces.
+/// Eight characters, and eight behind them.
 #[inline(always)]
-fn signed_cells_of(values: u16x8) -> u8x64
-    ensures size { length result ≡ 64 }
-    ensures text { take 56 result ≡ flat_map signed_cells values }
+fn eight_and_eight(front: u8x8, back: u8x8) -> u8x16
+    ensures { result ≡ front ++ back }
 {
-    let low: u8x16 = chars_at(values, true, 10).shuffle(
-        last_chars(values, true),
-        [0, 1, 2, 3, 4, 5, 6, 7, 8, 9, 10, 11, 12, 13, 14, 15],
-    );
-    let middle: u8x16 = chars_at(values, true, 1000).shuffle(
-        chars_at(values, true, 100),
-        [0, 1, 2, 3, 4, 5, 6, 7, 8, 9, 10, 11, 12, 13, 14, 15],
-    );
-    let high: u8x16 = first_chars(values).shuffle(
-        chars_at(values, true, 10000),
-        [0, 1, 2, 3, 4, 5, 6, 7, 8, 9, 10, 11, 12, 13, 14, 15],
-    );
-    let back: u8x32 = low.shuffle(
-        middle,
+    front.shuffle(back, [0, 1, 2, 3, 4, 5, 6, 7, 8, 9, 10, 11, 12, 13, 14, 15])
+}
+
+/// Sixteen characters, and sixteen behind them.
+#[inline(always)]
+fn all_of(front: u8x16, back: u8x16) -> u8x32
+    ensures { result ≡ front ++ back }
+{
+    front.shuffle(
+        back,
         [
             0, 1, 2, 3, 4, 5, 6, 7, 8, 9, 10, 11, 12, 13, 14, 15, 16, 17, 18, 19, 20, 21, 22, 23,
             24, 25, 26, 27, 28, 29, 30, 31,
-        ],
-    );
-    let front: u8x32 = high.shuffle(
-        u8x16::splat(b' '),
-        [
-            0, 1, 2, 3, 4, 5, 6, 7, 8, 9, 10, 11, 12, 13, 14, 15, 16, 17, 18, 19, 20, 21, 22, 23,
-            24, 25, 26, 27, 28, 29, 30, 31,
-        ],
-    );
-    back.shuffle(
-        front,
-        [
-            48, 32, 40, 16, 24, 0, 8, 48, 33, 41, 17, 25, 1, 9, 48, 34, 42, 18, 26, 2, 10, 48, 35,
-            43, 19, 27, 3, 11, 48, 36, 44, 20, 28, 4, 12, 48, 37, 45, 21, 29, 5, 13, 48, 38, 46,
-            22, 30, 6, 14, 48, 39, 47, 23, 31, 7, 15, 48, 48, 48, 48, 48, 48, 48, 48,
         ],
     )
 }
 
-/// A space and the characters of each value, and spaces.
+/// A space and the characters of each value, in two's complement where `signed`, and spaces.
 #[inline(always)]
-fn unsigned_cells_of(values: u16x8) -> u8x64
+fn cells_of(values: u16x8, signed: bool) -> u8x64
     ensures size { length result ≡ 64 }
-    ensures text { take 48 result ≡ flat_map unsigned_cells values }
+    ensures text { take (cells_len signed) result ≡ flat_map (cells signed) values }
 {
-    let low: u8x16 = chars_at(values, false, 10).shuffle(
-        last_chars(values, false),
-        [0, 1, 2, 3, 4, 5, 6, 7, 8, 9, 10, 11, 12, 13, 14, 15],
+    let low = eight_and_eight(chars_at(values, signed, 10), last_chars(values, signed));
+    let middle = eight_and_eight(
+        chars_at(values, signed, 1000),
+        chars_at(values, signed, 100),
     );
-    let middle: u8x16 = chars_at(values, false, 1000).shuffle(
-        chars_at(values, false, 100),
-        [0, 1, 2, 3, 4, 5, 6, 7, 8, 9, 10, 11, 12, 13, 14, 15],
-    );
-    let high: u8x16 = chars_at(values, false, 10000).shuffle(
-        u8x8::splat(b' '),
-        [0, 1, 2, 3, 4, 5, 6, 7, 8, 9, 10, 11, 12, 13, 14, 15],
-    );
-    let back: u8x32 = low.shuffle(
-        middle,
-        [
-            0, 1, 2, 3, 4, 5, 6, 7, 8, 9, 10, 11, 12, 13, 14, 15, 16, 17, 18, 19, 20, 21, 22, 23,
-            24, 25, 26, 27, 28, 29, 30, 31,
-        ],
-    );
-    let front: u8x32 = high.shuffle(
-        u8x16::splat(b' '),
-        [
-            0, 1, 2, 3, 4, 5, 6, 7, 8, 9, 10, 11, 12, 13, 14, 15, 16, 17, 18, 19, 20, 21, 22, 23,
-            24, 25, 26, 27, 28, 29, 30, 31,
-        ],
-    );
-    back.shuffle(
-        front,
-        [
-            40, 32, 16, 24, 0, 8, 40, 33, 17, 25, 1, 9, 40, 34, 18, 26, 2, 10, 40, 35, 19, 27, 3,
-            11, 40, 36, 20, 28, 4, 12, 40, 37, 21, 29, 5, 13, 40, 38, 22, 30, 6, 14, 40, 39, 23,
-            31, 7, 15, 40, 40, 40, 40, 40, 40, 40, 40, 40, 40, 40, 40, 40, 40, 40, 40,
-        ],
-    )
+    let high = eight_and_eight(first_chars(values, signed), chars_at(values, signed, 10000));
+    let back = all_of(low, middle);
+    let front = all_of(high, u8x16::splat(b' '));
+    if signed {
+        back.shuffle(
+            front,
+            [
+                48, 32, 40, 16, 24, 0, 8, 48, 33, 41, 17, 25, 1, 9, 48, 34, 42, 18, 26, 2, 10, 48,
+                35, 43, 19, 27, 3, 11, 48, 36, 44, 20, 28, 4, 12, 48, 37, 45, 21, 29, 5, 13, 48,
+                38, 46, 22, 30, 6, 14, 48, 39, 47, 23, 31, 7, 15, 48, 48, 48, 48, 48, 48, 48, 48,
+            ],
+        )
+    } else {
+        back.shuffle(
+            front,
+            [
+                48, 40, 16, 24, 0, 8, 48, 41, 17, 25, 1, 9, 48, 42, 18, 26, 2, 10, 48, 43, 19, 27,
+                3, 11, 48, 44, 20, 28, 4, 12, 48, 45, 21, 29, 5, 13, 48, 46, 22, 30, 6, 14, 48, 47,
+                23, 31, 7, 15, 48, 48, 48, 48, 48, 48, 48, 48, 48, 48, 48, 48, 48, 48, 48, 48,
+            ],
+        )
+    }
+}
+
+/// Puts a space and the digits of each value of a full line, in two's complement where `signed`.
+#[inline(always)]
+fn put_cells(text: &mut [u8], bytes: &[u8; 16], signed: bool)
+    requires { 80 ≤ length text.old }
+    ensures { take (cells_len signed) text.new ≡ values_text (Kind.Number (form_of signed) Size.Two) bytes.now }
+{
+    let (front, _) = text.split_at_mut(64);
+    cells_of(words_of(u8x16::from_array(*bytes)), signed).copy_to_slice(front);
 }
 
 /// Puts a space and the digits of each value of a full line in two's complement, and answers how long the text is.
@@ -173,8 +156,7 @@ pub fn put_signed_twos(text: &mut [u8], bytes: &[u8; 16]) -> usize
     ensures most { result ≤ 80 }
     ensures text { take result text.new ≡ values_text (Kind.Number NumForm.Signed Size.Two) bytes.now }
 {
-    let (front, _) = text.split_at_mut(64);
-    signed_cells_of(words_of(u8x16::from_array(*bytes))).copy_to_slice(front);
+    put_cells(text, bytes, true);
     56
 }
 
@@ -184,7 +166,6 @@ pub fn put_unsigned_twos(text: &mut [u8], bytes: &[u8; 16]) -> usize
     ensures most { result ≤ 80 }
     ensures text { take result text.new ≡ values_text (Kind.Number NumForm.Unsigned Size.Two) bytes.now }
 {
-    let (front, _) = text.split_at_mut(64);
-    unsigned_cells_of(words_of(u8x16::from_array(*bytes))).copy_to_slice(front);
+    put_cells(text, bytes, false);
     48
 }

@@ -1,8 +1,0 @@
-use Rattle.std.proofs.Common.{take, ◌∙◌}
-use Rattle.bx_dump.proofs.OdTwos.{unsigned_layout, unsigned_is}
-use Rattle.bx_dump.proofs.od.decimal_twos.unsigned_cells_of.Goals as goal
-
-pub returns-clause-text : goal.returns-clause-text
-returns-clause-text c =
-    (λ i. take 48 (unsigned_layout (c.chars_at.ensures i) (c.last_chars.ensures i) (c.chars_at-2.ensures i) (c.chars_at-3.ensures i) (c.chars_at-4.ensures i)))
-    ∙ unsigned_is c.args.values c.fits-values.0
