@@ -14,4 +14,4 @@ pub use command::{Command, Reply};
 pub use fault::Fault;
 pub use listing::{list_ranges, log_text};
 pub use reading::{Form, change_from};
-pub use run::{change_if_read, run_all};
+pub use run::{change_if_read, run_all, run_one};

@@ -168,8 +168,8 @@ fn emptied<A: Allocator>(bytes: Bytes<A>, _: ()) -> (Bytes<A>, ())
     (Bytes::from_vec(items), ())
 }
 
-/// Runs one command: a fault of its own comes before the session's.
-fn run_one<D: Device, T: TextStore, R: Read, A: Allocator + Clone>(
+/// Runs one command, as `run_all` does with each of a list: a fault of its own comes before the session's.
+pub fn run_one<D: Device, T: TextStore, R: Read, A: Allocator + Clone>(
     alloc: &A,
     session: &mut Session<D, T, A>,
     command: &mut Command<R, A>,

@@ -12,13 +12,13 @@ use crate::paged::Paged;
 use crate::stopped::Stopped;
 use bx_cli::{
     Access, Command, Durability, Fault, Reply, Texts, change_if_read, list_ranges, log_text,
-    run_all,
+    run_one,
 };
 use bx_image::{Change, Device, FileImage, SystemFile};
 use bx_journal::{How, Session, SessionFault};
 use bx_read::ReadFault;
 use bx_store::{FileText, TextStore};
-use bx_text::{Name, NoMemory};
+use bx_text::Name;
 use std::fs::File;
 use std::io::{Read, Write};
 use std::rt::Files;
@@ -217,7 +217,7 @@ where
 fn command<R, I: Read + Drop>(
     rt: &R,
     session: &mut FileSession,
-    command: Command<I>,
+    mut command: Command<I>,
 ) -> Result<Reply, Fault>
 where
     R: AllocGlobal,
@@ -226,13 +226,9 @@ where
     requires store { ⟦<FileText<TextFile> as TextStore>⟧.failures session.old.store ≡ 0 }
     requires redo_text { ⟦<FileText<TextFile> as TextStore>⟧.failures session.old.redo_text ≡ 0 }
 {
-    let mut list = Vec::new(rt.alloc());
-    list.push(command).map_err(|_| NoMemory)?;
-    let replies = run_all(rt.alloc(), session, list.as_mut_slice())?;
-    match replies.first() {
-        Some(Reply::Refused(fault)) => Err(*fault),
-        Some(reply) => Ok(*reply),
-        None => Err(Fault::from(NoMemory)),
+    match run_one(&rt.alloc(), session, &mut command) {
+        Reply::Refused(fault) => Err(fault),
+        reply => Ok(reply),
     }
 }
 
