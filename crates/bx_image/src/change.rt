@@ -1,10 +1,10 @@
 //! Changes to images.
-ghost use Rattle.std.specs.Prelude.{◌≡◌, ◌↔◌, ◌+◌, ◌<◌, ◌≤◌, [], List, ℕ, length, IfOk, IsOk, OnOk, OnErr, is_err, IfSome, true};
+ghost use Rattle.std.specs.Prelude.{◌≡◌, ◌↔◌, ◌+◌, ◌<◌, ◌≤◌, [], List, ℕ, length, min, IfOk, IsOk, OnOk, OnErr, is_err, IfSome, true};
 ghost use Rattle.bx_image.specs.Change.{effect, placed, saved, Restores, RestoresBy, Covers, IsAsGood, Fits, KeepsUntouched};
 ghost use Rattle.bx_image.specs.inner.Change.{cut_to, IsPartlyCutTo, KeepsBelowBase};
-ghost use Rattle.bx_image.specs.Device.{GoesOn};
-ghost use Rattle.bx_image.specs.Image.{end_of};
-ghost use Rattle.bx_image.specs.Power.{AllKeepUntouched, Follows, KeepsOnDisk, NoMore, Only};
+ghost use Rattle.bx_image.specs.Device.{GoesOn, IsPartlyCut};
+ghost use Rattle.bx_image.specs.Image.{cut, end_of};
+ghost use Rattle.bx_image.specs.Power.{AllKeepUntouched, Follows, KeepsBelow, KeepsOnDisk, NoMore, Only};
 
 use crate::{Device, DeviceFailed, TooLarge};
 use bx_text::{Piece, Pieces};
@@ -61,6 +61,18 @@ fn end_of_write<A: Allocator>(write: &Piece<A>) -> Result<u64, TooLarge>
     Ok(write.at + count)
 }
 
+// Brings the image to the length, by one call.
+fn set_length<D: Device>(device: &mut D, n: u64) -> Result<(), DeviceFailed>
+    requires countable { D.failures device.old < u64.MAX }
+    requires room { n ≤ D.room device.old }
+    ensures ok { D.honest device.old → OnOk result (D.image device.new ≡ cut (D.image device.old) n) }
+    ensures failed { D.honest device.old → OnErr result (IsPartlyCut n (D.image device.old) (D.image device.new)) }
+    ensures survives { D.honest device.old → Follows (KeepsBelow (min n (length (D.image device.old)))) (D.survives device.old) (D.survives device.new) }
+    ensures goes_on { GoesOn D.honest D.room D.failures (is_err result) device.old device.new }
+{
+    device.set_len(n)
+}
+
 // Brings the image to the base, where there is one.
 #[tactic(auto, using(crate::proofs::Devices::GoesOn_then))]
 fn set_base<D: Device>(device: &mut D, base: Option<u64>) -> Result<(), DeviceFailed>
@@ -72,7 +84,7 @@ fn set_base<D: Device>(device: &mut D, base: Option<u64>) -> Result<(), DeviceFa
     ensures goes_on { GoesOn D.honest D.room D.failures (is_err result) device.old device.new }
 {
     if let Some(n) = base {
-        device.set_len(n)?;
+        set_length(device, n)?;
     }
     Ok(())
 }
