@@ -30,6 +30,12 @@ always_err : {T E P : Type 0} (r : Result T E) → P → OnErr r P
 always_err (Ok x) p = tt
 always_err (Err e) p = p
 
+pub append_head_of-requires-clause-ranges : goal.append_head_of-requires-clause-ranges
+append_head_of-requires-clause-ranges g c = c.requires.ranges
+
+pub append_head_of-requires-clause-begun : goal.append_head_of-requires-clause-begun
+append_head_of-requires-clause-begun g c = c.requires.begun
+
 pub returns-in_err-append_head_of-clause-fault : goal.returns-in_err-append_head_of-clause-fault
 returns-in_err-append_head_of-clause-fault g c dh th stack writes =
     let x : List ℕ = g.D.Device.image c.args.device.now in

@@ -14,6 +14,9 @@ always_err : {T E P : Type 0} (r : Result T E) → P → OnErr r P
 always_err (Ok x) p = tt
 always_err (Err e) p = p
 
+pub restore_windows-requires-clause-within : goal.restore_windows-requires-clause-within
+restore_windows-requires-clause-within g c = c.requires.within_mark
+
 pub returns-in_err-restore_windows-clause-fault : goal.returns-in_err-restore_windows-clause-fault
 returns-in_err-restore_windows-clause-fault g c dh th s st stack es v tail =
     let stop = c.in_err-restore_windows.ensures in
