@@ -33,6 +33,11 @@ returns-clause-fault g c dh th x stack s starts =
     let is = c.sync.ensures.text still ∙ put.ok dh th ∙ ap (λ h. g.T.TextStore.text c.args.store.now ++ h) (c.requires.begun dh) in
     at_err _ (head_fault _ _ x stack s head starts (length head, is ∙ ap (λ t. g.T.TextStore.text c.args.store.now ++ t) (sym (take_all (length head) head (omega arith)))))
 
+pub returns-clause-settled : goal.returns-clause-settled
+returns-clause-settled g c th =
+    let still = c.in_ok-put_head_from.ensures.store_honesty.1 th in
+    rw (c.sync.ensures.text still) (c.sync.ensures.settled still)
+
 pub returns-clause-text : goal.returns-clause-text
 returns-clause-text g c dh th =
     let put = c.in_ok-put_head_from.ensures in

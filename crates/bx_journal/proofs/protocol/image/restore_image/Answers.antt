@@ -5,6 +5,7 @@ use Rattle.bx_image.specs.Change.{Restores, IsAsGood}
 use Rattle.bx_entries.specs.Kept.{kept_of}
 use Rattle.bx_entries.proofs.KeptLemmas.{within_out, same_restore, covers_out, good_in}
 use Rattle.bx_journal.proofs.Phases.{open_moves, open_recovers}
+use Rattle.bx_image.proofs.Devices.{GoesOn_then}
 use Rattle.bx_image.proofs.Records.{IsAsGood-restores}
 use Rattle.bx_journal.proofs.protocol.image.restore_image.Goals as goal
 
@@ -45,6 +46,14 @@ returns-clause-ok g c honest =
     let still = applied.goes_on.honesty.1 honest in
     on_ok_weaker c.sync.result (λ _. c.sync.ensures.image still ∙ applied.ok honest ∙ c.into_change-change.ensures.restores (within_out c.args.kept.len c.args.kept.runs c.requires.within) (g.D.Device.image c.args.device.now) ∙ sym (same_restore c.args.kept (g.D.Device.image c.args.device.now)))
     (c.sync.ensures.settled still)
+
+pub returns-clause-settled : goal.returns-clause-settled
+returns-clause-settled g c honest =
+    let still = c.in_ok-apply.ensures.goes_on.honesty.1 honest in
+    rw (c.sync.ensures.image still) (c.sync.ensures.settled still)
+
+pub returns-clause-goes_on : goal.returns-clause-goes_on
+returns-clause-goes_on g c = GoesOn_then _ _ _ _ _ _ _ c.in_ok-apply.ensures.goes_on c.sync.ensures.goes_on
 
 pub returns-clause-again : goal.returns-clause-again
 returns-clause-again g c honest covers =
