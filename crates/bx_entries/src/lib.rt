@@ -10,6 +10,8 @@ mod write;
 pub use bx_text::NoMemory;
 pub use fault::EntryFault;
 pub use format::length::head_len;
+pub use format::line::{SavedLine, saved_in};
+pub use format::newline::line_end;
 pub use format::version::Version;
 pub use format::words::{Words, save_text};
 pub use read::count::{Place, Tally, full_behind, next_end};
