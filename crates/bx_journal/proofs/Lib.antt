@@ -61,3 +61,4 @@ pub mod Reopening
 pub mod MarkedLemmas
 pub mod PutLemmas
 pub mod RowTexts
+pub mod BesideLemmas

@@ -20,4 +20,5 @@ pub mod RedoLaws
 pub mod Recovery
 pub mod Judging
 pub mod Showing
+pub mod Differences
 pub mod inner

@@ -3,6 +3,7 @@ pub mod Again
 pub mod Begun
 pub mod Calls
 pub mod Devices
+pub mod Differences
 pub mod Entries
 pub mod Fading
 pub mod Fault

@@ -1,0 +1,88 @@
+-- Saved lines beside an image: a line more, and a window more.
+use Rattle.std.proofs.Common.{◌≡◌, ℕ, ◌+◌, ◌-◌, ◌≤◌, List, [], ◌∷◌, ◌++◌, length, take, drop, refl, ap, sym, ◌∙◌, subst, arith, append_assoc, append-nil, Option}
+use Rattle.std.proofs.KnownBytes.{Appends-nil, Appends-trans}
+use Rattle.std.proofs.lemmas.Grind.{flat_map-append}
+use Rattle.std.specs.Io.KnownBytes.{Appends}
+use Rattle.bx_entries.specs.declared.read.marks.Mark.{Mark}
+use Rattle.bx_entries.specs.Text.{Split, ended, split}
+use Rattle.bx_entries.proofs.ReadLoop.{drop_twice}
+use Rattle.bx_entries.proofs.Splits.{split-append, split-ended}
+use Rattle.bx_entries.proofs.TallyLemmas.{IsFirstLine, line_taken, take_sum}
+use Rattle.bx_journal.specs.Differences.{diff_line, diff_text}
+use Rattle.bx_journal.specs.inner.Differences.{AreBeside, AreCompared}
+use Rattle.bx_journal.specs.inner.Showing.{lines_at}
+use Rattle.bx_journal.proofs.WindowLemmas.{front_of}
+
+-- no line yet
+pub beside_none : (window image : List ℕ) (len : ℕ) (text : List ℕ) → AreBeside window image len 0 text text
+unfolding split
+beside_none window image len text = record { whole = refl; added = sym (append-nil text) }
+
+-- a line more, beside an image that is the same as before
+pub beside_next : (window rest image now : List ℕ) (len taken i : ℕ) (old mid new : List ℕ) → AreBeside window image len taken old mid → rest ≡ drop taken window → IsFirstLine rest i
+    → now ≡ image → new ≡ mid ++ diff_line now len (take i rest) → AreBeside window image len (taken + (i + 1)) old new
+unfolding split
+beside_next window rest image now len taken i old mid new before left f same more =
+    let taken_is : take (taken + (i + 1)) window ≡ take taken window ++ ended (take i rest) =
+    take_sum taken (i + 1) window ∙ ap (λ l. take taken window ++ take (i + 1) l) (sym left) ∙ ap (λ l. take taken window ++ l) (line_taken rest i f) in
+    let one : split (ended (take i rest)) ≡ record { lines = take i rest ∷ []; rest = [] } = split-ended (take i rest) [] f.plain in
+    let parts : split (take (taken + (i + 1)) window) ≡ record { lines = (split (take taken window)).lines ++ take i rest ∷ []; rest = [] } =
+    ap split taken_is ∙ split-append (take taken window) (ended (take i rest)) before.whole ∙ ap (λ (s : Split). record { lines = (split (take taken window)).lines ++ s.lines; rest = s.rest }) one in
+    let text : diff_text image len (split (take (taken + (i + 1)) window)).lines ≡ diff_text image len (split (take taken window)).lines ++ diff_line image len (take i rest) =
+    ap (λ (s : Split). diff_text image len s.lines) parts ∙ flat_map-append (diff_line image len) (split (take taken window)).lines (take i rest ∷ [])
+    ∙ ap (λ t. diff_text image len (split (take taken window)).lines ++ t) (append-nil (diff_line image len (take i rest))) in
+    record {
+      whole = ap (λ (s : Split). s.rest) parts;
+      added = more ∙ ap (λ im. mid ++ diff_line im len (take i rest)) same ∙ ap (λ t. t ++ diff_line image len (take i rest)) before.added
+          ∙ append_assoc old (diff_text image len (split (take taken window)).lines) (diff_line image len (take i rest)) ∙ ap (λ t. old ++ t) (sym text);
+    }
+
+-- the lines of a window that was read were written
+pub compared_window : (window stored image : List ℕ) (len at taken size : ℕ) (old text : List ℕ) (w0 w1 : Option (List ℕ)) → taken ≤ length window → window ≡ take size (drop at stored) → old ≡ []
+    → AreBeside window image len taken old text → Appends w0 w1 text → AreCompared stored image len at (at + taken) w0 w1
+compared_window window stored image len at taken size old text w0 w1 within is empty beside put =
+    let count : (at + taken) - at ≡ taken = omega arith in
+    let bytes : take taken window ≡ take ((at + taken) - at) (drop at stored) = front_of taken size window (drop at stored) within is ∙ ap (λ n. take n (drop at stored)) (sym count) in
+    let text_is : text ≡ diff_text image len (split (take ((at + taken) - at) (drop at stored))).lines =
+    beside.added ∙ ap (λ t. t ++ diff_text image len (split (take taken window)).lines) empty ∙ ap (λ l. diff_text image len (split l).lines) bytes in
+    record { whole = ap (λ l. (split l).rest) (sym bytes) ∙ beside.whole; written = subst (Appends w0 w1) text_is put }
+
+-- no window yet
+pub compared_none : (stored image : List ℕ) (len at : ℕ) (w : Option (List ℕ)) → AreCompared stored image len at at w w
+unfolding split
+compared_none stored image len at w =
+    let none : at - at ≡ 0 = omega arith in
+    record {
+      whole = ap (λ n. (split (take n (drop at stored))).rest) none;
+      written = subst (λ n. Appends w w (diff_text image len (split (take n (drop at stored))).lines)) (sym none) (Appends-nil w);
+    }
+
+-- a window more
+pub compared_more : (stored image : List ℕ) (len from mid to : ℕ) (w0 w1 w2 : Option (List ℕ)) → from ≤ mid → mid ≤ to → AreCompared stored image len from mid w0 w1 → AreCompared stored image len mid to w1 w2
+    → AreCompared stored image len from to w0 w2
+compared_more stored image len from mid to w0 w1 w2 behind on first next =
+    let a : List ℕ = take (mid - from) (drop from stored) in
+    let b : List ℕ = take (to - mid) (drop mid stored) in
+    let sum : to - from ≡ (mid - from) + (to - mid) = omega (arith, behind, on) in
+    let place : from + (mid - from) ≡ mid = omega (arith, behind) in
+    let bytes : take (to - from) (drop from stored) ≡ take (mid - from) (drop from stored) ++ take (to - mid) (drop mid stored) =
+    ap (λ n. take n (drop from stored)) sum ∙ take_sum (mid - from) (to - mid) (drop from stored)
+    ∙ ap (λ l. take (mid - from) (drop from stored) ++ take (to - mid) l) (drop_twice from (mid - from) stored)
+    ∙ ap (λ n. take (mid - from) (drop from stored) ++ take (to - mid) (drop n stored)) place in
+    let parts : split (take (to - from) (drop from stored)) ≡ record { lines = (split a).lines ++ (split b).lines; rest = (split b).rest } = ap split bytes ∙ split-append a b first.whole in
+    let text : diff_text image len (split (take (to - from) (drop from stored))).lines ≡ diff_text image len (split a).lines ++ diff_text image len (split b).lines =
+    ap (λ (s : Split). diff_text image len s.lines) parts ∙ flat_map-append (diff_line image len) (split a).lines (split b).lines in
+    record {
+      whole = ap (λ (s : Split). s.rest) parts ∙ next.whole;
+      written = subst (Appends w0 w2) (sym text) (Appends-trans w0 w1 w2 (diff_text image len (split a).lines) (diff_text image len (split b).lines) first.written next.written);
+    }
+
+-- what was written of a text and an image that are the same as before
+pub compared_from : (stored text image now : List ℕ) (len from to : ℕ) (w0 w1 : Option (List ℕ)) → text ≡ stored → now ≡ image → AreCompared text now len from to w0 w1 → AreCompared stored image len from to w0 w1
+compared_from stored text image now len from to w0 w1 same as_before c =
+    subst (λ t. AreCompared t image len from to w0 w1) same (subst (λ im. AreCompared text im len from to w0 w1) as_before c)
+
+-- all lines of a mark were written
+pub compared_all : (stored image : List ℕ) (mark : Mark) (at : ℕ) (w0 w1 : Option (List ℕ)) → at ≡ mark.to → AreCompared stored image mark.len mark.from at w0 w1
+    → Appends w0 w1 (diff_text image mark.len (split (lines_at stored mark)).lines)
+compared_all stored image mark at w0 w1 end c = subst (λ n. Appends w0 w1 (diff_text image mark.len (split (take (n - mark.from) (drop mark.from stored))).lines)) end c.written

@@ -1,0 +1,210 @@
+//! The saved lines of an entry that is marked, each behind a `+`, and before it what an image has at its addresses, behind a `-`.
+ghost use Rattle.std.specs.Prelude.{◌≡◌, ◌+◌, ◌<◌, ◌≤◌, ◌++◌, length, take, drop, OnOk, IfOk, IfErr};
+ghost use Rattle.std.specs.Io.KnownBytes.{Appends};
+ghost use Rattle.bx_entries.specs.Text.{split};
+ghost use Rattle.bx_journal.specs.Differences.{added_line, diff_line, diff_text, removed_line};
+ghost use Rattle.bx_journal.specs.inner.Differences.{AreBeside, AreCompared, HasGoneOn};
+ghost use Rattle.bx_journal.specs.inner.Showing.{PutFault, Stays, lines_at};
+
+use crate::SessionFault;
+use crate::look::ShowFault;
+use crate::look::put::put;
+use bx_entries::{Mark, line_end, row_of, saved_in};
+use bx_image::{Device, DeviceFailed};
+use bx_store::TextStore;
+use std::alloc::{AllocError, Allocator};
+use std::io::Write;
+
+/// Lines are gathered up to this many bytes before they are written.
+const GATHERED: usize = 1 << 20;
+
+/// Where reading stands in the text, and how many bytes were written.
+#[derive(Clone, Copy)]
+pub struct Compared {
+    pub at: u64,
+    pub written: u64,
+}
+
+/// Adds the line for what an image has at an address; nothing where it has no bytes there.
+fn push_removed<A: Allocator>(
+    text: &mut Vec<u8, A>,
+    at: u64,
+    bytes: &[u8],
+) -> Result<(), AllocError>
+    requires { length bytes.now ≤ 16 }
+    ensures { OnOk result (text.new.items ≡ text.old.items ++ removed_line at bytes.now) }
+{
+    if bytes.is_empty() {
+        return Ok(());
+    }
+    text.push(b'-')?;
+    text.extend_from_slice(row_of(at, bytes).as_bytes())?;
+    Ok(())
+}
+
+/// Adds a saved line.
+fn push_added<A: Allocator>(text: &mut Vec<u8, A>, line: &[u8]) -> Result<(), AllocError>
+    ensures { OnOk result (text.new.items ≡ text.old.items ++ added_line line.now) }
+{
+    text.push(b'+')?;
+    text.extend_from_slice(line)?;
+    text.push(b'\n')?;
+    Ok(())
+}
+
+/// Reads what an image of `len` bytes has from an address on, as far as there is room for it, and answers how many bytes that
+/// are.
+fn read_there<D: Device>(
+    device: &mut D,
+    len: u64,
+    at: u64,
+    room: &mut [u8],
+) -> Result<usize, DeviceFailed>
+    requires countable { D.failures device.old < u64.MAX }
+    requires long { D.honest device.old → len ≡ length (D.image device.old) }
+    ensures count { IfOk result (λ count. count ≤ length room.new) }
+    ensures bytes { D.honest device.old → IfOk result (λ count. take count room.new ≡ take (length room.old) (drop at (D.image device.old))) }
+    ensures same_length { length room.new ≡ length room.old }
+    ensures stays { Stays D.honest D.image D.failures result device.old device.new }
+{
+    if len <= at {
+        return Ok(0);
+    }
+    let count = (room.len() as u64).min(len - at) as usize;
+    let (part, _) = room.split_at_mut(count);
+    device.read_at(at, part)?;
+    Ok(count)
+}
+
+/// Adds a saved line of an entry that begins with the length `before`, beside what the image has there. A line that isn't a
+/// saved one adds nothing.
+fn push_beside<D: Device, A: Allocator>(
+    device: &mut D,
+    len: u64,
+    before: u64,
+    line: &[u8],
+    text: &mut Vec<u8, A>,
+) -> Result<(), ShowFault>
+    requires countable { D.failures device.old < u64.MAX }
+    requires long { D.honest device.old → len ≡ length (D.image device.old) }
+    ensures added { D.honest device.old → OnOk result (text.new.items ≡ text.old.items ++ diff_line (D.image device.old) before line.now) }
+    ensures kind { IfErr result PutFault }
+    ensures stays { Stays D.honest D.image D.failures result device.old device.new }
+{
+    let Some(saved) = saved_in(before, line) else {
+        return Ok(());
+    };
+    let mut bytes = [0u8; 16];
+    let (room, _) = bytes.split_at_mut(saved.count);
+    let count = read_there(device, len, saved.at, room)?;
+    push_removed(text, saved.at, &room[..count])?;
+    push_added(text, line)?;
+    Ok(())
+}
+
+/// Adds the whole lines at the start of a window, each beside what the image has there, and answers how many bytes they have.
+/// It takes no more lines where many bytes are gathered.
+fn push_lines<D: Device, A: Allocator>(
+    device: &mut D,
+    len: u64,
+    before: u64,
+    window: &[u8],
+    text: &mut Vec<u8, A>,
+) -> Result<usize, ShowFault>
+    requires countable { D.failures device.old < u64.MAX }
+    requires long { D.honest device.old → len ≡ length (D.image device.old) }
+    ensures within { IfOk result (λ taken. taken ≤ length window.now) }
+    ensures added { D.honest device.old → IfOk result (λ taken. AreBeside window.now (D.image device.old) before taken text.old.items text.new.items) }
+    ensures kind { IfErr result PutFault }
+    ensures stays { Stays D.honest D.image D.failures result device.old device.new }
+{
+    let mut taken: usize = 0;
+    let mut rest = window;
+    while text.len() < GATHERED {
+        let Some(i) = line_end(rest) else {
+            return Ok(taken);
+        };
+        push_beside(device, len, before, &rest[..i], text)?;
+        let (_, behind) = rest.split_at(i + 1);
+        rest = behind;
+        taken += i + 1;
+    }
+    Ok(taken)
+}
+
+/// Writes the whole lines of the window at a place, each beside what the image has there.
+fn put_window<D: Device, T: TextStore, A: Allocator, W: Write>(
+    device: &mut D,
+    len: u64,
+    store: &mut T,
+    window: &mut [u8],
+    mark: Mark,
+    done: Compared,
+    text: &mut Vec<u8, A>,
+    out: &mut W,
+) -> Result<Compared, ShowFault>
+    requires countable { D.failures device.old < u64.MAX }
+    requires also_countable { T.failures store.old < u64.MAX }
+    requires long { D.honest device.old → len ≡ length (D.image device.old) }
+    requires within { T.honest store.old → mark.to ≤ length (T.text store.old) }
+    requires at { done.at ≤ mark.to }
+    ensures put { D.honest device.old → T.honest store.old → IfOk result (λ next. AreCompared (T.text store.old) (D.image device.old)
+        mark.len done.at next.at (W.contents out.old) (W.contents out.new)) }
+    ensures on { IfOk result (HasGoneOn mark.to done) }
+    ensures kind { IfErr result PutFault }
+    ensures image { Stays D.honest D.image D.failures result device.old device.new }
+    ensures text { Stays T.honest T.text T.failures result store.old store.new }
+{
+    let more = (window.len() as u64).min(mark.to - done.at) as usize;
+    let (now, _) = window.split_at_mut(more);
+    store.read_at(done.at, now)?;
+    text.clear();
+    let taken = push_lines(device, len, mark.len, now, text)?;
+    if taken == 0 {
+        return Err(ShowFault::Text(SessionFault::NoMemory));
+    }
+    let written = put(out, done.written, text.as_slice())?;
+    Ok(Compared {
+        at: done.at + taken as u64,
+        written,
+    })
+}
+
+/// Writes the saved lines of an entry, each behind a `+`, and before it a line of what the image has at its addresses, behind a
+/// `-`. Behind this many bytes that were written, it answers how many that are together.
+///
+/// A line of the image is in xxd's default form. It is shorter where the image ends within it, and left out where the image
+/// ends before it.
+///
+/// # Errors
+/// `NoMemory`, also where a line is longer than the window, `DeviceFailed`, and `WriteFailed` with how many bytes were written.
+pub fn put_differences<D: Device, T: TextStore, A: Allocator + Clone, W: Write>(
+    alloc: &A,
+    device: &mut D,
+    store: &mut T,
+    window: &mut [u8],
+    mark: Mark,
+    written: u64,
+    out: &mut W,
+) -> Result<u64, ShowFault>
+    requires countable { D.failures device.old < u64.MAX }
+    requires also_countable { T.failures store.old < u64.MAX }
+    requires within { T.honest store.old → mark.to ≤ length (T.text store.old) }
+    requires order { mark.from ≤ mark.to }
+    ensures put { D.honest device.old → T.honest store.old → OnOk result (Appends (W.contents out.old) (W.contents out.new)
+        (diff_text (D.image device.old) mark.len (split (lines_at (T.text store.old) mark)).lines)) }
+    ensures kind { IfErr result PutFault }
+    ensures image { Stays D.honest D.image D.failures result device.old device.new }
+    ensures text { Stays T.honest T.text T.failures result store.old store.new }
+{
+    let len = device.len()?;
+    let mut text = Vec::new(alloc.clone()?);
+    let mut done = Compared {
+        at: mark.from,
+        written,
+    };
+    while done.at < mark.to {
+        done = put_window(device, len, store, window, mark, done, &mut text, out)?;
+    }
+    Ok(done.written)
+}
