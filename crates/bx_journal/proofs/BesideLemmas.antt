@@ -4,13 +4,17 @@ use Rattle.std.proofs.KnownBytes.{Appends-nil, Appends-trans}
 use Rattle.std.proofs.lemmas.Grind.{flat_map-append}
 use Rattle.std.specs.Io.KnownBytes.{Appends}
 use Rattle.bx_entries.specs.declared.read.marks.Mark.{Mark}
-use Rattle.bx_entries.specs.Text.{Split, ended, split}
+use Rattle.bx_entries.specs.Spelled.{EntryLines, lines_of}
+use Rattle.bx_entries.specs.Text.{Split, ended, joined, split}
+use Rattle.bx_entries.specs.inner.Marks.{mark_of}
+use Rattle.bx_entries.proofs.Damage.{split_joined}
 use Rattle.bx_entries.proofs.ReadLoop.{drop_twice}
-use Rattle.bx_entries.proofs.Splits.{split-append, split-ended}
+use Rattle.bx_entries.proofs.Splits.{AllPlain, split-append, split-ended}
 use Rattle.bx_entries.proofs.TallyLemmas.{IsFirstLine, line_taken, take_sum}
 use Rattle.bx_journal.specs.Differences.{diff_line, diff_text}
 use Rattle.bx_journal.specs.inner.Differences.{AreBeside, AreCompared}
 use Rattle.bx_journal.specs.inner.Showing.{lines_at}
+use Rattle.bx_journal.proofs.RowTexts.{lines_there}
 use Rattle.bx_journal.proofs.WindowLemmas.{front_of}
 
 -- no line yet
@@ -86,3 +90,9 @@ compared_from stored text image now len from to w0 w1 same as_before c =
 pub compared_all : (stored image : List ℕ) (mark : Mark) (at : ℕ) (w0 w1 : Option (List ℕ)) → at ≡ mark.to → AreCompared stored image mark.len mark.from at w0 w1
     → Appends w0 w1 (diff_text image mark.len (split (lines_at stored mark)).lines)
 compared_all stored image mark at w0 w1 end c = subst (λ n. Appends w0 w1 (diff_text image mark.len (split (take (n - mark.from) (drop mark.from stored))).lines)) end c.written
+
+-- the lines of an entry's mark are its saved lines
+pub diff_there : (older : List EntryLines) (c : EntryLines) (rest text image : List ℕ) → text ≡ joined (lines_of (c ∷ older)) ++ rest → AllPlain c.saved
+    → diff_text image (mark_of older c).len (split (lines_at text (mark_of older c))).lines ≡ diff_text image c.entry.saved.len c.saved
+diff_there older c rest text image is plain =
+    ap (λ t. diff_text image c.entry.saved.len (split t).lines) (lines_there older c rest text is) ∙ ap (λ (s : Split). diff_text image c.entry.saved.len s.lines) (split_joined c.saved plain)
