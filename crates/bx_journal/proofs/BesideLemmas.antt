@@ -1,19 +1,22 @@
 -- Saved lines beside an image: a line more, and a window more.
-use Rattle.std.proofs.Common.{◌≡◌, ℕ, ◌+◌, ◌-◌, ◌≤◌, List, [], ◌∷◌, ◌++◌, length, take, drop, refl, ap, sym, ◌∙◌, subst, arith, append_assoc, append-nil, Option}
+use Rattle.std.proofs.Common.{◌≡◌, ℕ, ◌+◌, ◌-◌, ◌<◌, ◌≤◌, List, [], ◌∷◌, ◌++◌, length, length-drop, take, drop, refl, inl, inr, ap, sym, ◌∙◌, subst, arith, append_assoc, append-nil, Option, Result}
 use Rattle.std.proofs.KnownBytes.{Appends-nil, Appends-trans}
+use Rattle.std.proofs.Math.Nat.{eq-or-lt_of_le}
 use Rattle.std.proofs.lemmas.Grind.{flat_map-append}
+use Rattle.std.proofs.lemmas.List.{drop-take, take_all}
+use Rattle.std.specs.Prelude.{◌↔◌, OnOk}
 use Rattle.std.specs.Io.KnownBytes.{Appends}
-use Rattle.bx_entries.specs.declared.read.marks.Mark.{Mark}
 use Rattle.bx_entries.specs.Spelled.{EntryLines, lines_of}
 use Rattle.bx_entries.specs.Text.{Split, ended, joined, split}
 use Rattle.bx_entries.specs.inner.Marks.{mark_of}
 use Rattle.bx_entries.proofs.Damage.{split_joined}
 use Rattle.bx_entries.proofs.ReadLoop.{drop_twice}
 use Rattle.bx_entries.proofs.Splits.{AllPlain, split-append, split-ended}
-use Rattle.bx_entries.proofs.TallyLemmas.{IsFirstLine, line_taken, take_sum}
-use Rattle.bx_journal.specs.Differences.{diff_line, diff_text}
-use Rattle.bx_journal.specs.inner.Differences.{AreBeside, AreCompared}
-use Rattle.bx_journal.specs.inner.Showing.{lines_at}
+use Rattle.bx_entries.proofs.TallyLemmas.{IsFirstLine, line_taken, take_less, take_sum}
+use Rattle.bx_journal.specs.Differences.{diff_line, diff_text, removed_line}
+use Rattle.bx_journal.specs.declared.look.cache.Cached.{Cached}
+use Rattle.bx_journal.specs.inner.Differences.{AreBeside, AreCompared, HasBytes, IsCache}
+use Rattle.bx_journal.specs.inner.Showing.{Stays, lines_at}
 use Rattle.bx_journal.proofs.RowTexts.{lines_there}
 use Rattle.bx_journal.proofs.WindowLemmas.{front_of}
 
@@ -86,13 +89,57 @@ pub compared_from : (stored text image now : List ℕ) (len from to : ℕ) (w0 w
 compared_from stored text image now len from to w0 w1 same as_before c =
     subst (λ t. AreCompared t image len from to w0 w1) same (subst (λ im. AreCompared text im len from to w0 w1) as_before c)
 
--- all lines of a mark were written
-pub compared_all : (stored image : List ℕ) (mark : Mark) (at : ℕ) (w0 w1 : Option (List ℕ)) → at ≡ mark.to → AreCompared stored image mark.len mark.from at w0 w1
-    → Appends w0 w1 (diff_text image mark.len (split (lines_at stored mark)).lines)
-compared_all stored image mark at w0 w1 end c = subst (λ n. Appends w0 w1 (diff_text image mark.len (split (take (n - mark.from) (drop mark.from stored))).lines)) end c.written
-
 -- the lines of an entry's mark are its saved lines
 pub diff_there : (older : List EntryLines) (c : EntryLines) (rest text image : List ℕ) → text ≡ joined (lines_of (c ∷ older)) ++ rest → AllPlain c.saved
     → diff_text image (mark_of older c).len (split (lines_at text (mark_of older c))).lines ≡ diff_text image c.entry.saved.len c.saved
 diff_there older c rest text image is plain =
     ap (λ t. diff_text image c.entry.saved.len (split t).lines) (lines_there older c rest text is) ∙ ap (λ (s : Split). diff_text image c.entry.saved.len s.lines) (split_joined c.saved plain)
+
+-- a cache of an image that is the same as before
+pub cache_again : (honest now_honest : Type 0) (image now page : List ℕ) (c : Cached) → (now_honest → honest) → (now_honest → now ≡ image) → IsCache honest image page c → IsCache now_honest now page c
+cache_again honest now_honest image now page c still same cache = record {
+  long = λ h. cache.long (still h) ∙ sym (ap length (same h));
+  are = λ h. cache.are (still h) ∙ ap (λ im. take c.count (drop c.at im)) (sym (same h));
+  inside = cache.inside;
+  room = cache.room;
+}
+
+-- bytes within others that are the image's
+same_bytes : (image page : List ℕ) (start size at count : ℕ) → take size page ≡ take size (drop start image) → start ≤ at → at + count ≤ start + size → take count (drop (at - start) page) ≡ take count (drop at image)
+same_bytes image page start size at count are behind inside =
+    let m : ℕ = size - (at - start) in
+    let r : ℕ = size - (at - start) - count in
+    let parts : (at - start) + m ≡ size = omega (arith, behind, inside) in
+    let rest : count + r ≡ m = omega (arith, behind, inside) in
+    let place : start + (at - start) ≡ at = omega (arith, behind) in
+    let more : take m (drop (at - start) page) ≡ take m (drop at image) =
+    sym (drop-take (at - start) m page) ∙ ap (λ n. drop (at - start) (take n page)) parts ∙ ap (drop (at - start)) are ∙ ap (λ n. drop (at - start) (take n (drop start image))) (sym parts)
+    ∙ drop-take (at - start) m (drop start image) ∙ ap (take m) (drop_twice start (at - start) image) ∙ ap (λ n. take m (drop n image)) place in
+    sym (take_less count r (drop (at - start) page)) ∙ ap (λ n. take count (take n (drop (at - start) page))) rest ∙ ap (take count) more
+    ∙ ap (λ n. take count (take n (drop at image))) (sym rest) ∙ take_less count r (drop at image)
+
+-- a front of a list that is shorter only where the list is
+take_least : (n m : ℕ) (xs : List ℕ) → m ≤ n → (m < n → length xs ≤ m) → take n xs ≡ take m xs
+take_least n m xs less short = elim (eq-or-lt_of_le less) [
+  | inl e ↦ ap (λ k. take k xs) (sym e)
+  | inr lt ↦ take_all n xs (omega (arith, lt, short lt)) ∙ sym (take_all m xs (short lt))
+]
+
+-- the line of the bytes at an address that a page gives, as far as the image has these
+pub now_added : (image page old new : List ℕ) (k : Cached) (at most there : ℕ) → take k.count page ≡ take k.count (drop k.at image) → HasBytes k at there → there ≤ most → (there < most → length image ≤ at + there)
+    → new ≡ old ++ removed_line at (take ((at - k.at) + there - (at - k.at)) (drop (at - k.at) page)) → new ≡ old ++ removed_line at (take most (drop at image))
+now_added image page old new k at most there are has less short more =
+    let cut : (at - k.at) + there - (at - k.at) ≡ there = omega arith in
+    let bytes : take ((at - k.at) + there - (at - k.at)) (drop (at - k.at) page) ≡ take most (drop at image) =
+    ap (λ n. take n (drop (at - k.at) page)) cut ∙ same_bytes image page k.at k.count at there are has.0 has.1
+    ∙ sym (take_least most there (drop at image) less (λ lt. omega (arith, short lt, length-drop at image))) in
+    more ∙ ap (λ bs. old ++ removed_line at bs) bytes
+
+-- a call that only looks, behind another that did and did not fail
+pub stays_behind : {T R E : Type 0} {honest : T → Type 0} {text : T → List ℕ} {failures : T → ℕ} {r : Result R E} {old now new : T} → (honest old → text now ≡ text old) → (honest now ↔ honest old)
+    → failures now ≡ failures old → Stays honest text failures r now new → Stays honest text failures r old new
+stays_behind {failures = failures} {r = r} {new = new} same honesty unfailed next = record {
+  same = λ h. next.same (honesty.1 h) ∙ same h;
+  honesty = ((λ h. honesty.0 (next.honesty.0 h)), λ h. next.honesty.1 (honesty.1 h));
+  no_failure = subst (λ n. OnOk r (failures new ≡ n)) unfailed next.no_failure;
+}

@@ -4,6 +4,7 @@ ghost use Rattle.bx_journal.specs.declared.look.ShowFault.TheVariants.{Text as O
 ghost use Rattle.bx_journal.specs.declared.session.fault.SessionFault.TheVariants.{NoMemory as OutOfMemory, DeviceFailed as CallFailed};
 ghost use Rattle.bx_journal.specs.Showing.{RangesOf, StopsLog};
 
+mod cache;
 mod differences;
 mod entries;
 mod marks;

@@ -1,9 +1,21 @@
 -- What proofs alone need: saved lines that are written beside an image, a window at a time.
-use Rattle.std.specs.Prelude.{◌≡◌, ◌-◌, ◌<◌, ◌≤◌, ℕ, Option, List, [], ◌++◌, take, drop}
+use Rattle.std.specs.Prelude.{◌≡◌, ◌+◌, ◌-◌, ◌<◌, ◌≤◌, ℕ, Option, List, [], ◌++◌, length, take, drop}
 use Rattle.std.specs.Io.KnownBytes.{Appends}
 use Rattle.bx_entries.specs.Text.{split}
 use Rattle.bx_journal.specs.Differences.{diff_text}
+use Rattle.bx_journal.specs.declared.look.cache.Cached.{Cached}
 use Rattle.bx_journal.specs.declared.look.differences.Compared.{Compared}
+
+-- a page has room for a line's bytes, and those of it that count are the image's, which is of this length, where that is honest
+pub record IsCache (honest : Type 0) (image page : List ℕ) (c : Cached) : Type 0 where
+  pub long : honest → c.len ≡ length image
+  pub are : honest → take c.count page ≡ take c.count (drop c.at image)
+  pub inside : c.count ≤ length page
+  pub room : 16 ≤ length page
+
+-- the page has the bytes at an address
+abbrev pub HasBytes : Cached → ℕ → ℕ → Type 0
+HasBytes c at count = (c.at ≤ at) × (at + count ≤ c.at + c.count)
 
 -- the first bytes of a window are whole lines, whose text beside an image was added
 pub record AreBeside (window image : List ℕ) (len taken : ℕ) (old new : List ℕ) : Type 0 where

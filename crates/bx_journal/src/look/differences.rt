@@ -3,14 +3,15 @@ ghost use Rattle.std.specs.Prelude.{◌≡◌, ◌+◌, ◌<◌, ◌≤◌, ◌+
 ghost use Rattle.std.specs.Io.KnownBytes.{Appends};
 ghost use Rattle.bx_entries.specs.Text.{split};
 ghost use Rattle.bx_journal.specs.Differences.{added_line, diff_line, diff_text, removed_line};
-ghost use Rattle.bx_journal.specs.inner.Differences.{AreBeside, AreCompared, HasGoneOn};
+ghost use Rattle.bx_journal.specs.inner.Differences.{AreBeside, AreCompared, HasGoneOn, IsCache};
 ghost use Rattle.bx_journal.specs.inner.Showing.{PutFault, Stays, lines_at};
 
 use crate::SessionFault;
 use crate::look::ShowFault;
+use crate::look::cache::{Cached, keep};
 use crate::look::put::put;
 use bx_entries::{Mark, line_end, row_of, saved_in};
-use bx_image::{Device, DeviceFailed};
+use bx_image::Device;
 use bx_store::TextStore;
 use std::alloc::{AllocError, Allocator};
 use std::io::Write;
@@ -18,11 +19,22 @@ use std::io::Write;
 /// Lines are gathered up to this many bytes before they are written.
 const GATHERED: usize = 1 << 20;
 
-/// Where reading stands in the text, and how many bytes were written.
+/// This many bytes of the image are read at a time.
+const PAGE: usize = 4096;
+
+/// Where reading stands in the text, how many bytes were written, and what is kept of the image.
 #[derive(Clone, Copy)]
 pub struct Compared {
     pub at: u64,
     pub written: u64,
+    pub cached: Cached,
+}
+
+/// How many bytes of a window were taken, and what is kept of the image.
+#[derive(Clone, Copy)]
+struct Taken {
+    taken: usize,
+    cached: Cached,
 }
 
 /// Adds the line for what an image has at an address; nothing where it has no bytes there.
@@ -52,90 +64,95 @@ fn push_added<A: Allocator>(text: &mut Vec<u8, A>, line: &[u8]) -> Result<(), Al
     Ok(())
 }
 
-/// Reads what an image of `len` bytes has from an address on, as far as there is room for it, and answers how many bytes that
-/// are.
-fn read_there<D: Device>(
+/// Adds the line for what an image has at the addresses of a saved line, as far as it has these.
+fn push_now<D: Device, A: Allocator>(
     device: &mut D,
-    len: u64,
+    cached: Cached,
+    page: &mut [u8],
     at: u64,
-    room: &mut [u8],
-) -> Result<usize, DeviceFailed>
+    count: usize,
+    text: &mut Vec<u8, A>,
+) -> Result<Cached, ShowFault>
     requires countable { D.failures device.old < u64.MAX }
-    requires long { D.honest device.old → len ≡ length (D.image device.old) }
-    ensures count { IfOk result (λ count. count ≤ length room.new) }
-    ensures bytes { D.honest device.old → IfOk result (λ count. take count room.new ≡ take (length room.old) (drop at (D.image device.old))) }
-    ensures same_length { length room.new ≡ length room.old }
+    requires cache { IsCache (D.honest device.old) (D.image device.old) page.old cached }
+    requires few { count ≤ 16 }
+    ensures added { D.honest device.old → OnOk result (text.new.items ≡ text.old.items ++ removed_line at (take count (drop at (D.image device.old)))) }
+    ensures cache { IfOk result (IsCache (D.honest device.old) (D.image device.old) page.new) }
+    ensures kind { IfErr result PutFault }
     ensures stays { Stays D.honest D.image D.failures result device.old device.new }
 {
-    if len <= at {
-        return Ok(0);
+    if cached.len <= at {
+        return Ok(cached);
     }
-    let count = (room.len() as u64).min(len - at) as usize;
-    let (part, _) = room.split_at_mut(count);
-    device.read_at(at, part)?;
-    Ok(count)
+    let there = (count as u64).min(cached.len - at) as usize;
+    let kept = keep(device, cached, page, at, there)?;
+    let from = (at - kept.at) as usize;
+    push_removed(text, at, &page[from..from + there])?;
+    Ok(kept)
 }
 
 /// Adds a saved line of an entry that begins with the length `before`, beside what the image has there. A line that isn't a
 /// saved one adds nothing.
 fn push_beside<D: Device, A: Allocator>(
     device: &mut D,
-    len: u64,
+    cached: Cached,
+    page: &mut [u8],
     before: u64,
     line: &[u8],
     text: &mut Vec<u8, A>,
-) -> Result<(), ShowFault>
+) -> Result<Cached, ShowFault>
     requires countable { D.failures device.old < u64.MAX }
-    requires long { D.honest device.old → len ≡ length (D.image device.old) }
+    requires cache { IsCache (D.honest device.old) (D.image device.old) page.old cached }
     ensures added { D.honest device.old → OnOk result (text.new.items ≡ text.old.items ++ diff_line (D.image device.old) before line.now) }
+    ensures cache { IfOk result (IsCache (D.honest device.old) (D.image device.old) page.new) }
     ensures kind { IfErr result PutFault }
     ensures stays { Stays D.honest D.image D.failures result device.old device.new }
 {
     let Some(saved) = saved_in(before, line) else {
-        return Ok(());
+        return Ok(cached);
     };
-    let mut bytes = [0u8; 16];
-    let (room, _) = bytes.split_at_mut(saved.count);
-    let count = read_there(device, len, saved.at, room)?;
-    push_removed(text, saved.at, &room[..count])?;
+    let kept = push_now(device, cached, page, saved.at, saved.count, text)?;
     push_added(text, line)?;
-    Ok(())
+    Ok(kept)
 }
 
-/// Adds the whole lines at the start of a window, each beside what the image has there, and answers how many bytes they have.
-/// It takes no more lines where many bytes are gathered.
+/// Adds the whole lines at the start of a window, each beside what the image has there. It takes no more lines where many bytes
+/// are gathered.
 fn push_lines<D: Device, A: Allocator>(
     device: &mut D,
-    len: u64,
+    cached: Cached,
+    page: &mut [u8],
     before: u64,
     window: &[u8],
     text: &mut Vec<u8, A>,
-) -> Result<usize, ShowFault>
+) -> Result<Taken, ShowFault>
     requires countable { D.failures device.old < u64.MAX }
-    requires long { D.honest device.old → len ≡ length (D.image device.old) }
-    ensures within { IfOk result (λ taken. taken ≤ length window.now) }
-    ensures added { D.honest device.old → IfOk result (λ taken. AreBeside window.now (D.image device.old) before taken text.old.items text.new.items) }
+    requires cache { IsCache (D.honest device.old) (D.image device.old) page.old cached }
+    ensures within { IfOk result (λ lines. lines.taken ≤ length window.now) }
+    ensures added { D.honest device.old → IfOk result (λ lines. AreBeside window.now (D.image device.old) before lines.taken text.old.items text.new.items) }
+    ensures cache { IfOk result (λ lines. IsCache (D.honest device.old) (D.image device.old) page.new lines.cached) }
     ensures kind { IfErr result PutFault }
     ensures stays { Stays D.honest D.image D.failures result device.old device.new }
 {
     let mut taken: usize = 0;
+    let mut now = cached;
     let mut rest = window;
     while text.len() < GATHERED {
         let Some(i) = line_end(rest) else {
-            return Ok(taken);
+            return Ok(Taken { taken, cached: now });
         };
-        push_beside(device, len, before, &rest[..i], text)?;
+        now = push_beside(device, now, page, before, &rest[..i], text)?;
         let (_, behind) = rest.split_at(i + 1);
         rest = behind;
         taken += i + 1;
     }
-    Ok(taken)
+    Ok(Taken { taken, cached: now })
 }
 
 /// Writes the whole lines of the window at a place, each beside what the image has there.
 fn put_window<D: Device, T: TextStore, A: Allocator, W: Write>(
     device: &mut D,
-    len: u64,
+    page: &mut [u8],
     store: &mut T,
     window: &mut [u8],
     mark: Mark,
@@ -145,12 +162,13 @@ fn put_window<D: Device, T: TextStore, A: Allocator, W: Write>(
 ) -> Result<Compared, ShowFault>
     requires countable { D.failures device.old < u64.MAX }
     requires also_countable { T.failures store.old < u64.MAX }
-    requires long { D.honest device.old → len ≡ length (D.image device.old) }
+    requires cache { IsCache (D.honest device.old) (D.image device.old) page.old done.cached }
     requires within { T.honest store.old → mark.to ≤ length (T.text store.old) }
     requires at { done.at ≤ mark.to }
     ensures put { D.honest device.old → T.honest store.old → IfOk result (λ next. AreCompared (T.text store.old) (D.image device.old)
         mark.len done.at next.at (W.contents out.old) (W.contents out.new)) }
     ensures on { IfOk result (HasGoneOn mark.to done) }
+    ensures cache { IfOk result (λ next. IsCache (D.honest device.old) (D.image device.old) page.new next.cached) }
     ensures kind { IfErr result PutFault }
     ensures image { Stays D.honest D.image D.failures result device.old device.new }
     ensures text { Stays T.honest T.text T.failures result store.old store.new }
@@ -159,15 +177,45 @@ fn put_window<D: Device, T: TextStore, A: Allocator, W: Write>(
     let (now, _) = window.split_at_mut(more);
     store.read_at(done.at, now)?;
     text.clear();
-    let taken = push_lines(device, len, mark.len, now, text)?;
-    if taken == 0 {
+    let lines = push_lines(device, done.cached, page, mark.len, now, text)?;
+    if lines.taken == 0 {
         return Err(ShowFault::Text(SessionFault::NoMemory));
     }
     let written = put(out, done.written, text.as_slice())?;
     Ok(Compared {
-        at: done.at + taken as u64,
+        at: done.at + lines.taken as u64,
         written,
+        cached: lines.cached,
     })
+}
+
+/// Writes the saved lines of an entry from a place on, a window at a time.
+fn put_windows<D: Device, T: TextStore, A: Allocator, W: Write>(
+    device: &mut D,
+    page: &mut [u8],
+    store: &mut T,
+    window: &mut [u8],
+    mark: Mark,
+    from: Compared,
+    text: &mut Vec<u8, A>,
+    out: &mut W,
+) -> Result<u64, ShowFault>
+    requires countable { D.failures device.old < u64.MAX }
+    requires also_countable { T.failures store.old < u64.MAX }
+    requires cache { IsCache (D.honest device.old) (D.image device.old) page.old from.cached }
+    requires within { T.honest store.old → mark.to ≤ length (T.text store.old) }
+    requires at { from.at ≤ mark.to }
+    ensures put { D.honest device.old → T.honest store.old → OnOk result (AreCompared (T.text store.old) (D.image device.old)
+        mark.len from.at mark.to (W.contents out.old) (W.contents out.new)) }
+    ensures kind { IfErr result PutFault }
+    ensures image { Stays D.honest D.image D.failures result device.old device.new }
+    ensures text { Stays T.honest T.text T.failures result store.old store.new }
+{
+    let mut done = from;
+    while done.at < mark.to {
+        done = put_window(device, page, store, window, mark, done, text, out)?;
+    }
+    Ok(done.written)
 }
 
 /// Writes the saved lines of an entry, each behind a `+`, and before it a line of what the image has at its addresses, behind a
@@ -197,14 +245,26 @@ pub fn put_differences<D: Device, T: TextStore, A: Allocator + Clone, W: Write>(
     ensures image { Stays D.honest D.image D.failures result device.old device.new }
     ensures text { Stays T.honest T.text T.failures result store.old store.new }
 {
-    let len = device.len()?;
+    let mut page = vec![in alloc.clone()?; 0u8; PAGE]?;
     let mut text = Vec::new(alloc.clone()?);
-    let mut done = Compared {
+    let len = device.len()?;
+    let from = Compared {
         at: mark.from,
         written,
+        cached: Cached {
+            len,
+            at: 0,
+            count: 0,
+        },
     };
-    while done.at < mark.to {
-        done = put_window(device, len, store, window, mark, done, &mut text, out)?;
-    }
-    Ok(done.written)
+    put_windows(
+        device,
+        page.as_mut_slice(),
+        store,
+        window,
+        mark,
+        from,
+        &mut text,
+        out,
+    )
 }

@@ -1,14 +1,15 @@
 use Rattle.std.proofs.Common.{◌-◌, ◌≡◌, ◌≤◌}
 use Rattle.std.specs.Prelude.{◌↔◌}
-use Rattle.bx_journal.specs.inner.Differences.{AreCompared}
-use Rattle.bx_journal.proofs.look.differences.put_differences.Given as goal
+use Rattle.bx_journal.specs.inner.Differences.{AreCompared, IsCache}
+use Rattle.bx_journal.proofs.look.differences.put_windows.Given as goal
 
 -- the lines up to a place are written beside the image
 abbrev pub invariant-loop-done : goal.invariant-loop-done
 invariant-loop-done g l = record {
   compared : g.D.Device.honest l.fn.device → g.T.TextStore.honest l.fn.store → AreCompared (g.T.TextStore.text l.fn.store) (g.D.Device.image l.fn.device)
-      l.mark.len l.mark.from l.done.at (g.W.Write.contents l.fn.out) (g.W.Write.contents l.out);
-  behind : l.mark.from ≤ l.done.at;
+      l.mark.len l.fn.from.at l.done.at (g.W.Write.contents l.fn.out) (g.W.Write.contents l.out);
+  cache : IsCache (g.D.Device.honest l.fn.device) (g.D.Device.image l.fn.device) l.page l.done.cached;
+  behind : l.fn.from.at ≤ l.done.at;
   within : l.done.at ≤ l.mark.to;
   image : g.D.Device.honest l.fn.device → g.D.Device.image l.device ≡ g.D.Device.image l.fn.device;
   device_honesty : g.D.Device.honest l.device ↔ g.D.Device.honest l.fn.device;
