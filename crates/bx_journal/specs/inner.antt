@@ -11,6 +11,7 @@ pub mod Judging
 pub mod Opening
 pub mod Page
 pub mod Phase
+pub mod Placed
 pub mod Ranges
 pub mod Recovering
 pub mod Recovery

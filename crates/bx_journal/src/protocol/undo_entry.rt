@@ -19,11 +19,19 @@ ghost use Rattle.bx_journal.specs.inner.Undoing.{AreReadFrom};
 use crate::protocol::fill::{fill_last, take_last};
 use crate::protocol::image::restore_image;
 use crate::protocol::redo_text::keep_undone;
+use crate::protocol::windows::Mark;
 use crate::recovery::take_back::drop_tail;
 use bx_entries::EntryRead;
 use bx_image::{Device, DeviceFailed, MAX_LEN, Saved};
 use bx_store::TextStore;
 use std::alloc::Allocator;
+
+/// An entry that is to be taken back: where it begins in its text, and where its record stands.
+#[derive(Clone, Copy)]
+pub struct Placed {
+    pub begins: u64,
+    pub mark: Mark,
+}
 
 /// Restores the image, and keeps the image that is undone. Whatever it answers, a pair that is open on what is
 /// restored stays open.
