@@ -28,10 +28,10 @@ AllFit room window (p ∷ ps) =
     (p.begins ≤ p.mark.lines) × (p.mark.lines ≤ p.mark.saved) × (p.mark.len ≤ room) × (p.mark.longest ≤ window) × AllFit room window ps
 
 -- the last entries of a text stand at these places, where the store is honest, and the records of what their undos take of the image are ready
-pub record ArePrepared {A : Type 0} (honest : Type 0) (x : List ℕ) (text_honest : Type 0) (stored : List ℕ) (placed : List Placed)
+pub record ArePrepared {A : Type 0} (honest : Type 0) (x : List ℕ) (text_honest : Type 0) (stored : List ℕ) (places : List Placed)
     (takens : List (Saved A)) : Type 0 where
   pub entries : List (EntryRead A)
   pub read : AreReadFrom text_honest stored entries
   pub few : length takens ≤ length entries
-  pub placed : ArePlaced text_honest stored (reverse entries) (reverse placed)
+  pub placed : ArePlaced text_honest stored (reverse entries) (reverse places)
   pub ready : honest → AreReady x (reverse entries) (reverse takens)
