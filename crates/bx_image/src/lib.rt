@@ -25,6 +25,6 @@ pub use device::fuse::{Fuse, FuseImage, Part};
 pub use device::memory::MemImage;
 pub use device::pages::PagedImage;
 pub use device::{Device, DeviceFailed, ImageFault, TooLarge};
-pub use record::fill::{room, room_to_restore};
+pub use record::fill::{room, room_to_restore, zeros_over};
 pub use record::spans::{Span, touched_by, touched_to_restore};
 pub use record::{Saved, save};

@@ -6,7 +6,7 @@ ghost use Rattle.bx_image.specs.Device.{GoesOn};
 ghost use Rattle.bx_image.specs.Image.{zeros};
 ghost use Rattle.bx_image.specs.Power.{NoMore};
 ghost use Rattle.bx_image.specs.Runs.{IsRunOf, AreRunsOf, LieBelow, HaveShape, IsSavedAnew};
-ghost use Rattle.bx_image.specs.Over.{LieWithin};
+ghost use Rattle.bx_image.specs.Over.{saved_over, LieWithin};
 ghost use Rattle.bx_image.specs.inner.Spans.{StandOver};
 
 use crate::record::spans::{Span, touched};
@@ -50,6 +50,29 @@ pub fn room_to_restore<A: Allocator + Clone>(
 {
     match zero_record(alloc, Some(kept.len), kept.runs.as_slice(), len) {
         Ok(record) => Ok(record),
+        Err(_) => Err(NoMemory),
+    }
+}
+
+/// What is saved of an image of this length in these ranges, with zeros for its bytes. `Saved::fill` reads them.
+///
+/// # Errors
+/// `NoMemory` where a growth is refused.
+pub fn zeros_over<A: Allocator + Clone>(
+    alloc: A,
+    spans: &[Span],
+    len: u64,
+) -> Result<Saved<A>, NoMemory>
+    requires within { LieWithin len spans.now }
+    ensures zeros { IfOk result (λ s. s ≡ saved_over (zeros len) spans.now) }
+    ensures within { IfOk result (λ s. AllWithin s.len s.runs) }
+    ensures below { IfOk result (λ s. LieBelow len s.runs) }
+{
+    match zero_runs(alloc, spans) {
+        Ok(runs) => Ok(Saved {
+            len,
+            runs: Pieces::from_vec(runs),
+        }),
         Err(_) => Err(NoMemory),
     }
 }
