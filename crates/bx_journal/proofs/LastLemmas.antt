@@ -1,5 +1,5 @@
 -- The last entries of a text, read behind those that were counted.
-use Rattle.std.proofs.Common.{◌≡◌, ◌⊎◌, ℕ, ◌+◌, ◌-◌, ◌≤◌, false, List, [], ◌++◌, length, take, drop, ap, sym, ◌∙◌, subst, inl, inr, arith, Option, Some, None, Result, Ok, Err}
+use Rattle.std.proofs.Common.{◌≡◌, ◌⊎◌, ℕ, ◌+◌, ◌-◌, ◌≤◌, false, List, [], ◌++◌, length, length-take, take, drop, ap, sym, ◌∙◌, subst, inl, inr, arith, Option, Some, None, Result, Ok, Err}
 use Rattle.std.specs.Prelude.{IfOk, IfSome}
 use Rattle.std.proofs.lemmas.List.{take_all}
 use Rattle.bx_entries.specs.declared.read.types.EntryRead.{EntryRead}
@@ -16,7 +16,10 @@ use Rattle.bx_journal.specs.declared.session.fault.SessionFault.{SessionFault}
 use Rattle.bx_journal.specs.declared.session.fault.SessionFault.TheVariants.{NoMemory, DeviceFailed}
 use Rattle.bx_journal.specs.Undoing.{AgainFault}
 use Rattle.bx_journal.specs.inner.Undoing.{IsReadFrom, IsReadLast, IsReadOn, IsReadBehind, IsLastFrom}
-use Rattle.bx_journal.specs.inner.Windows.{IsFrontCounted}
+use Rattle.bx_journal.specs.inner.Restoring.{AllShorter}
+use Rattle.bx_journal.specs.inner.Windows.{HasShortLines, IsFrontCounted, KeepsShort}
+use Rattle.bx_journal.proofs.WalkLemmas.{shorter_append, window_shorter}
+use Rattle.bx_entries.proofs.Splits.{split-append}
 use Rattle.bx_entries.proofs.TallyLemmas.{take_sum}
 
 -- what was counted is a front
@@ -128,3 +131,44 @@ few_of_all honest stored count k (Err e) few f = tt
 pub again_fault : (honest : Type 0) (text : List ℕ) (count : ℕ) (e : SessionFault) → (e ≡ NoMemory) ⊎ (e ≡ DeviceFailed) → AgainFault honest text count e
 again_fault honest text count e (inl is) = subst (AgainFault honest text count) (sym is) tt
 again_fault honest text count e (inr is) = subst (AgainFault honest text count) (sym is) tt
+
+-- with the lines of a window no line up to the place behind them is as long as it was before, or as the windows are
+pub short_on : {A : Type 0} → (honest : Type 0) (stored : List ℕ) (f : Front) (len size from : ℕ) (old new : LinesRead A) → IsReadBehind honest stored f old → IsReadOn honest stored f len old new
+    → new.at ≤ old.at + size → KeepsShort honest stored size from old.at → KeepsShort honest stored size from new.at
+short_on honest stored f len size from old new b on fits keeps longest le first h =
+    let a : List ℕ = take old.at stored in
+    let place : old.at + (new.at - old.at) ≡ new.at = omega (arith, on.some) in
+    let is : a ++ on.bytes ≡ take new.at stored = ap (λ l. a ++ l) (on.is h) ∙ sym (take_sum old.at (new.at - old.at) stored) ∙ ap (λ n. take n stored) place in
+    let all : take old.at b.text ≡ a = take_all old.at b.text (omega (arith, b.read.long)) ∙ b.is h in
+    let whole : (split a).rest ≡ [] = ap (λ t. (split t).rest) (sym all) ∙ b.read.read.mark.whole in
+    let few : length on.bytes ≤ longest = omega (arith, ap length (on.is h), length-take (new.at - old.at) (drop old.at stored), fits, le) in
+    subst (λ t. AllShorter longest (split t).lines) is
+    (subst (AllShorter longest) (sym (ap (λ s. s.lines) (split-append a on.bytes whole)))
+    (shorter_append longest (split a).lines (split on.bytes).lines (keeps longest le first h) (window_shorter on.bytes longest few)))
+
+-- what was read up to the end is all of the text
+pub short_all : (honest : Type 0) (stored : List ℕ) (size from to len longest : ℕ) → KeepsShort honest stored size from to → size ≤ longest → HasShortLines honest (take from stored) longest
+    → to ≡ len → (honest → len ≡ length stored) → HasShortLines honest stored longest
+short_all honest stored size from to len longest keeps le first all long h =
+    subst (λ t. AllShorter longest (split t).lines) (take_all to stored (omega (arith, all, long h))) (keeps longest le first h)
+
+-- the same of what was found, if anything was
+pub found_short : {A : Type 0} → (honest : Type 0) (stored : List ℕ) (longest : ℕ) (o : Option (FinishedRead A)) → HasShortLines honest stored longest → IfSome o (λ r. r.longest ≡ longest)
+    → IfSome o (λ r. HasShortLines honest stored r.longest)
+found_short honest stored longest None short same = tt
+found_short honest stored longest (Some r) short same = λ h. subst (λ n. AllShorter n (split stored).lines) (sym same) (short h)
+
+-- and of a store that is the same as before
+pub short_before : (H now : Type 0) (stored text : List ℕ) (longest : ℕ) → (H → now) → (H → text ≡ stored) → HasShortLines now text longest → HasShortLines H stored longest
+short_before H now stored text longest still same short h = subst (λ t. AllShorter longest (split t).lines) (same h) (short (still h))
+
+pub found_short_before : {A E : Type 0} → (H now : Type 0) (stored text : List ℕ) (r : Result (Option (FinishedRead A)) E) → (H → now) → (H → text ≡ stored)
+    → IfOk r (λ o. IfSome o (λ f. HasShortLines now text f.longest)) → IfOk r (λ o. IfSome o (λ f. HasShortLines H stored f.longest))
+found_short_before H now stored text (Ok None) still same short = tt
+found_short_before H now stored text (Ok (Some f)) still same short = short_before H now stored text f.longest still same short
+found_short_before H now stored text (Err e) still same short = tt
+
+pub again_short : {A E : Type 0} → (H now : Type 0) (stored text : List ℕ) (r : Result (FinishedRead A) E) → (H → now) → (H → text ≡ stored)
+    → IfOk r (λ f. HasShortLines now text f.longest) → IfOk r (λ f. HasShortLines H stored f.longest)
+again_short H now stored text (Ok f) still same short = short_before H now stored text f.longest still same short
+again_short H now stored text (Err e) still same short = tt

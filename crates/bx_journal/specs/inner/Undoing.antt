@@ -15,6 +15,7 @@ use Rattle.bx_entries.specs.Finished.{IsFinished}
 use Rattle.bx_journal.specs.Undoing.{IsOutOfStep}
 use Rattle.bx_journal.specs.inner.Devices.{LooksAt}
 use Rattle.bx_journal.specs.inner.Fault.{LacksOrFails}
+use Rattle.bx_journal.specs.inner.Windows.{HasShortLines}
 use Rattle.bx_journal.specs.declared.session.read.entries.FinishedRead.{FinishedRead}
 
 -- a text that was read again, as finished entries alone, with their places
@@ -78,6 +79,7 @@ pub record LooksForLast {T A : Type 0} (honest : T → Type 0) (text : T → Lis
     (result : Result (Option (FinishedRead A)) SessionFault) (old new : T) : Type 0 where
   pub read : IfOk result (λ found. IfSome found (λ o. IsLastFrom (honest old) (text old) o.len o.entries.items count))
   pub few : IfOk result (λ found. IfSome found (λ o. k ≤ length o.entries.items))
+  pub short : IfOk result (λ found. IfSome found (λ o. HasShortLines (honest old) (text old) o.longest))
   pub fault : IfErr result LacksOrFails
   pub looks : LooksAt honest text failures result old new
   pub found_before : honest old → NoMore (survives old) (survives new)

@@ -51,6 +51,15 @@ pub record IsWalkedTo (honest : Type 0) (stored : List ℕ) (only_second : Bool)
   pub few : w.tally.count ≤ 65535
   pub short : AllShorter size (split counted.front).lines
 
+-- no line of a text is as long as this: of the store's, where that is honest
+abbrev pub HasShortLines : Type 0 → List ℕ → ℕ → Type 0
+HasShortLines honest stored longest = honest → AllShorter longest (split stored).lines
+
+-- where no line up to the one place is as long as this, which is a window or more, none up to the other is
+abbrev pub KeepsShort : Type 0 → List ℕ → ℕ → ℕ → ℕ → Type 0
+KeepsShort honest stored size from to =
+    (longest : ℕ) → size ≤ longest → HasShortLines honest (take from stored) longest → HasShortLines honest (take to stored) longest
+
 -- the byte is no zero
 abbrev pub is_no_zero : ℕ → Bool
 is_no_zero b = not (b == 0)

@@ -1,10 +1,10 @@
 //! A text that is counted in windows: one window is in memory at a time, however long the text is.
-ghost use Rattle.std.specs.Prelude.{◌≡◌, ◌<◌, ◌≤◌, length, is_err, IfOk, IfErr, IfSome};
+ghost use Rattle.std.specs.Prelude.{◌≡◌, ◌<◌, ◌≤◌, length, take, min, is_err, IfOk, IfErr, IfSome};
 ghost use Rattle.bx_image.specs.Device.{GoesOn};
 ghost use Rattle.bx_image.specs.Power.{NoMore};
 ghost use Rattle.bx_journal.specs.inner.Devices.{LooksAt};
 ghost use Rattle.bx_journal.specs.inner.Fault.{LacksOrFails};
-ghost use Rattle.bx_journal.specs.inner.Windows.{IsAllCounted, IsFrontCounted, IsPassed, IsWalkedTo};
+ghost use Rattle.bx_journal.specs.inner.Windows.{HasShortLines, IsAllCounted, IsFrontCounted, IsPassed, IsWalkedTo};
 
 use crate::SessionFault;
 use bx_entries::{
@@ -111,6 +111,7 @@ pub fn count_windows<T: TextStore>(
     requires countable { T.failures store.old < u64.MAX }
     requires long { T.honest store.old → len ≡ length (T.text store.old) }
     ensures counted { IfOk result (λ found. IfSome found (IsFrontCounted (T.honest store.old) (T.text store.old) only_second)) }
+    ensures short { IfOk result (λ found. IfSome found (λ f. HasShortLines (T.honest store.old) (take f.at (T.text store.old)) (length window.old))) }
     ensures window { length window.new ≡ length window.old }
     ensures within { IfOk result (λ found. IfSome found (λ f. f.at ≤ len)) }
     ensures text { T.honest store.old → T.text store.new ≡ T.text store.old }
@@ -148,6 +149,7 @@ pub fn count_front<T: TextStore, A: Allocator + Clone>(
     requires countable { T.failures store.old < u64.MAX }
     requires long { T.honest store.old → len ≡ length (T.text store.old) }
     ensures counted { IfOk result (λ found. IfSome found (IsFrontCounted (T.honest store.old) (T.text store.old) only_second)) }
+    ensures short { IfOk result (λ found. IfSome found (λ f. HasShortLines (T.honest store.old) (take f.at (T.text store.old)) (min WINDOW len))) }
     ensures within { IfOk result (λ found. IfSome found (λ f. f.at ≤ len)) }
     ensures fault { IfErr result LacksOrFails }
     ensures looks { LooksAt T.honest T.text T.failures result store.old store.new }

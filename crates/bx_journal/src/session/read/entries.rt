@@ -1,28 +1,27 @@
 //! The journal of an open session, read once more: all of it, or its last entries alone.
-ghost use Rattle.std.specs.Prelude.{◌≡◌, ◌<◌, ◌≤◌, List, ℕ, false, length, IfOk, IfErr, IfSome, IfNone};
+ghost use Rattle.std.specs.Prelude.{◌≡◌, ◌+◌, ◌<◌, ◌≤◌, List, ℕ, false, length, take, min, IfOk, IfErr, IfSome, IfNone};
 ghost use Rattle.bx_image.specs.Power.{NoMore};
 ghost use Rattle.bx_entries.specs.inner.Journal.{HasRead};
 ghost use Rattle.bx_journal.specs.inner.Devices.{LooksAt};
 ghost use Rattle.bx_journal.specs.Undoing.{AgainFault, HasCount};
 ghost use Rattle.bx_journal.specs.inner.Fault.{LacksOrFails};
 ghost use Rattle.bx_journal.specs.inner.Undoing.{FindsLast, IsLastFrom, IsReadAgain, IsReadBehind, IsReadFrom, IsReadOn, LooksForLast};
-ghost use Rattle.bx_journal.specs.inner.Windows.{IsFrontCounted};
+ghost use Rattle.bx_journal.specs.inner.Windows.{HasShortLines, IsFrontCounted, KeepsShort};
 
 use crate::SessionFault;
-use crate::recovery::windows::count_front;
+use crate::recovery::windows::{WINDOW, count_front};
 use crate::session::fault::of_text;
 use crate::session::read::read_journal;
 use bx_entries::{EntryRead, Front, JournalRead, LinesRead, StageRead, nothing_read, read_lines};
 use bx_store::TextStore;
 use std::alloc::{Allocator, Global};
 
-/// This many bytes of a text are read at a time.
-const WINDOW: u64 = 262_144;
-
-/// How many bytes a text of finished entries alone has, and those entries, or the last of them.
+/// How many bytes a text of finished entries alone has, and those entries, or the last of them. No line of the text is longer than
+/// `longest`, newline included.
 #[derive(Drop)]
 pub struct FinishedRead<A: Allocator = Global> {
     pub len: u64,
+    pub longest: u64,
     pub entries: Vec<EntryRead<A>, A>,
 }
 
@@ -30,6 +29,7 @@ pub struct FinishedRead<A: Allocator = Global> {
 fn finished<A: Allocator>(len: u64, journal: JournalRead<A>, count: u32) -> Option<FinishedRead<A>>
     ensures some { (text : List ℕ) → HasRead text journal → len ≡ length text → IfSome result (λ o. IsReadAgain text o.entries.items count) }
     ensures len { IfSome result (λ o. o.len ≡ len) }
+    ensures longest { IfSome result (λ o. o.longest ≡ len) }
     ensures none { (text : List ℕ) → HasRead text journal → len ≡ length text → IfNone result (HasCount text count → ⊥) }
 {
     let JournalRead {
@@ -45,7 +45,11 @@ fn finished<A: Allocator>(len: u64, journal: JournalRead<A>, count: u32) -> Opti
             if entries.len() != count as usize {
                 return None;
             }
-            Some(FinishedRead { len, entries })
+            Some(FinishedRead {
+                len,
+                longest: len,
+                entries,
+            })
         }
         StageRead::Saving { .. } => None,
         StageRead::Ending { .. } => None,
@@ -60,6 +64,7 @@ pub fn read_again<T: TextStore, A: Allocator + Clone>(
 ) -> Result<FinishedRead<A>, SessionFault>
     requires { T.failures store.old < u64.MAX }
     ensures read { IfOk result (λ o. IsReadFrom (T.honest store.old) (T.text store.old) o.len o.entries.items count) }
+    ensures short { IfOk result (λ o. HasShortLines (T.honest store.old) (T.text store.old) o.longest) }
     ensures fault { IfErr result (AgainFault (T.honest store.old) (T.text store.old) count) }
     ensures looks { LooksAt T.honest T.text T.failures result store.old store.new }
     ensures survives { T.honest store.old → NoMore (T.survives store.old) (T.survives store.new) }
@@ -93,6 +98,8 @@ fn read_window<T: TextStore, A: Allocator + Clone>(
     requires within { T.honest store.old → len ≤ length (T.text store.old) }
     requires below { read.at ≤ len }
     ensures read { IfOk result (λ found. IfSome found (IsReadOn (T.honest store.old) (T.text store.old) front len read)) }
+    ensures size { IfOk result (λ found. IfSome found (λ next. next.at ≤ read.at + length window.old)) }
+    ensures window { length window.new ≡ length window.old }
     ensures fault { IfErr result LacksOrFails }
     ensures looks { LooksAt T.honest T.text T.failures result store.old store.new }
     ensures survives { T.honest store.old → NoMore (T.survives store.old) (T.survives store.new) }
@@ -127,6 +134,7 @@ fn read_windows<T: TextStore, A: Allocator + Clone>(
     requires front { IsFrontCounted (T.honest store.old) (T.text store.old) false front }
     ensures read { IfOk result (λ found. IfSome found (IsReadBehind (T.honest store.old) (T.text store.old) front)) }
     ensures all { IfOk result (λ found. IfSome found (λ r. r.at ≡ len)) }
+    ensures short { IfOk result (λ found. IfSome found (λ r. KeepsShort (T.honest store.old) (T.text store.old) (length window.old) front.at r.at)) }
     ensures fault { IfErr result LacksOrFails }
     ensures looks { LooksAt T.honest T.text T.failures result store.old store.new }
     ensures survives { T.honest store.old → NoMore (T.survives store.old) (T.survives store.new) }
@@ -146,6 +154,7 @@ fn read_windows<T: TextStore, A: Allocator + Clone>(
 /// least k.
 fn last_of<A: Allocator>(
     len: u64,
+    longest: u64,
     first: u32,
     read: LinesRead<A>,
     k: u32,
@@ -153,6 +162,7 @@ fn last_of<A: Allocator>(
 ) -> Option<FinishedRead<A>>
     ensures some { FindsLast read first len count result }
     ensures len { IfSome result (λ o. o.len ≡ len) }
+    ensures longest { IfSome result (λ o. o.longest ≡ longest) }
     ensures few { IfSome result (λ o. k ≤ length o.entries.items) }
 {
     let LinesRead { entries, stage, .. } = read;
@@ -164,7 +174,11 @@ fn last_of<A: Allocator>(
             if entries.len() < k as usize {
                 return None;
             }
-            Some(FinishedRead { len, entries })
+            Some(FinishedRead {
+                len,
+                longest,
+                entries,
+            })
         }
         StageRead::Saving { .. } => None,
         StageRead::Ending { .. } => None,
@@ -186,15 +200,17 @@ fn read_from<T: TextStore, A: Allocator + Clone>(
     requires within { front.at ≤ len }
     requires long { T.honest store.old → len ≡ length (T.text store.old) }
     requires front { IsFrontCounted (T.honest store.old) (T.text store.old) false front }
+    requires short { HasShortLines (T.honest store.old) (take front.at (T.text store.old)) (min WINDOW len) }
     ensures { LooksForLast T.honest T.text T.survives T.failures count k result store.old store.new }
 {
-    let size = WINDOW.min(len - front.at) as usize;
+    let longest = WINDOW.min(len);
+    let size = longest.min(len - front.at) as usize;
     let mut window = vec![in alloc.clone()?; 0u8; size]?;
     let found = read_windows(alloc, store, window.as_mut_slice(), front, len)?;
     let Some(read) = found else {
         return Ok(None);
     };
-    Ok(last_of(len, front.count, read, k, count))
+    Ok(last_of(len, longest, front.count, read, k, count))
 }
 
 /// Reads the last k entries of a text that is to be this many finished entries alone. It answers none where the text isn't
@@ -229,6 +245,7 @@ pub fn read_last_of<T: TextStore, A: Allocator + Clone>(
     requires few { k ≤ count }
     ensures read { IfOk result (λ o. IsLastFrom (T.honest store.old) (T.text store.old) o.len o.entries.items count) }
     ensures few { IfOk result (λ o. k ≤ length o.entries.items) }
+    ensures short { IfOk result (λ o. HasShortLines (T.honest store.old) (T.text store.old) o.longest) }
     ensures fault { IfErr result (AgainFault (T.honest store.old) (T.text store.old) count) }
     ensures looks { LooksAt T.honest T.text T.failures result store.old store.new }
     ensures survives { T.honest store.old → NoMore (T.survives store.old) (T.survives store.new) }

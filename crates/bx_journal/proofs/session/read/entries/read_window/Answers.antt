@@ -26,3 +26,8 @@ returns-in_err-read_at-clause-looks g c = record {
   no_failure = search rules;
   counts = search rules;
 }
+
+pub returns-clause-size : goal.returns-clause-size
+returns-clause-size g c =
+    let within = subst (λ o. IfSome o (λ r. r.at ≤ c.args.read.at + length c.read_at.new.buf)) c.in-Some.is c.in_ok-found.ensures.within in
+    omega (arith, within, c.read_at.auto.buf, c.split_at_mut-now.ensures.front_len, c.min-more.ensures, c.requires.below)
