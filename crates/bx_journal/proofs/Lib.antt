@@ -37,6 +37,7 @@ pub mod TakenText
 pub mod AgainTaken
 pub mod WrittenAgain
 pub mod TakingLemmas
+pub mod PlanLemmas
 pub mod DeviceLemmas
 pub mod LookedLemmas
 pub mod SafeLemmas
@@ -62,3 +63,5 @@ pub mod MarkedLemmas
 pub mod PutLemmas
 pub mod RowTexts
 pub mod BesideLemmas
+pub mod PlacedLemmas
+pub mod PlacedLoop

@@ -1,16 +1,16 @@
 -- A record that is restored from its text a window at a time.
-use Rattle.std.proofs.Common.{◌≡◌, ℕ, zero, suc, ◌+◌, ◌-◌, ◌<◌, ◌≤◌, ◌⊎◌, inl, inr, Bool, true, false, List, [], ◌∷◌, ◌++◌, length, length-append, length-take, length-drop, min, take, drop, refl, ap, sym, ◌∙◌, subst, arith, append_assoc, append-nil, Option, Some, None, map, slice_index_or}
-use Rattle.std.specs.Prelude.{◌&&◌, nat_le, nat_lt, if◌then◌else◌, slice_index, option_map, All}
-use Rattle.std.specs.Option.{option_or, option_and_then}
+use Rattle.std.proofs.Common.{◌≡◌, ℕ, zero, suc, ◌+◌, ◌-◌, ◌<◌, ◌≤◌, ◌⊎◌, inl, inr, Bool, true, false, List, [], ◌∷◌, ◌++◌, length, length-append, length-take, min, take, drop, refl, ap, sym, ◌∙◌, subst, arith, append_assoc, Option, Some, None, map, slice_index_or}
+use Rattle.std.specs.Prelude.{if◌then◌else◌, option_map, All}
+use Rattle.std.specs.Option.{option_or}
 use Rattle.std.specs.Str.{bytes_eq}
 use Rattle.std.proofs.lemmas.Grind.{common_steps}
 use Rattle.std.proofs.lemmas.List.{take-append-drop}
 use Rattle.std.proofs.Math.Seq.{take-append-add}
-use Rattle.bx_image.specs.Image.{place, cut, end_of, is_within}
-use Rattle.bx_image.specs.Change.{AllWithin, KeepsUnmapped, byte_in, placed, restore}
-use Rattle.bx_image.specs.Power.{Follows}
+use Rattle.bx_image.specs.Image.{place, cut, end_of}
+use Rattle.bx_image.specs.Change.{AllWithin, byte_in, placed, restore}
 use Rattle.bx_image.specs.inner.Change.{byte_of}
-use Rattle.bx_image.proofs.Records.{placed-cut}
+use Rattle.bx_image.proofs.Lengths.{length-placed, placed_len}
+use Rattle.bx_image.proofs.Records.{placed-cut, placed_len_within}
 use Rattle.bx_entries.specs.Kept.{Kept, Run, with_run}
 use Rattle.bx_entries.specs.Line.{save_line, saved_in}
 use Rattle.bx_entries.specs.Text.{Entry, Stage, Saving, Ending, Between, Reading, joined, split, start, next_at, after_lines}
@@ -19,7 +19,6 @@ use Rattle.bx_entries.specs.declared.read.parts.Part.{Part}
 use Rattle.bx_entries.specs.inner.Kept.{with_runs}
 use Rattle.bx_entries.specs.inner.Mark.{IsMark}
 use Rattle.bx_entries.specs.inner.Parts.{GivesParts, IsIn, LiesIn, TakesSome, part_run}
-use Rattle.bx_entries.specs.inner.Plain.{HasNoNewline}
 use Rattle.bx_entries.proofs.Foreign.{joined_lines, lines_plain}
 use Rattle.bx_entries.proofs.Gathered.{with_run-byte}
 use Rattle.bx_entries.proofs.Inverse.{bind_some, map_some, next_between, next_ending, next_saving}
@@ -30,7 +29,6 @@ use Rattle.bx_entries.proofs.TallyLemmas.{take_sum}
 use Rattle.bx_journal.specs.declared.protocol.windows.Mark.{Mark}
 use Rattle.bx_journal.specs.inner.Phase.{IsCutOf, IsPartOf}
 use Rattle.bx_journal.specs.inner.Restoring.{AllShorter, AreNamed, IsRestoredTo, Names, RestoresWindow, StandsAt}
-use Rattle.bx_journal.proofs.PartLemmas.{keeps_on}
 use Rattle.bx_journal.proofs.WindowLemmas.{front_of}
 
 with_runs-byte : (ps runs : List Run) (i : ℕ) → byte_in (with_runs runs ps) i ≡ option_or (byte_in ps i) (byte_in runs i)
@@ -225,6 +223,10 @@ placed_restores s runs len x y z long within is placed_is cut_is =
     let k : Kept = record { len = len; runs = runs } in
     let same : (i : ℕ) → byte_in runs i ≡ byte_in s.runs i = λ i. sym (or_none (byte_in runs i)) ∙ sym (with_runs-byte runs [] i) ∙ sym (ap (λ rs. byte_in rs i) is) in
     placed_is ∙ ap (placed runs) cut_is ∙ placed-cut k x within ∙ restore_same len runs s.runs x same ∙ ap (λ n. restore (record { len = n; runs = s.runs }) x) (sym long)
+
+-- and leave it its length, whatever they are
+pub placed_long : (len : ℕ) (runs : List Run) (x y : List ℕ) → AllWithin len runs → length x ≡ len → y ≡ placed runs x → length y ≡ len
+placed_long len runs x y within long is = ap length is ∙ length-placed runs x ∙ ap (placed_len runs) long ∙ placed_len_within runs len within
 
 -- before the first line nothing is restored
 pub restored_none : (text : List ℕ) (m : Mark) (s : Kept) (st : StandsAt text m s) (x : List ℕ) → IsRestoredTo text st.entries st.version m.len m.lines x x

@@ -1,6 +1,6 @@
 -- What some undos, or some redos, take before their first write.
-use Rattle.std.proofs.Common.{◌≡◌, ℕ, zero, suc, ◌+◌, ◌<◌, List, [], ◌∷◌, ◌++◌, length, take, drop, refl, ap, sym, ◌∙◌, subst, arith, length-drop, length-append}
-use Rattle.std.specs.Prelude.{reverse, slice_index_or}
+use Rattle.std.proofs.Common.{◌≡◌, ℕ, zero, suc, ◌+◌, ◌<◌, List, [], ◌∷◌, ◌++◌, length, take, drop, refl, ap, arith, length-drop, length-append}
+use Rattle.std.specs.Prelude.{slice_index_or}
 use Rattle.std.proofs.lemmas.List.{take_more}
 use Rattle.bx_image.specs.declared.record.Saved.{Saved}
 use Rattle.bx_image.specs.Change.{AllWithin}
@@ -8,9 +8,9 @@ use Rattle.bx_entries.specs.Kept.{kept_of}
 use Rattle.bx_entries.specs.Entry.{head_text, end_text}
 use Rattle.bx_journal.specs.Machine.{changes_of}
 use Rattle.bx_entries.specs.declared.read.types.EntryRead.{EntryRead}
-use Rattle.bx_journal.specs.inner.Takens.{IsZeros, AreZeros, AllShaped, entries_len, length_at}
+use Rattle.bx_journal.specs.inner.Takens.{AllShaped, entries_len, length_at}
 use Rattle.bx_journal.proofs.Shapes.{end_long}
-use Rattle.bx_journal.proofs.TakenLemmas.{reverse_last, len_pop}
+use Rattle.bx_journal.proofs.TakenLemmas.{len_pop}
 
 pub changes_left : (stack : List (List ℕ)) (count k left : ℕ) → length stack ≡ suc count → left + k ≡ count → changes_of (drop k stack) ≡ left
 changes_left stack count k left counted is = omega (arith, counted, is, length-drop k stack)
@@ -20,17 +20,6 @@ pub length_here : {A : Type 0} (es : List (EntryRead A)) (place len : ℕ) (d : 
 length_here [] place len d inside = absurd (omega (arith, inside))
 length_here (e ∷ es) zero len d inside = refl
 length_here (e ∷ es) (suc place) len d inside = length_here es place len d (omega (arith, inside))
-
--- a record more, for the next entry
-pub zeros_push : {A : Type 0} (len : ℕ) (es : List (EntryRead A)) (ts : List (Saved A)) (place : ℕ) (d : EntryRead A) (t : Saved A) → place < length es
-    → AreZeros (length_at (drop place es) len) (reverse (take place es)) (reverse ts) → IsZeros (length_at (drop (place + 1) es) len) (slice_index_or es place d) t
-    → AreZeros (length_at (drop (place + 1) es) len) (reverse (take (place + 1) es)) (reverse (ts ++ t ∷ []))
-zeros_push len es ts place d t inside all one =
-    let e = slice_index_or es place d in
-    let above : ℕ = length_at (drop (place + 1) es) len in
-    let more : reverse (take (place + 1) es) ≡ e ∷ reverse (take place es) = ap reverse (take_more es place d inside) ∙ reverse_last (take place es) e in
-    let rest : AreZeros e.kept.len (reverse (take place es)) (reverse ts) = subst (λ n. AreZeros n (reverse (take place es)) (reverse ts)) (length_here es place len d inside) all in
-    subst (λ fs. AreZeros above fs (reverse (ts ++ t ∷ []))) (sym more) (subst (λ us. AreZeros above (e ∷ reverse (take place es)) us) (sym (reverse_last ts t)) (one, rest))
 
 pub shaped_push : {A : Type 0} (ts : List (Saved A)) (t : Saved A) → AllShaped ts → AllWithin t.len t.runs → AllShaped (ts ++ t ∷ [])
 shaped_push [] t all within = (within, tt)

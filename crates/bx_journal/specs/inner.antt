@@ -9,9 +9,11 @@ pub mod Fading
 pub mod Fault
 pub mod Judging
 pub mod Opening
+pub mod Overwritten
 pub mod Page
 pub mod Phase
 pub mod Placed
+pub mod Plan
 pub mod Ranges
 pub mod Recovering
 pub mod Recovery

@@ -3,7 +3,7 @@ use Rattle.std.specs.Prelude.{◌≡◌, ◌⊎◌, ℕ, List, [], ◌∷◌}
 use Rattle.bx_image.specs.declared.change.Change.{Change}
 use Rattle.bx_entries.specs.Kept.{Kept}
 use Rattle.bx_entries.specs.Shown.{shown}
-use Rattle.bx_image.specs.Change.{Covers, IsAsGood, KeepsUnmapped}
+use Rattle.bx_image.specs.Change.{KeepsUnmapped}
 use Rattle.bx_journal.specs.Images.{Images}
 use Rattle.bx_journal.specs.Power.{Found}
 use Rattle.bx_entries.specs.Text.{Entry, Stage, Ending, split}
@@ -52,10 +52,6 @@ TailSurvives text begins survives =
 abbrev pub RestSurvives : List ℕ → ℕ → (List ℕ → Type 0) → Type 0
 RestSurvives read begins survives =
     (x : List ℕ) (stack : List (List ℕ)) (es : List Entry) (stage : Stage) → HasTail read x stack es stage begins → image_at stage x ≡ x → (c : List ℕ) → survives c → Recovers (shown c) x stack
-
--- of an image that is restored: doing that again gives the same
-abbrev pub AllAsGood : Kept → List ℕ → (List ℕ → Type 0) → Type 0
-AllAsGood s x survives = Covers s x → (y : List ℕ) → survives y → IsAsGood s x y
 
 -- of image and journal, where the change of an unfinished entry is taken back: opening finds the same stack
 abbrev pub BackSurvives : Kept → List ℕ → List ℕ → ℕ → (List ℕ → Type 0) → (List ℕ → Type 0) → Type 0

@@ -1,9 +1,9 @@
 -- What proofs alone need: the phases of a change and of an undo.
-use Rattle.std.specs.Prelude.{◌≡◌, ◌<◌, ◌≤◌, ◌+◌, None, ℕ, List, [], flat_map, Result, OnOk, OnErr}
+use Rattle.std.specs.Prelude.{◌≡◌, ◌<◌, ◌≤◌, ◌+◌, None, ℕ, List, [], flat_map, Result, OnErr}
 use Rattle.bx_entries.specs.Kept.{Kept, kept_of}
 use Rattle.bx_entries.specs.inner.Kept.{with_runs}
 use Rattle.bx_image.specs.declared.change.Change.{Change}
-use Rattle.bx_image.specs.Change.{Covers, IsAsGood, byte_in, restore, saved}
+use Rattle.bx_image.specs.Change.{byte_in, restore, saved}
 use Rattle.bx_entries.specs.declared.format.version.Version.{Version}
 use Rattle.bx_entries.specs.declared.format.version.Version.TheVariants.{Second}
 use Rattle.bx_entries.specs.Text.{Entry, Ending, Reads, split}
@@ -38,14 +38,6 @@ RecoversOpenFor c x y result = (text : List ℕ) (stack : List (List ℕ)) → I
 -- a pair that is open on a record stays so
 abbrev pub StaysOpen : Kept → List ℕ → List ℕ → Type 0
 StaysOpen s x y = (v : Version) (text : List ℕ) (stack : List (List ℕ)) → IsOpen v s text x stack → IsOpen v s text y stack
-
--- and opening finds its stack
-abbrev pub RecoversOpenOn : {V E : Type 0} → Kept → List ℕ → List ℕ → Result V E → Type 0
-RecoversOpenOn s x y result = (v : Version) (text : List ℕ) (stack : List (List ℕ)) → IsOpen v s text x stack → OnErr result (Recovers text y stack)
-
--- restoring a record again gives the same, where it was done once
-abbrev pub RestoresAlike : {V E : Type 0} → Kept → List ℕ → List ℕ → Result V E → Type 0
-RestoresAlike s x y result = Covers s x → OnOk result (IsAsGood s x y)
 
 -- the record names each of n addresses from one on, as far as its length goes
 abbrev pub IsPartOf : Kept → ℕ → ℕ → Type 0

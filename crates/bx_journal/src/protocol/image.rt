@@ -1,14 +1,14 @@
-//! Changing and restoring the image, whole or part by part.
-ghost use Rattle.std.specs.Prelude.{◌≡◌, ◌+◌, ◌<◌, ◌≤◌, [], map, length, OnOk, is_err};
-ghost use Rattle.bx_image.specs.Change.{effect, saved, restore, AllWithin, Covers, IsAsGood, KeepsUnmapped};
+//! Changing the image, and restoring it part by part.
+ghost use Rattle.std.specs.Prelude.{◌≡◌, ◌+◌, ◌<◌, ◌≤◌, [], length, OnOk, is_err};
+ghost use Rattle.bx_image.specs.Change.{effect, saved, IsAsGood, KeepsUnmapped};
 ghost use Rattle.bx_image.specs.Device.{GoesOn};
 ghost use Rattle.bx_image.specs.Image.{place, cut};
 ghost use Rattle.bx_image.specs.Power.{Follows, Only};
-ghost use Rattle.bx_entries.specs.Kept.{Kept, run_of, kept_of};
-ghost use Rattle.bx_journal.specs.inner.Fading.{AllAsGood, AllKeepUnmapped, AllStayOpen, AllStayOpenFor};
-ghost use Rattle.bx_journal.specs.inner.Phase.{IsCutOf, IsPartOf, RecoversOpenFor, RecoversOpenOn, StaysOpen, StaysOpenFor};
+ghost use Rattle.bx_entries.specs.Kept.{Kept, kept_of};
+ghost use Rattle.bx_journal.specs.inner.Fading.{AllKeepUnmapped, AllStayOpenFor};
+ghost use Rattle.bx_journal.specs.inner.Phase.{IsCutOf, IsPartOf, RecoversOpenFor, StaysOpen, StaysOpenFor};
 
-use bx_image::{Change, Device, DeviceFailed, Saved, apply};
+use bx_image::{Change, Device, DeviceFailed, apply};
 use std::alloc::Allocator;
 
 /// Changes the image, and puts it on the disk. Whatever it answers, what was saved gives the old image back, so a pair that is open on it
@@ -29,31 +29,6 @@ pub fn change_image<D: Device, A: Allocator>(
     ensures goes_on { GoesOn D.honest D.room D.failures (is_err result) device.old device.new }
 {
     apply(device, change)?;
-    device.sync()
-}
-
-/// Puts back what was saved, and puts it on the disk. Whatever it answers, putting it back again gives the same image, so a pair that is
-/// open on it stays open.
-pub fn restore_image<D: Device, A: Allocator>(
-    device: &mut D,
-    kept: Saved<A>,
-) -> Result<(), DeviceFailed>
-    requires countable { D.failures device.old < u64.MAX }
-    requires within { AllWithin kept.len (map run_of kept.runs) }
-    requires room { kept.len ≤ D.room device.old }
-    ensures ok { D.honest device.old → OnOk result (D.image device.new ≡ restore (kept_of kept) (D.image device.old)) }
-    ensures again { D.honest device.old → Covers (kept_of kept) (D.image device.old) → IsAsGood (kept_of kept) (D.image device.old) (D.image device.new) }
-    ensures phase { D.honest device.old → StaysOpen (kept_of kept) (D.image device.old) (D.image device.new) }
-    ensures settled { D.honest device.old → OnOk result (Only (D.image device.new) (D.survives device.new)) }
-    ensures alike { D.honest device.old → Only (D.image device.old) (D.survives device.old)
-        → AllAsGood (kept_of kept) (D.image device.old) (D.survives device.new) }
-    ensures survives { D.honest device.old → Only (D.image device.old) (D.survives device.old)
-        → AllStayOpen (kept_of kept) (D.image device.old) (D.survives device.new) }
-    ensures fault { D.honest device.old → RecoversOpenOn (kept_of kept) (D.image device.old) (D.image device.new) result }
-    ensures goes_on { GoesOn D.honest D.room D.failures (is_err result) device.old device.new }
-{
-    let change = kept.into_change();
-    apply(device, &change)?;
     device.sync()
 }
 

@@ -1,5 +1,5 @@
 //! Restoring a record from the text in which it stands, a window at a time: nothing of it is held. All memory is taken before.
-ghost use Rattle.std.specs.Prelude.{◌≡◌, ◌↔◌, ◌+◌, ◌-◌, ◌<◌, ◌≤◌, List, ℕ, min, length, map, All, IfOk, OnOk, OnErr, is_err, vec_capacity};
+ghost use Rattle.std.specs.Prelude.{◌≡◌, ◌↔◌, ◌+◌, ◌-◌, ◌<◌, ◌≤◌, List, ℕ, min, length, map, All, IfOk, IfErr, OnOk, OnErr, is_err, vec_capacity};
 ghost use Rattle.bx_image.specs.Change.{placed, restore, KeepsUnmapped};
 ghost use Rattle.bx_image.specs.Device.{GoesOn};
 ghost use Rattle.bx_image.specs.Image.{cut};
@@ -11,6 +11,7 @@ ghost use Rattle.bx_journal.specs.inner.Fading.{AllKeepUnmapped};
 ghost use Rattle.bx_journal.specs.inner.Phase.{StaysOpen};
 ghost use Rattle.bx_journal.specs.inner.Restoring.{AreNamed, IsRestoredTo, Names, RestoresWindow, StandsAt};
 
+use crate::SessionFault;
 use crate::protocol::image::{restore_len, restore_part};
 use bx_entries::{Part, parts_in};
 use bx_image::{Device, DeviceFailed};
@@ -32,6 +33,21 @@ pub struct Mark {
 pub struct Buffers<A: Allocator = Global> {
     pub window: Vec<u8, A>,
     pub parts: Vec<Part, A>,
+}
+
+/// No saved line that `bx` writes is shorter, its newline included.
+const SHORTEST_LINE: usize = 53;
+
+/// What restoring takes, where no line of the text is longer than this.
+pub fn buffers_of<A: Allocator + Clone>(alloc: &A, longest: u64) -> Result<Buffers<A>, SessionFault>
+    ensures window { IfOk result (λ b. length b.window.items ≡ longest) }
+    ensures parts { IfOk result (λ b. 0 < vec_capacity b.parts) }
+    ensures kind { IfErr result (λ e. e ≡ SessionFault.NoMemory) }
+{
+    let size = longest as usize;
+    let window = vec![in alloc.clone()?; 0u8; size]?;
+    let parts = Vec::with_capacity(alloc.clone()?, size / SHORTEST_LINE + 1)?;
+    Ok(Buffers { window, parts })
 }
 
 /// Writes the parts of a window to an image of at most this length.
@@ -79,6 +95,7 @@ fn restore_window<D: Device, T: TextStore, A: Allocator>(
     ensures keeps { D.honest device.old → T.honest from.old → (text : List ℕ) → T.text from.old ≡ text → (s r : Kept) (stands : StandsAt text mark s)
         → Names r s → (x : List ℕ) → IsRestoredTo text stands.entries stands.version mark.len at x (D.image device.old)
         → KeepsUnmapped r (D.image device.old) (D.image device.new) × Follows (KeepsUnmapped r) (D.survives device.old) (D.survives device.new) }
+    ensures long { D.honest device.old → length (D.image device.old) ≡ mark.len → OnOk result (length (D.image device.new) ≡ mark.len) }
     ensures text { T.honest from.old → T.text from.new ≡ T.text from.old }
     ensures text_survives { T.honest from.old → NoMore (T.survives from.old) (T.survives from.new) }
     ensures window { length window.new ≡ length window.old }
@@ -117,8 +134,11 @@ fn restore_lines<D: Device, T: TextStore, A: Allocator>(
         → OnOk result (D.image device.new ≡ restore s x) }
     ensures keeps { D.honest device.old → T.honest from.old → (s r : Kept) → StandsAt (T.text from.old) mark s → Names r s
         → KeepsUnmapped r (D.image device.old) (D.image device.new) × Follows (KeepsUnmapped r) (D.survives device.old) (D.survives device.new) }
+    ensures long { D.honest device.old → length (D.image device.old) ≡ mark.len → OnOk result (length (D.image device.new) ≡ mark.len) }
     ensures text { T.honest from.old → T.text from.new ≡ T.text from.old }
     ensures text_survives { T.honest from.old → NoMore (T.survives from.old) (T.survives from.new) }
+    ensures window { length window.new ≡ length window.old }
+    ensures parts { vec_capacity parts.old ≤ vec_capacity parts.new }
     ensures device_honesty { D.honest device.new ↔ D.honest device.old }
     ensures store_honesty { T.honest from.new ↔ T.honest from.old }
     ensures no_less_room { D.room device.old ≤ D.room device.new }
@@ -162,8 +182,11 @@ pub fn restore_windows<D: Device, T: TextStore, A: Allocator>(
     ensures settled { D.honest device.old → OnOk result (Only (D.image device.new) (D.survives device.new)) }
     ensures survives { D.honest device.old → T.honest from.old → (s r : Kept) → StandsAt (T.text from.old) mark s → Names r s
         → Only (D.image device.old) (D.survives device.old) → AllKeepUnmapped r (D.image device.old) (D.survives device.new) }
+    ensures long { D.honest device.old → OnOk result (length (D.image device.new) ≡ mark.len) }
     ensures text { T.honest from.old → T.text from.new ≡ T.text from.old }
     ensures text_survives { T.honest from.old → NoMore (T.survives from.old) (T.survives from.new) }
+    ensures window { length window.new ≡ length window.old }
+    ensures parts { vec_capacity parts.old ≤ vec_capacity parts.new }
     ensures device_honesty { D.honest device.new ↔ D.honest device.old }
     ensures store_honesty { T.honest from.new ↔ T.honest from.old }
     ensures no_less_room { D.room device.old ≤ D.room device.new }

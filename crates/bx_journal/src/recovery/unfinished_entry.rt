@@ -20,7 +20,7 @@ ghost use Rattle.bx_journal.specs.Undoing.{HasLeft};
 
 use crate::protocol::redo_text::cut_redo;
 use crate::protocol::settle::settle;
-use crate::protocol::windows::{Buffers, Mark};
+use crate::protocol::windows::{Buffers, Mark, buffers_of};
 use crate::recovery::finished_journal::open_finished;
 use crate::recovery::journal::{Found, Torn, read_text};
 use crate::recovery::take_back::{drop_tail, take_back};
@@ -28,9 +28,6 @@ use crate::{How, Recovered, SessionFault};
 use bx_image::{Device, DeviceFailed};
 use bx_store::TextStore;
 use std::alloc::Allocator;
-
-/// No saved line that `bx` writes is shorter, its newline included.
-const SHORTEST_LINE: usize = 53;
 
 /// Whether the image has the length that the last entry tells, if it tells one.
 pub fn check_length<D: Device>(device: &mut D, told: Option<u64>) -> Result<(), SessionFault>
@@ -152,13 +149,11 @@ fn buffers_for<A: Allocator + Clone>(
     ensures buffers { IfOk result (HasBuffersFor mark) }
     ensures fault { IfErr result (λ e. e ≡ SessionFault.NoMemory) }
 {
-    let size = match mark {
+    let longest = match mark {
         None => 0,
-        Some(at) => at.longest as usize,
+        Some(at) => at.longest,
     };
-    let window = vec![in alloc.clone()?; 0u8; size]?;
-    let parts = Vec::with_capacity(alloc.clone()?, size / SHORTEST_LINE + 1)?;
-    Ok(Buffers { window, parts })
+    buffers_of(alloc, longest)
 }
 
 /// What opening takes before its first write, with all on the disk that the three have.

@@ -10,6 +10,8 @@ ghost use Rattle.bx_journal.specs.inner.Standing.{PrepareFault};
 ghost use Rattle.bx_journal.specs.inner.Written.{AreSettled};
 
 pub(crate) mod head;
+pub(crate) mod overwritten;
+pub(crate) mod places;
 pub(crate) mod ranges;
 pub(crate) mod records;
 

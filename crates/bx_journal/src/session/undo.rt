@@ -30,8 +30,8 @@ impl<D: Device, T: TextStore, A: Allocator + Clone> Session<D, T, A> {
     /// Takes the last k changes back, the newest first, and answers how many are left. Their images are then undone, and
     /// can be made again; but an image of more than `MAX_LEN` bytes, and what was undone before it, is given up.
     ///
-    /// All memory is taken before the first write: it is in proportion to the bytes that the journal's last k entries saved,
-    /// and to those that the k changes wrote or added. The faults come in this order: `Broken`, `TooFew`, `DeviceFailed` and
+    /// All memory is taken before the first write. It is once the bytes that the k changes moved: first those that the journal's last k
+    /// entries saved, and then those that the k changes wrote or added. The faults come in this order: `Broken`, `TooFew`, `DeviceFailed` and
     /// `NoMemory` of reading, `Damaged` where the text was changed by others, `DeviceFailed` of the lengths, `NoMemory`,
     /// `DeviceFailed` of reading the image, and `Interrupted` from the first write on. Each but the last changes nothing.
     pub fn undo(&mut self, k: u32) -> Result<u32, SessionFault>
@@ -87,13 +87,13 @@ impl<D: Device, T: TextStore, A: Allocator + Clone> Session<D, T, A> {
         if k > self.count {
             return Err(SessionFault::TooFew { have: self.count });
         }
-        let mut read = read_last_of(&self.alloc, &mut self.store, self.count, k)?;
+        let read = read_last_of(&self.alloc, &mut self.store, self.count, k)?;
         let mut taking = prepare_takens(
             &self.alloc,
             &mut self.device,
             &mut self.store,
             &mut self.redo_text,
-            &read,
+            read,
             k,
         )?;
         match undo_entries(
@@ -101,7 +101,8 @@ impl<D: Device, T: TextStore, A: Allocator + Clone> Session<D, T, A> {
             &mut self.store,
             &mut self.redo_text,
             &mut taking.page,
-            &mut read.entries,
+            &mut taking.buffers,
+            &mut taking.placed,
             &mut taking.takens,
             self.undone,
         ) {

@@ -1,28 +1,48 @@
-//! What some undos take before their first write: records of what they will overwrite, a page and room.
-ghost use Rattle.std.specs.Prelude.{◌≡◌, ◌+◌, ◌-◌, ◌^◌, ◌<◌, ◌≤◌, [], length, drop, min, reverse, vec_capacity, All, IfOk, IfErr, OnOk};
-ghost use Rattle.bx_image.specs.Change.{AllWithin};
+//! What some undos take before their first write: records of what they will overwrite, the places of their entries, a page and room.
+ghost use Rattle.std.specs.Prelude.{◌≡◌, ◌+◌, ◌-◌, ◌^◌, ◌<◌, ◌≤◌, [], length, drop, map, min, reverse, vec_capacity, All, IfOk, IfErr, OnOk};
 ghost use Rattle.bx_journal.specs.Fault.{DeviceFault};
 ghost use Rattle.bx_journal.specs.Power.{FoundBefore};
 ghost use Rattle.bx_journal.specs.inner.Devices.{AreCounted, AreUnfailed, HaveStayed};
 ghost use Rattle.bx_journal.specs.inner.Written.{AreSettled};
-ghost use Rattle.bx_journal.specs.inner.Takens.{AreZeros, AreReady, AllShaped, IsZeros, length_at, entries_len as entries_long};
-ghost use Rattle.bx_journal.specs.inner.Undoing.{HasRoomFor};
+ghost use Rattle.bx_journal.specs.inner.Overwritten.{AreOrdered, place_in};
+ghost use Rattle.bx_journal.specs.inner.Placed.{AllFit, ArePrepared};
+ghost use Rattle.bx_journal.specs.inner.Plan.{IsPlan, IsTakenFor};
+ghost use Rattle.bx_journal.specs.inner.Takens.{AreReady, AllShaped, length_at, entries_len as entries_long};
+ghost use Rattle.bx_journal.specs.inner.Undoing.{AreReadFrom, HasRoomFor};
+ghost use Rattle.bx_journal.specs.inner.Windows.{HasShortLines};
 
 use crate::SessionFault;
 use crate::protocol::fill::fill_last;
 use crate::protocol::settle::settle;
+use crate::protocol::undo_entry::Placed;
+use crate::protocol::windows::{Buffers, buffers_of};
+use crate::session::prepare::overwritten::{Overwritten, all_overwritten, all_zeros};
+use crate::session::prepare::places::places;
 use crate::session::read::entries::FinishedRead;
 use bx_entries::{EntryRead, head_len, new_page};
-use bx_image::{Device, MAX_LEN, Saved, room_to_restore};
+use bx_image::{Device, Saved};
 use bx_store::TextStore;
-use bx_text::{NoMemory, Pieces};
+use bx_text::NoMemory;
 use std::alloc::{Allocator, Global};
 
-/// A record for each entry that is to be restored, in their order, and an empty page for the text of their entries.
+/// A record for each entry that is to be restored, in their order, and where these stand in their text; the length of the longest image
+/// that they restore, an empty page for the text of the entries that the records are kept in, and what restoring takes.
 #[derive(Drop)]
 pub struct Taking<A: Allocator = Global> {
     pub takens: Vec<Saved<A>, A>,
+    pub placed: Vec<Placed, A>,
+    pub longest: u64,
     pub page: Vec<u8, A>,
+    pub buffers: Buffers<A>,
+}
+
+/// Where the entries stand that are to be restored, what restoring them overwrites, and the length of the longest image that they
+/// restore.
+#[derive(Drop)]
+pub struct Plan<A: Allocator = Global> {
+    pub placed: Vec<Placed, A>,
+    pub overwritten: Vec<Overwritten<A>, A>,
+    pub longest: u64,
 }
 
 /// How long the line is that ends an entry.
@@ -51,48 +71,42 @@ pub fn length_above<A: Allocator>(entries: &[EntryRead<A>], place: usize, len: u
     }
 }
 
-/// A record of zeros for what restoring an entry overwrites in an image of this length. Of an image that is longer
-/// than an entry can tell it has no bytes.
-fn taken_of<A: Allocator + Clone>(
-    alloc: A,
-    entry: &EntryRead<A>,
-    len: u64,
-) -> Result<Saved<A>, NoMemory>
-    ensures zeros { IfOk result (λ t. IsZeros len entry.now t) }
-    ensures within { IfOk result (λ t. AllWithin t.len t.runs) }
-{
-    if len > MAX_LEN {
-        return Ok(Saved {
-            len,
-            runs: Pieces::from_vec(Vec::new(alloc)),
-        });
-    }
-    room_to_restore(alloc, &entry.kept, len)
-}
-
-/// A record of zeros for each of the last k entries, in their order, where the image has `len` bytes.
-fn takens<A: Allocator + Clone>(
+/// Where the last k entries of a text stand, and what restoring them overwrites where the image has `len` bytes.
+fn plan_last<A: Allocator + Clone>(
     alloc: &A,
-    entries: &[EntryRead<A>],
+    read: &FinishedRead<A>,
     k: u32,
     len: u64,
-) -> Result<Vec<Saved<A>, A>, SessionFault>
-    requires few { k ≤ length entries.now }
-    ensures zeros { IfOk result (λ ts. AreZeros len (reverse entries.now) (reverse ts.items)) }
-    ensures shaped { IfOk result (λ ts. AllShaped ts.items) }
-    ensures count { IfOk result (λ ts. length ts.items ≡ k) }
+) -> Result<Plan<A>, SessionFault>
+    requires few { k ≤ length read.now.entries.items }
+    requires order { AreOrdered read.now.entries.items }
+    ensures plan { IfOk result (IsPlan read.now.entries.items read.now.longest k len) }
     ensures kind { IfErr result (λ e. e ≡ SessionFault.NoMemory) }
 {
-    let count = entries.len();
-    let mut takens = Vec::with_capacity(alloc.clone()?, k as usize)?;
-    for place in count - k as usize..count {
-        let above = length_above(entries, place, len);
-        let taken = taken_of(alloc.clone()?, &entries[place], above)?;
-        if takens.push(taken).is_err() {
-            return Err(SessionFault::NoMemory);
-        }
-    }
-    Ok(takens)
+    let entries = read.entries.as_slice();
+    let (_, last) = entries.split_at(entries.len() - k as usize);
+    let placed = places(alloc, last, read.longest)?;
+    let overwritten = all_overwritten(alloc, entries, k, len)?;
+    Ok(Plan {
+        placed,
+        overwritten,
+        longest: longest_of(last),
+    })
+}
+
+/// The same, and the bytes that were read are given up.
+fn plan_of<A: Allocator + Clone>(
+    alloc: &A,
+    read: FinishedRead<A>,
+    k: u32,
+    len: u64,
+) -> Result<Plan<A>, SessionFault>
+    requires few { k ≤ length read.entries.items }
+    requires order { AreOrdered read.entries.items }
+    ensures plan { IfOk result (IsPlan read.entries.items read.longest k len) }
+    ensures kind { IfErr result (λ e. e ≡ SessionFault.NoMemory) }
+{
+    plan_last(alloc, &read, k, len)
 }
 
 /// How long the entries of the records are, at most `u64::MAX`.
@@ -107,6 +121,61 @@ fn entries_len<A: Allocator>(takens: &[Saved<A>]) -> u64
             .saturating_add(END_LINE);
     }
     total
+}
+
+/// Takes the memory of restoring the last k entries, where the image has `len` bytes. What was read of them is given up before
+/// their records are taken, so that their bytes are held once.
+fn take_memory<A: Allocator + Clone>(
+    alloc: &A,
+    read: FinishedRead<A>,
+    k: u32,
+    len: u64,
+) -> Result<Taking<A>, SessionFault>
+    requires few { k ≤ length read.entries.items }
+    requires order { AreOrdered read.entries.items }
+    ensures taken { IfOk result (IsTakenFor read.entries.items read.longest k len) }
+    ensures kind { IfErr result (λ e. e ≡ SessionFault.NoMemory) }
+{
+    let most = read.longest;
+    let plan = plan_of(alloc, read, k, len)?;
+    let Plan {
+        placed,
+        overwritten,
+        longest,
+    } = plan;
+    let takens = all_zeros(alloc, overwritten.as_slice())?;
+    let page = new_page(alloc.clone()?, entries_len(takens.as_slice()))?;
+    let buffers = buffers_of(alloc, most)?;
+    Ok(Taking {
+        takens,
+        placed,
+        longest,
+        page,
+        buffers,
+    })
+}
+
+/// Makes room in the image for this length, in the one text for what it has, and in the other text for this many bytes more than it
+/// has. It changes nothing.
+fn make_room_for<D: Device, T: TextStore>(
+    device: &mut D,
+    from: &mut T,
+    to: &mut T,
+    longest: u64,
+    from_len: u64,
+    to_len: u64,
+    more: u64,
+) -> Result<(), NoMemory>
+    ensures image { OnOk result (longest ≤ D.room device.new) }
+    ensures roomed { OnOk result (min (to_len + more) (2 ^ 64 - 1) ≤ T.room to.new) }
+    ensures limit { OnOk result (min (to_len + more) (2 ^ 64 - 1) ≤ 2 ^ 62) }
+    ensures stayed { HaveStayed D.honest T.honest D.image T.text device.old from.old to.old device.new from.new to.new }
+    ensures found_before { FoundBefore D.honest T.honest D.survives T.survives device.old from.old to.old device.new from.new to.new }
+    ensures failures { (D.failures device.new ≡ D.failures device.old) × (T.failures from.new ≡ T.failures from.old) × (T.failures to.new ≡ T.failures to.old) }
+{
+    device.reserve(longest)?;
+    from.reserve(from_len)?;
+    to.reserve(to_len.saturating_add(more))
 }
 
 /// Makes room for restoring the last k entries of a text: in the image for the longest that they restore, in their
@@ -130,9 +199,7 @@ pub fn make_room<D: Device, T: TextStore, A: Allocator>(
 {
     let first = read.entries.len() - k as usize;
     let (_, last) = read.entries.as_slice().split_at(first);
-    device.reserve(longest_of(last))?;
-    from.reserve(read.len)?;
-    to.reserve(to_len.saturating_add(more))
+    make_room_for(device, from, to, longest_of(last), read.len, to_len, more)
 }
 
 /// Takes all the memory of restoring the last k entries of the text `from`; each gives the text `to` an entry,
@@ -142,14 +209,17 @@ fn take_records<D: Device, T: TextStore, A: Allocator + Clone>(
     device: &mut D,
     from: &mut T,
     to: &mut T,
-    read: &FinishedRead<A>,
+    read: FinishedRead<A>,
     k: u32,
 ) -> Result<Taking<A>, SessionFault>
     requires device_countable { D.failures device.old < u64.MAX }
     requires to_countable { T.failures to.old < u64.MAX }
-    requires few { k ≤ length read.now.entries.items }
-    ensures kept { HasRoomFor (D.room device.new) read.now.entries.items k result }
-    ensures filled { D.honest device.old → IfOk result (λ o. AreReady (D.image device.old) (reverse read.now.entries.items) (reverse o.takens.items)) }
+    requires few { k ≤ length read.entries.items }
+    requires order { AreOrdered read.entries.items }
+    ensures places { IfOk result (λ o. o.placed.items ≡ map (place_in read.longest) (drop (length read.entries.items - k) read.entries.items)) }
+    ensures fit { IfOk result (λ o. AllFit (D.room device.new) (length o.buffers.window.items) o.placed.items) }
+    ensures parts { IfOk result (λ o. 0 < vec_capacity o.buffers.parts) }
+    ensures filled { D.honest device.old → IfOk result (λ o. AreReady (D.image device.old) (reverse read.entries.items) (reverse o.takens.items)) }
     ensures shaped { IfOk result (λ o. AllShaped o.takens.items) }
     ensures count { IfOk result (λ o. length o.takens.items ≡ k) }
     ensures roomed { T.honest to.old → IfOk result (λ o. length (T.text to.new) + entries_long o.takens.items ≤ T.room to.new) }
@@ -163,12 +233,15 @@ fn take_records<D: Device, T: TextStore, A: Allocator + Clone>(
 {
     let len = device.len()?;
     let to_len = to.len()?;
-    let mut takens = takens(alloc, read.entries.as_slice(), k, len)?;
-    let more = entries_len(takens.as_slice());
-    let page = new_page(alloc.clone()?, more)?;
-    make_room(device, from, to, read, k, to_len, more)?;
-    fill_last(device, &mut takens)?;
-    Ok(Taking { takens, page })
+    let from_len = read.len;
+    let mut taking = match take_memory(alloc, read, k, len) {
+        Ok(taking) => taking,
+        Err(fault) => return Err(fault),
+    };
+    let more = entries_len(taking.takens.as_slice());
+    make_room_for(device, from, to, taking.longest, from_len, to_len, more)?;
+    fill_last(device, &mut taking.takens)?;
+    Ok(taking)
 }
 
 /// Takes all the memory of restoring the last k entries of the text `from`; each gives the text `to` an entry,
@@ -182,15 +255,20 @@ pub fn prepare_takens<D: Device, T: TextStore, A: Allocator + Clone>(
     device: &mut D,
     from: &mut T,
     to: &mut T,
-    read: &FinishedRead<A>,
+    read: FinishedRead<A>,
     k: u32,
 ) -> Result<Taking<A>, SessionFault>
     requires device_countable { D.failures device.old < u64.MAX }
     requires from_countable { T.failures from.old < u64.MAX }
     requires to_countable { T.failures to.old < u64.MAX }
-    requires few { k ≤ length read.now.entries.items }
-    ensures kept { HasRoomFor (D.room device.new) read.now.entries.items k result }
-    ensures filled { D.honest device.old → IfOk result (λ o. AreReady (D.image device.old) (reverse read.now.entries.items) (reverse o.takens.items)) }
+    requires few { k ≤ length read.entries.items }
+    requires read { AreReadFrom (T.honest from.old) (T.text from.old) read.entries.items }
+    requires short { HasShortLines (T.honest from.old) (T.text from.old) read.longest }
+    ensures prepared { IfOk result
+        (λ o. ArePrepared (D.honest device.new) (D.image device.new) (T.honest from.new) (T.text from.new) o.placed.items o.takens.items) }
+    ensures fit { IfOk result (λ o. AllFit (D.room device.new) (length o.buffers.window.items) o.placed.items) }
+    ensures parts { IfOk result (λ o. 0 < vec_capacity o.buffers.parts) }
+    ensures same { IfOk result (λ o. length o.placed.items ≡ length o.takens.items) }
     ensures shaped { IfOk result (λ o. AllShaped o.takens.items) }
     ensures count { IfOk result (λ o. length o.takens.items ≡ k) }
     ensures roomed { T.honest to.old → IfOk result (λ o. length (T.text to.new) + entries_long o.takens.items ≤ T.room to.new) }

@@ -1,4 +1,4 @@
-use Rattle.std.proofs.Common.{◌≡◌, ◌+◌, ◌≤◌, ℕ, [], List, length, drop}
+use Rattle.std.proofs.Common.{◌≡◌, ◌+◌, ◌<◌, ◌≤◌, ℕ, [], List, length, drop}
 use Rattle.std.specs.Prelude.{vec_capacity}
 use Rattle.bx_entries.specs.Finished.{IsFinished}
 use Rattle.bx_entries.specs.Text.{Entry}
@@ -10,13 +10,14 @@ use Rattle.bx_journal.specs.inner.Takens.{entries_len}
 use Rattle.bx_journal.specs.inner.Turns.{AreStanding}
 use Rattle.bx_journal.specs.inner.Written.{AreSettled}
 use Rattle.bx_journal.proofs.DeviceLemmas.{HaveGoneOn}
-use Rattle.bx_journal.proofs.LoopLemmas.{AreLeft}
+use Rattle.bx_journal.proofs.PlacedLoop.{PlacesLeft}
 use Rattle.bx_journal.proofs.protocol.undo_entry.undo_entries.Given as goal
 
 abbrev pub invariant-loop-i : goal.invariant-loop-i
 invariant-loop-i g l = record {
-  left : AreLeft (g.T.TextStore.honest l.fn.store) (g.D.Device.honest l.fn.device) (g.T.TextStore.text l.fn.store) (g.T.TextStore.text l.store) (g.D.Device.image l.device) (g.D.Device.room l.device) l.i
-      l.fn.entries.items l.entries.items l.fn.takens.items l.takens.items;
+  left : PlacesLeft (g.T.TextStore.honest l.fn.store) (g.D.Device.honest l.fn.device) (g.T.TextStore.text l.fn.store) (g.T.TextStore.text l.store) (g.D.Device.image l.device) (g.D.Device.room l.device)
+      (length l.buffers.window.items) l.i l.fn.takens.items l.takens.items l.placed.items;
+  parts : 0 < vec_capacity l.buffers.parts;
   bound : l.undone + length l.takens.items ≤ l.fn.undone + length l.fn.takens.items;
   steps_on : HaveGoneOn g.D.Device.honest g.T.TextStore.honest g.D.Device.failures g.T.TextStore.failures l.fn.device l.fn.store l.fn.redo_text l.device l.store l.redo_text;
   fits : g.T.TextStore.honest l.fn.redo_text → length (g.T.TextStore.text l.redo_text) + entries_len l.takens.items ≤ g.T.TextStore.room l.redo_text;

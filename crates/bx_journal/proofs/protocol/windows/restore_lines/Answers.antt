@@ -1,10 +1,9 @@
-use Rattle.std.proofs.Common.{◌≡◌, ◌∙◌, ◌+◌, ◌≤◌, ◌<◌, ℕ, List, [], length, take, refl, ap, sym, subst, arith}
+use Rattle.std.proofs.Common.{◌≡◌, ◌∙◌, ◌+◌, ℕ, List, [], length, take, refl, subst, arith}
 use Rattle.std.specs.Prelude.{vec_capacity}
 use Rattle.bx_image.specs.Change.{KeepsUnmapped}
 use Rattle.bx_image.proofs.Survivors.{Follows_same, Follows_then, NoMore_then}
 use Rattle.bx_entries.specs.inner.Kept.{with_runs}
 use Rattle.bx_entries.specs.inner.Parts.{IsIn}
-use Rattle.bx_journal.specs.inner.Restoring.{IsRestoredTo}
 use Rattle.bx_journal.proofs.PartLemmas.{keeps_on, keeps_same}
 use Rattle.bx_journal.proofs.RestoreLemmas.{all_given, not_ended, placed_restores, restored_none, restored_on, takes_room}
 use Rattle.bx_journal.proofs.protocol.windows.restore_lines.Goals as goal
@@ -14,6 +13,7 @@ loop-at-init g c = record {
   below = c.requires.order;
   ok = λ dh th s st. restored_none (g.T.TextStore.text c.args.from.now) c.args.mark s st (g.D.Device.image c.args.device.now);
   keeps = λ dh th s r st names. (keeps_same r _, Follows_same (KeepsUnmapped r) _ (keeps_same r));
+  long = λ dh is. is;
   text = λ th. refl;
   text_survives = λ th y there. there;
   window = refl;
@@ -66,6 +66,7 @@ loop-at-preserved g c =
           let before = inv.keeps dh th s r st names in
           let next = now.keeps (inv.device_honesty.1 dh) (inv.store_honesty.1 th) text (inv.text th) s r st names _ (inv.ok dh th s st) in
           (keeps_on r _ _ _ before.0 next.0, Follows_then (KeepsUnmapped r) _ _ _ (keeps_on r) before.1 next.1);
+      long = λ dh is. now.long (inv.device_honesty.1 dh) (inv.long dh is);
       text = λ th. now.text (inv.store_honesty.1 th) ∙ inv.text th;
       text_survives = λ th. NoMore_then _ _ _ (inv.text_survives th) (now.text_survives (inv.store_honesty.1 th));
       window = now.window ∙ inv.window;

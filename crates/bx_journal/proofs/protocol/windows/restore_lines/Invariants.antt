@@ -17,6 +17,7 @@ invariant-loop-at g l =
           → IsRestoredTo (T.text l.fn.from) stands.entries stands.version l.mark.len l.at (D.image l.fn.device) (D.image l.device);
       keeps : D.honest l.fn.device → T.honest l.fn.from → (s r : Kept) → StandsAt (T.text l.fn.from) l.mark s → Names r s
           → KeepsUnmapped r (D.image l.fn.device) (D.image l.device) × Follows (KeepsUnmapped r) (D.survives l.fn.device) (D.survives l.device);
+      long : D.honest l.fn.device → length (D.image l.fn.device) ≡ l.mark.len → length (D.image l.device) ≡ l.mark.len;
       text : T.honest l.fn.from → T.text l.from ≡ T.text l.fn.from;
       text_survives : T.honest l.fn.from → NoMore (T.survives l.fn.from) (T.survives l.from);
       window : length l.window ≡ length l.fn.window;

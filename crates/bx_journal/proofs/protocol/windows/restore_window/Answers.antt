@@ -1,12 +1,11 @@
 use Rattle.std.proofs.Common.{◌≡◌, ◌∙◌, ◌+◌, ◌-◌, ◌≤◌, ℕ, List, [], length, map, min, take, drop, refl, ap, sym, subst, arith}
 use Rattle.std.specs.Prelude.{vec_capacity}
-use Rattle.bx_image.specs.Change.{KeepsUnmapped, placed}
-use Rattle.bx_image.proofs.Survivors.{Follows_same}
+use Rattle.bx_image.specs.Change.{placed}
 use Rattle.bx_entries.specs.declared.read.parts.Part.{Part}
 use Rattle.bx_entries.specs.inner.Kept.{with_runs}
 use Rattle.bx_entries.specs.inner.Parts.{TakesSome, part_run}
 use Rattle.bx_journal.specs.inner.Restoring.{AreNamed}
-use Rattle.bx_journal.proofs.RestoreLemmas.{given_on, parts_within, window_named}
+use Rattle.bx_journal.proofs.RestoreLemmas.{given_on, parts_within, placed_long, window_named}
 use Rattle.bx_journal.proofs.protocol.windows.restore_window.Goals as goal
 
 pub returns-in_err-restore_parts-clause-keeps : goal.returns-in_err-restore_parts-clause-keeps
@@ -54,3 +53,10 @@ returns-clause-restored g c dh th text is =
       some = subst (λ w. TakesSome c.args.mark.len w (vec_capacity c.args.parts.now) n) same c.parts_in-taken.ensures.some;
       image = c.in_ok-restore_parts.ensures.ok dh ∙ ap (λ ps. placed (map (part_run window) ps) (g.D.Device.image c.args.device.now)) c.deref.ensures.value;
     }
+
+pub returns-clause-long : goal.returns-clause-long
+returns-clause-long g c dh long =
+    let window : List ℕ = c.parts_in-taken.new.window in
+    let parts : List Part = c.parts_in-taken.new.parts.items in
+    placed_long c.args.mark.len (map (part_run window) parts) _ _ (parts_within c.args.mark.len (length window) window parts refl c.parts_in-taken.ensures.read.lie) long
+    (c.in_ok-restore_parts.ensures.ok dh ∙ ap (λ ps. placed (map (part_run window) ps) (g.D.Device.image c.args.device.now)) c.deref.ensures.value)

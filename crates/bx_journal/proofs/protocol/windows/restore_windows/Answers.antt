@@ -1,6 +1,6 @@
-use Rattle.std.proofs.Common.{◌∙◌, sym, subst, ap}
+use Rattle.std.proofs.Common.{◌∙◌, ap, length}
 use Rattle.std.proofs.lemmas.Result.{on_ok_weaker}
-use Rattle.bx_image.specs.Change.{restore}
+use Rattle.bx_image.proofs.Images.{length-cut}
 use Rattle.bx_journal.proofs.PartLemmas.{all_keep_on, keeps_on, unmapped_moves}
 use Rattle.bx_journal.proofs.RestoreLemmas.{cut_named}
 use Rattle.bx_journal.proofs.protocol.windows.restore_windows.Goals as goal
@@ -49,3 +49,11 @@ returns-clause-survives g c dh th s r st names only =
     let lines = c.in_ok-restore_lines.ensures in
     let all = all_keep_on r _ _ _ (c.in_ok-restore_len.ensures.survives dh r (cut_named r s c.args.mark.len st.len names) only) (lines.keeps still th s r st names).1 in
     λ y there. all y (c.sync.ensures.survives (lines.device_honesty.1 still) y there)
+
+pub returns-clause-long : goal.returns-clause-long
+returns-clause-long g c dh =
+    let still = c.in_ok-restore_len.ensures.goes_on.honesty.1 dh in
+    let lines = c.in_ok-restore_lines.ensures in
+    let now = lines.device_honesty.1 still in
+    on_ok_weaker c.sync.result (λ _. ap length (c.sync.ensures.image now) ∙ lines.long still (ap length (c.in_ok-restore_len.ensures.ok dh) ∙ length-cut (g.D.Device.image c.args.device.now) c.args.mark.len))
+    (c.sync.ensures.settled now)

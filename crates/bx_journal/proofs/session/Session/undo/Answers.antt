@@ -1,4 +1,4 @@
-use Rattle.std.proofs.Common.{◌≡◌, ℕ, refl, ◌∙◌, subst, arith, length-drop}
+use Rattle.std.proofs.Common.{◌≡◌, ℕ, refl, ◌∙◌, sym, subst, arith, length-drop}
 use Rattle.std.proofs.lemmas.Grind.{common_steps}
 use Rattle.bx_journal.specs.declared.session.fault.SessionFault.TheVariants.{Damaged}
 use Rattle.bx_journal.specs.Phase.{IsAtRest}
@@ -14,6 +14,7 @@ use Rattle.bx_journal.specs.Power.{FoundBefore}
 use Rattle.bx_journal.proofs.SafeLemmas.{accepts, any_fault, interrupts, refuses}
 use Rattle.bx_journal.proofs.LookedLemmas.{left_since, looked_at, none_failed, pair_step, read_since, rest_step, standing_step, taken_step}
 use Rattle.bx_journal.specs.Images.{undo_of}
+use Rattle.bx_journal.proofs.LastLemmas.{short_before}
 use Rattle.bx_journal.proofs.LoopLemmas.{standing}
 use Rattle.bx_journal.proofs.StepSurvivors.{found_at_rest, found_of, found_some}
 use Rattle.bx_journal.proofs.session.Session.undo.Goals as goal
@@ -38,19 +39,15 @@ returns-in_err-read-clause-damaged g c =
     λ line is. subst (AgainFault (g.T.TextStore.honest c.self.inside.store) (g.T.TextStore.text c.self.inside.store) c.self.inside.count) is c.in_err-read.ensures.fault th in
     grind (arith, common_steps, out))
 
-pub undo_entries-requires-clause-kept : goal.undo_entries-requires-clause-kept
-undo_entries-requires-clause-kept g c =
-    let last = c.in_ok-read.ensures.read in rw c.in_ok-taking.ensures.count (c.in_ok-taking.ensures.kept last.text c.self.inside.count last.read)
+pub prepare_takens-requires-clause-read : goal.prepare_takens-requires-clause-read
+prepare_takens-requires-clause-read g c =
+    let looks = c.read_last_of.ensures.looks in read_since looks.honesty.0 looks.same c.in_ok-read.ensures.read
 
-pub undo_entries-requires-clause-read : goal.undo_entries-requires-clause-read
-undo_entries-requires-clause-read g c =
-    let before = stayed g (goal.at.undo_entries-requires-clause-read g c).After-prepare_takens in
-    read_since before.text_honesty.0 before.text_same c.in_ok-read.ensures.read
-
-pub undo_entries-requires-clause-ready : goal.undo_entries-requires-clause-ready
-undo_entries-requires-clause-ready g c dh =
-    let taken = c.prepare_takens.ensures.stayed in
-    let before = taken.device_honesty.0 dh in rw (taken.image_same before) (c.in_ok-taking.ensures.filled before)
+pub prepare_takens-requires-clause-short : goal.prepare_takens-requires-clause-short
+prepare_takens-requires-clause-short g c =
+    let looks = c.read_last_of.ensures.looks in
+    short_before (g.T.TextStore.honest c.read_last_of.new.store) (g.T.TextStore.honest c.self.inside.store) (g.T.TextStore.text c.read_last_of.new.store) (g.T.TextStore.text c.self.inside.store)
+    c.in_ok-read.read.longest looks.honesty.0 (λ h. sym (looks.same (looks.honesty.0 h))) c.in_ok-read.ensures.short
 
 pub returns-in-Ok-clause-accepted : goal.returns-in-Ok-clause-accepted
 returns-in-Ok-clause-accepted g c =

@@ -14,7 +14,7 @@ returns g c =
     let b = subst (λ o. IfSome o (IsReadBehind honest stored c.args.front)) c.in-Some.is found.read in
     let all = subst (λ o. IfSome o (λ (r : LinesRead g.row.A.Denot). r.at ≡ c.args.len)) c.in-Some.is found.all in
     let keeps = subst (λ o. IfSome o (λ (r : LinesRead g.row.A.Denot). KeepsShort honest stored (length c.in_ok-window.window.items) c.args.front.at r.at)) c.in-Some.is
-        (subst (λ n. IfSome c.in_ok-found.found (λ (r : LinesRead g.row.A.Denot). KeepsShort honest stored n c.args.front.at r.at)) (ap length c.as_mut_slice.ensures.value) found.short) in
+    (subst (λ n. IfSome c.in_ok-found.found (λ (r : LinesRead g.row.A.Denot). KeepsShort honest stored n c.args.front.at r.at)) (ap length c.as_mut_slice.ensures.value) found.short) in
     let first = subst (HasShortLines honest (take c.args.front.at stored)) (sym c.min-longest.ensures) c.requires.short in
     record {
       read = last_from honest stored b.text c.args.len c.args.count c.last_of.result (behind_all honest stored c.args.front c.args.len c.in-Some.read b all c.requires.long) (sym (b.read.long ∙ all))
