@@ -305,7 +305,7 @@ fn move_stops(
 
 // The length of the text that is moved from is read, then its last two entries, then the lengths of the image and of the
 // other text, then the bytes that will be overwritten, by a redo twice: each is refused, and changes nothing. Between the two
-// changes the image is read again. Opening asked for the image's length twice, and for that of each text, and read a window of
+// changes the image is read again. An undo restores each from the journal's text, which it reads twice. Opening asked for the image's length twice, and for that of each text, and read a window of
 // each.
 #[test]
 fn reads_of_moves_fail(rt: HostRuntime) -> Result<(), Fail> {
@@ -313,7 +313,7 @@ fn reads_of_moves_fail(rt: HostRuntime) -> Result<(), Fail> {
     moves_refused(alloc, &rt, Ask::UndoTwo, 4, (NONE, 3, NONE))?;
     moves_refused(alloc, &rt, Ask::RedoTwo, 5, (NONE, NONE, 3))?;
     let undone = found(How::Clean, 1, 3);
-    move_stops(alloc, &rt, Ask::UndoTwo, (4, 5), (4, 3), undone, 0)?;
+    move_stops(alloc, &rt, Ask::UndoTwo, (4, 5), (8, 3), undone, 0)?;
     let made = found(How::Clean, 3, 1);
     move_stops(alloc, &rt, Ask::RedoTwo, (5, 7), (3, 4), made, 4)
 }

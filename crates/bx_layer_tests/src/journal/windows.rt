@@ -170,7 +170,7 @@ fn read_in_small_windows(rt: HostRuntime) -> Result<(), Fail> {
 const LEN: usize = 131_072;
 
 /// Many more than a window has.
-const LONGER: usize = 524_288;
+const LONGER: usize = 720_896;
 
 // The journal of a change of an image of this many bytes, at least `LEN`: an entry that is longer than two windows.
 fn long_journal(alloc: Global, len: usize) -> Result<Vec<u8>, AllocError> {
@@ -217,7 +217,8 @@ fn each_window_of_a_log_fails(rt: HostRuntime) -> Result<(), Fail> {
     Ok(())
 }
 
-// An undo reads the length and three windows too; each is refused.
+// An undo reads the length and three windows too; each is refused. Behind its first write it restores from the three, and reads the
+// save line once more: each of these interrupts it.
 #[test]
 fn each_window_of_an_undo_fails(rt: HostRuntime) -> Result<(), Fail> {
     let alloc = rt.alloc();
@@ -228,8 +229,12 @@ fn each_window_of_an_undo_fails(rt: HostRuntime) -> Result<(), Fail> {
     for pass in 4..8 {
         assert_refused(alloc, &rt, start, (NONE, pass, NONE), opened, refused)?;
     }
+    let stopped = (Ask::UndoOne, Err(SessionFault::Interrupted));
+    for pass in 8..12 {
+        let _left = left_by(alloc, &rt, start, (NONE, pass, NONE), opened, stopped)?;
+    }
     let undone = (Ask::UndoOne, Ok(0));
-    let left = left_by(alloc, &rt, start, (NONE, 8, NONE), opened, undone)?;
+    let left = left_by(alloc, &rt, start, (NONE, 12, NONE), opened, undone)?;
     assert!(rt; left.0.as_slice() == vec![in alloc; b'x'; LEN]?.as_slice());
     Ok(())
 }
@@ -283,14 +288,14 @@ fn undoes_in<'a>(alloc: Global, bump: &'a Bump, start: Held<'_>) -> Result<bool,
     }
 }
 
-// Its entry is taken back in the memory of what it saved, of what is overwritten, of three windows and of a page: less than its
-// text alone has, so whoever reads that whole is refused.
+// Its entry is taken back in the memory of what it saved, of what is overwritten, of four windows, of the parts of one and of a page,
+// where nothing is given back: less than its text alone has, so whoever reads that whole is refused.
 #[test]
 fn long_entry_in_windows(rt: HostRuntime) -> Result<(), Fail> {
     let alloc = rt.alloc();
     let (image, journal) = (vec![in alloc; b'y'; LONGER]?, long_journal(alloc, LONGER)?);
-    let bump = ration(alloc, 2_100_000)?;
+    let bump = ration(alloc, 2_880_000)?;
     let start: Held<'_> = (image.as_slice(), journal.as_slice(), b"");
-    assert!(rt; journal.len() > 2_200_000 && undoes_in(alloc, &bump, start)?);
+    assert!(rt; journal.len() > 3_000_000 && undoes_in(alloc, &bump, start)?);
     Ok(())
 }
