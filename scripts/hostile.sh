@@ -714,9 +714,9 @@ little_memory() {
     rm -f new before dump plain
 }
 
-# Behind that dd: a redo holds what it restores, an undo what it overwrites too, and an opening that rolls back neither.
+# Behind that dd: an undo holds what it overwrites, a redo what it restores, and an opening that rolls back neither.
 little_memory_of_steps() {
-    within "undo of 64 MiB" 156058 before undo img
+    within "undo of 64 MiB" 88473 before undo img
     within "redo of 64 MiB" 88473 new redo img
     truncate -s -32 img.bxj
     (
