@@ -1,6 +1,7 @@
 pub mod KeptLemmas
 pub mod Splits
 pub mod ShownLemmas
+pub mod ZeroLemmas
 pub mod CalmLemmas
 pub mod CleanLemmas
 pub mod RestLemmas

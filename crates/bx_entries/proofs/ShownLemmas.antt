@@ -1,11 +1,11 @@
 -- What is left of a text after a loss of power is read as a front of it.
-use Rattle.std.proofs.Common.{◌≡◌, ◌⊎◌, ◌<◌, ◌≤◌, ℕ, zero, suc, ◌+◌, ◌-◌, ◌==◌, ◌&&◌, ◌||◌, Bool, true, false, not, cond, eqb, inl, inr, List, [], ◌∷◌, ◌++◌, length, take, drop, get_or, slice_index, codes, if◌then◌else◌, refl, ap, sym, subst, ◌∙◌, arith, append-nil}
+use Rattle.std.proofs.Common.{◌≡◌, ◌⊎◌, ◌<◌, ◌≤◌, ℕ, zero, suc, ◌+◌, ◌-◌, ◌==◌, ◌&&◌, Bool, true, false, not, cond, eqb, inl, inr, List, [], ◌∷◌, ◌++◌, length, take, drop, get_or, slice_index, codes, if◌then◌else◌, refl, ap, sym, subst, ◌∙◌, arith, append-nil}
 use Rattle.std.specs.List.{list_all}
 use Rattle.std.proofs.lemmas.List.{drop-drop, take-append-drop, take-take, take_all, drop-append-le}
 use Rattle.std.proofs.lemmas.List.Folds.{list_all-append}
 use Rattle.std.proofs.Math.ListN.{drop_of_length-le}
 use Rattle.std.proofs.Math.Seq.{drop-cons}
-use Rattle.std.proofs.lemmas.Bool.{and_parts, and_from, and_cases, and_right, or_cases, or_left, or_right, or_parts, eqb-true, eq-eqb, ne_eqb, eqb-false, both_ways, false_from_ne_true}
+use Rattle.std.proofs.lemmas.Bool.{and_parts, and_from, or_cases, or_left, or_right, or_parts, eqb-true, eq-eqb, ne_eqb, eqb-false, both_ways, false_from_ne_true}
 use Rattle.bx_image.specs.Power.{IsFaded}
 use Rattle.bx_entries.specs.Shown.{before_zero, from_zero, begins_with, ends_line, has_end, is_text_byte, is_left, shown}
 use Rattle.bx_entries.specs.inner.Faded.{IsCalm, ShowsFront}
@@ -210,63 +210,6 @@ pub before_none : (t : List ℕ) (i b : ℕ) → i < length t → get_or t i 0 �
 unfolding before_zero
 before_none t i b within is none = rw (drop-cons t i 0 within, is, eq-eqb b 0 none) refl
 
-pub ends_newline : (t : List ℕ) (i b : ℕ) → i < length t → get_or t i 0 ≡ b → b ≡ 10 → ends_line (drop i t) ≡ true
-unfolding ends_line
-ends_newline t i b within is at = rw (drop-cons t i 0 within, is, eq-eqb b 10 at) refl
-
-pub ends_zero : (t : List ℕ) (i b : ℕ) → i < length t → get_or t i 0 ≡ b → b ≡ 0 → ends_line (drop i t) ≡ false
-unfolding ends_line
-ends_zero t i b within is none = rw (drop-cons t i 0 within, is, ne_eqb b 10 (λ e. omega (arith, e, none)), eq-eqb b 0 none) refl
-
-pub ends_other : (t : List ℕ) (i b : ℕ) → i < length t → get_or t i 0 ≡ b → (b ≡ 10 → ⊥) → (b ≡ 0 → ⊥) → ends_line (drop i t) ≡ ends_line (drop (suc i) t)
-unfolding ends_line
-ends_other t i b within is apart some = rw (drop-cons t i 0 within, is, ne_eqb b 10 apart, ne_eqb b 0 some) refl
-
-pub end_here : (t : List ℕ) (i b : ℕ) → i < length t → get_or t i 0 ≡ b → b ≡ 10 → begins_with (codes "done") (drop (suc i) t) ≡ true → ends_line (drop (suc i) t) ≡ true → has_end (drop i t) ≡ true
-unfolding has_end
-end_here t i b within is at begins ends = rw (drop-cons t i 0 within, is, eq-eqb b 10 at, begins, ends) refl
-
-pub no_end_here : (t : List ℕ) (i b : ℕ) → i < length t → get_or t i 0 ≡ b → ((b ≡ 10) → (begins_with (codes "done") (drop (suc i) t) && ends_line (drop (suc i) t)) ≡ false) → has_end (drop i t) ≡ has_end (drop (suc i) t)
-unfolding has_end
-no_end_here t i b within is none = rw (drop-cons t i 0 within, is) (by_newline (eqb b 10) refl)
-  where
-    by_newline : (newline : Bool) → eqb b 10 ≡ newline → (eqb b 10 && begins_with (codes "done") (drop (suc i) t) && ends_line (drop (suc i) t) || has_end (drop (suc i) t)) ≡ has_end (drop (suc i) t)
-    by_newline false e = rw e refl
-    by_newline true e =
-        let no = and_cases (begins_with (codes "done") (drop (suc i) t)) (ends_line (drop (suc i) t)) (none (eqb-true b 10 e)) in
-        elim no [ inl first ↦ rw (e, first) refl | inr second ↦ rw (e, second, and_right (begins_with (codes "done") (drop (suc i) t)) false refl) refl ]
-
-pub begins_four : (t : List ℕ) → 4 ≤ length t → begins_with (codes "done") t ≡ (get_or t 0 0 == 100 && (get_or t 1 0 == 111 && (get_or t 2 0 == 110 && (get_or t 3 0 == 101 && true))))
-unfolding begins_with
-begins_four [] long = absurd (omega (arith, long))
-begins_four (a ∷ []) long = absurd (omega (arith, long))
-begins_four (a ∷ b ∷ []) long = absurd (omega (arith, long))
-begins_four (a ∷ b ∷ c ∷ []) long = absurd (omega (arith, long))
-begins_four (a ∷ b ∷ c ∷ d ∷ t) long = refl
-
-pub begins_short : (t : List ℕ) → length t < 4 → begins_with (codes "done") t ≡ false
-unfolding begins_with
-begins_short [] short = refl
-begins_short (a ∷ []) short = by (eqb a 100)
-  where
-    by : (x : Bool) → (x && false) ≡ false
-    by true = refl
-    by false = refl
-begins_short (a ∷ b ∷ []) short = by (eqb a 100) (eqb b 111)
-  where
-    by : (x y : Bool) → (x && (y && false)) ≡ false
-    by true true = refl
-    by true false = refl
-    by false y = refl
-begins_short (a ∷ b ∷ c ∷ []) short = by (eqb a 100) (eqb b 111) (eqb c 110)
-  where
-    by : (x y z : Bool) → (x && (y && (z && false))) ≡ false
-    by true true true = refl
-    by true true false = refl
-    by true false z = refl
-    by false y z = refl
-begins_short (a ∷ b ∷ c ∷ d ∷ t) short = absurd (omega (arith, short))
-
 pub before_short : (t : List ℕ) → length (before_zero t) ≤ length t
 before_short = front_short
 
@@ -294,14 +237,6 @@ drop_past (b ∷ t) (suc i) long = drop_past t i (omega (arith, long))
 pub before_end : (t : List ℕ) (i : ℕ) → length t ≤ i → length (before_zero (drop i t)) ≡ 0
 unfolding before_zero
 before_end t i long = rw (drop_past t i long) refl
-
-pub ends_end : (t : List ℕ) (i : ℕ) → length t ≤ i → ends_line (drop i t) ≡ false
-unfolding ends_line
-ends_end t i long = rw (drop_past t i long) refl
-
-pub has_end_end : (t : List ℕ) (i : ℕ) → length t ≤ i → has_end (drop i t) ≡ false
-unfolding has_end
-has_end_end t i long = rw (drop_past t i long) refl
 
 pub plus_one : (t : List ℕ) (i : ℕ) → drop (i + 1) t ≡ drop (suc i) t
 plus_one t i = ap (λ k. drop k t) (let e : i + 1 ≡ suc i = omega arith in e)

@@ -7,6 +7,7 @@ pub mod Form
 pub mod Front
 pub mod Journal
 pub mod Kept
+pub mod Left
 pub mod Line
 pub mod Lines
 pub mod Mark

@@ -21,7 +21,7 @@ pub use read::parts::{Part, parts_in};
 pub use read::ranges::{RangedLines, Ranging, nothing_ranged, range_last, range_lines};
 pub use read::rows::{Summed, nothing_summed, sum_full, sum_one};
 pub use read::runs::full_lines::ENDED;
-pub use read::shown::{faded_is_front, shown_len};
+pub use read::shown::{LastLine, faded_is_front, follow_zero, shown_len, zero_at};
 pub use read::tail::rest_may_follow;
 pub use read::take_line::{MOST_CHANGES, told_length};
 pub use read::types::{EntryRead, Front, StageRead};
