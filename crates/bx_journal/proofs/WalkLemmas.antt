@@ -1,10 +1,6 @@
 -- The lines of a text that was walked along, and what is unfinished at its end.
-use Rattle.std.proofs.Common.{◌≡◌, ◌⊎◌, inl, inr, ℕ, ◌+◌, ◌-◌, ◌<◌, ◌≤◌, Bool, true, false, not, List, [], ◌∷◌, ◌++◌, length, length-append, take, take_all, drop, length-take, length-drop, refl, ap, sym, ◌∙◌, subst, arith, append-nil, append_assoc, Option, Some, None}
-use Rattle.std.specs.Prelude.{◌&&◌, if◌then◌else◌}
-use Rattle.std.specs.List.{list_all}
-use Rattle.std.proofs.lemmas.List.Folds.{list_all-append}
+use Rattle.std.proofs.Common.{◌≡◌, inl, inr, ℕ, ◌+◌, ◌-◌, ◌≤◌, Bool, true, false, List, [], ◌∷◌, ◌++◌, length, length-append, take, drop, length-take, length-drop, refl, ap, sym, ◌∙◌, subst, arith, append-nil, Option, Some, None}
 use Rattle.bx_entries.specs.Kept.{Kept}
-use Rattle.bx_entries.specs.Shown.{before_zero, from_zero, has_end, is_left, shown}
 use Rattle.bx_entries.specs.Text.{Entry, Stage, Between, Saving, Ending, Reading, Reads, IsRest, joined, split, start, next_at, after_lines}
 use Rattle.bx_entries.specs.inner.Mark.{IsMark}
 use Rattle.bx_entries.proofs.Inverse.{bind_some, next_between, next_ending, next_saving}
@@ -14,7 +10,6 @@ use Rattle.bx_entries.specs.declared.format.version.Version.{Version}
 use Rattle.bx_entries.specs.declared.read.count.Place.TheVariants.{Between as BetweenPlace, Saving as SavingPlace, Ending as EndingPlace}
 use Rattle.bx_entries.specs.Parsed.{told_by}
 use Rattle.bx_entries.specs.inner.Tally.{IsTallied, place_of, tally_of}
-use Rattle.bx_entries.proofs.ReadLoop.{drop_twice}
 use Rattle.bx_entries.proofs.Runs.{after_lines-append}
 use Rattle.bx_entries.proofs.Splits.{split-append, split-plain}
 use Rattle.bx_entries.proofs.Foreign.{joined_lines, no_way_back}
@@ -23,13 +18,12 @@ use Rattle.bx_entries.specs.declared.read.types.Front.{Front}
 use Rattle.bx_entries.specs.inner.Plain.{HasNoNewline}
 use Rattle.bx_journal.specs.declared.protocol.windows.Mark.{Mark}
 use Rattle.bx_journal.specs.declared.recovery.windows.Walk.{Walk}
-use Rattle.bx_journal.specs.inner.Recovery.{HasMark, IsTorn, IsTornIn}
+use Rattle.bx_journal.specs.inner.Recovery.{HasMark, HasTorn}
 use Rattle.std.proofs.lemmas.List.{take-append-drop}
 use Rattle.bx_journal.specs.inner.Restoring.{AllShorter, StandsAt}
-use Rattle.bx_journal.specs.inner.Windows.{HasNoZero, IsFrontCounted, IsPassed, IsWalkedTo, is_no_zero}
+use Rattle.bx_journal.specs.inner.Windows.{IsFrontCounted, IsPassed, IsWalkedTo}
 use Rattle.bx_entries.proofs.TallyLemmas.{has_form, take_sum}
 use Rattle.bx_journal.proofs.RestoreLemmas.{lines_more, same_reading}
-use Rattle.bx_journal.proofs.ShownTail.{shown_tail}
 use Rattle.bx_journal.proofs.StandLemmas.{joined_shorter, saving_of}
 use Rattle.bx_journal.proofs.Tails.{joined_rest}
 
@@ -103,16 +97,6 @@ lines_between text p q n m first next le =
     let both = ap split is ∙ split-append a b first.whole in
     sym (after_lines-append start p (split a).lines (split b).lines first.lines) ∙ ap (after_lines start) (sym (ap (λ s. s.lines) both)) ∙ next.lines
 
--- of the bytes from a place on some more
-pub no_zero_more : (text : List ℕ) (from at n : ℕ) → from ≤ at → HasNoZero (take (at - from) (drop from text)) → HasNoZero (take n (drop at text)) → HasNoZero (take (at + n - from) (drop from text))
-no_zero_more text from at n le before next =
-    let m : ℕ = at - from in
-    let rest : List ℕ = drop from text in
-    let count : at + n - from ≡ m + n = omega (arith, le) in
-    let place : drop m rest ≡ drop at text = drop_twice from m text ∙ ap (λ i. drop i text) (omega (arith, le)) in
-    let is : take (at + n - from) rest ≡ take m rest ++ take n (drop at text) = ap (λ i. take i rest) count ∙ take_sum m n rest ∙ ap (λ u. take m rest ++ take n u) place in
-    subst HasNoZero (sym is) (list_all-append is_no_zero (take m rest) (take n (drop at text)) ∙ rw (before, next) refl)
-
 saving_form : (stage : Stage) (w : Version) (len : ℕ) → place_of stage ≡ SavingPlace w len → (k : Kept) × (stage ≡ Saving w k) × (k.len ≡ len)
 saving_form stage w len is = has_form stage (SavingPlace w len) is
 
@@ -151,12 +135,6 @@ len_of text from at r v w s len t p first last is stage passed place =
     (subst (λ es. after_lines (record { entries = es; stage = q.stage }) (split (take (at - (from + p.taken)) (drop (from + p.taken) text))).lines ≡ Some r) same on)) in
     sym k.2 ∙ (saving_of r.entries w v k.0 s _ led).len
 
-pub no_zero_none : (text : List ℕ) (from : ℕ) → HasNoZero (take (from - from) (drop from text))
-no_zero_none text from = let e : from - from ≡ 0 = omega arith in rw e refl
-
-pub no_zero_all : (text : List ℕ) (from at : ℕ) → length text ≤ at → from ≤ at → HasNoZero (take (at - from) (drop from text)) → HasNoZero (drop from text)
-no_zero_all text from at le order h = subst HasNoZero (take_all (at - from) (drop from text) (omega (arith, length-drop from text, le, order))) h
-
 pub passed_surely : (H : Type 0) (text : List ℕ) (only : Bool) (at len : ℕ) (t : Tally) (p : Passed) → H → IsPassed H text only at len t p → IsPassed (Unit {0}) text only at len t p
 passed_surely H text only at len t p h passed = record { bytes = passed.bytes; is = λ u. passed.is h; long = passed.long; leads = passed.leads; within = passed.within; lines = passed.lines; few = passed.few }
 
@@ -173,7 +151,7 @@ no_lines [] h = refl
 no_lines (l ∷ ls) h = absurd (omega (arith, h))
 
 -- where the text is finished entries alone, they end where it ends
-finished_end : (text : List ℕ) (f w : ℕ) (r : Reading) (es : List Entry) → IsMark text f (record { entries = r.entries; stage = Between }) → IsMark text w r → f ≤ w → Reads text r → (split text).rest ≡ drop w text → IsFinished text es
+pub finished_end : (text : List ℕ) (f w : ℕ) (r : Reading) (es : List Entry) → IsMark text f (record { entries = r.entries; stage = Between }) → IsMark text w r → f ≤ w → Reads text r → (split text).rest ≡ drop w text → IsFinished text es
     → f ≡ length text
 finished_end text f w r es first last le reads rest fin =
     let same : r ≡ record { entries = es; stage = Between } = same_reading r (record { entries = es; stage = Between }) (sym reads.lines ∙ fin.reads.lines) in
@@ -185,13 +163,13 @@ finished_end text f w r es first last le reads rest fin =
     let all : length b ≡ 0 = sym (ap length (joined_lines b (whole_between text (record { entries = r.entries; stage = Between }) r f w first last le))) ∙ none in
     omega (arith, all, length-take (w - f) (drop f text), length-drop f text, le, last.within, ap length (sym rest ∙ fin.whole), length-drop w text)
 
--- what was found at the end of a text that was walked along is unfinished there
+-- what was found at the end of a text that was walked along
 pub torn_found : (text : List ℕ) (size len : ℕ) (w : Walk) (f : Front) (mark : Option Mark) → IsWalkedTo (Unit {0}) text false size len w → IsFrontCounted (Unit {0}) text false f → len ≡ length text
-    → f.count ≡ w.tally.count → f.at ≤ w.at → (f.at ≡ len → ⊥)
-    → ((r : Reading) → tally_of r ≡ w.tally → IsRest r.entries r.stage (drop w.at text) × HasNoNewline (drop w.at text)) → HasNoZero (drop f.at text)
+    → f.count ≡ w.tally.count → f.at ≤ w.at
+    → ((r : Reading) → tally_of r ≡ w.tally → IsRest r.entries r.stage (drop w.at text) × HasNoNewline (drop w.at text))
     → ((r : Reading) → IsMark text f.at (record { entries = r.entries; stage = Between }) → IsMark text w.at r → tally_of r ≡ w.tally → AllShorter size (split (take w.at text)).lines → HasMark text r.stage mark)
-    → IsTornIn text (record { count = f.count; told = f.told; begins = f.at; mark = mark })
-torn_found text size len w f mark walked front long count le some rest plain find =
+    → HasTorn text (record { count = f.count; told = f.told; begins = f.at; mark = mark })
+torn_found text size len w f mark walked front long count le rest find =
     let t = walked.counted.tallied in
     let r : Reading = t.reading in
     let is : walked.counted.front ≡ take w.at text = walked.counted.is tt in
@@ -211,9 +189,6 @@ torn_found text size len w f mark walked front long count le some rest plain fin
     let many : length c.entries ≡ length r.entries = omega (arith, c.counted, count, ap (λ (u : Tally). u.count) t.is) in
     let same : c.entries ≡ r.entries = entries_same _ p r (lines_between text p r f.at w.at here last le) many in
     let first : IsMark text f.at (record { entries = r.entries; stage = Between }) = subst (λ es. IsMark text f.at (record { entries = es; stage = Between })) same here in
-    let finished : IsFinished (take f.at text) c.entries = subst (λ u. IsFinished u c.entries) f_is c.finished in
-    let parts : take f.at text ++ drop f.at text ≡ text = take-append-drop f.at text in
-    let all : shown text ≡ text = subst (λ u. shown u ≡ u) parts (shown_tail (take f.at text) (drop f.at text) c.entries finished plain) in
     let behind = rest r t.is in
     let both = ap split (sym (take-append-drop w.at text)) ∙ split-append (take w.at text) (drop w.at text) last.whole ∙ ap (λ s. record { lines = (split (take w.at text)).lines ++ s.lines; rest = s.rest }) (split-plain (drop w.at text) behind.1) in
     let lines : (split text).lines ≡ (split (take w.at text)).lines = ap (λ s. s.lines) both ∙ append-nil (split (take w.at text)).lines in
@@ -221,18 +196,16 @@ torn_found text size len w f mark walked front long count le some rest plain fin
       lines = ap (after_lines start) lines ∙ last.lines;
       rest = subst (IsRest r.entries r.stage) (sym (ap (λ s. s.rest) both)) behind.0;
     } in
-    let torn : IsTorn text r (record { count = f.count; told = f.told; begins = f.at; mark = mark }) = record {
-      reads = reads;
-      begins = first;
-      count = c.counted ∙ ap length same;
-      told = c.told_is ∙ ap told_by same;
-      few = front.few;
-      mark = find r first last t.is (subst (λ u. AllShorter size (split u).lines) is walked.short);
-    } in
     record {
       reading = r;
-      torn = subst (λ u. IsTorn u r (record { count = f.count; told = f.told; begins = f.at; mark = mark })) (sym all) torn;
-      unfinished = λ clean. some (finished_end text f.at w.at r clean.0 first last le reads (ap (λ s. s.rest) both) clean.1 ∙ sym long);
+      torn = record {
+        reads = reads;
+        begins = first;
+        count = c.counted ∙ ap length same;
+        told = c.told_is ∙ ap told_by same;
+        few = front.few;
+        mark = find r first last t.is (subst (λ u. AllShorter size (split u).lines) is walked.short);
+      };
     }
 
 -- what a text's tally says of where a record stands

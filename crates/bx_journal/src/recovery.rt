@@ -2,6 +2,7 @@
 mod finished_journal;
 pub(crate) mod journal;
 mod judge;
+mod shown;
 pub(crate) mod take_back;
 mod torn;
 pub(crate) mod unfinished_entry;

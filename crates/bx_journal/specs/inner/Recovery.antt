@@ -1,5 +1,5 @@
 -- What proofs alone need: what opening finds in a journal's text, and what it leaves of the redo text.
-use Rattle.std.specs.Prelude.{◌≡◌, ◌⊎◌, ◌≤◌, ℕ, Option, None, Some, List, length, IfSome, Result, IfOk, IfErr, MatchResult, OnOk, OnErr}
+use Rattle.std.specs.Prelude.{◌≡◌, ◌⊎◌, ◌≤◌, ℕ, Option, None, Some, List, length, take, IfSome, Result, IfOk, IfErr, MatchResult, OnOk, OnErr}
 use Rattle.bx_journal.specs.declared.session.answers.Recovered.{Recovered}
 use Rattle.bx_journal.specs.declared.session.fault.SessionFault.{SessionFault}
 use Rattle.bx_journal.specs.declared.session.fault.SessionFault.TheVariants.{DeviceFailed, Damaged, Interrupted, LengthDiffers, RedoDamaged}
@@ -45,6 +45,18 @@ pub record IsTorn (text : List ℕ) (r : Reading) (t : Torn) : Type 0 where
   pub told : t.told ≡ told_by r.entries
   pub few : t.count ≤ 65535
   pub mark : HasMark text r.stage t.mark
+
+-- something is torn at the end of a text
+pub record HasTorn (text : List ℕ) (t : Torn) : Type 0 where
+  pub reading : Reading
+  pub torn : IsTorn text reading t
+
+-- the first n bytes of a journal have such an end: of the store's, where that is honest
+pub record IsTornFront (honest : Type 0) (stored : List ℕ) (n : ℕ) (t : Torn) : Type 0 where
+  pub torn : honest → HasTorn (take n stored) t
+  pub few : t.count ≤ 65535
+  pub order : IfSome t.mark (λ m. m.lines ≤ m.saved)
+  pub within : t.begins ≤ n
 
 -- so does this text, which isn't finished entries alone
 pub record IsTornIn (text : List ℕ) (t : Torn) : Type 0 where

@@ -1,5 +1,5 @@
 -- What proofs alone need: a store's text that is counted in windows.
-use Rattle.std.specs.Prelude.{◌≡◌, ◌≤◌, ℕ, ◌+◌, Bool, IsTrue, ◌==◌, not, List, ◌++◌, length, take, drop}
+use Rattle.std.specs.Prelude.{◌≡◌, ◌≤◌, ℕ, ◌+◌, ◌-◌, Bool, IsTrue, ◌==◌, not, List, ◌++◌, length, take, drop}
 use Rattle.std.specs.List.{list_all}
 use Rattle.bx_entries.specs.declared.read.count.Tally.{Tally}
 use Rattle.bx_entries.specs.declared.read.types.Front.{Front}
@@ -50,6 +50,10 @@ pub record IsWalkedTo (honest : Type 0) (stored : List ℕ) (only_second : Bool)
   pub lines : w.lines ≤ w.at
   pub few : w.tally.count ≤ 65535
   pub short : AllShorter size (split counted.front).lines
+
+-- what follows a place in the first n bytes of a text
+abbrev pub rest_to : ℕ → ℕ → List ℕ → List ℕ
+rest_to n at text = take (n - at) (drop at text)
 
 -- no line of a text is as long as this: of the store's, where that is honest
 abbrev pub HasShortLines : Type 0 → List ℕ → ℕ → Type 0

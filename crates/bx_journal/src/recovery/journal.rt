@@ -6,7 +6,7 @@ ghost use Rattle.bx_entries.specs.inner.Tally.{IsCounted};
 
 use crate::SessionFault;
 use crate::protocol::windows::Mark;
-use crate::recovery::torn::find_torn;
+use crate::recovery::torn::{find_faded, find_torn};
 use crate::recovery::windows::{ALL, WINDOW, walk_windows};
 use crate::session::fault::of_text;
 use crate::session::read::read_journal;
@@ -148,8 +148,9 @@ fn read_whole<T: TextStore, A: Allocator + Clone>(
     }
 }
 
-/// What a text of `len` bytes is, found a window at a time: nothing of it is kept. It answers none where that can't be found so.
-fn find_in<T: TextStore>(
+/// What a text of `len` bytes is, where no zero is in what is unfinished: found a window at a time, and nothing of it is kept. It answers none
+/// where that can't be found so.
+fn find_plain<T: TextStore>(
     store: &mut T,
     window: &mut [u8],
     len: u64,
@@ -157,6 +158,7 @@ fn find_in<T: TextStore>(
     requires countable { T.failures store.old < u64.MAX }
     requires long { T.honest store.old → len ≡ length (T.text store.old) }
     ensures found { IfOk result (λ found. IfSome found (IsFoundIn (T.honest store.old) (T.text store.old))) }
+    ensures window { length window.new ≡ length window.old }
     ensures text { T.honest store.old → T.text store.new ≡ T.text store.old }
     ensures goes_on { GoesOn T.honest T.room T.failures (is_err result) store.old store.new }
 {
@@ -179,8 +181,34 @@ fn find_in<T: TextStore>(
     Ok(Some(Found::Unfinished(torn)))
 }
 
-/// What a text is, found in as much memory for any length. It answers none where it can't be found so: where the text is damaged, has a
-/// zero in what is unfinished, or a very long line.
+/// What a text of `len` bytes is, found a window at a time: nothing of it is kept. It answers none where that can't be found so.
+fn find_in<T: TextStore>(
+    store: &mut T,
+    window: &mut [u8],
+    len: u64,
+) -> Result<Option<Found>, DeviceFailed>
+    requires countable { T.failures store.old < u64.MAX }
+    requires long { T.honest store.old → len ≡ length (T.text store.old) }
+    ensures found { IfOk result (λ found. IfSome found (IsFoundIn (T.honest store.old) (T.text store.old))) }
+    ensures text { T.honest store.old → T.text store.new ≡ T.text store.old }
+    ensures goes_on { GoesOn T.honest T.room T.failures (is_err result) store.old store.new }
+{
+    let plain = find_plain(store, window, len)?;
+    if let Some(found) = plain {
+        return Ok(Some(found));
+    }
+    if window.is_empty() {
+        return Ok(None);
+    }
+    let faded = find_faded(store, window, len)?;
+    let Some(torn) = faded else {
+        return Ok(None);
+    };
+    Ok(Some(Found::Unfinished(torn)))
+}
+
+/// What a text is, found in as much memory for any length. It answers none where it can't be found so: where the text is damaged or has a
+/// very long line.
 fn find_text<T: TextStore, A: Allocator + Clone>(
     alloc: &A,
     store: &mut T,

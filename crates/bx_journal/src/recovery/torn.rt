@@ -8,13 +8,14 @@ ghost use Rattle.bx_entries.specs.declared.format.version.Version.{Version as Fo
 ghost use Rattle.bx_entries.specs.inner.Mark.{IsMark};
 ghost use Rattle.bx_entries.specs.inner.Plain.{HasNoNewline};
 ghost use Rattle.bx_entries.specs.inner.Tally.{tally_of};
-ghost use Rattle.bx_journal.specs.inner.Recovery.{HasMark, IsUnfinishedIn};
+ghost use Rattle.bx_journal.specs.inner.Recovery.{HasMark, IsTornFront, IsUnfinishedIn};
 ghost use Rattle.bx_journal.specs.inner.Restoring.{AllShorter, StandsAt};
-ghost use Rattle.bx_journal.specs.inner.Windows.{HasNoZero, IsWalkedTo};
+ghost use Rattle.bx_journal.specs.inner.Windows.{IsWalkedTo, rest_to};
 
 use crate::protocol::windows::Mark;
 use crate::recovery::journal::{Torn, start_size};
-use crate::recovery::windows::{ALL, Walk, count_windows, pass_window};
+use crate::recovery::shown::{shown_in, zero_from};
+use crate::recovery::windows::{ALL, Walk, count_windows, pass_window, walk_windows};
 use bx_entries::{Place, Tally, Version, next_end, rest_may_follow};
 use bx_image::DeviceFailed;
 use bx_store::TextStore;
@@ -22,49 +23,7 @@ use bx_store::TextStore;
 /// The line that begins an entry has at most this many bytes, its newline included.
 const LONGEST_START: usize = 34;
 
-/// Whether no byte of a window is a zero.
-fn has_no_zero(window: &[u8]) -> bool
-    ensures { IsTrue result → HasNoZero window.now }
-{
-    for byte in window {
-        if *byte == 0 {
-            return false;
-        }
-    }
-    true
-}
-
-/// Whether no byte of a text of `len` bytes is a zero from a place on.
-fn is_plain_from<T: TextStore>(
-    store: &mut T,
-    window: &mut [u8],
-    from: u64,
-    len: u64,
-) -> Result<bool, DeviceFailed>
-    requires countable { T.failures store.old < u64.MAX }
-    requires long { T.honest store.old → len ≡ length (T.text store.old) }
-    requires below { from ≤ len }
-    requires some { 0 < length window.old }
-    ensures plain { T.honest store.old → IfOk result (λ b. IsTrue b → HasNoZero (drop from (T.text store.old))) }
-    ensures window { length window.new ≡ length window.old }
-    ensures text { T.honest store.old → T.text store.new ≡ T.text store.old }
-    ensures survives { T.honest store.old → NoMore (T.survives store.old) (T.survives store.new) }
-    ensures goes_on { GoesOn T.honest T.room T.failures (is_err result) store.old store.new }
-{
-    let mut at = from;
-    while at < len {
-        let count = (len - at).min(window.len() as u64) as usize;
-        let (part, _) = window.split_at_mut(count);
-        store.read_at(at, part)?;
-        if !has_no_zero(part) {
-            return Ok(false);
-        }
-        at += count as u64;
-    }
-    Ok(true)
-}
-
-/// Whether what follows the last line may stand there.
+/// Whether what follows the last line in a text's first `len` bytes may stand there.
 fn may_follow<T: TextStore>(
     store: &mut T,
     window: &mut [u8],
@@ -72,11 +31,11 @@ fn may_follow<T: TextStore>(
     walk: Walk,
 ) -> Result<bool, DeviceFailed>
     requires countable { T.failures store.old < u64.MAX }
-    requires long { T.honest store.old → len ≡ length (T.text store.old) }
+    requires within { T.honest store.old → len ≤ length (T.text store.old) }
     requires below { walk.at ≤ len }
     requires few { walk.tally.count ≤ 65535 }
     ensures rest { T.honest store.old → (r : Reading) → tally_of r ≡ walk.tally
-        → IfOk result (λ b. IsTrue b → IsRest r.entries r.stage (drop walk.at (T.text store.old)) × HasNoNewline (drop walk.at (T.text store.old))) }
+        → IfOk result (λ b. IsTrue b → IsRest r.entries r.stage (rest_to len walk.at (T.text store.old)) × HasNoNewline (rest_to len walk.at (T.text store.old))) }
     ensures window { length window.new ≡ length window.old }
     ensures text { T.honest store.old → T.text store.new ≡ T.text store.old }
     ensures survives { T.honest store.old → NoMore (T.survives store.old) (T.survives store.new) }
@@ -144,6 +103,7 @@ fn find_record<T: TextStore>(
         → IsMark (T.text store.old) walk.at r → tally_of r ≡ walk.tally → r.stage ≡ Closing version s
         → AllShorter (length window.old) (split (take walk.at (T.text store.old))).lines → IfOk result (λ found. IfSome found (λ m. StandsAt (T.text store.old) m s)) }
     ensures order { IfOk result (λ found. IfSome found (λ m. m.lines ≤ m.saved)) }
+    ensures ends { IfOk result (λ found. IfSome found (λ m. m.saved ≡ walk.at)) }
     ensures window { length window.new ≡ length window.old }
     ensures text { T.honest store.old → T.text store.new ≡ T.text store.old }
     ensures survives { T.honest store.old → NoMore (T.survives store.old) (T.survives store.new) }
@@ -180,6 +140,7 @@ fn find_mark<T: TextStore>(
         → IsMark (T.text store.old) walk.at r → tally_of r ≡ walk.tally
         → AllShorter (length window.old) (split (take walk.at (T.text store.old))).lines → IfOk result (λ found. IfSome found (HasMark (T.text store.old) r.stage)) }
     ensures order { IfOk result (λ found. IfSome found (λ mark. IfSome mark (λ m. m.lines ≤ m.saved))) }
+    ensures ends { IfOk result (λ found. IfSome found (λ mark. IfSome mark (λ m. m.saved ≡ walk.at))) }
     ensures window { length window.new ≡ length window.old }
     ensures text { T.honest store.old → T.text store.new ≡ T.text store.old }
     ensures survives { T.honest store.old → NoMore (T.survives store.old) (T.survives store.new) }
@@ -198,19 +159,19 @@ fn find_mark<T: TextStore>(
     }
 }
 
-/// Finds what is unfinished at the end of a text of `len` bytes, whose lines were walked along. It answers none where nothing is, where what
-/// follows the last line can't stand there, and where a zero is among it or it isn't found.
-pub fn find_torn<T: TextStore>(
+/// Finds what is unfinished at the end of a text's first `len` bytes, whose lines were walked along. It answers none where what follows the
+/// last line can't stand there, and where it isn't found.
+fn find_end<T: TextStore>(
     store: &mut T,
     window: &mut [u8],
     len: u64,
     walk: Walk,
 ) -> Result<Option<Torn>, DeviceFailed>
     requires countable { T.failures store.old < u64.MAX }
-    requires long { T.honest store.old → len ≡ length (T.text store.old) }
-    requires some { 0 < length window.old }
+    requires within { T.honest store.old → len ≤ length (T.text store.old) }
     requires walked { IsWalkedTo (T.honest store.old) (T.text store.old) false (length window.old) len walk }
-    ensures found { IfOk result (λ found. IfSome found (IsUnfinishedIn (T.honest store.old) (T.text store.old))) }
+    ensures found { IfOk result (λ found. IfSome found (IsTornFront (T.honest store.old) (T.text store.old) len)) }
+    ensures window { length window.new ≡ length window.old }
     ensures text { T.honest store.old → T.text store.new ≡ T.text store.old }
     ensures survives { T.honest store.old → NoMore (T.survives store.old) (T.survives store.new) }
     ensures goes_on { GoesOn T.honest T.room T.failures (is_err result) store.old store.new }
@@ -229,13 +190,6 @@ pub fn find_torn<T: TextStore>(
     if front.at > walk.at {
         return Ok(None);
     }
-    if front.at == len {
-        return Ok(None);
-    }
-    let plain = is_plain_from(store, window, front.at, len)?;
-    if !plain {
-        return Ok(None);
-    }
     let found = find_mark(store, window, front.at, walk)?;
     let Some(mark) = found else {
         return Ok(None);
@@ -246,4 +200,62 @@ pub fn find_torn<T: TextStore>(
         begins: front.at,
         mark,
     }))
+}
+
+/// Finds what is unfinished at the end of a text of `len` bytes, whose lines were walked along. It answers none where nothing is, where what
+/// follows the last line can't stand there, and where a zero is among it or it isn't found.
+pub fn find_torn<T: TextStore>(
+    store: &mut T,
+    window: &mut [u8],
+    len: u64,
+    walk: Walk,
+) -> Result<Option<Torn>, DeviceFailed>
+    requires countable { T.failures store.old < u64.MAX }
+    requires long { T.honest store.old → len ≡ length (T.text store.old) }
+    requires some { 0 < length window.old }
+    requires walked { IsWalkedTo (T.honest store.old) (T.text store.old) false (length window.old) len walk }
+    ensures found { IfOk result (λ found. IfSome found (IsUnfinishedIn (T.honest store.old) (T.text store.old))) }
+    ensures window { length window.new ≡ length window.old }
+    ensures text { T.honest store.old → T.text store.new ≡ T.text store.old }
+    ensures survives { T.honest store.old → NoMore (T.survives store.old) (T.survives store.new) }
+    ensures goes_on { GoesOn T.honest T.room T.failures (is_err result) store.old store.new }
+{
+    let found = find_end(store, window, len, walk)?;
+    let Some(torn) = found else {
+        return Ok(None);
+    };
+    if torn.begins >= len {
+        return Ok(None);
+    }
+    let zero = zero_from(store, window, torn.begins, len)?;
+    if zero < len {
+        return Ok(None);
+    }
+    Ok(Some(torn))
+}
+
+/// Finds what is unfinished at the end of a text of `len` bytes in which a loss of power left zeros. It answers none where none did, and
+/// where it isn't found.
+pub fn find_faded<T: TextStore>(
+    store: &mut T,
+    window: &mut [u8],
+    len: u64,
+) -> Result<Option<Torn>, DeviceFailed>
+    requires countable { T.failures store.old < u64.MAX }
+    requires long { T.honest store.old → len ≡ length (T.text store.old) }
+    requires some { 0 < length window.old }
+    ensures found { IfOk result (λ found. IfSome found (IsUnfinishedIn (T.honest store.old) (T.text store.old))) }
+    ensures text { T.honest store.old → T.text store.new ≡ T.text store.old }
+    ensures survives { T.honest store.old → NoMore (T.survives store.old) (T.survives store.new) }
+    ensures goes_on { GoesOn T.honest T.room T.failures (is_err result) store.old store.new }
+{
+    let shown = shown_in(store, window, len)?;
+    if shown >= len {
+        return Ok(None);
+    }
+    let walked = walk_windows(store, window, shown, false, ALL)?;
+    let Some(walk) = walked else {
+        return Ok(None);
+    };
+    find_end(store, window, shown, walk)
 }

@@ -62,7 +62,7 @@ pub fn pass_window<T: TextStore>(
     Ok(count_lines(tally, now, only_second, limit))
 }
 
-/// Walks along the lines of a text of `len` bytes, a window at a time: up to the end of the entry whose number is the limit, or as far as
+/// Walks along the lines of a text's first `len` bytes, a window at a time: up to the end of the entry whose number is the limit, or as far as
 /// whole lines go. What is left of a window's last line is read again with the next one. It answers none where a line is out of
 /// place, with `only_second` also where an entry tells no length.
 pub fn walk_windows<T: TextStore>(
@@ -73,7 +73,7 @@ pub fn walk_windows<T: TextStore>(
     limit: u32,
 ) -> Result<Option<Walk>, DeviceFailed>
     requires countable { T.failures store.old < u64.MAX }
-    requires long { T.honest store.old → len ≡ length (T.text store.old) }
+    requires within { T.honest store.old → len ≤ length (T.text store.old) }
     ensures walked { IfOk result (λ found. IfSome found (IsWalkedTo (T.honest store.old) (T.text store.old) only_second (length window.old) len)) }
     ensures window { length window.new ≡ length window.old }
     ensures text { T.honest store.old → T.text store.new ≡ T.text store.old }
@@ -98,7 +98,7 @@ pub fn walk_windows<T: TextStore>(
     Ok(Some(Walk { tally, at, lines }))
 }
 
-/// Counts the first entries of a text of `len` bytes, a window at a time: as many as the limit says, or all. It answers none where the
+/// Counts the first entries in a text's first `len` bytes, a window at a time: as many as the limit says, or all. It answers none where the
 /// text is anything but finished entries up to there, with `only_second` also where one tells no length, and where a line is
 /// longer than the window.
 pub fn count_windows<T: TextStore>(
@@ -109,7 +109,7 @@ pub fn count_windows<T: TextStore>(
     limit: u32,
 ) -> Result<Option<Front>, DeviceFailed>
     requires countable { T.failures store.old < u64.MAX }
-    requires long { T.honest store.old → len ≡ length (T.text store.old) }
+    requires within { T.honest store.old → len ≤ length (T.text store.old) }
     ensures counted { IfOk result (λ found. IfSome found (IsFrontCounted (T.honest store.old) (T.text store.old) only_second)) }
     ensures short { IfOk result (λ found. IfSome found (λ f. HasShortLines (T.honest store.old) (take f.at (T.text store.old)) (length window.old))) }
     ensures window { length window.new ≡ length window.old }

@@ -1,17 +1,17 @@
-use Rattle.std.proofs.Common.{◌≡◌, ◌-◌, ◌≤◌, length, take, drop, false}
+use Rattle.std.proofs.Common.{◌≡◌, ◌-◌, ◌≤◌, length, drop, false}
 use Rattle.bx_image.specs.Device.{GoesOn}
 use Rattle.bx_image.specs.Power.{NoMore}
-use Rattle.bx_journal.specs.inner.Windows.{HasNoZero}
-use Rattle.bx_journal.proofs.recovery.torn.is_plain_from.Given as goal
+use Rattle.bx_entries.specs.declared.read.shown.LastLine.TheVariants.{Other}
+use Rattle.bx_entries.specs.inner.Left.{is_torn}
+use Rattle.bx_journal.proofs.recovery.shown.is_torn_from.Given as goal
 
--- the bytes up to here are no zeros
+-- what may be left from the place on is said by the last line so far
 abbrev pub invariant-loop-at : goal.invariant-loop-at
 invariant-loop-at g l =
     let T = g.T.TextStore in
     record {
-      order : l.from ≤ l.at;
       below : l.at ≤ l.len;
-      plain : T.honest l.fn.store → HasNoZero (take (l.at - l.from) (drop l.from (T.text l.fn.store)));
+      torn : T.honest l.fn.store → is_torn Other (drop l.from (T.text l.fn.store)) ≡ is_torn l.line (drop l.at (T.text l.fn.store));
       window : length l.window ≡ length l.fn.window;
       text : T.honest l.fn.store → T.text l.store ≡ T.text l.fn.store;
       survives : T.honest l.fn.store → NoMore (T.survives l.fn.store) (T.survives l.store);
