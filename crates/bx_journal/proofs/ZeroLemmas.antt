@@ -25,7 +25,7 @@ use Rattle.bx_journal.specs.inner.Windows.{HasNoZero, IsFrontCounted, IsWalkedTo
 use Rattle.bx_journal.proofs.ShownTail.{shown_tail}
 use Rattle.bx_journal.proofs.WalkLemmas.{finished_end}
 
--- where the first zero of two texts is, of which the first has none
+-- where the first zero of two texts is, the first of them without one
 before_all : (a b : List ℕ) → length a ≤ length (before_zero a) → length (before_zero (a ++ b)) ≡ length a + length (before_zero b)
 unfolding before_zero
 before_all [] b le = omega arith
