@@ -724,6 +724,20 @@ little_memory_of_steps() {
         "$bx" log img > out 2> recovered
     )
     say "$([ $? = 0 ] && cmp -s before img && echo 1)" "a change of 64 MiB rolled back in 20000 KiB of address space" "$(cat recovered)"
+    little_memory_behind_zeros
+}
+
+# The same where a loss of power left zeros in place of the end line, and 16 MiB of them behind it.
+little_memory_behind_zeros() {
+    cp before img
+    "$bx" dd if=new of=img conv=notrunc 2> err
+    truncate -s -32 img.bxj
+    truncate -s +16777216 img.bxj
+    (
+        ulimit -v 24576
+        "$bx" log img > out 2> recovered
+    )
+    say "$([ $? = 0 ] && cmp -s before img && [ ! -s img.bxj ] && echo 1)" "and where zeros stand behind its save line, in 24576 KiB" "$(cat recovered)"
 }
 
 # Kills a run after so many seconds, and takes back the changes that it left.
