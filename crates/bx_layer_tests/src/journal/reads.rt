@@ -20,6 +20,10 @@ const UNDONE: &[u8] =
 const MADE_TWO: &[u8] =
     b"change2 00000001 0000000000000001\n00000000: 41                                       A\nsave 00000001\ndone2 00000001 0000000000000001\nchange2 00000002 0000000000000001\n00000000: 61                                       a\nsave 00000002\ndone2 00000002 0000000000000001\n";
 
+/// The same, where a loss of power left zeros in the second entry's end line.
+const FADED: &[u8] =
+    b"change2 00000001 0000000000000001\n00000000: 41                                       A\nsave 00000001\ndone2 00000001 0000000000000001\nchange2 00000002 0000000000000001\n00000000: 61                                       a\nsave 00000002\ndone2 \0\0\0\0\0\0\0\0 0000000000000001\n";
+
 /// The redo text of the same byte, once it is taken back from `d` over `c` to `b`.
 pub const UNDONE_TWO: &[u8] =
     b"change2 00000001 0000000000000001\n00000000: 64                                       d\nsave 00000001\ndone2 00000001 0000000000000001\nchange2 00000002 0000000000000001\n00000000: 63                                       c\nsave 00000002\ndone2 00000002 0000000000000001\n";
@@ -418,5 +422,20 @@ fn reads_of_a_rollback_fail(rt: HostRuntime) -> Result<(), Fail> {
         let opened = reopened(alloc, &rt, &left, restored)?;
         assert_held(&rt, &opened, (b"a", front(MADE_TWO, 133), b""));
     }
+    Ok(())
+}
+
+// The line with zeros is out of place, so the first zero is looked for, and what follows it is read; then the text before it is read as any
+// other, up to its first line. Each of these reads is refused, and none comes behind them but those of the rollback.
+#[test]
+fn reads_of_a_faded_text_fail(rt: HostRuntime) -> Result<(), Fail> {
+    let alloc = rt.alloc();
+    let start: Held<'_> = (b"A", FADED, UNDONE);
+    for pass in 0..9 {
+        assert_refused(alloc, &rt, start, (NONE, pass, NONE), REFUSED, NO_STEP)?;
+    }
+    let opened = found(How::Restored { number: 2 }, 1, 0);
+    let left = left_by(alloc, &rt, start, (0, 11, 0), opened, NO_STEP)?;
+    assert_held(&rt, &left, (b"a", front(MADE_TWO, 133), b""));
     Ok(())
 }

@@ -299,3 +299,27 @@ fn long_entry_in_windows(rt: HostRuntime) -> Result<(), Fail> {
     assert!(rt; journal.len() > 3_000_000 && undoes_in(alloc, &bump, start)?);
     Ok(())
 }
+
+fn rolls_back_in<'a>(alloc: Global, bump: &'a Bump, start: Held<'_>) -> Result<bool, AllocError> {
+    match open(bump, held(alloc, start)?) {
+        Ok((_, found)) => Ok(found.how == How::Restored { number: 1 }),
+        Err(_) => Ok(false),
+    }
+}
+
+// Where that entry has no end line it is rolled back in the memory of two windows and of the lines in one, also with zeros behind its
+// `save` line that are longer than a window: less than its text alone has.
+#[test]
+fn long_rollback_in_windows(rt: HostRuntime) -> Result<(), Fail> {
+    let alloc = rt.alloc();
+    let (image, mut journal) = (vec![in alloc; b'y'; LONGER]?, long_journal(alloc, LONGER)?);
+    journal.truncate(journal.len().saturating_sub(32));
+    let bump = ration(alloc, 1_000_000)?;
+    let start: Held<'_> = (image.as_slice(), journal.as_slice(), b"");
+    assert!(rt; rolls_back_in(alloc, &bump, start)?);
+    journal.resize(2_700_000, 0)?;
+    let again = ration(alloc, 1_000_000)?;
+    let faded: Held<'_> = (image.as_slice(), journal.as_slice(), b"");
+    assert!(rt; rolls_back_in(alloc, &again, faded)?);
+    Ok(())
+}
