@@ -21,4 +21,5 @@ pub mod Recovery
 pub mod Judging
 pub mod Showing
 pub mod Differences
+pub mod Steps
 pub mod inner

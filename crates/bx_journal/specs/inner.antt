@@ -23,6 +23,7 @@ pub mod RedoLaws
 pub mod Restoring
 pub mod Rows
 pub mod Showing
+pub mod Steps
 pub mod Standing
 pub mod Step
 pub mod Takens

@@ -19,7 +19,8 @@ mod session;
 mod write;
 
 pub use bx_store::{FileText, FuseText, MemText, TextStore};
-pub use look::{ShowFault, log_ranges};
+pub use look::step::{Steps, Way};
+pub use look::{ShowFault, log_ranges, show_steps};
 pub use session::Session;
 pub use session::answers::{How, LogRow, Recovered};
 pub use session::fault::SessionFault;

@@ -1,20 +1,29 @@
 //! A look at the changes of a text, without a session: nothing is recovered, and the text stays.
-ghost use Rattle.std.specs.Prelude.{◌≡◌, ◌<◌, OnOk, IfErr};
+ghost use Rattle.std.specs.Prelude.{◌≡◌, ◌<◌, IsTrue, OnOk, IfErr};
 ghost use Rattle.bx_journal.specs.declared.look.ShowFault.TheVariants.{Text as OfText, Io as OfIo};
 ghost use Rattle.bx_journal.specs.declared.session.fault.SessionFault.TheVariants.{NoMemory as OutOfMemory, DeviceFailed as CallFailed};
 ghost use Rattle.bx_journal.specs.Showing.{RangesOf, StopsLog};
+ghost use Rattle.bx_journal.specs.Steps.{RefusesSteps, ShowsSteps, StopsSteps};
+ghost use Rattle.bx_journal.specs.inner.Steps.{CanStep, CannotStep, FindsSteps, few_that, fault_that};
 
 mod cache;
 mod differences;
 mod entries;
+mod heading;
+mod lines;
 mod marks;
 mod put;
 mod ranges;
+pub mod step;
+mod unfinished;
 
 use crate::SessionFault;
 use crate::look::entries::put_rows;
 use crate::look::marks::all_marks;
-use bx_image::DeviceFailed;
+use crate::look::step::{Steps, Way, put_steps};
+use crate::look::unfinished::{Marked, front_marks, put_torn};
+use crate::session::fault::of_redo;
+use bx_image::{Device, DeviceFailed};
 use bx_store::TextStore;
 use bx_text::{IoFault, NoMemory};
 use std::alloc::{AllocError, Allocator};
@@ -85,4 +94,99 @@ pub fn log_ranges<T: TextStore, A: Allocator + Clone, W: Write>(
         Err(fault) => return Err(ShowFault::Text(fault)),
     };
     put_rows(alloc, store, marks.as_slice(), out)
+}
+
+/// A fault of reading the text, as the call that steps over its changes answers it.
+fn fault_on(way: Way, fault: SessionFault) -> SessionFault
+    ensures { result ≡ fault_that way fault }
+{
+    match way {
+        Way::Undo => fault,
+        Way::Redo => of_redo(fault),
+    }
+}
+
+/// What is answered where a text has fewer entries than there are to be steps.
+fn too_few(way: Way, have: u32) -> SessionFault
+    ensures { result ≡ few_that way have }
+{
+    match way {
+        Way::Undo => SessionFault::TooFew { have },
+        Way::Redo => SessionFault::NothingToRedo { have },
+    }
+}
+
+/// Whether there are as many entries as there are to be steps, and nothing is unfinished that an undo doesn't deal with.
+fn check_steps<A: Allocator>(steps: Steps, found: &Marked<A>) -> Result<(), SessionFault>
+    ensures ok { OnOk result (CanStep steps found.now) }
+    ensures fault { IfErr result (CannotStep steps found.now) }
+{
+    if steps.way == Way::Redo && found.torn.is_some() {
+        return Err(SessionFault::NoMemory);
+    }
+    if found.marks.len() < steps.count as usize {
+        return Err(too_few(steps.way, found.marks.len() as u32));
+    }
+    Ok(())
+}
+
+/// The marks of the entries of a text that are to be stepped over.
+fn find_steps<T: TextStore, A: Allocator + Clone>(
+    alloc: &A,
+    store: &mut T,
+    steps: Steps,
+) -> Result<Marked<A>, SessionFault>
+    requires { T.failures store.old < u64.MAX }
+    ensures { FindsSteps T.honest T.text T.failures steps result store.old store.new }
+{
+    let found = match front_marks(alloc, store) {
+        Ok(found) => found,
+        Err(fault) => return Err(fault_on(steps.way, fault)),
+    };
+    match check_steps(steps, &found) {
+        Ok(()) => Ok(found),
+        Err(fault) => Err(fault),
+    }
+}
+
+/// Writes what the next undos of a journal's text, or the next redos of a redo text, would do: for each step a heading, the
+/// saved lines of the entry as they stand in the text, and an empty line.
+///
+/// Where something is unfinished at the end of a journal, a line says so first, and the steps are over the entries before it.
+/// Of memory it takes windows of 256 KiB, and 56 bytes for each entry.
+///
+/// # Errors
+/// `TooFew` or `NothingToRedo` where the text has fewer entries, `Damaged` or `RedoDamaged` with the line from 1, before
+/// anything is written; `NoMemory`, also where a line has more than 256 KiB, or a redo text has something unfinished at its end,
+/// and `DeviceFailed`; `WriteFailed` with how many bytes were written.
+pub fn show_steps<D: Device, T: TextStore, A: Allocator + Clone, W: Write>(
+    alloc: &A,
+    device: &mut D,
+    store: &mut T,
+    steps: Steps,
+    out: &mut W,
+) -> Result<(), ShowFault>
+    requires countable { D.failures device.old < u64.MAX }
+    requires also_countable { T.failures store.old < u64.MAX }
+    ensures shows { T.honest store.old → (IsTrue steps.compares → D.honest device.old) → OnOk result
+        (ShowsSteps (T.text store.old) (D.image device.old) steps (W.contents out.old) (W.contents out.new)) }
+    ensures fault { IfErr result (StopsSteps (T.honest store.old) (T.text store.old) steps) }
+    ensures quiet { IfErr result (λ fault. RefusesSteps fault → W.contents out.new ≡ W.contents out.old) }
+    ensures image { D.honest device.old → D.image device.new ≡ D.image device.old }
+    ensures text { T.honest store.old → T.text store.new ≡ T.text store.old }
+{
+    let found = match find_steps(alloc, store, steps) {
+        Ok(found) => found,
+        Err(fault) => return Err(ShowFault::Text(fault)),
+    };
+    let before = put_torn(alloc, found.torn, out)?;
+    put_steps(
+        alloc,
+        device,
+        store,
+        found.marks.as_slice(),
+        steps,
+        before,
+        out,
+    )
 }

@@ -85,7 +85,7 @@ fn is_between(marking: Marking) -> bool
 
 /// The marks of the entries that are the first `len` bytes of a text. It answers none where these are anything but finished
 /// entries, and where a line is longer than a window.
-fn marks_to<T: TextStore, A: Allocator + Clone>(
+pub fn marks_to<T: TextStore, A: Allocator + Clone>(
     alloc: &A,
     store: &mut T,
     len: u64,
@@ -111,7 +111,7 @@ fn marks_to<T: TextStore, A: Allocator + Clone>(
 
 /// The marks of the entries of a text, in as much memory beside them for any length. It answers none where they can't be had
 /// so: where the text is anything but finished entries, and where a line is longer than a window.
-fn marks_in_windows<T: TextStore, A: Allocator + Clone>(
+pub fn marks_in_windows<T: TextStore, A: Allocator + Clone>(
     alloc: &A,
     store: &mut T,
 ) -> Result<Option<Vec<Mark, A>>, SessionFault>

@@ -1,0 +1,133 @@
+//! The heading of a step: which change, and what the step writes.
+ghost use Rattle.std.specs.Prelude.{◌≡◌, ◌<◌, ◌≤◌, ◌++◌, length, OnOk, IfErr, string_bytes};
+ghost use Rattle.std.specs.Io.KnownBytes.{Appends};
+ghost use Rattle.bx_journal.specs.inner.Showing.{PutFault, Stays};
+ghost use Rattle.bx_journal.specs.inner.Steps.{amount_text, heading_at, heading_end, heading_front, heading_start, where_at};
+
+use crate::look::ShowFault;
+use crate::look::put::put;
+use crate::look::ranges::put_ranges;
+use crate::look::step::Way;
+use bx_entries::Mark;
+use bx_store::TextStore;
+use std::alloc::{AllocError, Allocator};
+use std::fmt::Write as _;
+use std::io::Write;
+
+/// The number of the change, and which way it is stepped over.
+fn push_front<A: Allocator>(text: &mut String<A>, way: Way, number: u64) -> Result<(), AllocError>
+    ensures { OnOk result (string_bytes text.new ≡ string_bytes text.old ++ heading_front way number) }
+{
+    match way {
+        Way::Undo => write!(text, "# change {}: undo writes ", number),
+        Way::Redo => write!(text, "# change {}: redo writes ", number),
+    }
+}
+
+/// How many bytes are written, up to where they stand.
+fn push_amount<A: Allocator>(text: &mut String<A>, saved: u64) -> Result<(), AllocError>
+    ensures { OnOk result (string_bytes text.new ≡ string_bytes text.old ++ amount_text saved) }
+{
+    if saved == 0 {
+        return write!(text, "no bytes");
+    }
+    if saved == 1 {
+        return write!(text, "1 byte at ");
+    }
+    write!(text, "{} bytes at ", saved)
+}
+
+/// What becomes of the length. A length that the entry doesn't tell is `-`.
+fn push_length<A: Allocator>(
+    text: &mut String<A>,
+    after: Option<u64>,
+    len: u64,
+) -> Result<(), AllocError>
+    ensures { OnOk result (string_bytes text.new ≡ string_bytes text.old ++ heading_end after len) }
+{
+    let Some(after) = after else {
+        return write!(text, ", length - to {}\n", len);
+    };
+    if after == len {
+        return write!(text, ", keeps length {}\n", len);
+    }
+    write!(text, ", length {} to {}\n", after, len)
+}
+
+/// Writes what stands before the ranges.
+fn put_start<A: Allocator + Clone, W: Write>(
+    alloc: &A,
+    way: Way,
+    number: u64,
+    saved: u64,
+    written: u64,
+    out: &mut W,
+) -> Result<u64, ShowFault>
+    ensures start { OnOk result (Appends (W.contents out.old) (W.contents out.new) (heading_start way number saved)) }
+    ensures kind { IfErr result PutFault }
+{
+    let mut text = String::new(alloc.clone()?);
+    push_front(&mut text, way, number)?;
+    push_amount(&mut text, saved)?;
+    put(out, written, text.as_bytes())
+}
+
+/// Writes the ranges, if any.
+fn put_where<T: TextStore, A: Allocator + Clone, W: Write>(
+    alloc: &A,
+    store: &mut T,
+    window: &mut [u8],
+    mark: Mark,
+    written: u64,
+    out: &mut W,
+) -> Result<u64, ShowFault>
+    requires countable { T.failures store.old < u64.MAX }
+    requires within { T.honest store.old → mark.to ≤ length (T.text store.old) }
+    requires order { mark.from ≤ mark.to }
+    ensures put { T.honest store.old → OnOk result (Appends (W.contents out.old) (W.contents out.new) (where_at (T.text store.old) mark)) }
+    ensures kind { IfErr result PutFault }
+    ensures stays { Stays T.honest T.text T.failures result store.old store.new }
+{
+    if mark.saved == 0 {
+        return Ok(written);
+    }
+    put_ranges(alloc, store, window, mark, written, out)
+}
+
+/// Writes what stands behind the ranges.
+fn put_end<A: Allocator + Clone, W: Write>(
+    alloc: &A,
+    mark: Mark,
+    written: u64,
+    out: &mut W,
+) -> Result<u64, ShowFault>
+    ensures end { OnOk result (Appends (W.contents out.old) (W.contents out.new) (heading_end mark.after mark.len)) }
+    ensures kind { IfErr result PutFault }
+{
+    let mut text = String::new(alloc.clone()?);
+    push_length(&mut text, mark.after, mark.len)?;
+    put(out, written, text.as_bytes())
+}
+
+/// Writes the heading of the step over a change.
+pub fn put_heading<T: TextStore, A: Allocator + Clone, W: Write>(
+    alloc: &A,
+    store: &mut T,
+    window: &mut [u8],
+    way: Way,
+    number: u64,
+    mark: Mark,
+    written: u64,
+    out: &mut W,
+) -> Result<u64, ShowFault>
+    requires countable { T.failures store.old < u64.MAX }
+    requires within { T.honest store.old → mark.to ≤ length (T.text store.old) }
+    requires order { mark.from ≤ mark.to }
+    ensures heading { T.honest store.old → OnOk result (Appends (W.contents out.old) (W.contents out.new) (heading_at (T.text store.old) way number mark)) }
+    ensures kind { IfErr result PutFault }
+    ensures stays { Stays T.honest T.text T.failures result store.old store.new }
+{
+    let start = put_start(alloc, way, number, mark.saved, written, out)?;
+    let places = put_where(alloc, store, window, mark, start, out)?;
+    put_end(alloc, mark, places, out)
+}
