@@ -2,7 +2,9 @@
 use Rattle.std.specs.Prelude.{ℕ, List, ◌++◌, codes, decimal}
 use Rattle.bx_journal.specs.declared.look.ShowFault.TheVariants as look
 use Rattle.bx_journal.specs.declared.session.answers.LogRow.{LogRow}
+use Rattle.bx_journal.specs.declared.look.step.Steps.{Steps}
 use Rattle.bx_journal.specs.Showing.{StopsLog}
+use Rattle.bx_journal.specs.Steps.{RefusesSteps, StopsSteps}
 use Rattle.bx_commands.specs.declared.fault.Fault.{Fault}
 use Rattle.bx_commands.specs.declared.fault.Fault.TheVariants as of
 
@@ -15,3 +17,14 @@ abbrev pub StopsListing : Type 0 → List ℕ → Fault → Type 0
 StopsListing honest text (of.Session fault) = StopsLog honest text (look.Text fault)
 StopsListing honest text (of.Io fault) = StopsLog honest text (look.Io fault)
 StopsListing honest text _ = ⊥
+
+-- which fault a list of steps answers: one of a look at the steps
+abbrev pub StopsShowing : Type 0 → List ℕ → Steps → Fault → Type 0
+StopsShowing honest text s (of.Session fault) = StopsSteps honest text s (look.Text fault)
+StopsShowing honest text s (of.Io fault) = StopsSteps honest text s (look.Io fault)
+StopsShowing honest text s _ = ⊥
+
+-- the fault is of the text and the number of steps: nothing is written before it
+abbrev pub RefusesShowing : Fault → Type 0
+RefusesShowing (of.Session fault) = RefusesSteps (look.Text fault)
+RefusesShowing _ = ⊥

@@ -12,6 +12,6 @@ mod run;
 
 pub use command::{Command, Reply};
 pub use fault::Fault;
-pub use listing::{list_ranges, log_text};
+pub use listing::{list_ranges, list_steps, log_text};
 pub use reading::{Form, change_from};
 pub use run::{change_if_read, run_all, run_one};

@@ -1,11 +1,13 @@
 //! The log of a session as text.
-ghost use Rattle.std.specs.Prelude.{◌≡◌, ◌<◌, ◌++◌, IfErr, IfOk, OnOk, IsOkUnless, string_bytes};
+ghost use Rattle.std.specs.Prelude.{◌≡◌, ◌<◌, ◌++◌, IfErr, IfOk, OnOk, IsOkUnless, IsTrue, string_bytes};
 ghost use Rattle.std.specs.List.{flat_map};
 ghost use Rattle.bx_journal.specs.Showing.{RangesOf};
-ghost use Rattle.bx_commands.specs.Listing.{StopsListing, log_line};
+ghost use Rattle.bx_journal.specs.Steps.{ShowsSteps};
+ghost use Rattle.bx_commands.specs.Listing.{RefusesShowing, StopsListing, StopsShowing, log_line};
 
 use crate::Fault;
-use bx_journal::{LogRow, ShowFault, log_ranges};
+use bx_image::Device;
+use bx_journal::{LogRow, ShowFault, Steps, log_ranges, show_steps};
 use bx_store::TextStore;
 use bx_text::IoFault;
 use std::alloc::{AllocError, Allocator};
@@ -48,6 +50,34 @@ pub fn list_ranges<T: TextStore, A: Allocator + Clone, W: Write>(
     ensures text { T.honest store.old → T.text store.new ≡ T.text store.old }
 {
     match log_ranges(alloc, store, out) {
+        Ok(()) => Ok(()),
+        Err(ShowFault::Text(fault)) => Err(Fault::Session(fault)),
+        Err(ShowFault::Io(fault)) => Err(Fault::Io(fault)),
+    }
+}
+
+/// Writes what the next undos of a journal's text, or the next redos of a redo text, would do: for each step a heading, the saved
+/// lines, and an empty line. The text and the image stay.
+///
+/// # Errors
+/// As of `bx_journal::show_steps`.
+pub fn list_steps<D: Device, T: TextStore, A: Allocator + Clone, W: Write>(
+    alloc: &A,
+    device: &mut D,
+    store: &mut T,
+    steps: Steps,
+    out: &mut W,
+) -> Result<(), Fault>
+    requires countable { D.failures device.old < u64.MAX }
+    requires also_countable { T.failures store.old < u64.MAX }
+    ensures shows { T.honest store.old → (IsTrue steps.compares → D.honest device.old) → OnOk result
+        (ShowsSteps (T.text store.old) (D.image device.old) steps (W.contents out.old) (W.contents out.new)) }
+    ensures fault { IfErr result (StopsShowing (T.honest store.old) (T.text store.old) steps) }
+    ensures quiet { IfErr result (λ fault. RefusesShowing fault → W.contents out.new ≡ W.contents out.old) }
+    ensures image { D.honest device.old → D.image device.new ≡ D.image device.old }
+    ensures text { T.honest store.old → T.text store.new ≡ T.text store.old }
+{
+    match show_steps(alloc, device, store, steps, out) {
         Ok(()) => Ok(()),
         Err(ShowFault::Text(fault)) => Err(Fault::Session(fault)),
         Err(ShowFault::Io(fault)) => Err(Fault::Io(fault)),

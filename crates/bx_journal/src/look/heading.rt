@@ -1,5 +1,5 @@
 //! The heading of a step: which change, and what the step writes.
-ghost use Rattle.std.specs.Prelude.{◌≡◌, ◌<◌, ◌≤◌, ◌++◌, length, OnOk, IfErr, string_bytes};
+ghost use Rattle.std.specs.Prelude.{◌≡◌, ◌<◌, ◌≤◌, ◌++◌, length, Some, OnOk, IfErr, string_bytes};
 ghost use Rattle.std.specs.Io.KnownBytes.{Appends};
 ghost use Rattle.bx_journal.specs.inner.Showing.{PutFault, Stays};
 ghost use Rattle.bx_journal.specs.inner.Steps.{amount_text, heading_at, heading_end, heading_front, heading_start, where_at};
@@ -37,7 +37,17 @@ fn push_amount<A: Allocator>(text: &mut String<A>, saved: u64) -> Result<(), All
     write!(text, "{} bytes at ", saved)
 }
 
-/// What becomes of the length. A length that the entry doesn't tell is `-`.
+/// What becomes of a length that the entry tells.
+fn push_told<A: Allocator>(text: &mut String<A>, after: u64, len: u64) -> Result<(), AllocError>
+    ensures { OnOk result (string_bytes text.new ≡ string_bytes text.old ++ heading_end (Some after) len) }
+{
+    if after == len {
+        return write!(text, ", keeps length {}\n", len);
+    }
+    write!(text, ", length {} to {}\n", after, len)
+}
+
+/// What becomes of the length. One that the entry doesn't tell is `-`.
 fn push_length<A: Allocator>(
     text: &mut String<A>,
     after: Option<u64>,
@@ -45,13 +55,10 @@ fn push_length<A: Allocator>(
 ) -> Result<(), AllocError>
     ensures { OnOk result (string_bytes text.new ≡ string_bytes text.old ++ heading_end after len) }
 {
-    let Some(after) = after else {
-        return write!(text, ", length - to {}\n", len);
-    };
-    if after == len {
-        return write!(text, ", keeps length {}\n", len);
+    match after {
+        Some(after) => push_told(text, after, len),
+        None => write!(text, ", length - to {}\n", len),
     }
-    write!(text, ", length {} to {}\n", after, len)
 }
 
 /// Writes what stands before the ranges.
