@@ -63,6 +63,9 @@ pub mod Reopening
 pub mod MarkedLemmas
 pub mod PutLemmas
 pub mod RowTexts
+pub mod StepTexts
+pub mod Spellings
+pub mod StepsShown
 pub mod BesideLemmas
 pub mod PlacedLemmas
 pub mod PlacedLoop

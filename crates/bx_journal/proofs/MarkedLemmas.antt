@@ -74,7 +74,7 @@ marks_all honest now stored text len marks still same long of = record {
 
 -- what is said of a text behind a call that only looked at it
 module _ {T V : Type 0} {honest : T → Type 0} {text : T → List ℕ} {failures : T → ℕ} {v : V} {old now : T} (first : LooksAt honest text failures (Ok v) old now) where
-  fault_is : (e : SessionFault) → FindFault (honest now) (shown (text now)) e → FindFault (honest old) (shown (text old)) e
+  pub fault_is : (e : SessionFault) → FindFault (honest now) (shown (text now)) e → FindFault (honest old) (shown (text old)) e
   fault_is NoMemory f = tt
   fault_is DeviceFailed f = tt
   fault_is (Damaged line) f = λ h. subst (λ t. IsDamagedAt (shown t) line) (first.same h) (f (first.honesty.1 h))

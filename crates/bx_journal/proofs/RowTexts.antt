@@ -22,11 +22,11 @@ use Rattle.bx_entries.proofs.Splits.{AllPlain}
 use Rattle.bx_journal.specs.Showing.{RangesOf, after_text, places_text, ranges_row, ranges_rows}
 use Rattle.bx_journal.specs.inner.Showing.{AreAllMarks, LiesWithin, lines_at, mark_row, mark_rows, places_at, ranges_at, row_front}
 
-joined-append : (a b : List (List ℕ)) → joined (a ++ b) ≡ joined a ++ joined b
+pub joined-append : (a b : List (List ℕ)) → joined (a ++ b) ≡ joined a ++ joined b
 joined-append a b = flat_map-append ended a b
 
 -- what stands behind the saved lines of an entry
-abbrev tail_of : List EntryLines → EntryLines → List (List ℕ)
+abbrev pub tail_of : List EntryLines → EntryLines → List (List ℕ)
 tail_of older c = save_line (suc (length older)) ∷ c.last ∷ []
 
 abbrev begin_of : List EntryLines → EntryLines → List ℕ
@@ -93,7 +93,7 @@ rows_pushed text marks m =
     let e : 1 + length marks ≡ length marks + 1 = omega arith in
     mark_rows-append text 1 marks (m ∷ []) ∙ ap (λ t. mark_rows text 1 marks ++ t) (one_row text (1 + length marks) m ∙ ap (λ n. mark_row text n m) e)
 
-plain_front : (a b : List (List ℕ)) → AllPlain (a ++ b) → AllPlain a × AllPlain b
+pub plain_front : (a b : List (List ℕ)) → AllPlain (a ++ b) → AllPlain a × AllPlain b
 plain_front [] b plain = (tt, plain)
 plain_front (l ∷ a) b plain = let more = plain_front a b plain.1 in ((plain.0, more.0), more.1)
 

@@ -1,11 +1,12 @@
 -- What a look at the next undos, or redos, of a text writes.
-use Rattle.std.specs.Prelude.{◌≡◌, ◌<◌, ◌≤◌, ℕ, suc, ◌-◌, ◌==◌, Bool, true, false, Option, None, Some, List, [], ◌∷◌, ◌++◌, length, map, take, if◌then◌else◌, codes, decimal}
+use Rattle.std.specs.Prelude.{◌≡◌, ◌<◌, ◌≤◌, ℕ, suc, ◌-◌, ◌==◌, Bool, false, Option, None, Some, List, [], ◌∷◌, ◌++◌, length, map, take, if◌then◌else◌, codes, decimal}
 use Rattle.std.specs.Io.KnownBytes.{Appends}
 use Rattle.bx_entries.specs.Kept.{Kept}
 use Rattle.bx_entries.specs.Ranges.{ranges_text}
 use Rattle.bx_entries.specs.Shown.{shown}
 use Rattle.bx_entries.specs.Spelled.{EntryLines, IsSpelled, entry_in}
 use Rattle.bx_entries.specs.Text.{Entry, Stage, Between, Saving, Ending, IsPrefix, Reading, Reads, IsDamagedAt, joined}
+use Rattle.bx_journal.specs.Differences.{diff_text}
 use Rattle.bx_journal.specs.Fault.{DeviceFault}
 use Rattle.bx_journal.specs.Redo.{IsClean}
 use Rattle.bx_journal.specs.Showing.{after_text, bytes_of}
@@ -36,16 +37,17 @@ keeps_length (Some after) len = after == len
 
 -- what a step makes of the length, which is `-` where the entry doesn't tell it
 abbrev pub length_text : Option ℕ → ℕ → List ℕ
-length_text after len = if keeps_length after len then codes "keeps length " ++ decimal len else codes "length " ++ after_text after ++ codes " to " ++ decimal len
+length_text after len =
+    if keeps_length after len then codes "keeps length " ++ decimal len else codes "length " ++ after_text after ++ codes " to " ++ decimal len
 
 -- the heading of a step: the number of the change, the way, what is written, and the length
 abbrev pub heading : Way → ℕ → Entry → List ℕ
 heading way n e = codes "# change " ++ decimal n ++ codes ": " ++ way_word way ++ codes " writes " ++ writes_text e.saved ++ codes ", "
     ++ length_text e.after e.saved.len ++ codes "\n"
 
--- the saved lines of an entry of this length as they stand
+-- the saved lines of an entry of this length, beside the image where they are compared, else as they stand
 abbrev pub lines_text : Bool → List ℕ → ℕ → List (List ℕ) → List ℕ
-lines_text compares image len lines = joined lines
+lines_text compares image len lines = if compares then diff_text image len lines else joined lines
 
 -- a step: its heading, the saved lines, and an empty line
 abbrev pub step_text : Steps → List ℕ → ℕ → EntryLines → List ℕ

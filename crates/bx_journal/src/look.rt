@@ -1,10 +1,11 @@
 //! A look at the changes of a text, without a session: nothing is recovered, and the text stays.
-ghost use Rattle.std.specs.Prelude.{◌≡◌, ◌<◌, IsTrue, OnOk, IfErr};
+ghost use Rattle.std.specs.Prelude.{◌≡◌, ◌<◌, ◌≤◌, ℕ, All, false, IsTrue, None, length, OnOk, IfOk, IfErr};
 ghost use Rattle.bx_journal.specs.declared.look.ShowFault.TheVariants.{Text as OfText, Io as OfIo};
 ghost use Rattle.bx_journal.specs.declared.session.fault.SessionFault.TheVariants.{NoMemory as OutOfMemory, DeviceFailed as CallFailed};
 ghost use Rattle.bx_journal.specs.Showing.{RangesOf, StopsLog};
 ghost use Rattle.bx_journal.specs.Steps.{RefusesSteps, ShowsSteps, StopsSteps};
-ghost use Rattle.bx_journal.specs.inner.Steps.{CanStep, CannotStep, FindsSteps, few_that, fault_that};
+ghost use Rattle.bx_journal.specs.inner.Showing.{LiesWithin, PutFault};
+ghost use Rattle.bx_journal.specs.inner.Steps.{CannotStep, FindsSteps, IsChecked, IsFoundPut, few_that, fault_that};
 
 mod cache;
 mod differences;
@@ -22,6 +23,7 @@ use crate::look::entries::put_rows;
 use crate::look::marks::all_marks;
 use crate::look::step::{Steps, Way, put_steps};
 use crate::look::unfinished::{Marked, front_marks, put_torn};
+use crate::recovery::journal::Torn;
 use crate::session::fault::of_redo;
 use bx_image::{Device, DeviceFailed};
 use bx_store::TextStore;
@@ -116,18 +118,30 @@ fn too_few(way: Way, have: u32) -> SessionFault
     }
 }
 
-/// Whether there are as many entries as there are to be steps, and nothing is unfinished that an undo doesn't deal with.
-fn check_steps<A: Allocator>(steps: Steps, found: &Marked<A>) -> Result<(), SessionFault>
-    ensures ok { OnOk result (CanStep steps found.now) }
-    ensures fault { IfErr result (CannotStep steps found.now) }
+/// Whether something is unfinished that steps this way don't deal with.
+fn is_left(way: Way, torn: Option<Torn>) -> bool
+    ensures { result ≡ false → way ≡ Way.Redo → torn ≡ None }
 {
-    if steps.way == Way::Redo && found.torn.is_some() {
+    match way {
+        Way::Undo => false,
+        Way::Redo => torn.is_some(),
+    }
+}
+
+/// The marks that were found, where there are as many as there are to be steps, and nothing is unfinished that these don't deal with.
+fn check_steps<A: Allocator>(steps: Steps, found: Marked<A>) -> Result<Marked<A>, SessionFault>
+    requires { length found.marks.items ≤ 65535 }
+    ensures ok { IfOk result (IsChecked steps found) }
+    ensures fault { IfErr result (CannotStep steps found) }
+{
+    if is_left(steps.way, found.torn) {
         return Err(SessionFault::NoMemory);
     }
-    if found.marks.len() < steps.count as usize {
-        return Err(too_few(steps.way, found.marks.len() as u32));
+    let have = found.marks.len();
+    if have < steps.count as usize {
+        return Err(too_few(steps.way, have as u32));
     }
-    Ok(())
+    Ok(found)
 }
 
 /// The marks of the entries of a text that are to be stepped over.
@@ -143,17 +157,46 @@ fn find_steps<T: TextStore, A: Allocator + Clone>(
         Ok(found) => found,
         Err(fault) => return Err(fault_on(steps.way, fault)),
     };
-    match check_steps(steps, &found) {
-        Ok(()) => Ok(found),
-        Err(fault) => Err(fault),
-    }
+    check_steps(steps, found)
+}
+
+/// Writes the line on what is unfinished, and the steps.
+fn put_found<D: Device, T: TextStore, A: Allocator + Clone, W: Write>(
+    alloc: &A,
+    device: &mut D,
+    store: &mut T,
+    found: &Marked<A>,
+    steps: Steps,
+    out: &mut W,
+) -> Result<(), ShowFault>
+    requires countable { D.failures device.old < u64.MAX }
+    requires also_countable { T.failures store.old < u64.MAX }
+    requires enough { steps.count ≤ length found.now.marks.items }
+    requires lie { (len : ℕ) × (T.honest store.old → len ≤ length (T.text store.old)) × All (LiesWithin len) found.now.marks.items }
+    ensures put { T.honest store.old → (IsTrue steps.compares → D.honest device.old) → OnOk result
+        (IsFoundPut steps (D.image device.old) (T.text store.old) found.now (W.contents out.old) (W.contents out.new)) }
+    ensures kind { IfErr result PutFault }
+    ensures image { D.honest device.old → D.image device.new ≡ D.image device.old }
+    ensures text { T.honest store.old → T.text store.new ≡ T.text store.old }
+{
+    let before = put_torn(alloc, found.torn, out)?;
+    put_steps(
+        alloc,
+        device,
+        store,
+        found.marks.as_slice(),
+        steps,
+        before,
+        out,
+    )
 }
 
 /// Writes what the next undos of a journal's text, or the next redos of a redo text, would do: for each step a heading, the
-/// saved lines of the entry as they stand in the text, and an empty line.
+/// saved lines of the entry as they stand in the text, or where they are compared each beside what the image has there, and an
+/// empty line.
 ///
 /// Where something is unfinished at the end of a journal, a line says so first, and the steps are over the entries before it.
-/// Of memory it takes windows of 256 KiB, and 56 bytes for each entry.
+/// Of memory it takes windows of 256 KiB, 56 bytes for each entry, and where lines are compared about 1 MiB.
 ///
 /// # Errors
 /// `TooFew` or `NothingToRedo` where the text has fewer entries, `Damaged` or `RedoDamaged` with the line from 1, before
@@ -179,14 +222,5 @@ pub fn show_steps<D: Device, T: TextStore, A: Allocator + Clone, W: Write>(
         Ok(found) => found,
         Err(fault) => return Err(ShowFault::Text(fault)),
     };
-    let before = put_torn(alloc, found.torn, out)?;
-    put_steps(
-        alloc,
-        device,
-        store,
-        found.marks.as_slice(),
-        steps,
-        before,
-        out,
-    )
+    put_found(alloc, device, store, &found, steps, out)
 }

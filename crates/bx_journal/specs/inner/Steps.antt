@@ -4,22 +4,23 @@ use Rattle.std.specs.Io.KnownBytes.{Appends}
 use Rattle.bx_entries.specs.declared.read.marks.Mark.{Mark}
 use Rattle.bx_entries.specs.Shown.{shown}
 use Rattle.bx_entries.specs.Spelled.{EntryLines, IsSpelled}
-use Rattle.bx_entries.specs.Text.{Stage}
+use Rattle.bx_entries.specs.Text.{Stage, split}
 use Rattle.bx_entries.specs.inner.Marks.{marks_of}
-use Rattle.bx_journal.specs.Fault.{DeviceFault}
+use Rattle.bx_journal.specs.Differences.{diff_text}
 use Rattle.bx_journal.specs.Steps.{IsUnfinishedBehind, StopsSteps, bytes_text, first_number, length_text, next_word, way_word}
 use Rattle.bx_journal.specs.declared.look.ShowFault.TheVariants.{Text}
 use Rattle.bx_journal.specs.declared.look.step.Steps.{Steps}
 use Rattle.bx_journal.specs.declared.look.step.Way.{Way}
 use Rattle.bx_journal.specs.declared.look.step.Way.TheVariants.{Undo, Redo}
 use Rattle.bx_journal.specs.declared.look.unfinished.Marked.{Marked}
+use Rattle.bx_journal.specs.declared.protocol.windows.Mark.{Mark as Place}
 use Rattle.bx_journal.specs.declared.recovery.journal.Torn.{Torn}
 use Rattle.bx_journal.specs.declared.session.fault.SessionFault.{SessionFault}
 use Rattle.bx_journal.specs.declared.session.fault.SessionFault.TheVariants.{NoMemory, TooFew, NothingToRedo}
 use Rattle.bx_journal.specs.inner.Devices.{LooksAt}
 use Rattle.bx_journal.specs.inner.Fault.{redo_fault}
 use Rattle.bx_journal.specs.inner.Recovery.{FindFault}
-use Rattle.bx_journal.specs.inner.Showing.{lines_at, ranges_at}
+use Rattle.bx_journal.specs.inner.Showing.{Stays, lines_at, ranges_at}
 
 -- how many bytes a step writes, up to where they stand
 abbrev pub amount_text : ℕ → List ℕ
@@ -37,7 +38,20 @@ heading_start way n saved = heading_front way n ++ amount_text saved
 abbrev pub where_at : List ℕ → Mark → List ℕ
 where_at text mark = if mark.saved == 0 then [] else ranges_at text mark
 
--- what stands in a heading behind them
+-- what stands in a heading behind them, where the length stays
+abbrev pub kept_end : ℕ → List ℕ
+kept_end len = codes ", keeps length " ++ decimal len ++ codes "\n"
+
+-- where it doesn't
+abbrev pub changed_end : ℕ → ℕ → List ℕ
+changed_end after len = codes ", length " ++ decimal after ++ codes " to " ++ decimal len ++ codes "\n"
+
+-- where the entry tells the length after the change
+abbrev pub told_end : Bool → ℕ → ℕ → List ℕ
+told_end keeps after len = codes ", "
+    ++ (if keeps then codes "keeps length " ++ decimal len else codes "length " ++ decimal after ++ codes " to " ++ decimal len) ++ codes "\n"
+
+-- what stands behind them
 abbrev pub heading_end : Option ℕ → ℕ → List ℕ
 heading_end after len = codes ", " ++ length_text after len ++ codes "\n"
 
@@ -45,9 +59,9 @@ heading_end after len = codes ", " ++ length_text after len ++ codes "\n"
 abbrev pub heading_at : List ℕ → Way → ℕ → Mark → List ℕ
 heading_at text way n mark = heading_start way n mark.saved ++ where_at text mark ++ heading_end mark.after mark.len
 
--- its saved lines
+-- its saved lines, beside the image where they are compared
 abbrev pub saved_at : Bool → List ℕ → List ℕ → Mark → List ℕ
-saved_at compares image text mark = lines_at text mark
+saved_at compares image text mark = if compares then diff_text image mark.len (split (lines_at text mark)).lines else lines_at text mark
 
 -- the step of a mark
 abbrev pub mark_step : Steps → List ℕ → List ℕ → ℕ → Mark → List ℕ
@@ -72,13 +86,14 @@ abbrev pub AreStepsPut : Steps → List ℕ → List ℕ → ℕ → List Mark �
 AreStepsPut s image text count marks old new =
     Appends old new (newest_first s image text (first_number s.way s.changes (length marks)) (drop (length marks - count) marks))
 
--- what the next command does with what is unfinished
-abbrev pub torn_word : Torn → List ℕ
-torn_word torn = elim torn.mark [ None ↦ codes "drops it" | Some mark ↦ codes "takes it back" ]
+-- what the next command does with what is unfinished, which has its record at a mark where the change was under way
+abbrev pub mark_word : Option Place → List ℕ
+mark_word None = codes "drops it"
+mark_word (Some mark) = codes "takes it back"
 
 -- the line that says so
 abbrev pub torn_line : Torn → List ℕ
-torn_line torn = codes "# change " ++ decimal (torn.count + 1) ++ codes ": unfinished, the next command " ++ torn_word torn ++ codes "\n"
+torn_line torn = codes "# change " ++ decimal (torn.count + 1) ++ codes ": unfinished, the next command " ++ mark_word torn.mark ++ codes "\n"
 
 -- the same where something is unfinished
 abbrev pub torn_text : Option Torn → List ℕ
@@ -89,7 +104,7 @@ torn_text (Some torn) = torn_line torn
 abbrev pub StandsBehind : List ℕ → List ℕ → List EntryLines → Option Torn → Type 0
 StandsBehind text front entries None = text ≡ front
 StandsBehind text front entries (Some torn) = (stage : Stage) × IsUnfinishedBehind text front entries stage × (torn.count ≡ length entries)
-    × (torn_word torn ≡ next_word stage)
+    × (mark_word torn.mark ≡ next_word stage)
 
 -- the finished entries of a text, which is the store's where that is honest, have these marks, and behind them stands this
 pub record AreFrontMarks (honest : Type 0) (stored : List ℕ) (marks : List Mark) (torn : Option Torn) : Type 0 where
@@ -120,6 +135,10 @@ few_that Redo have = NothingToRedo have
 abbrev pub CanStep : {A : Type 0} → Steps → Marked A → Type 0
 CanStep s found = (s.count ≤ length found.marks.items) × (s.way ≡ Redo → found.torn ≡ None)
 
+-- what was checked is what was found, and can be stepped over
+abbrev pub IsChecked : {A : Type 0} → Steps → Marked A → Marked A → Type 0
+IsChecked s found checked = (checked.marks.items ≡ found.marks.items) × (checked.torn ≡ found.torn) × CanStep s checked
+
 -- why steps aren't taken
 abbrev pub CannotStep : {A : Type 0} → Steps → Marked A → SessionFault → Type 0
 CannotStep s found fault = (fault ≡ NoMemory) ⊎ ((length found.marks.items < s.count) × (fault ≡ few_that s.way (length found.marks.items)))
@@ -130,4 +149,9 @@ pub record FindsSteps {T A : Type 0} (honest : T → Type 0) (text : T → List 
   pub marks : IfOk result (λ found. AreFrontMarks (honest old) (text old) found.marks.items found.torn)
   pub can : IfOk result (CanStep s)
   pub fault : IfErr result (λ e. StopsSteps (honest old) (text old) s (Text e))
-  pub looks : LooksAt honest text failures result old new
+  pub stays : Stays honest text failures result old new
+
+-- the line on what is unfinished was written, and the steps over what was found
+abbrev pub IsFoundPut : {A : Type 0} → Steps → List ℕ → List ℕ → Marked A → Option (List ℕ) → Option (List ℕ) → Type 0
+IsFoundPut s image text found old new =
+    (between : Option (List ℕ)) × Appends old between (torn_text found.torn) × AreStepsPut s image text s.count found.marks.items between new

@@ -2,7 +2,8 @@
 ghost use Rattle.std.specs.Prelude.{◌≡◌, ◌<◌, ◌≤◌, ◌++◌, length, Some, OnOk, IfErr, string_bytes};
 ghost use Rattle.std.specs.Io.KnownBytes.{Appends};
 ghost use Rattle.bx_journal.specs.inner.Showing.{PutFault, Stays};
-ghost use Rattle.bx_journal.specs.inner.Steps.{amount_text, heading_at, heading_end, heading_front, heading_start, where_at};
+ghost use Rattle.bx_journal.specs.inner.Steps.{amount_text, changed_end, heading_at, heading_end, heading_front, heading_start, kept_end, told_end, where_at};
+ghost use Rattle.bx_journal.specs.Steps.{keeps_length};
 
 use crate::look::ShowFault;
 use crate::look::put::put;
@@ -37,14 +38,40 @@ fn push_amount<A: Allocator>(text: &mut String<A>, saved: u64) -> Result<(), All
     write!(text, "{} bytes at ", saved)
 }
 
-/// What becomes of a length that the entry tells.
-fn push_told<A: Allocator>(text: &mut String<A>, after: u64, len: u64) -> Result<(), AllocError>
-    ensures { OnOk result (string_bytes text.new ≡ string_bytes text.old ++ heading_end (Some after) len) }
+/// Whether a change kept the length.
+fn is_kept(after: u64, len: u64) -> bool
+    ensures { result ≡ keeps_length (Some after) len }
 {
-    if after == len {
-        return write!(text, ", keeps length {}\n", len);
-    }
+    after == len
+}
+
+/// What becomes of a length that stays.
+fn push_kept<A: Allocator>(text: &mut String<A>, len: u64) -> Result<(), AllocError>
+    ensures { OnOk result (string_bytes text.new ≡ string_bytes text.old ++ kept_end len) }
+{
+    write!(text, ", keeps length {}\n", len)
+}
+
+/// What becomes of another length.
+fn push_changed<A: Allocator>(text: &mut String<A>, after: u64, len: u64) -> Result<(), AllocError>
+    ensures { OnOk result (string_bytes text.new ≡ string_bytes text.old ++ changed_end after len) }
+{
     write!(text, ", length {} to {}\n", after, len)
+}
+
+/// What becomes of a length that the entry tells.
+fn push_told<A: Allocator>(
+    text: &mut String<A>,
+    keeps: bool,
+    after: u64,
+    len: u64,
+) -> Result<(), AllocError>
+    ensures { OnOk result (string_bytes text.new ≡ string_bytes text.old ++ told_end keeps after len) }
+{
+    match keeps {
+        true => push_kept(text, len),
+        false => push_changed(text, after, len),
+    }
 }
 
 /// What becomes of the length. One that the entry doesn't tell is `-`.
@@ -56,7 +83,7 @@ fn push_length<A: Allocator>(
     ensures { OnOk result (string_bytes text.new ≡ string_bytes text.old ++ heading_end after len) }
 {
     match after {
-        Some(after) => push_told(text, after, len),
+        Some(after) => push_told(text, is_kept(after, len), after, len),
         None => write!(text, ", length - to {}\n", len),
     }
 }

@@ -6,6 +6,7 @@ ghost use Rattle.bx_journal.specs.inner.Showing.{LiesWithin, PutFault, Stays};
 ghost use Rattle.bx_journal.specs.inner.Steps.{AreStepsPut, mark_step, number_at, saved_at};
 
 use crate::look::ShowFault;
+use crate::look::differences::put_differences;
 use crate::look::heading::put_heading;
 use crate::look::lines::put_lines;
 use crate::look::marks::WINDOW;
@@ -67,7 +68,10 @@ fn put_saved<D: Device, T: TextStore, A: Allocator + Clone, W: Write>(
     ensures image { Stays D.honest D.image D.failures result device.old device.new }
     ensures stays { Stays T.honest T.text T.failures result store.old store.new }
 {
-    put_lines(store, window, mark, written, out)
+    match compares {
+        true => put_differences(alloc, device, store, window, mark, written, out),
+        false => put_lines(store, window, mark, written, out),
+    }
 }
 
 /// Writes the step over the change of a mark.
