@@ -8,6 +8,7 @@ use bx_dump::hexdump::HexdumpOptions;
 use bx_dump::od::OdOptions;
 use bx_dump::strings::StringsOptions;
 use bx_dump::xxd::XxdOptions;
+use bx_journal::Way;
 use bx_text::{Name, Words};
 
 /// The style of an `xxd` dump.
@@ -171,6 +172,19 @@ pub enum Job {
         texts: Texts,
         /// How the image is used where something is recovered.
         access: Access,
+    },
+    /// Shows what an undo or a redo would do.
+    Show {
+        /// Which of the two.
+        way: Way,
+        /// How many changes are shown, at most 65,535.
+        count: u32,
+        /// Whether what the image has stands beside each saved line.
+        compares: bool,
+        /// The name of the image.
+        image: Name,
+        /// The names of its texts.
+        texts: Texts,
     },
     /// Writes a text of help.
     Help {

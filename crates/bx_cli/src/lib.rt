@@ -23,8 +23,8 @@ mod plan;
 pub use behind::run_dump_behind;
 pub use beside::unlike_line;
 pub use bx_commands::{
-    Command, Fault, Form, Reply, change_from, change_if_read, list_ranges, log_text, run_all,
-    run_one,
+    Command, Fault, Form, Reply, change_from, change_if_read, list_ranges, list_steps, log_text,
+    run_all, run_one,
 };
 pub use dump::{Done, run_dump};
 pub use hint::{Known, Misuse, hint_text, misuse_of};

@@ -266,6 +266,28 @@ static LOG: [Row; 3] = [
     },
 ];
 
+static SHOW: [Row; 4] = [
+    JOURNAL,
+    Row {
+        id: "count",
+        short: 'k',
+        value: Some("COUNT"),
+        help: "Changes to show, 0 to 65535 [default: 1]",
+    },
+    Row {
+        id: "redo",
+        short: 'r',
+        value: None,
+        help: "Show what a redo would do [default: what an undo would do]",
+    },
+    Row {
+        id: "difference",
+        short: 'd',
+        value: None,
+        help: "Show beside each line what the image has there now",
+    },
+];
+
 static DD: [Row; 2] = [JOURNAL, UNSYNCED];
 
 /// The option or the flag of a row.
@@ -477,6 +499,15 @@ fn log<'a>(alloc: Global) -> Result<Command<'a>, AllocError> {
     .arg(image(alloc))
 }
 
+fn show<'a>(alloc: Global) -> Result<Command<'a>, AllocError> {
+    let command = Command::new(alloc, "show")
+        .about("Show what an undo would do, or a redo, the first step first; nothing is written")
+        .after_help(
+            "COUNT: decimal. Each change has a heading that begins with #, and the lines that would be written onto the image;\nwithout the headings they are a dump that revert takes.\n\nEXAMPLES:\n  bx show disk.img            what an undo of the last change would do\n  bx show -d disk.img         the same, beside what the image has there now\n  bx show -r -k 2 disk.img    what a redo of two changes would do",
+        );
+    with_rows(alloc, command, &SHOW)?.arg(image(alloc))
+}
+
 /// All that the program takes.
 pub fn program<'a>(alloc: Global) -> Result<Command<'a>, AllocError> {
     let program = Command::new(alloc, "bx")
@@ -494,7 +525,8 @@ pub fn program<'a>(alloc: Global) -> Result<Command<'a>, AllocError> {
     let program = taking(program, revert(alloc))?;
     let program = taking(program, undo(alloc))?;
     let program = taking(program, redo(alloc))?;
-    taking(program, log(alloc))
+    let program = taking(program, log(alloc))?;
+    taking(program, show(alloc))
 }
 
 /// The program with one command more.

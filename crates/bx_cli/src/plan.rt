@@ -12,6 +12,7 @@ use bx_dump::hexdump::HexdumpOptions;
 use bx_dump::od::{Address, Kind, NumForm, OdOptions, Size};
 use bx_dump::strings::StringsOptions;
 use bx_dump::xxd::XxdOptions;
+use bx_journal::Way;
 use bx_text::{IoFault, Name, SizeStyle, Words, read_size};
 use clap::error::ErrorKind;
 use clap::{ArgMatches, Error};
@@ -76,6 +77,7 @@ fn job_of(alloc: Global, name: &str, inner: &ArgMatches<'_>) -> Result<Job, Faul
         "undo" => undo(alloc, inner),
         "redo" => redo(alloc, inner),
         "log" => log(alloc, inner),
+        "show" => show(alloc, inner),
         _ => Err(Fault::Usage),
     }
 }
@@ -365,5 +367,22 @@ fn log(alloc: Global, m: &ArgMatches<'_>) -> Result<Job, Fault> {
         image,
         texts,
         access: access(m),
+    })
+}
+
+fn show(alloc: Global, m: &ArgMatches<'_>) -> Result<Job, Fault> {
+    let count = count_or(m, "count", 1, MOST_STEPS)? as u32;
+    let (image, texts) = image_and_texts(alloc, m)?;
+    let way = if m.get_flag("redo") {
+        Way::Redo
+    } else {
+        Way::Undo
+    };
+    Ok(Job::Show {
+        way,
+        count,
+        compares: m.get_flag("difference"),
+        image,
+        texts,
     })
 }
