@@ -1,5 +1,5 @@
 //! The jobs that change an image or show its changes.
-ghost use Rattle.std.specs.Prelude.{◌≡◌, IfOk};
+ghost use Rattle.std.specs.Prelude.{◌≡◌, ◌<◌, IfOk};
 ghost use Rattle.bx_commands.specs.Command.{IsNear};
 
 use crate::devices::Devices;
@@ -11,11 +11,11 @@ use crate::folders::keep_names;
 use crate::paged::Paged;
 use crate::stopped::Stopped;
 use bx_cli::{
-    Access, Command, Durability, Fault, Reply, Texts, change_if_read, list_ranges, log_text,
-    run_one,
+    Access, Command, Durability, Fault, Reply, Texts, change_if_read, list_ranges, list_steps,
+    log_text, run_one,
 };
 use bx_image::{Change, Device, FileImage, SystemFile};
-use bx_journal::{How, Session, SessionFault};
+use bx_journal::{How, Session, SessionFault, Steps, Way};
 use bx_read::ReadFault;
 use bx_store::{FileText, TextStore};
 use bx_text::Name;
@@ -109,10 +109,7 @@ where
 {
     let made = files.made;
     let length = files.length;
-    let device = image_of(held(files.image, durability), length);
-    let store = FileText::new(TextFile::new(Some(held(files.journal, durability))));
-    let redo = files.redo.map(|file| held(file, durability));
-    let redo_text = FileText::new(TextFile::new(redo));
+    let (device, store, redo_text) = devices_of(files, durability);
     let (session, found) = match Session::open(rt.alloc(), device, store, redo_text) {
         Ok(opened) => opened,
         Err((device, store, redo_text, fault)) => {
@@ -127,6 +124,21 @@ where
         session,
         made: if recovered { Made::NONE } else { made },
     })
+}
+
+/// The devices of files that were just opened; no call of them has failed.
+fn devices_of(
+    files: SessionFiles,
+    durability: Durability,
+) -> (FileImage, FileText<TextFile>, FileText<TextFile>)
+    ensures device { ⟦<FileImage as Device>⟧.failures result.0 ≡ 0 }
+    ensures store { ⟦<FileText<TextFile> as TextStore>⟧.failures result.1 ≡ 0 }
+    ensures redo_text { ⟦<FileText<TextFile> as TextStore>⟧.failures result.2 ≡ 0 }
+{
+    let device = image_of(held(files.image, durability), files.length);
+    let store = FileText::new(TextFile::new(Some(held(files.journal, durability))));
+    let redo = files.redo.map(|file| held(file, durability));
+    (device, store, FileText::new(TextFile::new(redo)))
 }
 
 /// The image of a file, which may have a length that stays.
@@ -275,6 +287,93 @@ where
             let trio = session.close();
             let devices = Devices { trio, image, texts };
             Err(devices.stopped(Fault::from(fault)))
+        }
+    }
+}
+
+/// Writes what an undo or a redo would do, the first step first, whatever `steps` says of the changes that stand. The files are
+/// opened for reading alone: where something is unfinished, recovery is refused its first write.
+pub fn show_changes<'a, R, W: Write>(
+    rt: &R,
+    steps: Steps,
+    image: &'a Name,
+    texts: &'a Texts,
+    out: &mut W,
+) -> Result<(), Stopped<'a>>
+where
+    R: Files<File = File> + AllocGlobal,
+{
+    look_at_all(rt, image, texts, false, false)?;
+    let files = existing(rt, image, texts, Purpose::Read)?;
+    let (device, store, redo_text) = devices_of(files, Durability::Unsynced);
+    match Session::open(rt.alloc(), device, store, redo_text) {
+        Ok((session, found)) => {
+            let trio = session.close();
+            let changes = found.changes;
+            let steps = Steps { changes, ..steps };
+            put_steps(rt, steps, Devices { trio, image, texts }, out)
+        }
+        Err((device, store, redo_text, fault)) => {
+            let trio = (device, store, redo_text);
+            let devices = Devices { trio, image, texts };
+            if fault != SessionFault::Interrupted {
+                return Err(devices.stopped(Fault::from(fault)));
+            }
+            put_unfinished(rt, steps, devices, out)
+        }
+    }
+}
+
+/// Writes what an undo would do once what is unfinished is recovered. Nothing can be made again then.
+fn put_unfinished<'a, R, W: Write>(
+    rt: &R,
+    steps: Steps,
+    devices: Devices<'a>,
+    out: &mut W,
+) -> Result<(), Stopped<'a>>
+where
+    R: AllocGlobal,
+    requires device { ⟦<FileImage as Device>⟧.failures devices.trio.0 < u64.MAX }
+    requires store { ⟦<FileText<TextFile> as TextStore>⟧.failures devices.trio.1 < u64.MAX }
+    requires redo_text { ⟦<FileText<TextFile> as TextStore>⟧.failures devices.trio.2 < u64.MAX }
+{
+    if steps.way == Way::Redo && steps.count > 0 {
+        return Err(Stopped::from(Fault::from(SessionFault::NothingToRedo { have: 0 })));
+    }
+    let steps = Steps {
+        way: Way::Undo,
+        ..steps
+    };
+    put_steps(rt, steps, devices, out)
+}
+
+/// Writes what the journal's text says of an undo, or the redo text of a redo.
+fn put_steps<'a, R, W: Write>(
+    rt: &R,
+    steps: Steps,
+    devices: Devices<'a>,
+    out: &mut W,
+) -> Result<(), Stopped<'a>>
+where
+    R: AllocGlobal,
+    requires device { ⟦<FileImage as Device>⟧.failures devices.trio.0 < u64.MAX }
+    requires store { ⟦<FileText<TextFile> as TextStore>⟧.failures devices.trio.1 < u64.MAX }
+    requires redo_text { ⟦<FileText<TextFile> as TextStore>⟧.failures devices.trio.2 < u64.MAX }
+{
+    let mut page = Paged::new(rt.alloc(), out);
+    let Devices { trio, image, texts } = devices;
+    let (mut device, mut store, mut redo_text) = trio;
+    let shown = match steps.way {
+        Way::Undo => list_steps(&rt.alloc(), &mut device, &mut store, steps, &mut page),
+        Way::Redo => list_steps(&rt.alloc(), &mut device, &mut redo_text, steps, &mut page),
+    };
+    match shown {
+        Ok(()) => Ok(page.put()?),
+        Err(fault) => {
+            let fault = page.stopped.map_or(fault, Fault::Io);
+            let trio = (device, store, redo_text);
+            let devices = Devices { trio, image, texts };
+            Err(devices.stopped(fault))
         }
     }
 }

@@ -6,7 +6,9 @@ use crate::copies::{copy_onto, tell};
 use crate::hints::remarks::Remarks;
 use crate::hints::seen::{Seen, Watched};
 use crate::hints::show_fault;
-use crate::images::{finish, finish_read, log, log_places, open_session, open_to_look};
+use crate::images::{
+    finish, finish_read, log, log_places, open_session, open_to_look, show_changes,
+};
 use crate::input::{Placed, file, open, standard};
 use crate::stopped::{Noted, STANDARD_INPUT, Stopped};
 use crate::streams::Held;
@@ -17,6 +19,7 @@ use bx_cli::{
 };
 use bx_dd::Counts;
 use bx_image::Change;
+use bx_journal::Steps;
 use bx_read::ReadFault;
 use bx_text::{IoFault, Name, Source, Words, dec_field, emit, emit_after};
 use std::alloc::Global;
@@ -176,6 +179,21 @@ where
             texts,
             access,
         } => show_log(rt, *verbose, image, texts, *access, out)?,
+        Job::Show {
+            way,
+            count,
+            compares,
+            image,
+            texts,
+        } => {
+            let steps = Steps {
+                way: *way,
+                count: *count,
+                changes: 0,
+                compares: *compares,
+            };
+            show_changes(rt, steps, image, texts, out)?;
+        }
     }
     Ok(None)
 }

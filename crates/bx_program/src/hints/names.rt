@@ -30,7 +30,8 @@ pub fn image_of(job: &Job) -> Option<(&Name, &Texts)> {
         Job::Revert(job) => Some((&job.image, &job.texts)),
         Job::Undo { image, texts, .. }
         | Job::Redo { image, texts, .. }
-        | Job::Log { image, texts, .. } => Some((image, texts)),
+        | Job::Log { image, texts, .. }
+        | Job::Show { image, texts, .. } => Some((image, texts)),
         Job::Dd(dd) => match (&dd.plan.output, &dd.texts) {
             (Some(image), Some(texts)) => Some((image, texts)),
             _ => None,
