@@ -1,5 +1,6 @@
 //! What a case file holds.
 use crate::kinds::commands::CommandsCase;
+use crate::kinds::looks::LooksCase;
 use crate::kinds::reading::ReadingCase;
 use crate::kinds::texts::TextCase;
 use crate::kinds::words::WordsCase;
@@ -11,6 +12,7 @@ pub enum Test {
     Commands(CommandsCase),
     Text(TextCase),
     Reading(ReadingCase),
+    Looks(LooksCase),
 }
 
 /// A case: its name, the line on which it begins, and what it asks for.

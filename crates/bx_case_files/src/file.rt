@@ -4,6 +4,7 @@ use crate::cursor::Cursor;
 use crate::entries::entries;
 use crate::fault::{CaseFault, Trouble};
 use crate::kinds::commands::commands_case;
+use crate::kinds::looks::looks_case;
 use crate::kinds::reading::reading_case;
 use crate::kinds::texts::text_case;
 use crate::kinds::words::words_case;
@@ -17,10 +18,11 @@ enum Kind {
     Commands,
     Texts,
     Reading,
+    Looks,
 }
 
 /// The words of lines.
-static KNOWN: [&str; 38] = [
+static KNOWN: [&str; 40] = [
     "kind",
     "case",
     "from",
@@ -56,6 +58,8 @@ static KNOWN: [&str; 38] = [
     "dump",
     "piece",
     "bytes",
+    "ranges",
+    "compared",
     "|",
     "+",
     ">",
@@ -80,6 +84,7 @@ fn kind_of(value: &[u8]) -> Option<Kind> {
         b"commands" => Some(Kind::Commands),
         b"texts" => Some(Kind::Texts),
         b"reading" => Some(Kind::Reading),
+        b"looks" => Some(Kind::Looks),
         _ => None,
     }
 }
@@ -91,6 +96,7 @@ fn test_of(alloc: Global, cursor: &mut Cursor<'_>, kind: Kind) -> Result<Test, C
         Kind::Commands => Ok(Test::Commands(commands_case(alloc, cursor)?)),
         Kind::Texts => Ok(Test::Text(text_case(alloc, cursor)?)),
         Kind::Reading => Ok(Test::Reading(reading_case(alloc, cursor)?)),
+        Kind::Looks => Ok(Test::Looks(looks_case(alloc, cursor)?)),
     }
 }
 

@@ -1,5 +1,6 @@
-//! The four kinds of cases, and what they share.
+//! The five kinds of cases, and what they share.
 pub mod commands;
+pub mod looks;
 pub mod reading;
 pub mod texts;
 pub mod told;

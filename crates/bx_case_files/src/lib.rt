@@ -18,6 +18,7 @@ pub use case::{Case, CaseFile, Test};
 pub use fault::{CaseFault, Trouble};
 pub use file::read_cases;
 pub use kinds::commands::{Answer, Ask, CommandsCase, Left, Row, Write};
+pub use kinds::looks::{Look, LooksCase, Shows};
 pub use kinds::reading::{ReadingCase, Reads};
 pub use kinds::texts::{Found, Outcome, TextCase};
 pub use kinds::words::{Refusal, Sum, WordsCase};

@@ -1,5 +1,6 @@
 //! The case files of a folder.
 use crate::commands::{self, play_commands};
+use crate::looks::{self, play_looks};
 use crate::reading::{self, play_reading};
 use crate::report::tally::{Failure, Tally};
 use crate::session::places::clear;
@@ -87,6 +88,7 @@ fn sweeps(file: &CaseFile) -> &'static [&'static str] {
             Test::Reading(_) => &reading::SWEEPS,
             Test::Commands(_) => &commands::SWEEPS,
             Test::Text(_) => &texts::SWEEPS,
+            Test::Looks(_) => &looks::SWEEPS,
         },
         None => &[],
     }
@@ -129,5 +131,6 @@ fn play(rt: &HostRuntime, test: &Test, sweep: usize) -> Result<u32, Failure> {
         Test::Reading(case) => play_reading(rt.alloc(), case, sweep),
         Test::Commands(case) => play_commands(rt, case, sweep),
         Test::Text(case) => play_text(rt, case, sweep),
+        Test::Looks(case) => play_looks(rt, case, sweep),
     }
 }

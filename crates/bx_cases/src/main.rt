@@ -3,6 +3,7 @@
 
 mod commands;
 mod files;
+mod looks;
 mod reading;
 mod report;
 mod session;

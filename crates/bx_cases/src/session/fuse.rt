@@ -98,6 +98,38 @@ pub fn in_fused<D: Device + Drop, T: TextStore + Drop, M: Medium<D, T>>(
     fuse(medium.devices(alloc, texts)?, fused)
 }
 
+/// An image that refuses each write behind a sync.
+fn locked_image<D: Device + Drop>(image: D) -> Result<FuseImage<D>, Wrong> {
+    if image.faults() > 0 {
+        return Err(Wrong::Unknown);
+    }
+    Ok(FuseImage::new(image, 1, Part::Nothing, false))
+}
+
+/// A text that refuses each write behind a sync.
+fn locked_text<T: TextStore + Drop>(text: T) -> Result<FuseText<T>, Wrong> {
+    if text.faults() > 0 {
+        return Err(Wrong::Unknown);
+    }
+    Ok(FuseText::new(text, 1, Part::Nothing, false))
+}
+
+/// Devices that refuse each write. An opening may sync each once before it, as one of files that may only be read does.
+pub fn locked<D: Device + Drop, T: TextStore + Drop>(
+    devices: Devices<D, T>,
+) -> Result<FusedDevices<D, T>, Wrong> {
+    let Devices {
+        image,
+        journal,
+        redo,
+    } = devices;
+    Ok(Devices {
+        image: locked_image(image)?,
+        journal: locked_text(journal)?,
+        redo: locked_text(redo)?,
+    })
+}
+
 /// What may be found of devices that failed.
 pub fn found_of<D: Device + Drop, T: TextStore + Drop, M: Medium<D, T>>(
     alloc: Global,

@@ -6,6 +6,7 @@ use bx_cli::{
 };
 use bx_dd::{Letters, Plan, Shape};
 use bx_dump::od::{Address, Kind, NumForm, Size};
+use bx_journal::Way;
 use bx_text::{Name, Words};
 use std::alloc::{AllocError, Global};
 
@@ -24,6 +25,7 @@ fn name_of(job: &Job) -> &'static str {
         Job::Undo { .. } => "undo",
         Job::Redo { .. } => "redo",
         Job::Log { .. } => "log",
+        Job::Show { .. } => "show",
         Job::Help { .. } => "help",
     }
 }
@@ -267,6 +269,18 @@ fn field_of(alloc: Global, job: &Job, name: &str) -> Field {
         } => match name {
             "verbose" => flag(alloc, *verbose),
             _ => step_field(alloc, None, *access, image, texts, name),
+        },
+        Job::Show {
+            way,
+            count,
+            compares,
+            image,
+            texts,
+        } => match name {
+            "way" => text(alloc, if *way == Way::Redo { "redo" } else { "undo" }),
+            "count" => number(alloc, *count as u64),
+            "compares" => flag(alloc, *compares),
+            _ => image_field(alloc, image, texts, name),
         },
         Job::Help { .. } => Ok(None),
     }
