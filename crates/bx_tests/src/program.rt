@@ -321,6 +321,38 @@ rm made.j.redo made.img made.dump made.j",
     )
 }
 
+// What is unfinished stays so.
+#[test]
+fn show_writes_to_no_file(rt: HostRuntime) -> Result<(), Fail> {
+    play_on(
+        &rt,
+        &rt,
+        "\
+show one.img => only 0 changes to undo
+show -k 0 one.img => done
+show -r one.img => only 0 changes to redo
+show -r -k 0 one.img => done
+log one.img -> done
+show one.img => only 0 changes to undo
+show -r one.img => only 0 changes to redo
+revert -f one.dump one.img -> done
+show one.img => done
+show -d one.img => done
+show -k 2 one.img => only 1 changes to undo
+undo one.img -> done
+show -r one.img => done
+show -d -r one.img => done
+show -r -k 2 one.img => only 1 changes to redo
+rm one.img.bxj.redo
+show -k 0 one.img -> done
+no one.img.bxj.redo
+show -J one.dump one.img -> journal line 1 is damaged
+revert -f one.dump one.img -> done
+show -J missing.j one.img -> cannot open file
+no missing.j missing.j.redo",
+    )
+}
+
 // A change that was stopped is taken back first.
 #[test]
 fn patch_and_undo(rt: HostRuntime) -> Result<(), Fail> {
