@@ -161,6 +161,7 @@ printf ABCDEFGHIJKLMNOP > many; head -c "$(($(stat -c %s many.bxj) / 68 * 16))" 
 before=: made=-
 row $C - 'undo -k 0, 65,535 changes' 'xxd -r of as much'    -- "$BX" undo -U -k 0 many       -- xxd -r same
 row $C - 'log, 65,535 changes'      'xxd -r of as much'     -- "$BX" log many                -- xxd -r same
+row $C - 'show, 65,535 changes'     'xxd -r of as much'     -- "$BX" show many               -- xxd -r same
 
 # The same on the disk, as bx makes them by default: each step is synced, and beside it what the tool wrote is, once.
 Y='changes on the disk'

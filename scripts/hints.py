@@ -98,6 +98,7 @@ CASES = [
     ("dd seek=4", "", "seek needs an output file", "give of=IMAGE too; " + DD),
     ("log -J bad.bxj img", "", "journal line 5 is damaged", "bad.bxj; mend the line; or " + OLDER),
     ("undo -k 2 img", "", "only 1 changes to undo", "bx log img lists the changes"),
+    ("show -k 2 img", "", "only 1 changes to undo", "bx log img lists the changes"),
     ("undo -k 2 -J ./img.bxj img", "", "only 1 changes to undo", "bx log -J ./img.bxj img lists the changes"),
     ("undo -k 2 --mounted img", "", "only 1 changes to undo", "bx log --mounted img lists the changes"),
     ("undo -k 2 -J \"it's\" 'two words'", "", "only 1 changes to undo", "bx log -J 'it'\\''s' 'two words' lists the changes"),
@@ -257,7 +258,7 @@ def main():
     cases = [(words, text, None, None, fault, hint) for words, text, fault, hint in CASES]
     cases += [(words, text, most, None, fault, hint) for words, text, most, fault, hint in FULL]
     cases.append(("xxd img", "", None, "/dev/full", "write failed after 0 bytes", "standard output: No space left on device"))
-    cases += [(words, "", None, "a closed pipe", None, None) for words in ("xxd img", "dd if=img", "undo img", "log img")]
+    cases += [(words, "", None, "a closed pipe", None, None) for words in ("xxd img", "dd if=img", "undo img", "log img", "show img")]
     failed = 0
     for words, text, most, full, fault, hint in cases:
         line = f"bx: {fault}\n" if fault else NO_RECORDS if words.startswith("dd if=/dev/null of=") else ""

@@ -330,6 +330,8 @@ other_users() {
     chmod 644 img img.bxj
     shown=$(as_other log img 2> err)
     [ "$shown" = "1 8 1" ] && [ ! -s err ] && [ ! -e img.bxj.redo ] && say 1 "log of files that may only be read" || say 0 "log of files that may only be read" "$(cat err)"
+    shown=$(as_other show img 2> err)
+    [ "$shown" = "$(printf '# change 1: undo writes 1 byte at 0-0, keeps length 8\n00000000: 41%39sA' '')" ] && [ ! -s err ] && [ ! -e img.bxj.redo ] && say 1 "show of files that may only be read" || say 0 "show of files that may only be read" "$(cat err)"
     "$bx" undo img > out && "$bx" redo img > out
     chmod 644 img.bxj.redo
     [ "$(as_other log img 2> err)" = "1 8 1" ] && say 1 "and with a redo file" || say 0 "and with a redo file" "$(cat err)"
@@ -341,6 +343,8 @@ other_users() {
     cp text img.bxj
     as_other log img > out 2> err
     [ $? = 1 ] && [ "$(cat err)" = "bx: cannot open file" ] && [ ! -s out ] && cmp -s text img.bxj && say 1 "log of what is unfinished and may only be read" || say 0 "log of what is unfinished and may only be read" "$(cat err)"
+    shown=$(as_other show -k 0 img 2> err)
+    [ "$shown" = "# change 1: unfinished, the next command takes it back" ] && [ ! -s err ] && cmp -s text img.bxj && say 1 "show of what is unfinished and may only be read" || say 0 "show of what is unfinished and may only be read" "$(cat err)"
     "$bx" log img > out 2> err
     [ "$(cat err)" = "bx: recovered: change 1 was taken back" ] && [ ! -s img.bxj ] && say 1 "which root's log recovers" || say 0 "which root's log recovers" "$(cat err)"
     cd .. || exit 1
@@ -356,7 +360,7 @@ nothing_left() {
     printf '0: 41\n' > ../dump
     patched > ../changed
     for command in "revert -f ../bad img" "revert -p -f ../bad img" "revert -f ../missing img" "revert -f .. img" "revert img" \
-        "dd if=.. of=img" "dd if=../missing of=img" "dd of=img" "dd if=../dump of=img obs=1 seek=281474976710655" "undo img" "redo img" "log img" \
+        "dd if=.. of=img" "dd if=../missing of=img" "dd of=img" "dd if=../dump of=img obs=1 seek=281474976710655" "undo img" "redo img" "log img" "show img" \
         "revert -f ../dump -J no/such img" "revert -f ../dump -J .. img" "revert -f ../dump -J ../changed img"; do
         # shellcheck disable=SC2086
         timeout 60 "$bx" $command > ../out 2> ../err <&-
@@ -389,7 +393,7 @@ dangling_links() {
     ln -s ../links/far/redo img.bxj.redo
     links=$(find . -type l | sort)
     for command in "revert -f bad img" "revert -p -f bad img" "revert img" "dd if=.. of=img" "dd of=img" \
-        "revert -f dump -J no/such img" "revert -f dump -J .. img" "undo img" "redo img" "log img"; do
+        "revert -f dump -J no/such img" "revert -f dump -J .. img" "undo img" "redo img" "log img" "show img"; do
         # shellcheck disable=SC2086
         timeout 60 "$bx" $command > ../out 2> ../err <&-
         [ $? = 1 ] && [ "$(ls far)" = next ] && [ "$(find . -type l | sort)" = "$links" ] && say 1 "nothing is left behind links by $command" "$(cat ../err)" || say 0 "nothing is left behind links by $command" "$(ls far | tr '\n' ' ')"
@@ -429,7 +433,7 @@ held() {
     patched | head -n 3 > text
     unpatched > redo
     for name in img img.bxj img.bxj.redo; do
-        for command in "revert -f dump img" "dd if=dump of=img" "undo img" "undo -k 0 img" "redo img" "log img"; do
+        for command in "revert -f dump img" "dd if=dump of=img" "undo img" "undo -k 0 img" "redo img" "log img" "show img"; do
             fresh ABxyEFGH text redo
             exec 9< "$name"
             flock -n 9
@@ -494,6 +498,9 @@ redo
 redo -k 65536 img
 redo -k 1k img
 log -k 1 img
+show
+show -k 65536 img
+show -U img
 revert -s 1k img
 revert -J img img
 undo -J img img
@@ -509,7 +516,7 @@ streams() {
     letters 1000000 a > text_bytes # more than a pipe holds, so that the writer meets the closed end
     head -c 100000 "$bx" > bytes
     patched > text
-    for command in "xxd bytes" "xxd -i bytes" "xxd -p bytes" "od bytes" "hexdump -C bytes" "strings bytes" "xxd --help" "log img" "log -v img" "undo -k 0 img"; do
+    for command in "xxd bytes" "xxd -i bytes" "xxd -p bytes" "od bytes" "hexdump -C bytes" "strings bytes" "xxd --help" "log img" "log -v img" "show img" "undo -k 0 img"; do
         fresh ABxyEFGH text
         # shellcheck disable=SC2086
         timeout 60 "$bx" $command > /dev/full 2> err < /dev/null
@@ -622,6 +629,7 @@ closed_streams() {
     closed_command 1 ABxyEFGH undo img
     closed_command 1 ABxyEFGH redo -k 0 img
     closed_command 1 ABxyEFGH log img
+    closed_command 1 ABxyEFGH show img
     closed_command 1 ABxyEFGH xxd img
     closed_command 12 ABxyEFGH dd if=img
     closed_command 01 ABxyEFGH xxd
@@ -1302,7 +1310,7 @@ aliases_without_locks() {
     local command
     printf AB > one
     patched > own
-    for command in "revert -f dump -J own two" "revert -f dump -J one one" "undo -J hard one" "log -J hard one" "revert -f dump -J hard one" "log -J own two"; do
+    for command in "revert -f dump -J own two" "revert -f dump -J one one" "undo -J hard one" "log -J hard one" "show -J hard one" "revert -f dump -J hard one" "log -J own two" "show -J own two"; do
         printf ABxyEFGH > two
         ln -sf own own.redo
         ln -f one hard
@@ -1337,6 +1345,8 @@ failing_calls() {
     each_request "redo over a journal" ABxyEFGH text redo img
     each_request "log" ABxyEFGH text log img
     each_request "log -v" ABxyEFGH text log -v img
+    each_request "show" ABxyEFGH text show img
+    each_request "show -d" ABxyEFGH text show -d img
     fresh ABCDEFGH none
     : > input
     shimmed n 0 revert -f dump img && "$bx" log img > out && [ "$(cat out)" = "1 8 2" ] \

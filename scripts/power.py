@@ -152,6 +152,8 @@ COUNTS = [
     ("a redo of two, -U", changes(2, 2), "redo -U -k 2 IMAGE", 0, ""),
     ("a change that is taken back, -U", unfinished(HEAD + SAVED), "undo -U -k 0 IMAGE", 0, ""),
     ("a log, -U", changes(1), "log -U IMAGE", 0, ""),
+    ("a look", changes(3), "show -k 3 IMAGE", 0, ""),
+    ("a look at an unfinished entry", unfinished(HEAD + SAVED), "show -k 0 IMAGE", 0, ""),
 ]
 
 
