@@ -30,7 +30,7 @@ function __bx_operand
     end
 end
 
-set -l commands xxd od hexdump strings dd revert undo redo log
+set -l commands xxd od hexdump strings dd revert undo redo log show
 set -l none "not __fish_seen_subcommand_from $commands help"
 
 complete -c bx -f
@@ -46,11 +46,12 @@ complete -c bx -n $none -a revert -d 'Write the bytes of a dump onto an image'
 complete -c bx -n $none -a undo -d 'Take the last changes of an image back'
 complete -c bx -n $none -a redo -d 'Make the last undone changes of an image again'
 complete -c bx -n $none -a log -d 'List the changes of an image'
+complete -c bx -n $none -a show -d 'Show what an undo or a redo would do'
 complete -c bx -n $none -a help -d 'Show the help of a command'
 complete -c bx -n '__fish_seen_subcommand_from help' -a "$commands"
 
 complete -c bx -n '__fish_seen_subcommand_from xxd od hexdump strings' -F
-complete -c bx -n '__fish_seen_subcommand_from revert undo redo log' -a '(__bx_image (commandline -ct))'
+complete -c bx -n '__fish_seen_subcommand_from revert undo redo log show' -a '(__bx_image (commandline -ct))'
 
 complete -c bx -n '__fish_seen_subcommand_from xxd' -s b -d 'Eight binary digits for each byte'
 complete -c bx -n '__fish_seen_subcommand_from xxd' -s c -x -d 'Bytes on a line, 1 to 256'
@@ -108,3 +109,8 @@ complete -c bx -n '__fish_seen_subcommand_from log' -s J -r -F -d 'Journal of th
 complete -c bx -n '__fish_seen_subcommand_from log' -s U -d 'Do not wait where a change is taken back'
 complete -c bx -n '__fish_seen_subcommand_from log' -s v -d 'Show lengths and ranges too'
 complete -c bx -n '__fish_seen_subcommand_from log' -l mounted -d 'Take a change of a mounted device back'
+
+complete -c bx -n '__fish_seen_subcommand_from show' -s J -r -F -d 'Journal of the image'
+complete -c bx -n '__fish_seen_subcommand_from show' -s d -d 'Show what the image has there too'
+complete -c bx -n '__fish_seen_subcommand_from show' -s k -x -d 'Changes to show, 0 to 65535'
+complete -c bx -n '__fish_seen_subcommand_from show' -s r -d 'Show what a redo would do'

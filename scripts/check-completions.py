@@ -19,7 +19,7 @@ import sys
 import tempfile
 import time
 
-COMMANDS = ["xxd", "od", "hexdump", "strings", "dd", "revert", "undo", "redo", "log"]
+COMMANDS = ["xxd", "od", "hexdump", "strings", "dd", "revert", "undo", "redo", "log", "show"]
 TYPES = ["c"] + [form + size for form in "doux" for size in "1248"]
 OPERANDS = ["if=", "of=", "ibs=", "obs=", "bs=", "cbs=", "skip=", "seek=", "count=", "conv="]
 CONVERSIONS = ["block", "unblock", "lcase", "ucase", "swab", "sync", "notrunc"]
@@ -44,6 +44,8 @@ CASES = [
     ("bx revert -f ", FILES),
     ("bx redo -J ", FILES),
     ("bx log ", IMAGES),
+    ("bx show ", IMAGES),
+    ("bx show -k ", []),
     ("bx revert ", IMAGES),
     ("bx redo im", ["image"]),
     ("bx dd ", OPERANDS),
@@ -71,6 +73,7 @@ OPTIONS = [
     ("bx undo -", "JUk", MOUNTED),
     ("bx redo -", "JUk", MOUNTED),
     ("bx log -", "JUv", MOUNTED),
+    ("bx show -", "Jdkr", []),
     ("bx dd -", "JU", MOUNTED),
 ]
 

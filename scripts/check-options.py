@@ -25,7 +25,7 @@ FAULTS = {
     "SessionFault": "bx_journal/src/session/fault.rt",
     "Fault": "bx_commands/src/fault.rt",
 }
-COMMANDS = ["xxd", "od", "hexdump", "strings", "dd", "revert", "undo", "redo", "log"]
+COMMANDS = ["xxd", "od", "hexdump", "strings", "dd", "revert", "undo", "redo", "log", "show"]
 # what a command wants beside an option, where it isn't an image
 COMMON = {"dd": [], "xxd": [], "od": [], "strings": [], "hexdump": ["-C"]}
 VALUES = ["1", "x", "x1", "other"]
@@ -61,7 +61,7 @@ class Program:
 
     def options(self, command):
         """Each option letter, and whether it has a value. The option stands last, so that a value is missed."""
-        front = [command] + (["image"] if command in ("revert", "undo", "redo", "log") else [])
+        front = [command] + (["image"] if command in ("revert", "undo", "redo", "log", "show") else [])
         found = {}
         for letter in string.ascii_letters + string.digits:
             if letter == "h":

@@ -30,7 +30,7 @@ class Check:
 
 CHECKS = [
     Check("tour of README", "tour.py --bx BX", "bash"),
-    Check("tour of RECIPES", "tour.py --bx BX docs/RECIPES.md", "bash vim awk sed diff"),
+    Check("tour of RECIPES", "tour.py --bx BX docs/RECIPES.md", "bash vim grep sed diff"),
     Check("options and faults", "check-options.py --bx BX", "bash"),
     Check("definitions", "believe.py"),
     Check("quoted code", "quotes.py"),
