@@ -1,5 +1,5 @@
--- Entries that are marked: a line more.
-use Rattle.std.proofs.Common.{◌≡◌, ◌⊎◌, ℕ, suc, ◌+◌, Bool, true, false, List, [], ◌∷◌, ◌++◌, length, length-append, map, refl, ap, sym, ◌∙◌, subst, inl, inr, arith, append_assoc, append-nil, take, drop, length-take, Option, Some}
+-- Entries that are marked: a line more, and full lines.
+use Rattle.std.proofs.Common.{◌≡◌, ◌⊎◌, ℕ, zero, suc, ◌+◌, ◌*◌, ◌≤◌, Bool, true, false, List, [], ◌∷◌, ◌++◌, length, length-append, map, refl, ap, sym, ◌∙◌, subst, inl, inr, arith, append_assoc, append-nil, take, drop, length-take, Option, Some}
 use Rattle.std.specs.Prelude.{if◌then◌else◌, option_map}
 use Rattle.std.specs.Str.{bytes_eq}
 use Rattle.std.proofs.lemmas.List.{length-map}
@@ -13,11 +13,13 @@ use Rattle.bx_entries.specs.Kept.{Run, Kept, with_run}
 use Rattle.bx_entries.specs.Line.{save_line, saved_in}
 use Rattle.bx_entries.specs.Spelled.{EntryLines, GiveRuns, entry_in, lines_of, runs_behind}
 use Rattle.bx_entries.specs.Text.{Entry, Stage, Between, Saving, Ending, Reading, Split, ended, joined, split, start, next_at, after_lines}
-use Rattle.bx_entries.specs.inner.Marks.{GoOnWith, IsBegun, IsMarked, ended_mark, mark_of, marks_of, saved_to, size_of}
+use Rattle.bx_entries.specs.inner.Followed.{AreFullSaved}
+use Rattle.bx_entries.specs.inner.Marks.{GoOnWith, IsBegun, IsMarked, IsMarkedOn, ended_mark, mark_of, marks_of, saved_to, size_of}
 use Rattle.bx_entries.specs.inner.Plain.{HasNoNewline}
-use Rattle.bx_entries.specs.inner.Rows.{SumsTo, summed_of}
-use Rattle.bx_entries.specs.inner.Tally.{place_of}
+use Rattle.bx_entries.specs.inner.Rows.{SumsTo, summed_of, with_more}
+use Rattle.bx_entries.specs.inner.Tally.{AreFullAt, place_of}
 use Rattle.bx_entries.proofs.Foreign.{joined_lines}
+use Rattle.bx_entries.proofs.FullLemmas.{full_first, full_sums}
 use Rattle.bx_entries.proofs.Inverse.{map_some, next_between, next_ending, same_bytes}
 use Rattle.bx_entries.proofs.RangeSteps.{behind_some, runs_behind-append}
 use Rattle.bx_entries.proofs.Runs.{after_lines-append}
@@ -241,3 +243,72 @@ marked_more front window rest taken i now next marks new h left f more pushed =
 -- no line of a window
 pub marked_same : (front window : List ℕ) (m : Marking) (marks : List Mark) → IsMarked front m marks → IsMarked (front ++ take 0 window) m marks
 marked_same front window m marks h = subst (λ l. IsMarked l m marks) (sym (append-nil front)) h
+
+-- among saved lines the last of them ends where the text does
+to_is : (text : List ℕ) (marks : List Mark) (m : Marking) (v : Version) (n : ℕ) → m.sums.tally.place ≡ SavingPlace v n → IsMarked text m marks → m.to ≡ length text
+to_is text marks m v n at h =
+    let was : HasForm h.reading.stage (SavingPlace v n) = has_form h.reading.stage (SavingPlace v n) (ap (λ (s : Summed). s.tally.place) h.is ∙ at) in
+    let s : Kept = was.0 in
+    let b : IsBegun h.entries s.len s.runs [] h.behind m.from m.to = subst (λ z. GoOnWith h.entries z h.behind m.from m.to) was.1 h.goes_on in
+    let lines : (split text).lines ≡ lines_of h.entries ++ b.first ∷ b.saved = h.lines ∙ ap (λ ls. lines_of h.entries ++ ls) (b.is ∙ ap (λ ls. b.first ∷ ls) (append-nil b.saved)) in
+    b.ends ∙ ap length (ap joined (sym lines) ∙ joined_lines text h.whole)
+
+-- this many full lines more
+marked_by : (front text : List ℕ) (m : Marking) (marks : List Mark) (v : Version) (len count k : ℕ) → m.sums.tally.place ≡ SavingPlace v len → AreFullSaved len text count → k ≤ count
+    → IsMarked front m marks → IsMarked (front ++ take (68 * k) text) (record { sums = with_more m.sums (16 * k); from = m.from; to = m.to + 68 * k }) marks
+marked_by front text m marks v len count zero place so below h =
+    let saved : m.sums.saved ≡ m.sums.saved + 16 * 0 = omega arith in
+    let to : m.to ≡ m.to + 68 * 0 = omega arith in
+    subst (λ l. IsMarked l (record { sums = with_more m.sums (16 * 0); from = m.from; to = m.to + 68 * 0 }) marks) (sym (append-nil front))
+    (subst (λ n. IsMarked front (record { sums = record { tally = m.sums.tally; len = m.sums.len; saved = n }; from = m.from; to = m.to + 68 * 0 }) marks) saved
+    (subst (λ n. IsMarked front (record { sums = m.sums; from = m.from; to = n }) marks) to h))
+marked_by front text m marks v len count (suc k) place so below h =
+    let rest : List ℕ = drop (68 * k) text in
+    let begins = so.each k (omega (arith, below)) in
+    let all : List ℕ = front ++ take (68 * k) text in
+    let now : Marking = record { sums = with_more m.sums (16 * k); from = m.from; to = m.to + 68 * k } in
+    let next : Summed = with_more now.sums 16 in
+    let after : ℕ = m.to + 68 * suc k in
+    let before : IsMarked all now marks = marked_by front text m marks v len count k place so (omega (arith, below)) h in
+    let long : after ≡ length all + length (take 67 rest) + 1 = omega (arith, to_is all marks now v len place before, length-take 67 rest, begins.3.long) in
+    let line = marked_save all (take 67 rest) marks now next before begins.3.plain (full_sums before.reading now.sums v len rest before.is place begins) v len after place long in
+    let at : IsMarked (all ++ ended (take 67 rest)) (record { sums = next; from = m.from; to = after }) (marks ++ []) =
+    subst (λ p. IsMarked (all ++ ended (take 67 rest)) (record { sums = next; from = m.from; to = saved_to now.to p after })
+    (marks ++ ended_mark p (record { sums = next; from = m.from; to = saved_to now.to p after }))) place line in
+    let size : 68 * suc k ≡ 68 * k + 68 = omega arith in
+    let saved : m.sums.saved + 16 * k + 16 ≡ m.sums.saved + 16 * suc k = omega arith in
+    let end : take (68 * k) text ++ ended (take 67 rest) ≡ take (68 * suc k) text =
+    sym (ap (λ n. take n text) size ∙ take_sum (68 * k) 68 text ∙ ap (λ l. take (68 * k) text ++ l) (line_taken rest 67 (full_first len begins.0 rest begins.1 begins.3))) in
+    let whole : all ++ ended (take 67 rest) ≡ front ++ take (68 * suc k) text = append_assoc front (take (68 * k) text) (ended (take 67 rest)) ∙ ap (λ l. front ++ l) end in
+    subst (λ n. IsMarked (front ++ take (68 * suc k) text) (record { sums = record { tally = m.sums.tally; len = m.sums.len; saved = n }; from = m.from; to = after }) marks) saved
+    (subst (λ l. IsMarked l (record { sums = next; from = m.from; to = after }) marks) whole
+    (subst (IsMarked (all ++ ended (take 67 rest)) (record { sums = next; from = m.from; to = after })) (append-nil marks) at))
+
+-- full lines at a place add no mark
+full_marked : (front text : List ℕ) (m : Marking) (marks : List Mark) (count : ℕ) → AreFullAt m.sums.tally.place text count → IsMarked front m marks
+    → IsMarked (front ++ take (68 * count) text) (record { sums = with_more m.sums (16 * count); from = m.from; to = m.to + 68 * count }) marks
+full_marked front text m marks count so h = by m.sums.tally.place refl so
+  where
+    none : count ≡ 0 → IsMarked (front ++ take (68 * count) text) (record { sums = with_more m.sums (16 * count); from = m.from; to = m.to + 68 * count }) marks
+    none is =
+        let saved : m.sums.saved ≡ m.sums.saved + 16 * 0 = omega arith in
+        let to : m.to ≡ m.to + 68 * 0 = omega arith in
+        subst (λ c. IsMarked (front ++ take (68 * c) text) (record { sums = with_more m.sums (16 * c); from = m.from; to = m.to + 68 * c }) marks) (sym is)
+        (subst (λ l. IsMarked l (record { sums = with_more m.sums (16 * 0); from = m.from; to = m.to + 68 * 0 }) marks) (sym (append-nil front))
+        (subst (λ n. IsMarked front (record { sums = record { tally = m.sums.tally; len = m.sums.len; saved = n }; from = m.from; to = m.to + 68 * 0 }) marks) saved
+        (subst (λ n. IsMarked front (record { sums = m.sums; from = m.from; to = n }) marks) to h)))
+
+    by : (p : Place) → m.sums.tally.place ≡ p → AreFullAt p text count
+        → IsMarked (front ++ take (68 * count) text) (record { sums = with_more m.sums (16 * count); from = m.from; to = m.to + 68 * count }) marks
+    by BetweenPlace place so = none so
+    by (SavingPlace v len) place so = marked_by front text m marks v len count count place so (omega arith) h
+    by (EndingPlace v) place so = none so
+
+-- the same behind a part of a window
+pub marked_full : (front window rest : List ℕ) (m next : Marking) (marks : List Mark) (taken count : ℕ) → rest ≡ drop taken window → AreFullAt m.sums.tally.place rest count → IsMarkedOn m count next
+    → IsMarked (front ++ take taken window) m marks → IsMarked (front ++ take (taken + 68 * count) window) next marks
+marked_full front window rest m next marks taken count left so more h =
+    let end : take taken window ++ take (68 * count) rest ≡ take (taken + 68 * count) window = ap (λ l. take taken window ++ take (68 * count) l) left ∙ sym (take_sum taken (68 * count) window) in
+    let whole : (front ++ take taken window) ++ take (68 * count) rest ≡ front ++ take (taken + 68 * count) window = append_assoc front (take taken window) (take (68 * count) rest) ∙ ap (λ l. front ++ l) end in
+    subst (λ w. IsMarked (front ++ take (taken + 68 * count) window) w marks) (sym more)
+    (subst (λ l. IsMarked l (record { sums = with_more m.sums (16 * count); from = m.from; to = m.to + 68 * count }) marks) whole (full_marked (front ++ take taken window) rest m marks count so h))

@@ -1,5 +1,5 @@
 -- Entries that are marked: where their saved lines stand in a text.
-use Rattle.std.specs.Prelude.{◌≡◌, ◌≤◌, ◌+◌, ℕ, suc, Some, List, [], ◌∷◌, ◌++◌, length, map, take}
+use Rattle.std.specs.Prelude.{◌≡◌, ◌≤◌, ◌+◌, ◌*◌, ℕ, suc, Some, List, [], ◌∷◌, ◌++◌, length, map, take}
 use Rattle.bx_entries.specs.declared.read.count.Place.{Place}
 use Rattle.bx_entries.specs.declared.read.count.Place.TheVariants.{Between as BetweenPlace, Saving as SavingPlace, Ending as EndingPlace}
 use Rattle.bx_entries.specs.declared.read.marks.Mark.{Mark}
@@ -9,7 +9,7 @@ use Rattle.bx_entries.specs.Kept.{Run}
 use Rattle.bx_entries.specs.Line.{save_line}
 use Rattle.bx_entries.specs.Spelled.{EntryLines, GiveRuns, entry_in, lines_of, runs_behind}
 use Rattle.bx_entries.specs.Text.{Stage, Between, Saving, Ending, Reading, joined, split, start, after_lines}
-use Rattle.bx_entries.specs.inner.Rows.{saved_length, summed_of}
+use Rattle.bx_entries.specs.inner.Rows.{saved_length, summed_of, with_more}
 
 -- how many bytes lines have, with their newlines
 abbrev pub size_of : List (List ℕ) → ℕ
@@ -64,6 +64,10 @@ abbrev pub saved_to : ℕ → Place → ℕ → ℕ
 saved_to to (SavingPlace v len) after = after
 saved_to to BetweenPlace after = to
 saved_to to (EndingPlace v) after = to
+
+-- a marking behind this many full saved lines more
+abbrev pub IsMarkedOn : Marking → ℕ → Marking → Type 0
+IsMarkedOn m count next = next ≡ record { sums = with_more m.sums (16 * count); from = m.from; to = m.to + 68 * count }
 
 -- the mark of the entry that the last line ended, where the text stands at such a place
 abbrev pub ended_mark : Place → Marking → List Mark

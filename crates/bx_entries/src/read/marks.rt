@@ -1,11 +1,12 @@
 //! Entries that are only marked: where the saved lines of each stand in a text, and what a log tells of it.
 ghost use Rattle.std.specs.Prelude.{◌≡◌, ◌+◌, ◌<◌, ◌^◌, ◌++◌, [], List, ℕ, length, IfOk, IfSome, OnOk};
 ghost use Rattle.bx_entries.specs.Text.{ended};
-ghost use Rattle.bx_entries.specs.inner.Marks.{IsMarked, IsMarkedIn, ended_mark, saved_to};
+ghost use Rattle.bx_entries.specs.inner.Marks.{IsMarked, IsMarkedIn, IsMarkedOn, ended_mark, saved_to};
 ghost use Rattle.bx_entries.specs.inner.Plain.{HasNoNewline};
 
-use crate::read::count::{Place, next_end};
-use crate::read::rows::{Summed, nothing_summed, sum_one};
+use crate::read::count::{Place, full_behind, next_end};
+use crate::read::rows::{Summed, nothing_summed, sum_full, sum_one};
+use crate::read::runs::full_lines::ENDED;
 use bx_text::NoMemory;
 use std::alloc::Allocator;
 
@@ -84,6 +85,21 @@ pub fn mark_one(now: Marking, line: &[u8], after: u64) -> Option<Marking>
     }
 }
 
+/// The marking after this many full saved lines more.
+#[inline]
+fn mark_full(now: Marking, count: usize) -> Option<Marking>
+    ensures { IfSome result (IsMarkedOn now count) }
+{
+    let sums = sum_full(now.sums, count)?;
+    let more = (count as u64).checked_mul(ENDED as u64)?;
+    let to = now.to.checked_add(more)?;
+    Some(Marking {
+        sums,
+        from: now.from,
+        to,
+    })
+}
+
 /// Adds the mark of the entry that the last line ended, if it ended one.
 fn push_ended<A: Allocator>(marks: &mut Vec<Mark, A>, now: Marking) -> Result<(), NoMemory>
     ensures { OnOk result (marks.new.items ≡ marks.old.items ++ ended_mark now.sums.tally.place now) }
@@ -126,11 +142,16 @@ pub fn mark_lines<A: Allocator>(
         let Some(next) = mark_one(marking, &rest[..i], after) else {
             return Ok(None);
         };
-        marking = next;
-        push_ended(marks, marking)?;
+        push_ended(marks, next)?;
         let (_, behind) = rest.split_at(i + 1);
-        rest = behind;
-        taken += i + 1;
+        let full = full_behind(next.sums.tally.place, behind);
+        let Some(all) = mark_full(next, full) else {
+            return Ok(None);
+        };
+        let (_, left) = behind.split_at(ENDED * full);
+        marking = all;
+        rest = left;
+        taken += i + 1 + ENDED * full;
     }
     Ok(Some(MarkedLines { marking, taken }))
 }
