@@ -323,3 +323,26 @@ fn long_rollback_in_windows(rt: HostRuntime) -> Result<(), Fail> {
     assert!(rt; rolls_back_in(alloc, &again, faded)?);
     Ok(())
 }
+
+// A text with a zero, behind which a line of letters ends at this place, and an end line stands behind it.
+fn hidden_entry(alloc: Global, ends: usize) -> Result<Vec<u8>, AllocError> {
+    let mut text = Vec::new(alloc);
+    text.extend_from_slice(b"change2 00000001 0000000000000001\n\0")?;
+    text.resize(ends.saturating_sub(1), b'a')?;
+    text.extend_from_slice(b"\ndone2 00000001 0000000000000001\n")?;
+    Ok(text)
+}
+
+// What follows a zero is read in windows that begin there, here at 34. Wherever a window's end cuts the end line it is seen, so no loss of
+// power left this text.
+#[test]
+fn end_lines_over_a_window(rt: HostRuntime) -> Result<(), Fail> {
+    let alloc = rt.alloc();
+    for ends in 262_172..262_180 {
+        let text = hidden_entry(alloc, ends)?;
+        let start: Held<'_> = (b"A", text.as_slice(), b"");
+        let damaged = Err(SessionFault::Damaged { line: 2 });
+        assert_refused(alloc, &rt, start, (NONE, NONE, NONE), damaged, NO_STEP)?;
+    }
+    Ok(())
+}
