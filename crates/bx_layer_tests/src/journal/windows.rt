@@ -317,7 +317,7 @@ fn long_rollback_in_windows(rt: HostRuntime) -> Result<(), Fail> {
     let bump = ration(alloc, 1_000_000)?;
     let start: Held<'_> = (image.as_slice(), journal.as_slice(), b"");
     assert!(rt; rolls_back_in(alloc, &bump, start)?);
-    journal.resize(2_700_000, 0)?;
+    journal.resize(3_600_000, 0)?;
     let again = ration(alloc, 1_000_000)?;
     let faded: Held<'_> = (image.as_slice(), journal.as_slice(), b"");
     assert!(rt; rolls_back_in(alloc, &again, faded)?);
