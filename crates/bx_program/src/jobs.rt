@@ -145,40 +145,57 @@ where
         | Job::Strings(StringsJob { file, .. }) => return dump_file(rt, job, file, out),
         Job::Dd(dd) => return copy(rt, job, dd, out, remarks),
         Job::Revert(job) => revert(rt, job, remarks)?,
+        Job::Undo { .. } | Job::Redo { .. } => take_steps(rt, job, out, remarks)?,
+        Job::Log { .. } | Job::Show { .. } => look(rt, job, out)?,
+    }
+    Ok(None)
+}
+
+/// An undo or a redo.
+fn take_steps<'a, R, W: Write>(
+    rt: &R,
+    job: &'a Job,
+    out: &mut W,
+    remarks: &mut Remarks,
+) -> Result<(), Stopped<'a>>
+where
+    R: Files<File = File> + Eprint + AllocGlobal,
+{
+    match job {
         Job::Undo {
             count,
             image,
             texts,
             access,
-        } => step(
-            rt,
-            Command::Undo { k: *count },
-            image,
-            texts,
-            *access,
-            out,
-            remarks,
-        )?,
+        } => {
+            let undo = Command::Undo { k: *count };
+            step(rt, undo, image, texts, *access, out, remarks)
+        }
         Job::Redo {
             count,
             image,
             texts,
             access,
-        } => step(
-            rt,
-            Command::Redo { j: *count },
-            image,
-            texts,
-            *access,
-            out,
-            remarks,
-        )?,
+        } => {
+            let redo = Command::Redo { j: *count };
+            step(rt, redo, image, texts, *access, out, remarks)
+        }
+        _ => Ok(()),
+    }
+}
+
+/// What shows the changes of an image.
+fn look<'a, R, W: Write>(rt: &R, job: &'a Job, out: &mut W) -> Result<(), Stopped<'a>>
+where
+    R: Files<File = File> + Eprint + AllocGlobal,
+{
+    match job {
         Job::Log {
             verbose,
             image,
             texts,
             access,
-        } => show_log(rt, *verbose, image, texts, *access, out)?,
+        } => show_log(rt, *verbose, image, texts, *access, out),
         Job::Show {
             way,
             count,
@@ -192,10 +209,10 @@ where
                 changes: 0,
                 compares: *compares,
             };
-            show_changes(rt, steps, image, texts, out)?;
+            show_changes(rt, steps, image, texts, out)
         }
+        _ => Ok(()),
     }
-    Ok(None)
 }
 
 /// dd, onto the image that `of=` names or to standard output.
