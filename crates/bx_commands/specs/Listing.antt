@@ -1,7 +1,7 @@
 -- The log of a session as text.
 use Rattle.std.specs.Prelude.{ℕ, List, ◌++◌, codes, decimal}
 use Rattle.bx_journal.specs.declared.look.ShowFault.TheVariants as look
-use Rattle.bx_journal.specs.declared.session.answers.LogRow.{LogRow}
+use Rattle.bx_journal.specs.declared.answers.LogRow.{LogRow}
 use Rattle.bx_journal.specs.declared.look.step.Steps.{Steps}
 use Rattle.bx_journal.specs.Showing.{StopsLog}
 use Rattle.bx_journal.specs.Steps.{RefusesSteps, StopsSteps}

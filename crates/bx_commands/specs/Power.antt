@@ -3,7 +3,7 @@ use Rattle.std.specs.Prelude.{◌≡◌, ◌⊎◌, ◌≤◌, ℕ, true, Option
 use Rattle.bx_journal.specs.Images.{Images, change_to, redo_of, undo_of}
 use Rattle.bx_journal.specs.Power.{Found, Survive}
 use Rattle.bx_journal.specs.SessionView.{SessionView}
-use Rattle.bx_journal.specs.declared.session.fault.SessionFault.TheVariants.{Interrupted}
+use Rattle.bx_journal.specs.declared.fault.SessionFault.TheVariants.{Interrupted}
 use Rattle.bx_commands.specs.declared.command.Command.{Command}
 use Rattle.bx_commands.specs.declared.command.Command.TheVariants.{Undo, Redo}
 use Rattle.bx_commands.specs.declared.command.Reply.{Reply}

@@ -2,7 +2,7 @@
 use Rattle.std.specs.Prelude.{◌≢◌, ℕ, List}
 use Rattle.bx_read.specs.declared.fault.ReadFault.TheVariants as read
 use Rattle.bx_dd.specs.declared.fault.DdFault.TheVariants as dd
-use Rattle.bx_journal.specs.declared.session.fault.SessionFault.TheVariants.{Interrupted}
+use Rattle.bx_journal.specs.declared.fault.SessionFault.TheVariants.{Interrupted}
 use Rattle.bx_journal.specs.Session.{IsSame}
 use Rattle.bx_journal.specs.SessionView.{SessionView}
 use Rattle.bx_commands.specs.declared.command.Reply.{Reply}

@@ -1,8 +1,8 @@
 -- A text that is read again.
 use Rattle.std.proofs.Common.{◌≡◌, ℕ, zero, suc, ◌+◌, ◌<◌, ◌≤◌, List, [], ◌∷◌, ◌++◌, length, map, take, drop, refl, ap, sym, ◌∙◌, subst, inl, inr, arith, length-drop, get_or}
 use Rattle.bx_entries.specs.Kept.{run_of}
-use Rattle.bx_journal.specs.declared.session.fault.SessionFault.{SessionFault}
-use Rattle.bx_journal.specs.declared.session.fault.SessionFault.TheVariants.{Damaged}
+use Rattle.bx_journal.specs.declared.fault.SessionFault.{SessionFault}
+use Rattle.bx_journal.specs.declared.fault.SessionFault.TheVariants.{Damaged}
 use Rattle.bx_entries.specs.declared.read.whole.JournalRead.{JournalRead}
 use Rattle.bx_entries.specs.declared.read.types.EntryRead.{EntryRead}
 use Rattle.bx_entries.specs.Text.{Entry, Between, Reading, Reads, split}

@@ -1,12 +1,12 @@
 -- What opening finds in a text whose entries were counted.
 use Rattle.std.proofs.Common.{◌≡◌, ℕ, suc, List, [], ◌++◌, length, drop, arith, ap, sym, ◌∙◌, subst, inl, inr, ◌⊎◌, Option, Some, Result, Ok, Err}
 use Rattle.std.specs.Prelude.{IfSome, OnOk}
-use Rattle.bx_journal.specs.declared.session.answers.How.TheVariants.{Clean}
-use Rattle.bx_journal.specs.declared.session.fault.SessionFault.{SessionFault}
+use Rattle.bx_journal.specs.declared.answers.How.TheVariants.{Clean}
+use Rattle.bx_journal.specs.declared.fault.SessionFault.{SessionFault}
 use Rattle.bx_entries.specs.Text.{Between, Reading, Reads, split}
 use Rattle.bx_journal.specs.Stack.{HaveLengths, IsSound, Recovers, image_at, recovered, stack_of}
 use Rattle.bx_journal.specs.Phase.{IsAtRest}
-use Rattle.bx_journal.specs.declared.session.fault.SessionFault.TheVariants.{DeviceFailed, LengthDiffers}
+use Rattle.bx_journal.specs.declared.fault.SessionFault.TheVariants.{DeviceFailed, LengthDiffers}
 use Rattle.bx_journal.specs.Calls.{how_of, Differs, OpenFault}
 use Rattle.bx_journal.specs.Opening.{IsOpened, RefusesLength, left_over}
 use Rattle.bx_entries.specs.Shown.{shown}

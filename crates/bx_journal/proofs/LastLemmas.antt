@@ -11,9 +11,9 @@ use Rattle.bx_entries.specs.inner.Lines.{IsFront, IsReadUpTo}
 use Rattle.bx_entries.specs.inner.Parsed.{entries_onto, reading_onto, AreMarked, IsMarked}
 use Rattle.bx_entries.specs.inner.Mark.{IsMark}
 use Rattle.bx_entries.specs.inner.Tally.{IsCounted}
-use Rattle.bx_journal.specs.declared.session.read.entries.FinishedRead.{FinishedRead}
-use Rattle.bx_journal.specs.declared.session.fault.SessionFault.{SessionFault}
-use Rattle.bx_journal.specs.declared.session.fault.SessionFault.TheVariants.{NoMemory, DeviceFailed}
+use Rattle.bx_journal.specs.declared.read.entries.FinishedRead.{FinishedRead}
+use Rattle.bx_journal.specs.declared.fault.SessionFault.{SessionFault}
+use Rattle.bx_journal.specs.declared.fault.SessionFault.TheVariants.{NoMemory, DeviceFailed}
 use Rattle.bx_journal.specs.Undoing.{AgainFault}
 use Rattle.bx_journal.specs.inner.Undoing.{IsReadFrom, IsReadLast, IsReadOn, IsReadBehind, IsLastFrom}
 use Rattle.bx_journal.specs.inner.Restoring.{AllShorter}

@@ -17,8 +17,8 @@ use Rattle.bx_entries.proofs.Runs.{after_lines-append}
 use Rattle.bx_entries.proofs.Splits.{split-append, split-ended}
 use Rattle.bx_entries.proofs.TallyLemmas.{IsFirstLine, last, line_taken, take_sum}
 use Rattle.bx_journal.specs.Calls.{rows_of}
-use Rattle.bx_journal.specs.declared.session.answers.LogRow.{LogRow}
-use Rattle.bx_journal.specs.declared.session.fault.SessionFault.{SessionFault}
+use Rattle.bx_journal.specs.declared.answers.LogRow.{LogRow}
+use Rattle.bx_journal.specs.declared.fault.SessionFault.{SessionFault}
 use Rattle.bx_journal.specs.declared.session.log.windows.Listed.{Listed}
 use Rattle.bx_journal.specs.inner.Devices.{LooksAt}
 use Rattle.bx_journal.specs.inner.Rows.{AreListedTo, AreRowsOf, FindsRows, IsListed, IsListedAt, ended_row}

@@ -15,7 +15,7 @@ use Rattle.bx_journal.specs.Stack.{StandsFor}
 use Rattle.bx_journal.specs.Standing.{IsStanding}
 use Rattle.bx_journal.specs.Taken.{taken_by}
 use Rattle.bx_journal.specs.Undoing.{HasLeft}
-use Rattle.bx_journal.specs.declared.session.fault.SessionFault.{SessionFault}
+use Rattle.bx_journal.specs.declared.fault.SessionFault.{SessionFault}
 use Rattle.bx_journal.specs.inner.Devices.{HaveStayed, LooksAt}
 use Rattle.bx_journal.specs.inner.Turns.{AreAtRest, AreStanding}
 use Rattle.bx_journal.specs.inner.Undoing.{AreReadFrom, IsLastFrom}

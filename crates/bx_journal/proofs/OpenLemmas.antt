@@ -6,10 +6,10 @@ use Rattle.bx_image.specs.declared.record.Saved.{Saved}
 use Rattle.bx_entries.specs.Kept.{kept_of}
 use Rattle.bx_image.specs.Change.{restore}
 use Rattle.bx_entries.specs.declared.format.version.Version.{Version}
-use Rattle.bx_journal.specs.declared.session.answers.How.{How}
-use Rattle.bx_journal.specs.declared.session.answers.How.TheVariants.{Dropped, Restored}
-use Rattle.bx_journal.specs.declared.session.fault.SessionFault.{SessionFault}
-use Rattle.bx_journal.specs.declared.session.fault.SessionFault.TheVariants.{NoMemory, TooLarge, DeviceFailed, Damaged, TooFew, JournalFull, Interrupted, Broken, LengthDiffers, NothingToRedo, RedoDamaged}
+use Rattle.bx_journal.specs.declared.answers.How.{How}
+use Rattle.bx_journal.specs.declared.answers.How.TheVariants.{Dropped, Restored}
+use Rattle.bx_journal.specs.declared.fault.SessionFault.{SessionFault}
+use Rattle.bx_journal.specs.declared.fault.SessionFault.TheVariants.{NoMemory, TooLarge, DeviceFailed, Damaged, TooFew, JournalFull, Interrupted, Broken, LengthDiffers, NothingToRedo, RedoDamaged}
 use Rattle.bx_entries.specs.declared.read.whole.JournalRead.{JournalRead}
 use Rattle.bx_entries.specs.declared.read.types.StageRead.TheVariants.{Between as BetweenRead, Saving as SavingRead, Ending as EndingRead}
 use Rattle.bx_entries.specs.Text.{Entry, Between, Reading, Reads, IsRest, split, may_begin}

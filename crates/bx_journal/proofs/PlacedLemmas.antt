@@ -9,7 +9,7 @@ use Rattle.bx_entries.specs.declared.read.types.EntryRead.{EntryRead}
 use Rattle.bx_entries.specs.inner.Parsed.{AllKept, AreMarked, entries_onto, entry_of}
 use Rattle.bx_entries.proofs.Bounds.{AreBounded, read_bounded}
 use Rattle.bx_journal.specs.declared.protocol.undo_entry.Placed.{Placed}
-use Rattle.bx_journal.specs.declared.protocol.windows.Mark.{Mark}
+use Rattle.bx_journal.specs.declared.read.mark.Mark.{Mark}
 use Rattle.bx_journal.specs.inner.Placed.{AllFit, ArePlaced, IsPlaced}
 use Rattle.bx_journal.specs.inner.Redo.{LeavesEither, Side}
 use Rattle.bx_journal.specs.inner.Restoring.{AllShorter, StandsAt}

@@ -26,7 +26,7 @@ use Rattle.bx_entries.proofs.RowLemmas.{or_assoc, or_none, restore_same}
 use Rattle.bx_entries.proofs.Runs.{after_lines-append}
 use Rattle.bx_entries.proofs.Splits.{AllPlain, split-append}
 use Rattle.bx_entries.proofs.TallyLemmas.{take_sum}
-use Rattle.bx_journal.specs.declared.protocol.windows.Mark.{Mark}
+use Rattle.bx_journal.specs.declared.read.mark.Mark.{Mark}
 use Rattle.bx_journal.specs.inner.Phase.{IsCutOf, IsPartOf}
 use Rattle.bx_journal.specs.inner.Restoring.{AllShorter, AreNamed, IsRestoredTo, Names, RestoresWindow, StandsAt}
 use Rattle.bx_journal.proofs.WindowLemmas.{front_of}

@@ -20,7 +20,7 @@ use Rattle.bx_entries.proofs.Inverse.{bind_some, next_between, next_ending}
 use Rattle.bx_entries.proofs.Runs.{after_lines-append}
 use Rattle.bx_entries.proofs.Splits.{AllPlain, split-append, split-ended}
 use Rattle.bx_entries.proofs.TallyLemmas.{last, take_sum}
-use Rattle.bx_journal.specs.declared.protocol.windows.Mark.{Mark}
+use Rattle.bx_journal.specs.declared.read.mark.Mark.{Mark}
 use Rattle.bx_journal.specs.inner.Restoring.{AllShorter, StandsAt}
 use Rattle.bx_journal.proofs.RestoreLemmas.{line_gives, lines_more, same_reading}
 

@@ -28,10 +28,10 @@ use Rattle.bx_journal.specs.declared.look.step.Steps.{Steps}
 use Rattle.bx_journal.specs.declared.look.step.Way.{Way}
 use Rattle.bx_journal.specs.declared.look.step.Way.TheVariants.{Undo, Redo}
 use Rattle.bx_journal.specs.declared.look.unfinished.Marked.{Marked}
-use Rattle.bx_journal.specs.declared.protocol.windows.Mark.{Mark as Place}
-use Rattle.bx_journal.specs.declared.recovery.journal.Torn.{Torn}
-use Rattle.bx_journal.specs.declared.session.fault.SessionFault.{SessionFault}
-use Rattle.bx_journal.specs.declared.session.fault.SessionFault.TheVariants.{NoMemory, TooLarge, DeviceFailed, Damaged, TooFew, JournalFull, Interrupted, Broken, LengthDiffers, NothingToRedo, RedoDamaged}
+use Rattle.bx_journal.specs.declared.read.mark.Mark.{Mark as Place}
+use Rattle.bx_journal.specs.declared.read.journal.Torn.{Torn}
+use Rattle.bx_journal.specs.declared.fault.SessionFault.{SessionFault}
+use Rattle.bx_journal.specs.declared.fault.SessionFault.TheVariants.{NoMemory, TooLarge, DeviceFailed, Damaged, TooFew, JournalFull, Interrupted, Broken, LengthDiffers, NothingToRedo, RedoDamaged}
 use Rattle.bx_journal.specs.inner.Devices.{LooksAt}
 use Rattle.bx_journal.specs.inner.Recovery.{FindFault, HasMark, IsTornIn, IsUnfinishedIn}
 use Rattle.bx_journal.specs.inner.Showing.{AreAllMarks, AreMarksOf, LiesWithin, PutFault}

@@ -11,10 +11,10 @@ use Rattle.bx_entries.specs.Text.{Entry, Stage, Between, Saving, Ending, Reading
 use Rattle.bx_entries.specs.declared.format.version.Version.{Version}
 use Rattle.bx_entries.specs.inner.Mark.{IsMark}
 use Rattle.bx_entries.proofs.ShownLemmas.{shown_is_front, shown_short, take_shown}
-use Rattle.bx_journal.specs.declared.protocol.windows.Mark.{Mark}
-use Rattle.bx_journal.specs.declared.recovery.journal.Torn.{Torn}
-use Rattle.bx_journal.specs.declared.session.answers.How.{How}
-use Rattle.bx_journal.specs.declared.session.answers.How.TheVariants.{Dropped, Restored}
+use Rattle.bx_journal.specs.declared.read.mark.Mark.{Mark}
+use Rattle.bx_journal.specs.declared.read.journal.Torn.{Torn}
+use Rattle.bx_journal.specs.declared.answers.How.{How}
+use Rattle.bx_journal.specs.declared.answers.How.TheVariants.{Dropped, Restored}
 use Rattle.bx_journal.specs.Calls.{how_of}
 use Rattle.bx_journal.specs.Opening.{IsOpened, left_over}
 use Rattle.bx_journal.specs.Redo.{IsClean}

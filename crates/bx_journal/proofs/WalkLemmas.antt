@@ -16,8 +16,8 @@ use Rattle.bx_entries.proofs.Foreign.{joined_lines, no_way_back}
 use Rattle.bx_entries.specs.Finished.{IsFinished}
 use Rattle.bx_entries.specs.declared.read.types.Front.{Front}
 use Rattle.bx_entries.specs.inner.Plain.{HasNoNewline}
-use Rattle.bx_journal.specs.declared.protocol.windows.Mark.{Mark}
-use Rattle.bx_journal.specs.declared.recovery.windows.Walk.{Walk}
+use Rattle.bx_journal.specs.declared.read.mark.Mark.{Mark}
+use Rattle.bx_journal.specs.declared.read.count.Walk.{Walk}
 use Rattle.bx_journal.specs.inner.Recovery.{HasMark, HasTorn}
 use Rattle.std.proofs.lemmas.List.{take-append-drop}
 use Rattle.bx_journal.specs.inner.Restoring.{AllShorter, StandsAt}

@@ -10,10 +10,10 @@ use Rattle.bx_entries.specs.Text.{IsDamagedAt}
 use Rattle.bx_entries.specs.declared.read.count.Tally.{Tally}
 use Rattle.bx_entries.specs.declared.read.types.Front.{Front}
 use Rattle.bx_entries.specs.declared.read.window.Passed.{Passed}
-use Rattle.bx_journal.specs.declared.recovery.journal.Found.{Found}
-use Rattle.bx_journal.specs.declared.recovery.journal.Found.TheVariants.{Finished, Unfinished}
-use Rattle.bx_journal.specs.declared.session.fault.SessionFault.{SessionFault}
-use Rattle.bx_journal.specs.declared.session.fault.SessionFault.TheVariants.{NoMemory, TooLarge, DeviceFailed, Damaged, TooFew, JournalFull, Interrupted, Broken, LengthDiffers, NothingToRedo, RedoDamaged}
+use Rattle.bx_journal.specs.declared.read.journal.Found.{Found}
+use Rattle.bx_journal.specs.declared.read.journal.Found.TheVariants.{Finished, Unfinished}
+use Rattle.bx_journal.specs.declared.fault.SessionFault.{SessionFault}
+use Rattle.bx_journal.specs.declared.fault.SessionFault.TheVariants.{NoMemory, TooLarge, DeviceFailed, Damaged, TooFew, JournalFull, Interrupted, Broken, LengthDiffers, NothingToRedo, RedoDamaged}
 use Rattle.bx_journal.specs.Undoing.{AgainFault, IsOutOfStep}
 use Rattle.bx_journal.specs.inner.Devices.{FaultCounts, LooksAt}
 use Rattle.bx_journal.specs.inner.Recovery.{FindFault, FindsText, IsFoundIn, IsTornIn}

@@ -16,9 +16,9 @@ use Rattle.bx_entries.proofs.CleanLemmas.{clean_shown}
 use Rattle.bx_entries.proofs.ReadLoop.{drop_twice}
 use Rattle.bx_entries.proofs.ZeroLemmas.{end_torn}
 use Rattle.bx_journal.specs.Redo.{IsClean}
-use Rattle.bx_journal.specs.declared.protocol.windows.Mark.{Mark}
-use Rattle.bx_journal.specs.declared.recovery.journal.Torn.{Torn}
-use Rattle.bx_journal.specs.declared.recovery.windows.Walk.{Walk}
+use Rattle.bx_journal.specs.declared.read.mark.Mark.{Mark}
+use Rattle.bx_journal.specs.declared.read.journal.Torn.{Torn}
+use Rattle.bx_journal.specs.declared.read.count.Walk.{Walk}
 use Rattle.bx_journal.specs.inner.Recovery.{HasMark, HasTorn, IsTorn, IsTornFront, IsTornIn, IsUnfinishedIn}
 use Rattle.bx_journal.specs.inner.Restoring.{AllShorter, StandsAt}
 use Rattle.bx_journal.specs.inner.Windows.{HasNoZero, IsFrontCounted, IsWalkedTo, is_no_zero}

@@ -1,11 +1,11 @@
 -- What a session's calls answer.
 use Rattle.std.specs.Prelude.{◌≡◌, ℕ, suc, Some, List, [], ◌∷◌, ◌++◌, length, sum, map}
 use Rattle.bx_entries.specs.Kept.{Run}
-use Rattle.bx_journal.specs.declared.session.answers.LogRow.{LogRow}
-use Rattle.bx_journal.specs.declared.session.answers.How.{How}
-use Rattle.bx_journal.specs.declared.session.answers.How.TheVariants.{Clean, Dropped, Restored}
-use Rattle.bx_journal.specs.declared.session.fault.SessionFault.{SessionFault}
-use Rattle.bx_journal.specs.declared.session.fault.SessionFault.TheVariants.{Interrupted, LengthDiffers, RedoDamaged}
+use Rattle.bx_journal.specs.declared.answers.LogRow.{LogRow}
+use Rattle.bx_journal.specs.declared.answers.How.{How}
+use Rattle.bx_journal.specs.declared.answers.How.TheVariants.{Clean, Dropped, Restored}
+use Rattle.bx_journal.specs.declared.fault.SessionFault.{SessionFault}
+use Rattle.bx_journal.specs.declared.fault.SessionFault.TheVariants.{Interrupted, LengthDiffers, RedoDamaged}
 use Rattle.bx_journal.specs.Fault.{DeviceFault}
 use Rattle.bx_entries.specs.Text.{Entry, Stage, Between, Saving, Ending, Reading}
 use Rattle.bx_journal.specs.Stack.{image_at}

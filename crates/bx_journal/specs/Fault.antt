@@ -1,8 +1,8 @@
 -- What faults of the devices are in a session, and which of them several calls may meet.
 use Rattle.bx_image.specs.declared.device.ImageFault.{ImageFault}
 use Rattle.bx_image.specs.declared.device.ImageFault.TheVariants.{NoMemory as ImageMemory, TooLarge as ImageLarge, DeviceFailed as ImageFailed}
-use Rattle.bx_journal.specs.declared.session.fault.SessionFault.{SessionFault}
-use Rattle.bx_journal.specs.declared.session.fault.SessionFault.TheVariants.{NoMemory, TooLarge, DeviceFailed, Interrupted, Broken}
+use Rattle.bx_journal.specs.declared.fault.SessionFault.{SessionFault}
+use Rattle.bx_journal.specs.declared.fault.SessionFault.TheVariants.{NoMemory, TooLarge, DeviceFailed, Interrupted, Broken}
 
 -- what a fault of saving is in a session
 abbrev pub fault_of : ImageFault → SessionFault

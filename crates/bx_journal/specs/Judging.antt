@@ -1,7 +1,7 @@
 -- Whether a text is a redo text, and at which line it isn't.
 use Rattle.std.specs.Prelude.{◌≡◌, ℕ}
-use Rattle.bx_journal.specs.declared.session.fault.SessionFault.{SessionFault}
-use Rattle.bx_journal.specs.declared.session.fault.SessionFault.TheVariants.{RedoDamaged}
+use Rattle.bx_journal.specs.declared.fault.SessionFault.{SessionFault}
+use Rattle.bx_journal.specs.declared.fault.SessionFault.TheVariants.{RedoDamaged}
 use Rattle.bx_journal.specs.Fault.{DeviceFault}
 
 -- which fault a redo text that is refused at a line makes, where no other came before

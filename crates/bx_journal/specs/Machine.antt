@@ -4,8 +4,8 @@ use Rattle.bx_image.specs.declared.change.Change.{Change}
 use Rattle.bx_image.specs.declared.change.TheConstants.{MAX_LEN}
 use Rattle.bx_image.specs.Change.{effect, Fits}
 use Rattle.bx_journal.specs.Images.{Images, redo_of}
-use Rattle.bx_journal.specs.declared.session.fault.SessionFault.{SessionFault}
-use Rattle.bx_journal.specs.declared.session.fault.SessionFault.TheVariants.{NoMemory, TooLarge, TooFew, JournalFull, NothingToRedo}
+use Rattle.bx_journal.specs.declared.fault.SessionFault.{SessionFault}
+use Rattle.bx_journal.specs.declared.fault.SessionFault.TheVariants.{NoMemory, TooLarge, TooFew, JournalFull, NothingToRedo}
 
 -- the newest image of a stack
 abbrev pub top : List (List ℕ) → List ℕ

@@ -1,10 +1,10 @@
 -- What opening leaves and answers, of the devices that it is given.
 use Rattle.std.specs.Prelude.{◌≡◌, ℕ, List, [], Result, MatchResult}
-use Rattle.bx_journal.specs.declared.session.answers.How.{How}
-use Rattle.bx_journal.specs.declared.session.answers.How.TheVariants.{Clean}
-use Rattle.bx_journal.specs.declared.session.answers.Recovered.{Recovered}
-use Rattle.bx_journal.specs.declared.session.fault.SessionFault.{SessionFault}
-use Rattle.bx_journal.specs.declared.session.fault.SessionFault.TheVariants.{LengthDiffers, RedoDamaged}
+use Rattle.bx_journal.specs.declared.answers.How.{How}
+use Rattle.bx_journal.specs.declared.answers.How.TheVariants.{Clean}
+use Rattle.bx_journal.specs.declared.answers.Recovered.{Recovered}
+use Rattle.bx_journal.specs.declared.fault.SessionFault.{SessionFault}
+use Rattle.bx_journal.specs.declared.fault.SessionFault.TheVariants.{LengthDiffers, RedoDamaged}
 use Rattle.bx_entries.specs.Shown.{shown}
 use Rattle.bx_entries.specs.Text.{Reading, Reads}
 use Rattle.bx_journal.specs.Calls.{AfterFault, Differs}

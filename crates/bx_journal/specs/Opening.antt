@@ -1,8 +1,8 @@
 -- What opening a pair finds and leaves.
 use Rattle.std.specs.Prelude.{◌≡◌, ◌≤◌, ℕ, ◌+◌, List, ◌++◌, length, drop}
-use Rattle.bx_journal.specs.declared.session.answers.How.{How}
-use Rattle.bx_journal.specs.declared.session.fault.SessionFault.{SessionFault}
-use Rattle.bx_journal.specs.declared.session.fault.SessionFault.TheVariants.{DeviceFailed, Damaged, Interrupted, LengthDiffers}
+use Rattle.bx_journal.specs.declared.answers.How.{How}
+use Rattle.bx_journal.specs.declared.fault.SessionFault.{SessionFault}
+use Rattle.bx_journal.specs.declared.fault.SessionFault.TheVariants.{DeviceFailed, Damaged, Interrupted, LengthDiffers}
 use Rattle.bx_entries.specs.Shown.{shown}
 use Rattle.bx_entries.specs.Text.{Reading, split}
 use Rattle.bx_journal.specs.Stack.{StandsFor, recovered}

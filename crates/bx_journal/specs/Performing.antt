@@ -6,7 +6,7 @@ use Rattle.bx_entries.specs.Entry.{entry_text}
 use Rattle.bx_entries.specs.Finished.{IsFinished}
 use Rattle.bx_entries.specs.Kept.{kept_of}
 use Rattle.bx_entries.specs.Text.{Entry}
-use Rattle.bx_journal.specs.declared.session.fault.SessionFault.{SessionFault}
+use Rattle.bx_journal.specs.declared.fault.SessionFault.{SessionFault}
 use Rattle.bx_journal.specs.Calls.{AfterFault}
 use Rattle.bx_journal.specs.Images.{Images, change_to, redo_of, undo_of}
 use Rattle.bx_journal.specs.Machine.{RedoStep, changed, top}

@@ -4,7 +4,7 @@ use Rattle.bx_image.specs.declared.change.Change.{Change}
 use Rattle.bx_image.specs.Change.{effect}
 use Rattle.bx_image.specs.Power.{NoMore}
 use Rattle.bx_entries.specs.Shown.{shown}
-use Rattle.bx_journal.specs.declared.session.fault.SessionFault.{SessionFault}
+use Rattle.bx_journal.specs.declared.fault.SessionFault.{SessionFault}
 use Rattle.bx_journal.specs.Calls.{AfterFault}
 use Rattle.bx_journal.specs.Images.{Images, change_to}
 use Rattle.bx_journal.specs.Machine.{changes_of, top}

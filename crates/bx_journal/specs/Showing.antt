@@ -8,7 +8,7 @@ use Rattle.bx_entries.specs.Shown.{shown}
 use Rattle.bx_entries.specs.Text.{Entry, IsDamagedAt}
 use Rattle.bx_journal.specs.declared.look.ShowFault.{ShowFault}
 use Rattle.bx_journal.specs.declared.look.ShowFault.TheVariants.{Text, Io}
-use Rattle.bx_journal.specs.declared.session.fault.SessionFault.TheVariants.{Damaged}
+use Rattle.bx_journal.specs.declared.fault.SessionFault.TheVariants.{Damaged}
 use Rattle.bx_journal.specs.Fault.{DeviceFault}
 
 -- how many bytes a record has

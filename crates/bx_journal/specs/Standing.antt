@@ -1,7 +1,7 @@
 -- A session whose pair stands for a stack, whether or not it is sound (well-formed for recovery).
 use Rattle.std.specs.Prelude.{◌≡◌, ℕ, suc, false, List, length}
-use Rattle.bx_journal.specs.declared.session.fault.SessionFault.{SessionFault}
-use Rattle.bx_journal.specs.declared.session.fault.SessionFault.TheVariants.{TooLarge, JournalFull}
+use Rattle.bx_journal.specs.declared.fault.SessionFault.{SessionFault}
+use Rattle.bx_journal.specs.declared.fault.SessionFault.TheVariants.{TooLarge, JournalFull}
 use Rattle.bx_journal.specs.Fault.{WritingFault}
 use Rattle.bx_journal.specs.SessionView.{SessionView}
 use Rattle.bx_journal.specs.Stack.{StandsFor}

@@ -15,7 +15,7 @@ use Rattle.bx_journal.specs.declared.look.ShowFault.TheVariants.{Text, Io}
 use Rattle.bx_journal.specs.declared.look.step.Steps.{Steps}
 use Rattle.bx_journal.specs.declared.look.step.Way.{Way}
 use Rattle.bx_journal.specs.declared.look.step.Way.TheVariants.{Undo, Redo}
-use Rattle.bx_journal.specs.declared.session.fault.SessionFault.TheVariants.{Damaged, RedoDamaged, TooFew, NothingToRedo}
+use Rattle.bx_journal.specs.declared.fault.SessionFault.TheVariants.{Damaged, RedoDamaged, TooFew, NothingToRedo}
 
 -- the word for a way
 abbrev pub way_word : Way → List ℕ

@@ -1,7 +1,7 @@
 -- What undoing starts from and leaves.
 use Rattle.std.specs.Prelude.{◌≡◌, ◌⊎◌, ℕ, List, length, drop, Result, OnOk}
-use Rattle.bx_journal.specs.declared.session.fault.SessionFault.{SessionFault}
-use Rattle.bx_journal.specs.declared.session.fault.SessionFault.TheVariants.{Damaged, TooFew, NothingToRedo, RedoDamaged}
+use Rattle.bx_journal.specs.declared.fault.SessionFault.{SessionFault}
+use Rattle.bx_journal.specs.declared.fault.SessionFault.TheVariants.{Damaged, TooFew, NothingToRedo, RedoDamaged}
 use Rattle.bx_entries.specs.Finished.{IsFinished}
 use Rattle.bx_entries.specs.Text.{Entry, IsPrefix, IsDamagedAt, IsAccepted}
 use Rattle.bx_journal.specs.Fault.{DeviceFault, WritingFault}

@@ -11,16 +11,19 @@
 //! `docs/CALLING.md` has the whole caller, which the gate proves and runs.
 #![tactic(auto)]
 
+mod answers;
+mod fault;
 pub mod laws;
 mod look;
 mod protocol;
+mod read;
 mod recovery;
 mod session;
 mod write;
 
+pub use answers::{How, LogRow, Recovered};
 pub use bx_store::{FileText, FuseText, MemText, TextStore};
+pub use fault::SessionFault;
 pub use look::step::{Steps, Way};
 pub use look::{ShowFault, log_ranges, show_steps};
 pub use session::Session;
-pub use session::answers::{How, LogRow, Recovered};
-pub use session::fault::SessionFault;

@@ -1,7 +1,7 @@
 //! A look at the changes of a text, without a session: nothing is recovered, and the text stays.
 ghost use Rattle.std.specs.Prelude.{◌≡◌, ◌<◌, ◌≤◌, ℕ, All, false, IsTrue, None, length, OnOk, IfOk, IfErr};
 ghost use Rattle.bx_journal.specs.declared.look.ShowFault.TheVariants.{Text as OfText, Io as OfIo};
-ghost use Rattle.bx_journal.specs.declared.session.fault.SessionFault.TheVariants.{NoMemory as OutOfMemory, DeviceFailed as CallFailed};
+ghost use Rattle.bx_journal.specs.declared.fault.SessionFault.TheVariants.{NoMemory as OutOfMemory, DeviceFailed as CallFailed};
 ghost use Rattle.bx_journal.specs.Showing.{RangesOf, StopsLog};
 ghost use Rattle.bx_journal.specs.Steps.{RefusesSteps, ShowsSteps, StopsSteps};
 ghost use Rattle.bx_journal.specs.inner.Showing.{LiesWithin, PutFault};
@@ -19,12 +19,12 @@ pub mod step;
 mod unfinished;
 
 use crate::SessionFault;
+use crate::fault::of_redo;
 use crate::look::entries::put_rows;
 use crate::look::marks::all_marks;
 use crate::look::step::{Steps, Way, put_steps};
 use crate::look::unfinished::{Marked, front_marks, put_torn};
-use crate::recovery::journal::Torn;
-use crate::session::fault::of_redo;
+use crate::read::journal::Torn;
 use bx_image::{Device, DeviceFailed};
 use bx_store::TextStore;
 use bx_text::{IoFault, NoMemory};

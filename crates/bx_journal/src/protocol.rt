@@ -5,6 +5,7 @@ pub(crate) mod fill;
 pub(crate) mod image;
 pub(crate) mod redo_entry;
 pub(crate) mod redo_text;
+pub(crate) mod restore;
+pub(crate) mod rollback;
 pub(crate) mod settle;
 pub(crate) mod undo_entry;
-pub(crate) mod windows;

@@ -3,13 +3,10 @@ ghost use Rattle.std.specs.Prelude.{◌≡◌, ◌↔◌, ◌+◌, ◌<◌, ◌�
 ghost use Rattle.bx_image.specs.Change.{Fits};
 ghost use Rattle.bx_journal.specs.Machine.{PerformStep, changed};
 
-pub(crate) mod answers;
 mod close;
-pub(crate) mod fault;
 mod log;
 mod open;
 mod prepare;
-pub(crate) mod read;
 mod redo;
 mod undo;
 

@@ -1,7 +1,7 @@
 -- What proofs alone need: what a session's calls answer.
 use Rattle.std.specs.Prelude.{ℕ, List}
-use Rattle.bx_journal.specs.declared.session.fault.SessionFault.{SessionFault}
-use Rattle.bx_journal.specs.declared.session.fault.SessionFault.TheVariants.{NoMemory, Damaged}
+use Rattle.bx_journal.specs.declared.fault.SessionFault.{SessionFault}
+use Rattle.bx_journal.specs.declared.fault.SessionFault.TheVariants.{NoMemory, Damaged}
 use Rattle.bx_entries.specs.Text.{IsDamagedAt}
 
 -- The one line at which a text that isn't accepted is damaged, or a fault that the text doesn't make

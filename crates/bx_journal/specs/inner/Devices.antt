@@ -1,8 +1,8 @@
 -- The devices of a session together: the image, the journal's text and the redo text.
 use Rattle.std.specs.Prelude.{◌≡◌, ◌↔◌, ◌⊎◌, ◌<◌, ◌≤◌, ℕ, ◌+◌, List, Result, OnOk, OnErr, IfErr}
 use Rattle.bx_journal.specs.Opening.{OneMoreOfThree, ThreeCounts}
-use Rattle.bx_journal.specs.declared.session.fault.SessionFault.{SessionFault}
-use Rattle.bx_journal.specs.declared.session.fault.SessionFault.TheVariants.{DeviceFailed, Interrupted}
+use Rattle.bx_journal.specs.declared.fault.SessionFault.{SessionFault}
+use Rattle.bx_journal.specs.declared.fault.SessionFault.TheVariants.{DeviceFailed, Interrupted}
 
 -- three counts are below a limit
 abbrev pub AreBelow : ℕ → ℕ → ℕ → ℕ → Type 0

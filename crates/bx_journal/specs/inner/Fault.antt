@@ -2,8 +2,8 @@
 use Rattle.std.specs.Prelude.{◌≡◌, ◌⊎◌}
 use Rattle.bx_store.specs.declared.fault.TextFault.{TextFault}
 use Rattle.bx_store.specs.declared.fault.TextFault.TheVariants.{NoMemory as TextMemory, DeviceFailed as TextFailed}
-use Rattle.bx_journal.specs.declared.session.fault.SessionFault.{SessionFault}
-use Rattle.bx_journal.specs.declared.session.fault.SessionFault.TheVariants.{NoMemory, DeviceFailed, Damaged, RedoDamaged}
+use Rattle.bx_journal.specs.declared.fault.SessionFault.{SessionFault}
+use Rattle.bx_journal.specs.declared.fault.SessionFault.TheVariants.{NoMemory, DeviceFailed, Damaged, RedoDamaged}
 
 -- a call that only looks at a device lacks memory, or the device failed
 abbrev pub LacksOrFails : SessionFault → Type 0

@@ -1,10 +1,10 @@
 -- What proofs alone need: what opening a pair finds and leaves.
 use Rattle.std.specs.Prelude.{◌<◌, ◌≤◌, ℕ, Option, List, length, IfSome, vec_capacity}
-use Rattle.bx_journal.specs.declared.session.fault.SessionFault.{SessionFault}
-use Rattle.bx_journal.specs.declared.session.fault.SessionFault.TheVariants.{LengthDiffers}
+use Rattle.bx_journal.specs.declared.fault.SessionFault.{SessionFault}
+use Rattle.bx_journal.specs.declared.fault.SessionFault.TheVariants.{LengthDiffers}
 use Rattle.bx_journal.specs.Fault.{DeviceFault}
-use Rattle.bx_journal.specs.declared.protocol.windows.Buffers.{Buffers}
-use Rattle.bx_journal.specs.declared.protocol.windows.Mark.{Mark}
+use Rattle.bx_journal.specs.declared.protocol.restore.Buffers.{Buffers}
+use Rattle.bx_journal.specs.declared.read.mark.Mark.{Mark}
 use Rattle.bx_entries.specs.Text.{Entry}
 use Rattle.bx_journal.specs.Calls.{Differs}
 

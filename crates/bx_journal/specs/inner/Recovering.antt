@@ -1,9 +1,9 @@
 -- What opening leaves of image, journal and redo text, step by step.
 use Rattle.std.specs.Prelude.{◌≡◌, ℕ, suc, List, [], length, Result, IfOk, IfErr, MatchResult}
-use Rattle.bx_journal.specs.declared.session.answers.How.TheVariants.{Clean}
-use Rattle.bx_journal.specs.declared.session.answers.Recovered.{Recovered}
-use Rattle.bx_journal.specs.declared.session.fault.SessionFault.{SessionFault}
-use Rattle.bx_journal.specs.declared.session.fault.SessionFault.TheVariants.{RedoDamaged}
+use Rattle.bx_journal.specs.declared.answers.How.TheVariants.{Clean}
+use Rattle.bx_journal.specs.declared.answers.Recovered.{Recovered}
+use Rattle.bx_journal.specs.declared.fault.SessionFault.{SessionFault}
+use Rattle.bx_journal.specs.declared.fault.SessionFault.TheVariants.{RedoDamaged}
 use Rattle.bx_entries.specs.Shown.{shown}
 use Rattle.bx_entries.specs.Text.{Reading, Reads}
 use Rattle.bx_journal.specs.Calls.{AfterFault}

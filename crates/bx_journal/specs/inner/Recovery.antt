@@ -1,13 +1,13 @@
 -- What proofs alone need: what opening finds in a journal's text, and what it leaves of the redo text.
 use Rattle.std.specs.Prelude.{◌≡◌, ◌⊎◌, ◌≤◌, ℕ, Option, None, Some, List, length, take, IfSome, Result, IfOk, IfErr, MatchResult, OnOk, OnErr}
-use Rattle.bx_journal.specs.declared.session.answers.Recovered.{Recovered}
-use Rattle.bx_journal.specs.declared.session.fault.SessionFault.{SessionFault}
-use Rattle.bx_journal.specs.declared.session.fault.SessionFault.TheVariants.{DeviceFailed, Damaged, Interrupted, LengthDiffers, RedoDamaged}
+use Rattle.bx_journal.specs.declared.answers.Recovered.{Recovered}
+use Rattle.bx_journal.specs.declared.fault.SessionFault.{SessionFault}
+use Rattle.bx_journal.specs.declared.fault.SessionFault.TheVariants.{DeviceFailed, Damaged, Interrupted, LengthDiffers, RedoDamaged}
 use Rattle.bx_journal.specs.Fault.{DeviceFault}
-use Rattle.bx_journal.specs.declared.recovery.journal.Found.{Found}
-use Rattle.bx_journal.specs.declared.recovery.journal.Found.TheVariants.{Finished, Unfinished}
-use Rattle.bx_journal.specs.declared.protocol.windows.Mark.{Mark}
-use Rattle.bx_journal.specs.declared.recovery.journal.Torn.{Torn}
+use Rattle.bx_journal.specs.declared.read.journal.Found.{Found}
+use Rattle.bx_journal.specs.declared.read.journal.Found.TheVariants.{Finished, Unfinished}
+use Rattle.bx_journal.specs.declared.read.mark.Mark.{Mark}
+use Rattle.bx_journal.specs.declared.read.journal.Torn.{Torn}
 use Rattle.bx_entries.specs.inner.Mark.{IsMark}
 use Rattle.bx_journal.specs.Judging.{RefusesRedo}
 use Rattle.bx_journal.specs.inner.Devices.{LooksAt}

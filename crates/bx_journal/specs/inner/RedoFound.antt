@@ -1,10 +1,10 @@
 -- What proofs alone need: what was found of a redo text.
 use Rattle.std.specs.Prelude.{◌≡◌, ℕ, List, length, Result, IfErr, MatchResult}
-use Rattle.bx_journal.specs.declared.recovery.windows.CountedText.{CountedText}
+use Rattle.bx_journal.specs.declared.read.count.CountedText.{CountedText}
 use Rattle.bx_journal.specs.declared.recovery.judge.RedoFound.{RedoFound}
 use Rattle.bx_journal.specs.declared.recovery.judge.RedoFound.TheVariants.{Counted, Text}
-use Rattle.bx_journal.specs.declared.session.fault.SessionFault.{SessionFault}
-use Rattle.bx_journal.specs.declared.session.fault.SessionFault.TheVariants.{RedoDamaged}
+use Rattle.bx_journal.specs.declared.fault.SessionFault.{SessionFault}
+use Rattle.bx_journal.specs.declared.fault.SessionFault.TheVariants.{RedoDamaged}
 use Rattle.bx_entries.specs.Text.{split}
 use Rattle.bx_journal.specs.Judging.{RefusesRedo}
 use Rattle.bx_journal.specs.Redo.{IsRedoOf, IsRefusedAt}

@@ -7,7 +7,7 @@ use Rattle.bx_entries.specs.inner.Mark.{IsMark}
 use Rattle.bx_entries.specs.inner.Parts.{IsIn, TakesSome}
 use Rattle.bx_entries.specs.Text.{Entry, Saving, Ending, split}
 use Rattle.bx_entries.specs.declared.format.version.Version.{Version}
-use Rattle.bx_journal.specs.declared.protocol.windows.Mark.{Mark}
+use Rattle.bx_journal.specs.declared.read.mark.Mark.{Mark}
 use Rattle.bx_journal.specs.inner.Phase.{IsPartOf}
 
 -- with its newline no line is longer than this

@@ -6,9 +6,9 @@ use Rattle.bx_entries.specs.declared.read.rows.Summed.{Summed}
 use Rattle.bx_entries.specs.inner.Rows.{summed_of}
 use Rattle.bx_entries.specs.Finished.{IsFinished}
 use Rattle.bx_entries.specs.Text.{Entry, Reading, split, start, after_lines}
-use Rattle.bx_journal.specs.declared.session.answers.LogRow.{LogRow}
+use Rattle.bx_journal.specs.declared.answers.LogRow.{LogRow}
 use Rattle.bx_journal.specs.declared.session.log.windows.Listed.{Listed}
-use Rattle.bx_journal.specs.declared.session.fault.SessionFault.{SessionFault}
+use Rattle.bx_journal.specs.declared.fault.SessionFault.{SessionFault}
 use Rattle.bx_journal.specs.Calls.{rows_of}
 use Rattle.bx_journal.specs.Undoing.{AgainFault}
 use Rattle.bx_journal.specs.inner.Devices.{LooksAt}

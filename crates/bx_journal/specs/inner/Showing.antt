@@ -10,7 +10,7 @@ use Rattle.bx_entries.specs.Spelled.{EntryLines, IsSpelled, runs_behind}
 use Rattle.bx_entries.specs.Text.{split}
 use Rattle.bx_entries.specs.inner.Marks.{IsMarked, marks_of}
 use Rattle.bx_entries.specs.inner.Ranges.{AreRanged, RangesOn}
-use Rattle.bx_journal.specs.declared.session.fault.SessionFault.{SessionFault}
+use Rattle.bx_journal.specs.declared.fault.SessionFault.{SessionFault}
 use Rattle.bx_journal.specs.inner.Devices.{LooksAt}
 use Rattle.bx_journal.specs.inner.Recovery.{FindFault}
 use Rattle.bx_journal.specs.Showing.{after_text}

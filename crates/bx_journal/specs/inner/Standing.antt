@@ -1,6 +1,6 @@
 -- What proofs alone need: a session whose pair stands for a stack, whether or not it is sound.
-use Rattle.bx_journal.specs.declared.session.fault.SessionFault.{SessionFault}
-use Rattle.bx_journal.specs.declared.session.fault.SessionFault.TheVariants.{TooLarge}
+use Rattle.bx_journal.specs.declared.fault.SessionFault.{SessionFault}
+use Rattle.bx_journal.specs.declared.fault.SessionFault.TheVariants.{TooLarge}
 use Rattle.bx_journal.specs.Fault.{DeviceFault}
 
 -- which fault a change may meet before its first write

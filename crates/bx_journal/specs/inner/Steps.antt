@@ -13,10 +13,10 @@ use Rattle.bx_journal.specs.declared.look.step.Steps.{Steps}
 use Rattle.bx_journal.specs.declared.look.step.Way.{Way}
 use Rattle.bx_journal.specs.declared.look.step.Way.TheVariants.{Undo, Redo}
 use Rattle.bx_journal.specs.declared.look.unfinished.Marked.{Marked}
-use Rattle.bx_journal.specs.declared.protocol.windows.Mark.{Mark as Place}
-use Rattle.bx_journal.specs.declared.recovery.journal.Torn.{Torn}
-use Rattle.bx_journal.specs.declared.session.fault.SessionFault.{SessionFault}
-use Rattle.bx_journal.specs.declared.session.fault.SessionFault.TheVariants.{NoMemory, TooFew, NothingToRedo}
+use Rattle.bx_journal.specs.declared.read.mark.Mark.{Mark as Place}
+use Rattle.bx_journal.specs.declared.read.journal.Torn.{Torn}
+use Rattle.bx_journal.specs.declared.fault.SessionFault.{SessionFault}
+use Rattle.bx_journal.specs.declared.fault.SessionFault.TheVariants.{NoMemory, TooFew, NothingToRedo}
 use Rattle.bx_journal.specs.inner.Devices.{LooksAt}
 use Rattle.bx_journal.specs.inner.Fault.{redo_fault}
 use Rattle.bx_journal.specs.inner.Recovery.{FindFault}

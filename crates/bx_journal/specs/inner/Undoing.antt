@@ -1,8 +1,8 @@
 -- What proofs alone need: what undoing starts from and leaves.
 use Rattle.std.specs.Prelude.{◌≡◌, ◌≤◌, ◌<◌, ◌+◌, ◌-◌, ◌^◌, ℕ, List, [], ◌++◌, length, take, drop, Option, Result, IfOk, IfErr, IfSome, OnOk}
 use Rattle.bx_image.specs.Power.{NoMore}
-use Rattle.bx_journal.specs.declared.session.fault.SessionFault.{SessionFault}
-use Rattle.bx_journal.specs.declared.session.fault.SessionFault.TheVariants.{RedoDamaged}
+use Rattle.bx_journal.specs.declared.fault.SessionFault.{SessionFault}
+use Rattle.bx_journal.specs.declared.fault.SessionFault.TheVariants.{RedoDamaged}
 use Rattle.bx_journal.specs.Fault.{DeviceFault}
 use Rattle.bx_entries.specs.declared.read.types.EntryRead.{EntryRead}
 use Rattle.bx_entries.specs.declared.read.lines.LinesRead.{LinesRead}
@@ -16,7 +16,7 @@ use Rattle.bx_journal.specs.Undoing.{IsOutOfStep}
 use Rattle.bx_journal.specs.inner.Devices.{LooksAt}
 use Rattle.bx_journal.specs.inner.Fault.{LacksOrFails}
 use Rattle.bx_journal.specs.inner.Windows.{HasShortLines}
-use Rattle.bx_journal.specs.declared.session.read.entries.FinishedRead.{FinishedRead}
+use Rattle.bx_journal.specs.declared.read.entries.FinishedRead.{FinishedRead}
 
 -- a text that was read again, as finished entries alone, with their places
 pub record IsReadAgain {A : Type 0} (text : List ℕ) (es : List (EntryRead A)) (count : ℕ) : Type 0 where

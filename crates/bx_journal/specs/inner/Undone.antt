@@ -8,8 +8,8 @@ use Rattle.bx_entries.specs.Text.{Entry}
 use Rattle.bx_entries.specs.declared.format.version.Version.{Version}
 use Rattle.bx_journal.specs.Phase.{IsAtRest, RecoversEither}
 use Rattle.bx_entries.specs.Shown.{shown}
-use Rattle.bx_journal.specs.declared.protocol.windows.Buffers.{Buffers}
-use Rattle.bx_journal.specs.declared.protocol.windows.Mark.{Mark}
+use Rattle.bx_journal.specs.declared.protocol.restore.Buffers.{Buffers}
+use Rattle.bx_journal.specs.declared.read.mark.Mark.{Mark}
 use Rattle.bx_journal.specs.inner.Restoring.{StandsAt}
 use Rattle.bx_journal.specs.inner.Written.{AreSettled}
 use Rattle.bx_journal.specs.inner.Redo.{LeavesEither}

@@ -4,8 +4,8 @@ use Rattle.std.specs.List.{list_all}
 use Rattle.bx_entries.specs.declared.read.count.Tally.{Tally}
 use Rattle.bx_entries.specs.declared.read.types.Front.{Front}
 use Rattle.bx_entries.specs.declared.read.window.Passed.{Passed}
-use Rattle.bx_journal.specs.declared.recovery.windows.CountedText.{CountedText}
-use Rattle.bx_journal.specs.declared.recovery.windows.Walk.{Walk}
+use Rattle.bx_journal.specs.declared.read.count.CountedText.{CountedText}
+use Rattle.bx_journal.specs.declared.read.count.Walk.{Walk}
 use Rattle.bx_entries.specs.Text.{split}
 use Rattle.bx_journal.specs.inner.Restoring.{AllShorter}
 use Rattle.bx_entries.specs.inner.Tally.{IsTallied, IsCountedAll}

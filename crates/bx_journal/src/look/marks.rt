@@ -5,7 +5,7 @@ ghost use Rattle.bx_journal.specs.inner.Fault.{LacksOrFails};
 ghost use Rattle.bx_journal.specs.inner.Showing.{AreAllMarks, AreMarksOf, FindsMarks, IsMarkedAt, IsMarkedUpTo};
 
 use crate::SessionFault;
-use crate::recovery::journal::read_text;
+use crate::read::journal::read_text;
 use bx_entries::{Mark, MarkedLines, Marking, Place, mark_lines, nothing_marked};
 use bx_store::TextStore;
 use std::alloc::Allocator;

@@ -9,7 +9,7 @@ use crate::SessionFault;
 use crate::look::ShowFault;
 use crate::look::marks::{marks_in_windows, marks_to};
 use crate::look::put::put;
-use crate::recovery::journal::{Found, Torn, read_text};
+use crate::read::journal::{Found, Torn, read_text};
 use bx_entries::Mark;
 use bx_store::TextStore;
 use std::alloc::{AllocError, Allocator, Global};

@@ -17,8 +17,9 @@ ghost use Rattle.bx_store.specs.Store.{IsPartlyCut};
 
 use crate::protocol::fill::{fill_last, take_last};
 use crate::protocol::redo_text::keep_undone;
-use crate::protocol::windows::{Buffers, Mark, restore_windows};
-use crate::recovery::take_back::drop_tail;
+use crate::protocol::restore::{Buffers, restore_windows};
+use crate::protocol::rollback::drop_tail;
+use crate::read::mark::Mark;
 use bx_image::{Device, DeviceFailed, MAX_LEN, Saved};
 use bx_store::TextStore;
 use std::alloc::Allocator;

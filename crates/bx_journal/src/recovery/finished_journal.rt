@@ -6,10 +6,10 @@ ghost use Rattle.bx_journal.specs.inner.Fault.{LacksOrFails};
 ghost use Rattle.bx_journal.specs.inner.Recovery.{FaultBeside, HasOtherLength, HasToldLength, RefusesBeside, TellsCount};
 ghost use Rattle.bx_journal.specs.inner.RedoFound.{IsRedoCountedIn, IsRedoIn};
 
+use crate::fault::of_text;
+use crate::read::count::{CountedText, count_text};
 use crate::recovery::judge::{RedoFound, judge_redo};
 use crate::recovery::unfinished_entry::check_length;
-use crate::recovery::windows::{CountedText, count_text};
-use crate::session::fault::of_text;
 use crate::{How, Recovered, SessionFault};
 use bx_entries::{Counted, MOST_CHANGES};
 use bx_image::Device;

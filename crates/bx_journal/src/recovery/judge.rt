@@ -9,9 +9,9 @@ ghost use Rattle.bx_entries.specs.inner.Parsed.{entries_of};
 ghost use Rattle.bx_entries.specs.Text.{split};
 
 use crate::SessionFault;
-use crate::recovery::windows::CountedText;
-use crate::session::fault::of_redo;
-use crate::session::read::read_journal;
+use crate::fault::of_redo;
+use crate::read::count::CountedText;
+use crate::read::whole::read_journal;
 use bx_entries::{Counted, EntryRead, JournalRead, MOST_CHANGES, StageRead, told_length};
 use bx_image::Device;
 use std::alloc::{Allocator, Global};

@@ -19,11 +19,12 @@ ghost use Rattle.bx_entries.specs.Text.{IsAccepted, IsDamagedAt, Reading, Reads}
 ghost use Rattle.bx_journal.specs.Undoing.{HasLeft};
 
 use crate::protocol::redo_text::cut_redo;
+use crate::protocol::restore::{Buffers, buffers_of};
+use crate::protocol::rollback::{drop_tail, take_back};
 use crate::protocol::settle::settle;
-use crate::protocol::windows::{Buffers, Mark, buffers_of};
+use crate::read::journal::{Found, Torn, read_text};
+use crate::read::mark::Mark;
 use crate::recovery::finished_journal::open_finished;
-use crate::recovery::journal::{Found, Torn, read_text};
-use crate::recovery::take_back::{drop_tail, take_back};
 use crate::{How, Recovered, SessionFault};
 use bx_image::{Device, DeviceFailed};
 use bx_store::TextStore;

@@ -10,8 +10,8 @@ ghost use Rattle.bx_entries.specs.Finished.{IsFinished};
 
 mod windows;
 
+use crate::read::entries::read_again;
 use crate::session::log::windows::rows_in_windows;
-use crate::session::read::entries::read_again;
 use crate::{LogRow, Session, SessionFault};
 use bx_entries::EntryRead;
 use bx_image::{Device, Saved};

@@ -6,10 +6,10 @@ ghost use Rattle.bx_journal.specs.inner.Devices.{LooksAt};
 ghost use Rattle.bx_entries.specs.Text.{IsPrefix};
 ghost use Rattle.bx_journal.specs.inner.Undoing.{IsLastFrom, RedoAgainFault};
 
+use crate::fault::of_redo;
 use crate::protocol::redo_entry::redo_entries;
-use crate::session::fault::of_redo;
+use crate::read::entries::{FinishedRead, read_last_of};
 use crate::session::prepare::ranges::prepare_redo;
-use crate::session::read::entries::{FinishedRead, read_last_of};
 use crate::{Session, SessionFault};
 use bx_image::Device;
 use bx_store::TextStore;
@@ -59,7 +59,7 @@ impl<D: Device, T: TextStore, A: Allocator + Clone> Session<D, T, A> {
     ghost use Rattle.bx_journal.specs.Session.{FailsSafely};
     ghost use Rattle.bx_journal.specs.Performing.{FindsSome, GrowsByTaken, RedoesImages, StandsOnTop, StaysOnTop, StaysRedone, StopsRedo};
     ghost use Rattle.bx_journal.specs.Undoing.{HasCount, IsOutOfStep, LeavesFront, RedoFault};
-    ghost use Rattle.bx_journal.specs.declared.session.fault.SessionFault.TheVariants.{RedoDamaged};
+    ghost use Rattle.bx_journal.specs.declared.fault.SessionFault.TheVariants.{RedoDamaged};
 
     /// Makes the last j undone changes again, the one undone last first, and answers how many changes then stand.
     ///

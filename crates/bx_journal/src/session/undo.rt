@@ -4,8 +4,8 @@ ghost use Rattle.bx_journal.specs.Images.{undo_of};
 ghost use Rattle.bx_journal.specs.Machine.{UndoStep};
 
 use crate::protocol::undo_entry::undo_entries;
+use crate::read::entries::read_last_of;
 use crate::session::prepare::records::prepare_takens;
-use crate::session::read::entries::read_last_of;
 use crate::{Session, SessionFault};
 use bx_image::Device;
 use bx_store::TextStore;

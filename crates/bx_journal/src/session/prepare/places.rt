@@ -4,8 +4,7 @@ ghost use Rattle.bx_journal.specs.inner.Overwritten.{AreOrdered, IsOrdered, plac
 
 use crate::SessionFault;
 use crate::protocol::undo_entry::Placed;
-use crate::protocol::windows::Mark;
-use crate::recovery::journal::start_size;
+use crate::read::mark::{Mark, start_size};
 use bx_entries::EntryRead;
 use std::alloc::Allocator;
 

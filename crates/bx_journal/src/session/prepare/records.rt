@@ -13,12 +13,12 @@ ghost use Rattle.bx_journal.specs.inner.Windows.{HasShortLines};
 
 use crate::SessionFault;
 use crate::protocol::fill::fill_last;
+use crate::protocol::restore::{Buffers, buffers_of};
 use crate::protocol::settle::settle;
 use crate::protocol::undo_entry::Placed;
-use crate::protocol::windows::{Buffers, buffers_of};
+use crate::read::entries::FinishedRead;
 use crate::session::prepare::overwritten::{Overwritten, all_overwritten, all_zeros};
 use crate::session::prepare::places::places;
-use crate::session::read::entries::FinishedRead;
 use bx_entries::{EntryRead, head_len, new_page};
 use bx_image::{Device, Saved};
 use bx_store::TextStore;

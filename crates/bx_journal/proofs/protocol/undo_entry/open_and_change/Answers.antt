@@ -3,7 +3,7 @@ use Rattle.bx_image.specs.Change.{restore}
 use Rattle.bx_entries.specs.Kept.{Kept, kept_of}
 use Rattle.bx_entries.specs.Shown.{shown}
 use Rattle.bx_journal.specs.Stack.{Recovers}
-use Rattle.bx_journal.specs.declared.protocol.windows.Mark.{Mark}
+use Rattle.bx_journal.specs.declared.read.mark.Mark.{Mark}
 use Rattle.bx_journal.specs.inner.Redo.{RecoversOpen, LeavesEither, Side}
 use Rattle.bx_journal.specs.inner.Restoring.{StandsAt}
 use Rattle.bx_journal.specs.inner.Turns.{kept_text, side_of}

@@ -3,7 +3,7 @@ use Rattle.std.specs.Prelude.{IfSome, OnErr, OnOk}
 use Rattle.std.proofs.lemmas.Result.{err_from_is_err_and}
 use Rattle.bx_entries.specs.Shown.{shown}
 use Rattle.bx_entries.specs.Text.{Reading, Reads}
-use Rattle.bx_journal.specs.declared.session.answers.How.TheVariants.{Dropped, Restored}
+use Rattle.bx_journal.specs.declared.answers.How.TheVariants.{Dropped, Restored}
 use Rattle.bx_journal.specs.Stack.{HaveLengths, Recovers, image_at}
 use Rattle.bx_journal.specs.Opening.{IsOpened}
 use Rattle.bx_journal.specs.Undoing.{HasLeft}

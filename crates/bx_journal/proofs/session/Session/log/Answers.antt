@@ -1,6 +1,6 @@
 use Rattle.std.proofs.Common.{◌≡◌, ℕ, sym, subst, arith}
 use Rattle.std.proofs.lemmas.Grind.{common_steps}
-use Rattle.bx_journal.specs.declared.session.fault.SessionFault.TheVariants.{Damaged}
+use Rattle.bx_journal.specs.declared.fault.SessionFault.TheVariants.{Damaged}
 use Rattle.bx_journal.specs.Undoing.{AgainFault}
 use Rattle.bx_entries.specs.Finished.{IsFinished}
 use Rattle.bx_journal.proofs.AgainLemmas.{in_step}

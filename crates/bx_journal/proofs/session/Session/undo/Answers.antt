@@ -1,6 +1,6 @@
 use Rattle.std.proofs.Common.{◌≡◌, ℕ, refl, ◌∙◌, sym, subst, arith, length-drop}
 use Rattle.std.proofs.lemmas.Grind.{common_steps}
-use Rattle.bx_journal.specs.declared.session.fault.SessionFault.TheVariants.{Damaged}
+use Rattle.bx_journal.specs.declared.fault.SessionFault.TheVariants.{Damaged}
 use Rattle.bx_journal.specs.Phase.{IsAtRest}
 use Rattle.bx_journal.specs.Stack.{StandsFor}
 use Rattle.bx_journal.specs.Undoing.{AgainFault, IsOutOfStep}
