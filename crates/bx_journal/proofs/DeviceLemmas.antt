@@ -3,6 +3,9 @@ use Rattle.std.proofs.Common.{◌≡◌, ◌∙◌, ◌+◌, ◌↔◌, ℕ, tru
 use Rattle.std.specs.Prelude.{OnErr, OnOk}
 use Rattle.std.proofs.lemmas.Result.{on_ok_weaker, on_err_weaker}
 use Rattle.bx_image.specs.Device.{GoesOn}
+use Rattle.bx_image.specs.declared.device.Device.{Ghosts as DeviceViews}
+use Rattle.bx_store.specs.declared.store.TextStore.{Ghosts as StoreViews}
+use Rattle.bx_journal.specs.declared.devices.Devices.{Devices}
 use Rattle.bx_journal.specs.inner.Devices.{StepsOn}
 
 none_ok : {T E : Type 0} (P : Type 0) (r : Result T E) (e : E) → r ≡ Err e → OnOk r P
@@ -16,11 +19,15 @@ pub both_ways : {A B C : Type 0} → (C ↔ B) → (B ↔ A) → (C ↔ A)
 both_ways next first = ((λ h. first.0 (next.0 h)), λ h. next.1 (first.1 h))
 
 -- none of the steps failed so far
-abbrev pub HaveGoneOn : {D T : Type 0} → (D → Type 0) → (T → Type 0) → (D → ℕ) → (T → ℕ) → D → T → T → D → T → T → Type 0
-HaveGoneOn honest text_honest failures text_failures = StepsOn {R = Unit {0}} {E = Unit {0}} honest text_honest failures text_failures (Ok tt)
+abbrev pub HaveGoneOn : {D T : Type 0} → DeviceViews D → StoreViews T → Devices D T → Devices D T → Type 0
+HaveGoneOn d t = StepsOn {R = Unit {0}} {E = Unit {0}} d t (Ok tt)
 
-module _ {D T : Type 0} {honest : D → Type 0} {text_honest : T → Type 0} {failures : D → ℕ} {text_failures : T → ℕ} where
-  pub none_yet : {d : D} {t u : T} → HaveGoneOn honest text_honest failures text_failures d t u d t u
+-- the three devices with another one of the image
+abbrev pub with_device : {D T : Type 0} → Devices D T → D → Devices D T
+with_device x device = record { device = device; store = x.store; redo_text = x.redo_text }
+
+module _ {D T : Type 0} {d : DeviceViews D} {t : StoreViews T} where
+  pub none_yet : {x : Devices D T} → HaveGoneOn d t x x
   none_yet = record {
     device_honesty = ((λ h. h), λ h. h);
     store_honesty = ((λ h. h), λ h. h);
@@ -30,8 +37,7 @@ module _ {D T : Type 0} {honest : D → Type 0} {text_honest : T → Type 0} {fa
   }
 
   -- a step more, whatever it answers
-  pub one_more : {R E : Type 0} {d d1 d2 : D} {t t1 t2 u u1 u2 : T} (r : Result R E) → HaveGoneOn honest text_honest failures text_failures d t u d1 t1 u1
-      → StepsOn honest text_honest failures text_failures r d1 t1 u1 d2 t2 u2 → StepsOn honest text_honest failures text_failures r d t u d2 t2 u2
+  pub one_more : {R E : Type 0} {x y z : Devices D T} (r : Result R E) → HaveGoneOn d t x y → StepsOn d t r y z → StepsOn d t r x z
   one_more r so_far step =
       let same = so_far.no_failure in
       record {
@@ -42,7 +48,7 @@ module _ {D T : Type 0} {honest : D → Type 0} {text_honest : T → Type 0} {fa
         failure = on_err_weaker r (λ h. (omega (arith, h.0, same.0), omega (arith, h.1, same.1), omega (arith, h.2, same.2), omega (arith, h.3, same.0, same.1, same.2))) step.failure;
       }
 
-  gone : {R E : Type 0} {v : R} {d d1 : D} {t t1 u u1 : T} → StepsOn {E = E} honest text_honest failures text_failures (Ok v) d t u d1 t1 u1 → HaveGoneOn honest text_honest failures text_failures d t u d1 t1 u1
+  gone : {R E : Type 0} {v : R} {x y : Devices D T} → StepsOn {E = E} d t (Ok v) x y → HaveGoneOn d t x y
   gone step = record {
     device_honesty = step.device_honesty;
     store_honesty = step.store_honesty;
@@ -52,7 +58,7 @@ module _ {D T : Type 0} {honest : D → Type 0} {text_honest : T → Type 0} {fa
   }
 
   -- a step of the image's device alone
-  filled : {room : D → ℕ} {d d1 : D} {t u : T} → GoesOn honest room failures false d d1 → HaveGoneOn honest text_honest failures text_failures d t u d1 t u
+  filled : {x : Devices D T} {device : D} → GoesOn d.honest d.room d.failures false x.device device → HaveGoneOn d t x (with_device x device)
   filled on = record {
     device_honesty = on.honesty;
     store_honesty = ((λ h. h), λ h. h);
@@ -61,9 +67,9 @@ module _ {D T : Type 0} {honest : D → Type 0} {text_honest : T → Type 0} {fa
     failure = tt;
   }
 
-  unfilled : {room : D → ℕ} {d d1 : D} {t u : T} → GoesOn honest room failures true d d1 → StepsOn {R = Unit {0}} {E = Unit {0}} honest text_honest failures text_failures (Err tt) d t u d1 t u
-  unfilled {d = d} {d1 = d1} on =
-      let more : failures d1 ≡ failures d + 1 = on.counted in
+  unfilled : {x : Devices D T} {device : D} → GoesOn d.honest d.room d.failures true x.device device → StepsOn {R = Unit {0}} {E = Unit {0}} d t (Err tt) x (with_device x device)
+  unfilled {x = x} {device = device} on =
+      let more : d.failures device ≡ d.failures x.device + 1 = on.counted in
       record {
         device_honesty = on.honesty;
         store_honesty = ((λ h. h), λ h. h);
@@ -72,8 +78,7 @@ module _ {D T : Type 0} {honest : D → Type 0} {text_honest : T → Type 0} {fa
         failure = (omega (arith, more), omega arith, omega arith, omega (arith, more));
       }
 
-  failed : {R E V F : Type 0} {e : E} {f : F} {d d1 : D} {t t1 u u1 : T} (q : Result V F) → q ≡ Err f → StepsOn {R = R} honest text_honest failures text_failures (Err e) d t u d1 t1 u1
-      → StepsOn honest text_honest failures text_failures q d t u d1 t1 u1
+  failed : {R E V F : Type 0} {e : E} {f : F} {x y : Devices D T} (q : Result V F) → q ≡ Err f → StepsOn {R = R} d t (Err e) x y → StepsOn d t q x y
   failed {f = f} q is step = record {
     device_honesty = step.device_honesty;
     store_honesty = step.store_honesty;
@@ -83,16 +88,16 @@ module _ {D T : Type 0} {honest : D → Type 0} {text_honest : T → Type 0} {fa
   }
 
   -- a step more and one of the image's device
-  pub goes_further : {R E : Type 0} {v : R} {room : D → ℕ} {d d1 d2 d3 : D} {t t1 t2 u u1 u2 : T} → HaveGoneOn honest text_honest failures text_failures d t u d1 t1 u1
-      → StepsOn {E = E} honest text_honest failures text_failures (Ok v) d1 t1 u1 d2 t2 u2 → GoesOn honest room failures false d2 d3 → HaveGoneOn honest text_honest failures text_failures d t u d3 t2 u2
+  pub goes_further : {R E : Type 0} {v : R} {x y z : Devices D T} {device : D} → HaveGoneOn d t x y
+      → StepsOn {E = E} d t (Ok v) y z → GoesOn d.honest d.room d.failures false z.device device → HaveGoneOn d t x (with_device z device)
   goes_further so_far step on = one_more (Ok tt) (gone (one_more _ so_far step)) (filled on)
 
   -- the step failed
-  pub step_fails : {R E V F : Type 0} {e : E} {f : F} {d d1 d2 : D} {t t1 t2 u u1 u2 : T} (q : Result V F) → q ≡ Err f → HaveGoneOn honest text_honest failures text_failures d t u d1 t1 u1
-      → StepsOn {R = R} honest text_honest failures text_failures (Err e) d1 t1 u1 d2 t2 u2 → StepsOn honest text_honest failures text_failures q d t u d2 t2 u2
+  pub step_fails : {R E V F : Type 0} {e : E} {f : F} {x y z : Devices D T} (q : Result V F) → q ≡ Err f → HaveGoneOn d t x y
+      → StepsOn {R = R} d t (Err e) y z → StepsOn d t q x z
   step_fails q is so_far step = failed q is (one_more _ so_far step)
 
   -- the step was made, and the one of the image's device failed
-  pub filling_fails : {R E V F : Type 0} {v : R} {f : F} {room : D → ℕ} {d d1 d2 d3 : D} {t t1 t2 u u1 u2 : T} (q : Result V F) → q ≡ Err f → HaveGoneOn honest text_honest failures text_failures d t u d1 t1 u1
-      → StepsOn {E = E} honest text_honest failures text_failures (Ok v) d1 t1 u1 d2 t2 u2 → GoesOn honest room failures true d2 d3 → StepsOn honest text_honest failures text_failures q d t u d3 t2 u2
+  pub filling_fails : {R E V F : Type 0} {v : R} {f : F} {x y z : Devices D T} {device : D} (q : Result V F) → q ≡ Err f → HaveGoneOn d t x y
+      → StepsOn {E = E} d t (Ok v) y z → GoesOn d.honest d.room d.failures true z.device device → StepsOn d t q x (with_device z device)
   filling_fails q is so_far step on = failed q is (one_more (Err tt) (gone (one_more _ so_far step)) (unfilled on))

@@ -10,7 +10,10 @@ use Rattle.bx_journal.specs.Phase.{IsAtRest}
 use Rattle.bx_journal.specs.Power.{FoundBefore}
 use Rattle.bx_journal.specs.Redo.{IsRedoOf}
 use Rattle.bx_journal.specs.Session.{HasUndone, IsReady}
-use Rattle.bx_journal.specs.SessionView.{SessionView}
+use Rattle.bx_journal.specs.SessionView.{SessionView, devices_of}
+use Rattle.bx_image.specs.declared.device.Device.{Ghosts as DeviceViews}
+use Rattle.bx_store.specs.declared.store.TextStore.{Ghosts as StoreViews}
+use Rattle.bx_journal.specs.declared.devices.Devices.{Devices}
 use Rattle.bx_journal.specs.Stack.{StandsFor}
 use Rattle.bx_journal.specs.Standing.{IsStanding}
 use Rattle.bx_journal.specs.Taken.{taken_by}
@@ -21,84 +24,105 @@ use Rattle.bx_journal.specs.inner.Turns.{AreAtRest, AreStanding}
 use Rattle.bx_journal.specs.inner.Undoing.{AreReadFrom, IsLastFrom}
 use Rattle.bx_journal.proofs.DeviceLemmas.{HaveGoneOn, both_ways}
 
-module _ {D T : Type 0} {honest : D → Type 0} {text_honest : T → Type 0} {image : D → List ℕ} {text : T → List ℕ} where
-  -- behind a look at the first text
-  pub looked_at : {R : Type 0} {r : Result R SessionFault} {text_failures : T → ℕ} {d d_new : D} {t t1 u t_new u_new : T} → LooksAt text_honest text text_failures r t t1
-      → HaveStayed honest text_honest image text d t1 u d_new t_new u_new → HaveStayed honest text_honest image text d t u d_new t_new u_new
+module _ {D T : Type 0} {d : DeviceViews D} {t : StoreViews T} where
+  -- behind a look at the journal
+  pub looked_at : {R : Type 0} {r : Result R SessionFault} {old new : Devices D T} {s : T} → LooksAt t.honest t.text t.failures r old.store s
+      → HaveStayed d t (record { device = old.device; store = s; redo_text = old.redo_text }) new → HaveStayed d t old new
   looked_at look stayed = record {
     device_honesty = stayed.device_honesty;
-    text_honesty = both_ways stayed.text_honesty look.honesty;
-    other_honesty = stayed.other_honesty;
+    store_honesty = both_ways stayed.store_honesty look.honesty;
+    redo_honesty = stayed.redo_honesty;
     image_same = stayed.image_same;
     text_same = λ h. stayed.text_same (look.honesty.1 h) ∙ look.same h;
-    other_same = stayed.other_same;
+    redo_same = stayed.redo_same;
   }
 
-  -- given of the texts in the other order
-  pub other_order : {d d_new : D} {t u t_new u_new : T} → HaveStayed honest text_honest image text d u t d_new u_new t_new → HaveStayed honest text_honest image text d t u d_new t_new u_new
-  other_order stayed = record {
+  -- behind a look at the redo text
+  pub redo_looked_at : {R : Type 0} {r : Result R SessionFault} {old new : Devices D T} {u : T} → LooksAt t.honest t.text t.failures r old.redo_text u
+      → HaveStayed d t (record { device = old.device; store = old.store; redo_text = u }) new → HaveStayed d t old new
+  redo_looked_at look stayed = record {
     device_honesty = stayed.device_honesty;
-    text_honesty = stayed.other_honesty;
-    other_honesty = stayed.text_honesty;
+    store_honesty = stayed.store_honesty;
+    redo_honesty = both_ways stayed.redo_honesty look.honesty;
     image_same = stayed.image_same;
-    text_same = stayed.other_same;
-    other_same = stayed.text_same;
+    text_same = stayed.text_same;
+    redo_same = λ h. stayed.redo_same (look.honesty.1 h) ∙ look.same h;
+  }
+
+  -- one call that only looked behind another
+  pub stayed_then : {old next new : Devices D T} → HaveStayed d t old next → HaveStayed d t next new → HaveStayed d t old new
+  stayed_then first then = record {
+    device_honesty = both_ways then.device_honesty first.device_honesty;
+    store_honesty = both_ways then.store_honesty first.store_honesty;
+    redo_honesty = both_ways then.redo_honesty first.redo_honesty;
+    image_same = λ h. then.image_same (first.device_honesty.1 h) ∙ first.image_same h;
+    text_same = λ h. then.text_same (first.store_honesty.1 h) ∙ first.text_same h;
+    redo_same = λ h. then.redo_same (first.redo_honesty.1 h) ∙ first.redo_same h;
   }
 
   -- what is found behind two calls that only looked at the devices was found before both
-  pub found_then : {survives : D → List ℕ → Type 0} {text_survives : T → List ℕ → Type 0} {d d1 d2 : D} {t t1 t2 u u1 u2 : T}
-      → HaveStayed honest text_honest image text d t u d1 t1 u1 → FoundBefore honest text_honest survives text_survives d t u d1 t1 u1
-      → FoundBefore honest text_honest survives text_survives d1 t1 u1 d2 t2 u2 → FoundBefore honest text_honest survives text_survives d t u d2 t2 u2
+  pub found_then : {old next new : Devices D T} → HaveStayed d t old next → FoundBefore d t old next → FoundBefore d t next new → FoundBefore d t old new
   found_then stayed first next = record {
     device_before = λ h. NoMore_then _ _ _ (first.device_before h) (next.device_before (stayed.device_honesty.1 h));
-    text_before = λ h. NoMore_then _ _ _ (first.text_before h) (next.text_before (stayed.text_honesty.1 h));
-    other_before = λ h. NoMore_then _ _ _ (first.other_before h) (next.other_before (stayed.other_honesty.1 h));
+    store_before = λ h. NoMore_then _ _ _ (first.store_before h) (next.store_before (stayed.store_honesty.1 h));
+    redo_before = λ h. NoMore_then _ _ _ (first.redo_before h) (next.redo_before (stayed.redo_honesty.1 h));
   }
 
-  pub none_failed : {failures : D → ℕ} {text_failures : T → ℕ} {d d_new : D} {t u t_new u_new : T} → HaveStayed honest text_honest image text d t u d_new t_new u_new
-      → (failures d_new ≡ failures d) × (text_failures t_new ≡ text_failures t) × (text_failures u_new ≡ text_failures u) → HaveGoneOn honest text_honest failures text_failures d t u d_new t_new u_new
-  none_failed stayed same = record { device_honesty = stayed.device_honesty; store_honesty = stayed.text_honesty; redo_honesty = stayed.other_honesty; no_failure = same; failure = tt }
+  pub none_failed : {old new : Devices D T} → HaveStayed d t old new
+      → (d.failures new.device ≡ d.failures old.device) × (t.failures new.store ≡ t.failures old.store) × (t.failures new.redo_text ≡ t.failures old.redo_text) → HaveGoneOn d t old new
+  none_failed stayed same = record {
+    device_honesty = stayed.device_honesty;
+    store_honesty = stayed.store_honesty;
+    redo_honesty = stayed.redo_honesty;
+    no_failure = same;
+    failure = tt;
+  }
 
   -- what holds of journal and image
-  pub pair_stays : {d d_new : D} {t u t_new u_new : T} (P : List ℕ → List ℕ → Type 0) → HaveStayed honest text_honest image text d t u d_new t_new u_new → honest d → text_honest t
-      → P (text t) (image d) → P (text t_new) (image d_new)
-  pair_stays {d = d} {t_new = t_new} P stayed dh th holds = subst (P (text t_new)) (sym (stayed.image_same dh)) (subst (λ z. P z (image d)) (sym (stayed.text_same th)) holds)
+  pub pair_stays : {old new : Devices D T} (P : List ℕ → List ℕ → Type 0) → HaveStayed d t old new → d.honest old.device → t.honest old.store
+      → P (t.text old.store) (d.image old.device) → P (t.text new.store) (d.image new.device)
+  pair_stays {old = old} {new = new} P stayed dh th holds =
+      subst (P (t.text new.store)) (sym (stayed.image_same dh)) (subst (λ z. P z (d.image old.device)) (sym (stayed.text_same th)) holds)
 
-  undone_stays : {v : SessionView D T} {d : D} {t u : T} (s : Images) → HaveStayed honest text_honest image text v.device v.store v.redo_text d t u → honest v.device → text_honest v.redo_text
-      → length s.stack ≡ suc v.count → HasUndone image text v s.undone → IsRedoOf (text u) (image d) (changes_of s.stack) s.undone
-  undone_stays {v = v} {d = d} {u = u} s stayed dh rh counted has =
+  undone_stays : {v : SessionView D T} {new : Devices D T} (s : Images) → HaveStayed d t (devices_of v) new → d.honest v.device → t.honest v.redo_text
+      → length s.stack ≡ suc v.count → HasUndone d.image t.text v s.undone → IsRedoOf (t.text new.redo_text) (d.image new.device) (changes_of s.stack) s.undone
+  undone_stays {v = v} {new = new} s stayed dh rh counted has =
       let many : v.count ≡ changes_of s.stack = omega (arith, counted) in
-      subst (λ n. IsRedoOf (text u) (image d) n s.undone) many
-      (subst (λ r. IsRedoOf r (image d) v.count s.undone) (sym (stayed.other_same rh)) (subst (λ x. IsRedoOf (text v.redo_text) x v.count s.undone) (sym (stayed.image_same dh)) has.redo))
+      subst (λ n. IsRedoOf (t.text new.redo_text) (d.image new.device) n s.undone) many
+      (subst (λ r. IsRedoOf r (d.image new.device) v.count s.undone) (sym (stayed.redo_same rh)) (subst (λ x. IsRedoOf (t.text v.redo_text) x v.count s.undone) (sym (stayed.image_same dh)) has.redo))
 
   -- what a step makes of a pair
-  pub pair_step : {d d_new : D} {t u t_new u_new : T} {Q : Type 0} (P : List ℕ → List ℕ → Type 0) → HaveStayed honest text_honest image text d t u d_new t_new u_new
-      → (honest d_new → text_honest t_new → P (text t_new) (image d_new) → Q) → honest d → text_honest t → P (text t) (image d) → Q
-  pair_step P stayed step dh th holds = step (stayed.device_honesty.1 dh) (stayed.text_honesty.1 th) (pair_stays P stayed dh th holds)
+  pub pair_step : {old new : Devices D T} {Q : Type 0} (P : List ℕ → List ℕ → Type 0) → HaveStayed d t old new
+      → (d.honest new.device → t.honest new.store → P (t.text new.store) (d.image new.device) → Q) → d.honest old.device → t.honest old.store
+      → P (t.text old.store) (d.image old.device) → Q
+  pair_step P stayed step dh th holds = step (stayed.device_honesty.1 dh) (stayed.store_honesty.1 th) (pair_stays P stayed dh th holds)
 
   -- what a step makes of a session that is ready with images
-  pub rest_step : {v : SessionView D T} {d : D} {t u : T} {Q : Images → Type 0} → HaveStayed honest text_honest image text v.device v.store v.redo_text d t u
-      → (honest d → text_honest t → text_honest u → (s : Images) → AreAtRest (text t) (image d) (text u) s → Q s)
-      → honest v.device → text_honest v.store → text_honest v.redo_text → (s : Images) → IsReady image text v s.stack → HasUndone image text v s.undone → Q s
+  pub rest_step : {v : SessionView D T} {new : Devices D T} {Q : Images → Type 0} → HaveStayed d t (devices_of v) new
+      → (d.honest new.device → t.honest new.store → t.honest new.redo_text → (s : Images)
+      → AreAtRest (t.text new.store) (d.image new.device) (t.text new.redo_text) s → Q s)
+      → d.honest v.device → t.honest v.store → t.honest v.redo_text → (s : Images) → IsReady d.image t.text v s.stack → HasUndone d.image t.text v s.undone → Q s
   rest_step stayed step dh th rh s ready has =
-      step (stayed.device_honesty.1 dh) (stayed.text_honesty.1 th) (stayed.other_honesty.1 rh) s
+      step (stayed.device_honesty.1 dh) (stayed.store_honesty.1 th) (stayed.redo_honesty.1 rh) s
       (record { rest = pair_stays (λ t x. IsAtRest t x s.stack) stayed dh th ready.rest; undone = undone_stays s stayed dh rh ready.count has })
 
   -- and of one that stands for them
-  pub standing_step : {v : SessionView D T} {d : D} {t u : T} {Q : Images → Type 0} → HaveStayed honest text_honest image text v.device v.store v.redo_text d t u
-      → (honest d → text_honest t → text_honest u → (s : Images) → AreStanding (text t) (image d) (text u) s → Q s)
-      → honest v.device → text_honest v.store → text_honest v.redo_text → (s : Images) → IsStanding image text v s.stack → HasUndone image text v s.undone → Q s
+  pub standing_step : {v : SessionView D T} {new : Devices D T} {Q : Images → Type 0} → HaveStayed d t (devices_of v) new
+      → (d.honest new.device → t.honest new.store → t.honest new.redo_text → (s : Images)
+      → AreStanding (t.text new.store) (d.image new.device) (t.text new.redo_text) s → Q s)
+      → d.honest v.device → t.honest v.store → t.honest v.redo_text → (s : Images) → IsStanding d.image t.text v s.stack → HasUndone d.image t.text v s.undone → Q s
   standing_step stayed step dh th rh s standing has =
-      step (stayed.device_honesty.1 dh) (stayed.text_honesty.1 th) (stayed.other_honesty.1 rh) s
+      step (stayed.device_honesty.1 dh) (stayed.store_honesty.1 th) (stayed.redo_honesty.1 rh) s
       (record { stands = pair_stays (λ t x. StandsFor t x s.stack) stayed dh th standing.stands; undone = undone_stays s stayed dh rh standing.count has })
 
-  -- and which text it writes beside the one whose entries it takes
-  pub taken_step : {d d_new : D} {t u t_new u_new : T} {new : List ℕ} {k m : ℕ} (n : ℕ) → HaveStayed honest text_honest image text d t u d_new t_new u_new → m ≡ k
-      → (honest d_new → text_honest t_new → text_honest u_new → (es : List Entry) → IsFinished (text t_new) es → new ≡ taken_by m es (image d_new) n (text u_new))
-      → honest d → text_honest t → text_honest u → (es : List Entry) → IsFinished (text t) es → new ≡ taken_by k es (image d) n (text u)
-  taken_step {d = d} {u = u} {u_new = u_new} {m = m} n stayed count step dh th uh es finished =
-      step (stayed.device_honesty.1 dh) (stayed.text_honesty.1 th) (stayed.other_honesty.1 uh) es (subst (λ z. IsFinished z es) (sym (stayed.text_same th)) finished)
-      ∙ ap (λ x. taken_by m es x n (text u_new)) (stayed.image_same dh) ∙ ap (taken_by m es (image d) n) (stayed.other_same uh) ∙ ap (λ j. taken_by j es (image d) n (text u)) count
+-- which text a step writes beside the one whose entries it takes
+pub taken_step : {dh dh_new th th_new uh uh_new : Type 0} {x x_new text text_new redo redo_new new : List ℕ} {k m : ℕ} (n : ℕ)
+    → (dh → dh_new) → (dh → x_new ≡ x) → (th → th_new) → (th → text_new ≡ text) → (uh → uh_new) → (uh → redo_new ≡ redo) → m ≡ k
+    → (dh_new → th_new → uh_new → (es : List Entry) → IsFinished text_new es → new ≡ taken_by m es x_new n redo_new)
+    → dh → th → uh → (es : List Entry) → IsFinished text es → new ≡ taken_by k es x n redo
+taken_step {x = x} {redo = redo} {redo_new = redo_new} {m = m} n d_on image_same t_on text_same u_on redo_same count step dh th uh es finished =
+    step (d_on dh) (t_on th) (u_on uh) es (subst (λ z. IsFinished z es) (sym (text_same th)) finished)
+    ∙ ap (λ y. taken_by m es y n redo_new) (image_same dh) ∙ ap (taken_by m es x n) (redo_same uh) ∙ ap (λ j. taken_by j es x n redo) count
 
 -- what was read of a text before it was looked at again
 pub read_since : {A : Type 0} {before now : Type 0} {stored text : List ℕ} {len count : ℕ} {es : List (EntryRead A)} → (now → before) → (before → text ≡ stored) → IsLastFrom before stored len es count

@@ -5,7 +5,9 @@ use Rattle.bx_journal.specs.Calls.{AfterFault}
 use Rattle.bx_journal.specs.Fault.{DeviceFault}
 use Rattle.bx_journal.specs.Opening.{OneMoreOfThree, ThreeCounts}
 use Rattle.bx_journal.specs.Session.{FailsSafely, IsUnfailed}
-use Rattle.bx_journal.specs.SessionView.{SessionView}
+use Rattle.bx_journal.specs.SessionView.{SessionView, devices_of}
+use Rattle.bx_image.specs.declared.device.Device.{Ghosts as DeviceViews}
+use Rattle.bx_store.specs.declared.store.TextStore.{Ghosts as StoreViews}
 use Rattle.bx_journal.specs.declared.fault.SessionFault.{SessionFault}
 use Rattle.bx_journal.specs.declared.fault.SessionFault.TheVariants.{NoMemory, TooLarge, DeviceFailed, Damaged, TooFew, JournalFull, Interrupted, Broken, LengthDiffers, NothingToRedo, RedoDamaged}
 use Rattle.bx_journal.specs.inner.Devices.{HaveStayed, StepsOn}
@@ -29,9 +31,9 @@ any_fault (Err (LengthDiffers n)) s = s
 any_fault (Err (NothingToRedo have)) s = s
 any_fault (Err (RedoDamaged line)) s = s
 
-module _ {D T : Type 0} {honest : D → Type 0} {text_honest : T → Type 0} {image : D → List ℕ} {text : T → List ℕ} {failures : D → ℕ} {text_failures : T → ℕ} where
+module _ {D T : Type 0} {d : DeviceViews D} {t : StoreViews T} where
   pub accepts : {V R E : Type 0} {v : V} {r : R} {old new : SessionView D T} → old.is_broken ≡ false
-      → StepsOn {E = E} honest text_honest failures text_failures (Ok r) old.device old.store old.redo_text new.device new.store new.redo_text → FailsSafely honest text_honest image text failures text_failures old new (Ok v)
+      → StepsOn {E = E} d t (Ok r) (devices_of old) (devices_of new) → FailsSafely d t old new (Ok v)
   accepts {old = old} whole steps = record {
     broken = (not_both old.is_broken whole, λ e. absurd (cc));
     same = λ e. absurd (cc);
@@ -43,8 +45,8 @@ module _ {D T : Type 0} {honest : D → Type 0} {text_honest : T → Type 0} {im
   }
 
   pub interrupts : {V R E : Type 0} {e : E} {old new : SessionView D T} → old.is_broken ≡ false → new.count ≡ old.count → new.undone ≡ old.undone → new.is_broken ≡ true
-      → StepsOn {R = R} honest text_honest failures text_failures (Err e) old.device old.store old.redo_text new.device new.store new.redo_text
-      → FailsSafely {V = V} honest text_honest image text failures text_failures old new (Err Interrupted)
+      → StepsOn {R = R} d t (Err e) (devices_of old) (devices_of new)
+      → FailsSafely {V = V} d t old new (Err Interrupted)
   interrupts {old = old} whole count undone broken steps = record {
     broken = (not_both old.is_broken whole, λ e. absurd (cc));
     same = λ e. absurd (cc);
@@ -58,31 +60,31 @@ module _ {D T : Type 0} {honest : D → Type 0} {text_honest : T → Type 0} {im
   -- a fault before the first write, where the counts of failed calls are given of the devices in any order
   pub refuses : {V : Type 0} {old new : SessionView D T} {a b c a_new b_new c_new : ℕ} (r : Result V SessionFault) (e : SessionFault) → r ≡ Err e → DeviceFault e → old.is_broken ≡ false
       → new.count ≡ old.count → new.undone ≡ old.undone → new.is_broken ≡ old.is_broken
-      → HaveStayed honest text_honest image text old.device old.store old.redo_text new.device new.store new.redo_text
+      → HaveStayed d t (devices_of old) (devices_of new)
       → ThreeCounts e a b c a_new b_new c_new
-      → (OneMoreOfThree a b c a_new b_new c_new → OneMoreOfThree (failures old.device) (text_failures old.store) (text_failures old.redo_text) (failures new.device) (text_failures new.store) (text_failures new.redo_text))
-      → ((a_new ≡ a) × (b_new ≡ b) × (c_new ≡ c) → IsUnfailed failures text_failures old new)
-      → FailsSafely honest text_honest image text failures text_failures old new r
+      → (OneMoreOfThree a b c a_new b_new c_new → OneMoreOfThree (d.failures old.device) (t.failures old.store) (t.failures old.redo_text) (d.failures new.device) (t.failures new.store) (t.failures new.redo_text))
+      → ((a_new ≡ a) × (b_new ≡ b) × (c_new ≡ c) → IsUnfailed d.failures t.failures old new)
+      → FailsSafely d t old new r
   refuses {V = V} {old = old} {new = new} {a = a} {b = b} {c = c} {a_new = a_new} {b_new = b_new} {c_new = c_new} r e is fault whole count undone broken stayed counts one none =
-      subst (FailsSafely honest text_honest image text failures text_failures old new) (sym is) (by_fault e fault counts)
+      subst (FailsSafely d t old new) (sym is) (by_fault e fault counts)
     where
-      by_fault : (e : SessionFault) → DeviceFault e → ThreeCounts e a b c a_new b_new c_new → FailsSafely {V = V} honest text_honest image text failures text_failures old new (Err e)
+      by_fault : (e : SessionFault) → DeviceFault e → ThreeCounts e a b c a_new b_new c_new → FailsSafely {V = V} d t old new (Err e)
       by_fault NoMemory f h = record {
         broken = (not_both old.is_broken whole, λ e. absurd (cc));
         same = λ e. absurd (cc);
         refused = λ dh th. record { image_same = stayed.image_same dh; text_same = stayed.text_same th; count = count; broken = broken };
-        redo_same = λ rh. record { text_same = stayed.other_same rh; undone = undone };
+        redo_same = λ rh. record { text_same = stayed.redo_same rh; undone = undone };
         unmoved = (count, undone, broken);
-        honesty = (stayed.device_honesty, stayed.text_honesty, stayed.other_honesty);
+        honesty = (stayed.device_honesty, stayed.store_honesty, stayed.redo_honesty);
         counts = none h;
       }
       by_fault DeviceFailed f h = record {
         broken = (not_both old.is_broken whole, λ e. absurd (cc));
         same = λ e. absurd (cc);
         refused = λ dh th. record { image_same = stayed.image_same dh; text_same = stayed.text_same th; count = count; broken = broken };
-        redo_same = λ rh. record { text_same = stayed.other_same rh; undone = undone };
+        redo_same = λ rh. record { text_same = stayed.redo_same rh; undone = undone };
         unmoved = (count, undone, broken);
-        honesty = (stayed.device_honesty, stayed.text_honesty, stayed.other_honesty);
+        honesty = (stayed.device_honesty, stayed.store_honesty, stayed.redo_honesty);
         counts = one h;
       }
       by_fault TooLarge f h = absurd f

@@ -12,6 +12,9 @@ use Rattle.bx_entries.proofs.RestLemmas.{sound_plain, unfinished_calm}
 use Rattle.bx_entries.specs.declared.format.version.Version.{Version}
 use Rattle.bx_journal.specs.Phase.{IsAtRest}
 use Rattle.bx_journal.specs.inner.Phase.{IsOpen}
+use Rattle.bx_image.specs.declared.device.Device.{Ghosts as DeviceViews}
+use Rattle.bx_store.specs.declared.store.TextStore.{Ghosts as StoreViews}
+use Rattle.bx_journal.specs.declared.devices.Devices.{Devices}
 use Rattle.bx_journal.specs.inner.Written.{AreSettled}
 use Rattle.bx_entries.proofs.CalmLemmas.{head_calm, end_calm, short_plain, ending_calm, tail_calm}
 use Rattle.bx_entries.proofs.RowLemmas.{all_rows_are}
@@ -163,9 +166,9 @@ partly_faded n text new part =
     index_take (suc k) (b ∷ t) (suc i) h = index_take k t i (omega (arith, h))
 
 -- a look at the device leaves all on the disk
-pub looked_at : {D T : Type 0} (image : D → List ℕ) (text : T → List ℕ) (survives : D → List ℕ → Type 0) (text_survives : T → List ℕ → Type 0) (d e : D) (t u : T)
-    → image e ≡ image d → NoMore (survives d) (survives e) → AreSettled image text survives text_survives d t u → AreSettled image text survives text_survives e t u
-looked_at image text survives text_survives d e t u same less on = record {
+pub looked_at : {D T : Type 0} (d : DeviceViews D) (t : StoreViews T) (x : Devices D T) (device : D) → d.image device ≡ d.image x.device
+    → NoMore (d.survives x.device) (d.survives device) → AreSettled d t x → AreSettled d t (record { device = device; store = x.store; redo_text = x.redo_text })
+looked_at d t x device same less on = record {
   device = λ c there. on.device c (less c there) ∙ sym same;
   store = on.store;
   redo = on.redo;

@@ -3,6 +3,9 @@ use Rattle.std.specs.Prelude.{◌⊎◌, ◌≤◌, ℕ, List, [], Result, Match
 use Rattle.bx_image.specs.declared.change.Change.{Change}
 use Rattle.bx_image.specs.Change.{effect}
 use Rattle.bx_image.specs.Power.{NoMore}
+use Rattle.bx_image.specs.declared.device.Device.{Ghosts as DeviceViews}
+use Rattle.bx_store.specs.declared.store.TextStore.{Ghosts as StoreViews}
+use Rattle.bx_journal.specs.declared.devices.Devices.{Devices}
 use Rattle.bx_entries.specs.Shown.{shown}
 use Rattle.bx_journal.specs.declared.fault.SessionFault.{SessionFault}
 use Rattle.bx_journal.specs.Calls.{AfterFault}
@@ -10,7 +13,7 @@ use Rattle.bx_journal.specs.Images.{Images, change_to}
 use Rattle.bx_journal.specs.Machine.{changes_of, top}
 use Rattle.bx_journal.specs.Redo.{IsClean, IsRedoOf}
 use Rattle.bx_journal.specs.Session.{HasUndone, IsReady}
-use Rattle.bx_journal.specs.SessionView.{SessionView}
+use Rattle.bx_journal.specs.SessionView.{SessionView, devices_of}
 use Rattle.bx_journal.specs.Stack.{Recovers}
 
 -- Contents that are all on the disk, and what opening finds of them: the stack, and where the journal is finished entries alone the undone images
@@ -18,17 +21,15 @@ pub record Found (text x redo : List ℕ) (s : Images) : Type 0 where
   pub recovers : Recovers (shown text) x s.stack
   pub undone : IsClean text → IsRedoOf redo x (changes_of s.stack) s.undone
 
--- whatever is found of a device and two texts was found before
-pub record FoundBefore {D T : Type 0} (honest : D → Type 0) (text_honest : T → Type 0) (survives : D → List ℕ → Type 0) (text_survives : T → List ℕ → Type 0)
-    (d : D) (t u : T) (d_new : D) (t_new u_new : T) : Type 0 where
-  pub device_before : honest d → NoMore (survives d) (survives d_new)
-  pub text_before : text_honest t → NoMore (text_survives t) (text_survives t_new)
-  pub other_before : text_honest u → NoMore (text_survives u) (text_survives u_new)
+-- whatever is found of the three devices was found before
+pub record FoundBefore {D T : Type 0} (d : DeviceViews D) (t : StoreViews T) (old new : Devices D T) : Type 0 where
+  pub device_before : d.honest old.device → NoMore (d.survives old.device) (d.survives new.device)
+  pub store_before : t.honest old.store → NoMore (t.survives old.store) (t.survives new.store)
+  pub redo_before : t.honest old.redo_text → NoMore (t.survives old.redo_text) (t.survives new.redo_text)
 
 -- whatever is found of the session's three devices was found before
-abbrev pub NothingNew : {D T : Type 0} → (D → Type 0) → (T → Type 0) → (D → List ℕ → Type 0) → (T → List ℕ → Type 0) → SessionView D T → SessionView D T → Type 0
-NothingNew honest text_honest survives text_survives old new =
-    FoundBefore honest text_honest survives text_survives old.device old.store old.redo_text new.device new.store new.redo_text
+abbrev pub NothingNew : {D T : Type 0} → DeviceViews D → StoreViews T → SessionView D T → SessionView D T → Type 0
+NothingNew d t old new = FoundBefore d t (devices_of old) (devices_of new)
 
 -- Of sessions whose device has an image and may be found with others, and whose stores have a text and may be found with others.
 module _ {D T : Type 0} (image : D → List ℕ) (survives : D → List ℕ → Type 0) (text : T → List ℕ) (text_survives : T → List ℕ → Type 0) where

@@ -1,5 +1,7 @@
 -- What a session over a device and a store is.
 use Rattle.std.specs.Prelude.{◌≡◌, ◌⊎◌, ◌↔◌, ℕ, suc, false, true, List, length, Result, IfErr, IsErrOf, MatchResult}
+use Rattle.bx_image.specs.declared.device.Device.{Ghosts as DeviceViews}
+use Rattle.bx_store.specs.declared.store.TextStore.{Ghosts as StoreViews}
 use Rattle.bx_journal.specs.SessionView.{SessionView}
 use Rattle.bx_journal.specs.Phase.{IsAtRest}
 use Rattle.bx_journal.specs.Images.{Images}
@@ -52,13 +54,12 @@ SessionCounts failures text_failures old new e =
     (text_failures new.redo_text)
 
 -- what a call promises: a broken session refuses it and stays, another refusal changes nothing, an interruption breaks the session, and counts tell what failed
-pub record FailsSafely {D T V : Type 0} (honest : D → Type 0) (text_honest : T → Type 0) (image : D → List ℕ) (text : T → List ℕ)
-    (failures : D → ℕ) (text_failures : T → ℕ) (old new : SessionView D T) (result : Result V SessionFault) : Type 0 where
+pub record FailsSafely {D T V : Type 0} (d : DeviceViews D) (t : StoreViews T) (old new : SessionView D T) (result : Result V SessionFault) : Type 0 where
   pub broken : (old.is_broken ≡ true) ↔ IsErrOf result Broken
   pub same : IsErrOf result Broken → new ≡ old
-  pub refused : honest old.device → text_honest old.store → IfErr result (λ e. AfterFault e (Unit {0}) (IsSame image text old new))
-  pub redo_same : text_honest old.redo_text → IfErr result (λ e. AfterFault e (Unit {0}) (IsRedoSame text old new))
+  pub refused : d.honest old.device → t.honest old.store → IfErr result (λ e. AfterFault e (Unit {0}) (IsSame d.image t.text old new))
+  pub redo_same : t.honest old.redo_text → IfErr result (λ e. AfterFault e (Unit {0}) (IsRedoSame t.text old new))
   pub unmoved : IfErr result (λ e. (new.count ≡ old.count) × (new.undone ≡ old.undone) × AfterFault e (new.is_broken ≡ true) (new.is_broken ≡ old.is_broken))
-  pub honesty : (honest new.device ↔ honest old.device) × (text_honest new.store ↔ text_honest old.store)
-      × (text_honest new.redo_text ↔ text_honest old.redo_text)
-  pub counts : MatchResult result (λ n. IsUnfailed failures text_failures old new) (SessionCounts failures text_failures old new)
+  pub honesty : (d.honest new.device ↔ d.honest old.device) × (t.honest new.store ↔ t.honest old.store)
+      × (t.honest new.redo_text ↔ t.honest old.redo_text)
+  pub counts : MatchResult result (λ n. IsUnfailed d.failures t.failures old new) (SessionCounts d.failures t.failures old new)

@@ -12,6 +12,7 @@
 #![tactic(auto)]
 
 mod answers;
+mod devices;
 mod fault;
 pub mod laws;
 mod look;

@@ -11,6 +11,7 @@ mod redo;
 mod undo;
 
 use crate::SessionFault;
+use crate::devices::Devices;
 use crate::protocol::entry::write_change;
 use crate::protocol::redo_text::RedoCut;
 use crate::session::prepare::prepare_change;
@@ -25,9 +26,7 @@ use std::marker::Model;
 #[derive(Drop)]
 pub struct Session<D: Device, T: TextStore, A: Allocator = Global> {
     pub(crate) alloc: A,
-    pub(crate) device: D,
-    pub(crate) store: T,
-    pub(crate) redo_text: T,
+    pub(crate) devices: Devices<D, T>,
     pub(crate) count: u32,
     pub(crate) undone: u32,
     pub(crate) is_broken: bool,
@@ -39,7 +38,7 @@ impl<D: Device, T: TextStore, A: Allocator> Model for Session<D, T, A> {
 
     ghost Value = { SessionView D T };
 
-    ghost view = { λ s. record { device = s.device; store = s.store; redo_text = s.redo_text; count = s.count; undone = s.undone; is_broken = s.is_broken } };
+    ghost view = { λ s. record { device = s.devices.device; store = s.devices.store; redo_text = s.devices.redo_text; count = s.count; undone = s.undone; is_broken = s.is_broken } };
 }
 
 impl<D: Device, T: TextStore, A: Allocator + Clone> Session<D, T, A> {
@@ -83,7 +82,7 @@ impl<D: Device, T: TextStore, A: Allocator + Clone> Session<D, T, A> {
             → ChangeSurvives D.image D.survives T.text T.survives change.now self.old self.new result }
 
         // A refusal leaves nothing to be found after a loss of power that wasn't to be found before.
-        ensures found_before { IfErr result (λ e. AfterFault e (Unit {0}) (NothingNew D.honest T.honest D.survives T.survives self.old self.new)) }
+        ensures found_before { IfErr result (λ e. AfterFault e (Unit {0}) (NothingNew D.Device T.TextStore self.old self.new)) }
 
         ensures kind { IfErr result PerformFault }
         ensures full { IsErrOf result SessionFault.JournalFull ↔ ((self.old.is_broken ≡ false) × (65535 ≤ self.old.count)) }
@@ -92,7 +91,7 @@ impl<D: Device, T: TextStore, A: Allocator + Clone> Session<D, T, A> {
         ensures fitted { D.honest self.old.device → IsErrOf result SessionFault.Interrupted → Fits change.now (length (D.image self.old.device)) MAX_LEN }
 
         // A refusal changes nothing, an interruption breaks the session, and a broken one refuses all.
-        ensures safe { FailsSafely D.honest T.honest D.image T.text D.failures T.failures self.old self.new result }
+        ensures safe { FailsSafely D.Device T.TextStore self.old self.new result }
     {
         if self.is_broken {
             return Err(SessionFault::Broken);
@@ -101,30 +100,11 @@ impl<D: Device, T: TextStore, A: Allocator + Clone> Session<D, T, A> {
             return Err(SessionFault::JournalFull);
         }
         let number = self.count + 1;
-        let mut ready = prepare_change(
-            &self.alloc,
-            &mut self.device,
-            &mut self.store,
-            &mut self.redo_text,
-            change,
-            number,
-        )?;
-        let ranges = ready.head.ranges.as_slice();
-        let window = ready.head.window.as_mut_slice();
+        let mut ready = prepare_change(&self.alloc, &mut self.devices, change, number)?;
+        let ranges = ready.ranges.as_slice();
         let line = ready.end.as_bytes();
-        match write_change(
-            &mut self.device,
-            &mut self.store,
-            &mut self.redo_text,
-            &mut ready.head.page,
-            window,
-            ranges,
-            ready.head.place,
-            change,
-            number,
-            line,
-            RedoCut::All,
-        ) {
+        let head = &mut ready.head;
+        match write_change(&mut self.devices, head, ranges, change, line, RedoCut::All) {
             Ok(()) => {
                 self.undone = 0;
                 self.count = number;

@@ -8,6 +8,6 @@ use Rattle.bx_journal.specs.inner.Touched.{AreTouchedFrom, IsFirstBegun}
 pub record IsReadyAgain {A B : Type 0} (honest : Type 0) (x : List ℕ) (es : List (EntryRead A)) (k number : ℕ) (o : Again B) : Type 0 where
   pub count : length o.takens.items ≡ k
   pub touched : AreTouchedFrom honest x es o.takens.items
-  pub begun : IsFirstBegun honest x number (reverse o.takens.items) o.page.items o.place
-  pub page_room : 82 ≤ vec_capacity o.page
-  pub window : 16 ≤ length o.window.items
+  pub begun : IsFirstBegun honest x number (reverse o.takens.items) o.head.page.items o.head.place
+  pub page_room : 82 ≤ vec_capacity o.head.page
+  pub window : 16 ≤ length o.head.window.items

@@ -1,5 +1,8 @@
 -- What opening leaves of image, journal and redo text, step by step.
 use Rattle.std.specs.Prelude.{◌≡◌, ℕ, suc, List, [], length, Result, IfOk, IfErr, MatchResult}
+use Rattle.bx_image.specs.declared.device.Device.{Ghosts as DeviceViews}
+use Rattle.bx_store.specs.declared.store.TextStore.{Ghosts as StoreViews}
+use Rattle.bx_journal.specs.declared.devices.Devices.{Devices}
 use Rattle.bx_journal.specs.declared.answers.How.TheVariants.{Clean}
 use Rattle.bx_journal.specs.declared.answers.Recovered.{Recovered}
 use Rattle.bx_journal.specs.declared.fault.SessionFault.{SessionFault}
@@ -40,34 +43,37 @@ abbrev pub SparesClean : {D T E : Type 0} → (D → List ℕ) → (T → List �
 SparesClean image text d t d_new t_new result = IfOk result (λ o. o.how ≡ Clean → IsPairSame image text d t d_new t_new)
 
 -- this many undone images are reported as the redo text and the image that are left stand for, where all were honest
-abbrev pub TellsUndone : {D T E : Type 0} → (D → Type 0) → (D → List ℕ) → (T → Type 0) → (T → List ℕ) → D → T → T → D → T → Result Recovered E → Type 0
-TellsUndone honest image text_honest text d t u d_new u_new result =
-    honest d → text_honest t → text_honest u → IfOk result (λ o. HasUndoneCount (text u_new) (image d_new) o.changes o.undone)
+abbrev pub TellsUndone : {D T E : Type 0} → DeviceViews D → StoreViews T → Devices D T → Devices D T → Result Recovered E → Type 0
+TellsUndone d t old new result =
+    d.honest old.device → t.honest old.store → t.honest old.redo_text → IfOk result (λ o. HasUndoneCount (t.text new.redo_text) (d.image new.device) o.changes o.undone)
 
 -- a line that is reported of the redo text is one at which it is refused
-abbrev pub TellsRefused : {D T V : Type 0} → (D → Type 0) → (D → List ℕ) → (T → Type 0) → (T → List ℕ) → D → T → T → Result V SessionFault → Type 0
-TellsRefused honest image text_honest text d t u result =
-    honest d → text_honest t → text_honest u → IfErr result (λ e. (line : ℕ) → e ≡ RedoDamaged line → RefusesRedoAt (text t) (image d) (text u) line)
+abbrev pub TellsRefused : {D T V : Type 0} → DeviceViews D → StoreViews T → Devices D T → Result V SessionFault → Type 0
+TellsRefused d t old result =
+    d.honest old.device → t.honest old.store → t.honest old.redo_text → IfErr result (λ e. (line : ℕ) → e ≡ RedoDamaged line
+    → RefusesRedoAt (t.text old.store) (d.image old.device) (t.text old.redo_text) line)
 
 -- where the redo text is refused at a line, that line is reported, unless another fault came before
-abbrev pub TellsUnfit : {D T V : Type 0} → (D → Type 0) → (D → List ℕ) → (T → Type 0) → (T → List ℕ) → D → T → T → Result V SessionFault → Type 0
-TellsUnfit honest image text_honest text d t u result =
-    honest d → text_honest t → text_honest u → (line : ℕ) → RefusesRedoAt (text t) (image d) (text u) line → MatchResult result (λ v. ⊥) (RefusesRedo line)
+abbrev pub TellsUnfit : {D T V : Type 0} → DeviceViews D → StoreViews T → Devices D T → Result V SessionFault → Type 0
+TellsUnfit d t old result =
+    d.honest old.device → t.honest old.store → t.honest old.redo_text → (line : ℕ) → RefusesRedoAt (t.text old.store) (d.image old.device) (t.text old.redo_text) line
+    → MatchResult result (λ v. ⊥) (RefusesRedo line)
 
 -- the undone images that opening finds are kept, or none where something is unfinished
-abbrev pub KeepsFoundUndone : {D T E : Type 0} → (D → Type 0) → (D → List ℕ) → (T → Type 0) → (T → List ℕ) → D → T → T → D → T → Result Recovered E → Type 0
-KeepsFoundUndone honest image text_honest text d t u d_new u_new result =
-    honest d → text_honest t → text_honest u → (s : Images) → Found (text t) (image d) (text u) s
-    → IfOk result (λ o. KeepsUndone (text u_new) (image d_new) o s.undone)
+abbrev pub KeepsFoundUndone : {D T E : Type 0} → DeviceViews D → StoreViews T → Devices D T → Devices D T → Result Recovered E → Type 0
+KeepsFoundUndone d t old new result =
+    d.honest old.device → t.honest old.store → t.honest old.redo_text → (s : Images) → Found (t.text old.store) (d.image old.device) (t.text old.redo_text) s
+    → IfOk result (λ o. KeepsUndone (t.text new.redo_text) (d.image new.device) o s.undone)
 
 -- behind a fault opening finds the images that it found before, behind an interruption without those that were undone
-abbrev pub FindsAgain : {D T V : Type 0} → (D → Type 0) → (D → List ℕ) → (T → Type 0) → (T → List ℕ) → D → T → T → D → T → T → Result V SessionFault → Type 0
-FindsAgain honest image text_honest text d t u d_new t_new u_new result =
-    honest d → text_honest t → text_honest u → (s : Images) → Found (text t) (image d) (text u) s
-    → IfErr result (λ e. AfterFault e (Found (text t_new) (image d_new) (text u_new) (record { stack = s.stack; undone = [] }))
-    (Found (text t_new) (image d_new) (text u_new) s))
+abbrev pub FindsAgain : {D T V : Type 0} → DeviceViews D → StoreViews T → Devices D T → Devices D T → Result V SessionFault → Type 0
+FindsAgain d t old new result =
+    d.honest old.device → t.honest old.store → t.honest old.redo_text → (s : Images) → Found (t.text old.store) (d.image old.device) (t.text old.redo_text) s
+    → IfErr result (λ e. AfterFault e (Found (t.text new.store) (d.image new.device) (t.text new.redo_text) (record { stack = s.stack; undone = [] }))
+    (Found (t.text new.store) (d.image new.device) (t.text new.redo_text) s))
 
 -- a redo text in which opening finds images is never refused
-abbrev pub KeepsRedoText : {D T V : Type 0} → (D → Type 0) → (D → List ℕ) → (T → Type 0) → (T → List ℕ) → D → T → T → Result V SessionFault → Type 0
-KeepsRedoText honest image text_honest text d t u result =
-    honest d → text_honest t → text_honest u → (s : Images) → Found (text t) (image d) (text u) s → IfErr result (λ e. (line : ℕ) → e ≡ RedoDamaged line → ⊥)
+abbrev pub KeepsRedoText : {D T V : Type 0} → DeviceViews D → StoreViews T → Devices D T → Result V SessionFault → Type 0
+KeepsRedoText d t old result =
+    d.honest old.device → t.honest old.store → t.honest old.redo_text → (s : Images) → Found (t.text old.store) (d.image old.device) (t.text old.redo_text) s
+    → IfErr result (λ e. (line : ℕ) → e ≡ RedoDamaged line → ⊥)

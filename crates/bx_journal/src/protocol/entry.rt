@@ -1,22 +1,25 @@
 //! The entry of a change: its head (the undo record), its end (the commit mark), and both with the change of the image between them, which cuts the redo text.
-ghost use Rattle.std.specs.Prelude.{◌≡◌, ◌↔◌, ◌⊎◌, ◌+◌, ◌^◌, ◌<◌, ◌≤◌, [], ◌++◌, ℕ, length, take, vec_capacity, OnOk, OnErr, is_err};
+ghost use Rattle.std.specs.Prelude.{◌≡◌, ◌↔◌, ◌⊎◌, ◌+◌, ◌<◌, ◌≤◌, [], ◌++◌, ℕ, length, take, OnOk, OnErr, is_err};
 ghost use Rattle.bx_entries.specs.Kept.{kept_of};
 ghost use Rattle.bx_image.specs.Change.{effect, saved, IsAsGood};
 ghost use Rattle.bx_image.specs.Device.{GoesOn};
 ghost use Rattle.bx_image.specs.Power.{NoMore, Only};
 ghost use Rattle.bx_entries.specs.Entry.{head_text};
 ghost use Rattle.bx_entries.specs.Text.{IsPrefix};
+ghost use Rattle.bx_journal.specs.inner.Begun.{rest_of, IsBegunOver, IsHead, KeepsBuffers};
 ghost use Rattle.bx_journal.specs.inner.Devices.{AreBelow, ImageIsFirst, OneMore, StepsOn};
 ghost use Rattle.bx_journal.specs.inner.Fading.{AllStayOpenFor, EndSurvives, HeadSurvives};
 ghost use Rattle.bx_journal.specs.inner.Phase.{StaysOpenFor};
-ghost use Rattle.bx_journal.specs.inner.Ranges.{head_from, kept_over, rest_len, AreRanges, IsPlace};
+ghost use Rattle.bx_journal.specs.inner.Ranges.{kept_over};
 ghost use Rattle.bx_journal.specs.inner.Step.{EndRests, EndStops, HeadOpens, HeadStops};
 ghost use Rattle.bx_journal.specs.inner.Turns.{place_of};
-ghost use Rattle.bx_journal.specs.inner.Written.{AreSettled, EntrySettles, LeavesBoth, RestsBehind, StopsEither, SurvivesBoth};
+ghost use Rattle.bx_journal.specs.inner.Written.{entry_over, EntrySettles, LeavesBoth, RestsBehind, StopsEither, SurvivesBoth};
 
+use crate::devices::Devices;
 use crate::protocol::image::change_image;
 use crate::protocol::redo_text::{RedoCut, cut_redo};
-use crate::write::ranges::{Place, put_head_from};
+use crate::write::head::Head;
+use crate::write::ranges::put_head_from;
 use bx_image::{Change, Device, DeviceFailed, Span};
 use bx_store::TextStore;
 use std::alloc::Allocator;
@@ -26,47 +29,34 @@ use std::alloc::Allocator;
 pub fn append_head_of<D: Device, T: TextStore, A: Allocator>(
     device: &mut D,
     store: &mut T,
-    page: &mut Vec<u8, A>,
-    window: &mut [u8],
+    head: &mut Head<A>,
     ranges: &[Span],
-    place: Place,
-    number: u32,
 ) -> Result<(), DeviceFailed>
     requires device_countable { D.failures device.old < u64.MAX }
     requires store_countable { T.failures store.old < u64.MAX }
-    requires ordered { AreRanges (2 ^ 64) ranges.now }
-    requires ranges { D.honest device.old → AreRanges (length (D.image device.old)) ranges.now }
-    requires place { IsPlace ranges.now place }
-    requires begun { D.honest device.old
-        → head_from (D.image device.old) ranges.now place page.old.items number ≡ head_text number (kept_over (D.image device.old) ranges.now) }
-    requires window { 16 ≤ length window.old }
-    requires fits { T.honest store.old → length (T.text store.old) + length page.old.items + rest_len ranges.now place + 14 ≤ T.room store.old }
-    requires room { 82 ≤ vec_capacity page.old }
-    ensures ok { D.honest device.old → T.honest store.old
-        → HeadOpens (T.text store.old) (head_text number (kept_over (D.image device.old) ranges.now)) (T.text store.new) result }
-    ensures fault { D.honest device.old → T.honest store.old
-        → HeadStops (T.text store.old) (head_text number (kept_over (D.image device.old) ranges.now)) (T.text store.new) result }
-    ensures text { D.honest device.old → T.honest store.old
-        → OnOk result (T.text store.new ≡ T.text store.old ++ head_text number (kept_over (D.image device.old) ranges.now)) }
+    requires head { IsHead ranges.now head.old }
+    requires begun { D.honest device.old → IsBegunOver (D.image device.old) ranges.now head.old }
+    requires fits { T.honest store.old → length (T.text store.old) + rest_of ranges.now head.old ≤ T.room store.old }
+    ensures ok { D.honest device.old → T.honest store.old → HeadOpens (T.text store.old) (head_text head.old.number (kept_over (D.image device.old) ranges.now)) (T.text store.new) result }
+    ensures fault { D.honest device.old → T.honest store.old → HeadStops (T.text store.old) (head_text head.old.number (kept_over (D.image device.old) ranges.now)) (T.text store.new) result }
+    ensures text { D.honest device.old → T.honest store.old → OnOk result (T.text store.new ≡ T.text store.old ++ head_text head.old.number (kept_over (D.image device.old) ranges.now)) }
     ensures settled { T.honest store.old → OnOk result (Only (T.text store.new) (T.survives store.new)) }
     ensures survives { D.honest device.old → T.honest store.old → Only (T.text store.old) (T.survives store.old)
-        → HeadSurvives (T.text store.old) (head_text number (kept_over (D.image device.old) ranges.now)) (T.survives store.new) }
-    ensures emptied { OnOk result (page.new.items ≡ []) }
-    ensures page_kept { vec_capacity page.old ≤ vec_capacity page.new }
+        → HeadSurvives (T.text store.old) (head_text head.old.number (kept_over (D.image device.old) ranges.now)) (T.survives store.new) }
+    ensures long { T.honest store.old → OnOk result (length (T.text store.new) ≡ length (T.text store.old) + rest_of ranges.now head.old) }
+    ensures front { T.honest store.old → OnOk result (IsPrefix (T.text store.old) (T.text store.new)) }
+    ensures emptied { OnOk result (head.new.page.items ≡ []) }
+    ensures kept { KeepsBuffers head.old head.new }
     ensures image { D.honest device.old → D.image device.new ≡ D.image device.old }
     ensures device_survives { D.honest device.old → NoMore (D.survives device.old) (D.survives device.new) }
     ensures device_honesty { D.honest device.new ↔ D.honest device.old }
     ensures device_room { D.room device.old ≤ D.room device.new }
     ensures store_honesty { T.honest store.new ↔ T.honest store.old }
     ensures store_room { T.room store.old ≤ T.room store.new }
-    ensures long { T.honest store.old
-        → OnOk result (length (T.text store.new) ≡ length (T.text store.old) + length page.old.items + rest_len ranges.now place + 14) }
-    ensures front { T.honest store.old → OnOk result (IsPrefix (T.text store.old) (T.text store.new)) }
-    ensures window { length window.new ≡ length window.old }
     ensures no_failure { OnOk result ((D.failures device.new ≡ D.failures device.old) × (T.failures store.new ≡ T.failures store.old)) }
     ensures failure { OnErr result (OneMore (D.failures device.old) (T.failures store.old) (D.failures device.new) (T.failures store.new)) }
 {
-    put_head_from(device, store, page, window, ranges, place, number)?;
+    put_head_from(device, store, head, ranges)?;
     store.sync()
 }
 
@@ -128,61 +118,41 @@ pub fn change_with<D: Device, T: TextStore, A: Allocator>(
 
 /// Appends the entry of a change with the image's own bytes in some ranges, and changes the image and the redo text in between.
 pub fn write_change<D: Device, T: TextStore, A: Allocator>(
-    device: &mut D,
-    store: &mut T,
-    redo: &mut T,
-    page: &mut Vec<u8, A>,
-    window: &mut [u8],
+    devices: &mut Devices<D, T>,
+    head: &mut Head<A>,
     ranges: &[Span],
-    place: Place,
     change: &Change<A>,
-    number: u32,
     end: &[u8],
     part: RedoCut,
 ) -> Result<(), DeviceFailed>
-    requires countable { AreBelow u64.MAX (D.failures device.old) (T.failures store.old) (T.failures redo.old) }
-    requires ordered { AreRanges (2 ^ 64) ranges.now }
-    requires ranges { D.honest device.old → AreRanges (length (D.image device.old)) ranges.now }
-    requires place { IsPlace ranges.now place }
-    requires begun { D.honest device.old
-        → head_from (D.image device.old) ranges.now place page.old.items number ≡ head_text number (kept_over (D.image device.old) ranges.now) }
-    requires window { 16 ≤ length window.old }
-    requires page_room { 82 ≤ vec_capacity page.old }
-    requires image_room { length (effect change.now []) ≤ D.room device.old }
-    requires text_room { T.honest store.old
-        → length (T.text store.old) + length page.old.items + rest_len ranges.now place + 14 + length end.now ≤ T.room store.old }
-    requires within { T.honest redo.old → place_of part ≤ length (T.text redo.old) }
-    ensures ok { D.honest device.old → T.honest store.old
-        → RestsBehind change.now (T.text store.old) (D.image device.old) (T.text store.new) (D.image device.new)
-        (head_text number (kept_over (D.image device.old) ranges.now)) end.now result }
-    ensures fault { D.honest device.old → T.honest store.old
-        → StopsEither change.now (T.text store.old) (D.image device.old) (T.text store.new) (D.image device.new)
-        (head_text number (kept_over (D.image device.old) ranges.now)) end.now result }
-    ensures left { D.honest device.old → T.honest store.old → T.honest redo.old
-        → LeavesBoth change.now (T.text store.old) (D.image device.old) (T.text redo.old)
-        (T.text store.new) (D.image device.new) (T.text redo.new) (head_text number (kept_over (D.image device.old) ranges.now)) end.now part result }
-    ensures settles { EntrySettles D.honest D.image D.survives T.honest T.text T.survives
-        device.old store.old redo.old device.new store.new redo.new result }
-    ensures survives { D.honest device.old → T.honest store.old → T.honest redo.old
-        → AreSettled D.image T.text D.survives T.survives device.old store.old redo.old
-        → SurvivesBoth change.now (T.text store.old) (D.image device.old) (T.text redo.old) (T.survives store.new) (D.survives device.new) (T.survives redo.new)
-        (head_text number (kept_over (D.image device.old) ranges.now)) end.now part }
-    ensures image { D.honest device.old → OnOk result (D.image device.new ≡ effect change.now (D.image device.old)) }
-    ensures back { D.honest device.old → OnOk result (IsAsGood (kept_of (saved change.now (D.image device.old))) (D.image device.old) (D.image device.new)) }
-    ensures text { D.honest device.old → T.honest store.old
-        → OnOk result (T.text store.new ≡ T.text store.old ++ head_text number (kept_over (D.image device.old) ranges.now) ++ end.now) }
-    ensures redo { T.honest redo.old → OnOk result (T.text redo.new ≡ take (place_of part) (T.text redo.old)) }
-    ensures long { T.honest store.old → OnOk result
-        (length (T.text store.new) ≡ length (T.text store.old) + length page.old.items + rest_len ranges.now place + 14 + length end.now) }
-    ensures front { T.honest store.old → OnOk result (IsPrefix (T.text store.old) (T.text store.new)) }
-    ensures window { length window.new ≡ length window.old }
-    ensures emptied { OnOk result (page.new.items ≡ []) }
-    ensures page_kept { vec_capacity page.old ≤ vec_capacity page.new }
-    ensures room { D.room device.old ≤ D.room device.new }
-    ensures store_room { T.room store.old ≤ T.room store.new }
-    ensures steps_on { StepsOn D.honest T.honest D.failures T.failures result device.old store.old redo.old device.new store.new redo.new }
+    requires countable { AreBelow D.Device T.TextStore u64.MAX devices.old }
+    requires head { IsHead ranges.now head.old }
+    requires begun { D.honest devices.old.device → IsBegunOver (D.image devices.old.device) ranges.now head.old }
+    requires image_room { length (effect change.now []) ≤ D.room devices.old.device }
+    requires text_room { T.honest devices.old.store
+        → length (T.text devices.old.store) + rest_of ranges.now head.old + length end.now ≤ T.room devices.old.store }
+    requires within { T.honest devices.old.redo_text → place_of part ≤ length (T.text devices.old.redo_text) }
+    ensures ok { RestsBehind D.Device T.TextStore change.now (entry_over (D.image devices.old.device) ranges.now head.old.number end.now) devices.old devices.new result }
+    ensures fault { StopsEither D.Device T.TextStore change.now (entry_over (D.image devices.old.device) ranges.now head.old.number end.now) devices.old devices.new result }
+    ensures left { LeavesBoth D.Device T.TextStore change.now (entry_over (D.image devices.old.device) ranges.now head.old.number end.now) part devices.old devices.new result }
+    ensures survives { SurvivesBoth D.Device T.TextStore change.now (entry_over (D.image devices.old.device) ranges.now head.old.number end.now) part devices.old devices.new }
+    ensures settles { EntrySettles D.Device T.TextStore devices.old devices.new result }
+    ensures image { D.honest devices.old.device → OnOk result (D.image devices.new.device ≡ effect change.now (D.image devices.old.device)) }
+    ensures back { D.honest devices.old.device
+        → OnOk result (IsAsGood (kept_of (saved change.now (D.image devices.old.device))) (D.image devices.old.device) (D.image devices.new.device)) }
+    ensures text { D.honest devices.old.device → T.honest devices.old.store → OnOk result (T.text devices.new.store
+        ≡ T.text devices.old.store ++ head_text head.old.number (kept_over (D.image devices.old.device) ranges.now) ++ end.now) }
+    ensures redo { T.honest devices.old.redo_text → OnOk result (T.text devices.new.redo_text ≡ take (place_of part) (T.text devices.old.redo_text)) }
+    ensures long { T.honest devices.old.store
+        → OnOk result (length (T.text devices.new.store) ≡ length (T.text devices.old.store) + rest_of ranges.now head.old + length end.now) }
+    ensures front { T.honest devices.old.store → OnOk result (IsPrefix (T.text devices.old.store) (T.text devices.new.store)) }
+    ensures emptied { OnOk result (head.new.page.items ≡ []) }
+    ensures kept { KeepsBuffers head.old head.new }
+    ensures room { D.room devices.old.device ≤ D.room devices.new.device }
+    ensures store_room { T.room devices.old.store ≤ T.room devices.new.store }
+    ensures steps_on { StepsOn D.Device T.TextStore result devices.old devices.new }
 {
-    append_head_of(device, store, page, window, ranges, place, number)?;
-    change_with(device, redo, change, part)?;
-    append_end(store, end)
+    append_head_of(&mut devices.device, &mut devices.store, head, ranges)?;
+    change_with(&mut devices.device, &mut devices.redo_text, change, part)?;
+    append_end(&mut devices.store, end)
 }

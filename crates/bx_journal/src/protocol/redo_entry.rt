@@ -10,8 +10,10 @@ ghost use Rattle.bx_journal.specs.inner.Touched.{AreTouchedFrom, IsFirstBegun, I
 ghost use Rattle.bx_entries.specs.Text.{IsPrefix};
 ghost use Rattle.bx_journal.specs.inner.Undoing.{AreReadFrom};
 
+use crate::devices::Devices;
 use crate::protocol::entry::write_change;
 use crate::protocol::redo_text::RedoCut;
+use crate::write::head::Head;
 use crate::write::look::look_and_begin;
 use crate::write::ranges::Place;
 use bx_entries::{EntryRead, entry_end};
@@ -64,49 +66,39 @@ pub fn begin_last<D: Device, A: Allocator>(
 }
 
 /// Makes as many of the last entries of the redo text again as there are ranges that they touch, the last first, and answers how
-/// many changes then stand. The first head is begun in the page, and its lines go on at `place`.
+/// many changes then stand. The first head is begun.
 pub fn redo_entries<D: Device, T: TextStore, A: Allocator>(
-    device: &mut D,
-    store: &mut T,
-    redo_text: &mut T,
-    page: &mut Vec<u8, A>,
-    window: &mut [u8],
+    devices: &mut Devices<D, T>,
+    head: &mut Head<A>,
     entries: &mut Vec<EntryRead<A>, A>,
     takens: &mut Vec<Vec<Span, A>, A>,
-    place: Place,
     count: u32,
 ) -> Result<u32, DeviceFailed>
-    requires countable { AreBelow u64.MAX (D.failures device.old) (T.failures store.old) (T.failures redo_text.old) }
+    requires countable { AreBelow D.Device T.TextStore u64.MAX devices.old }
     requires few { length takens.old.items ≤ length entries.old.items }
     requires bound { count + length takens.old.items ≤ 65535 }
-    requires kept { AllKept (D.room device.old) (drop (length entries.old.items - length takens.old.items) entries.old.items) }
-    requires read { AreReadFrom (T.honest redo_text.old) (T.text redo_text.old) entries.old.items }
-    requires touched { AreTouchedFrom (D.honest device.old) (D.image device.old) entries.old.items takens.old.items }
-    requires begun { IsFirstBegun (D.honest device.old) (D.image device.old) (count + 1) (reverse takens.old.items) page.old.items place }
-    requires fits { T.honest store.old → length (T.text store.old) + entries_over takens.old.items ≤ T.room store.old }
-    requires page_room { 82 ≤ vec_capacity page.old }
-    requires window { 16 ≤ length window.old }
-    ensures found { RedoRests D.honest D.image T.honest T.text
-        device.old store.old redo_text.old device.new store.new redo_text.new count takens.old.items result }
-    ensures images { RedoAll D.honest D.image T.honest T.text
-        device.old store.old redo_text.old device.new store.new redo_text.new count takens.old.items result }
-    ensures rests { RestsOnTop D.honest D.image T.honest T.text device.old store.old device.new store.new count takens.old.items result }
-    ensures stands { StandsOnTop D.honest D.image T.honest T.text device.old store.old device.new store.new count takens.old.items result }
-    ensures fault { StopsOnTop D.honest D.image T.honest T.text device.old store.old device.new store.new count takens.old.items result }
-    ensures taken { RedoTakes D.honest D.image T.honest T.text device.old store.old redo_text.old store.new count takens.old.items result }
+    requires kept { AllKept (D.room devices.old.device) (drop (length entries.old.items - length takens.old.items) entries.old.items) }
+    requires read { AreReadFrom (T.honest devices.old.redo_text) (T.text devices.old.redo_text) entries.old.items }
+    requires touched { AreTouchedFrom (D.honest devices.old.device) (D.image devices.old.device) entries.old.items takens.old.items }
+    requires begun { IsFirstBegun (D.honest devices.old.device) (D.image devices.old.device) (count + 1) (reverse takens.old.items) head.old.page.items head.old.place }
+    requires fits { T.honest devices.old.store → length (T.text devices.old.store) + entries_over takens.old.items ≤ T.room devices.old.store }
+    requires page_room { 82 ≤ vec_capacity head.old.page }
+    requires window { 16 ≤ length head.old.window.items }
+    ensures found { RedoRests D.Device T.TextStore devices.old devices.new count takens.old.items result }
+    ensures images { RedoAll D.Device T.TextStore devices.old devices.new count takens.old.items result }
+    ensures rests { RestsOnTop D.Device T.TextStore devices.old devices.new count takens.old.items result }
+    ensures stands { StandsOnTop D.Device T.TextStore devices.old devices.new count takens.old.items result }
+    ensures fault { StopsOnTop D.Device T.TextStore devices.old devices.new count takens.old.items result }
+    ensures taken { RedoTakes D.Device T.TextStore devices.old devices.new count takens.old.items result }
     ensures number { IfOk result (λ n. n ≡ count + length takens.old.items) }
-    ensures left { T.honest redo_text.old → LeavesFront (T.text redo_text.old) (length takens.old.items) (T.text redo_text.new) result }
-    ensures front { T.honest store.old → OnOk result (IsPrefix (T.text store.old) (T.text store.new)) }
-    ensures finds { RedoSome D.honest D.image T.honest T.text
-        device.old store.old redo_text.old device.new store.new redo_text.new count takens.old.items result }
-    ensures settles { StaySettled D.honest D.image D.survives T.honest T.text T.survives
-        device.old store.old redo_text.old device.new store.new redo_text.new result }
-    ensures survives { RedoSomeSurvives D.honest D.image D.survives T.honest T.text T.survives
-        device.old store.old redo_text.old device.new store.new redo_text.new count takens.old.items result }
-    ensures steps_on { StepsOn D.honest T.honest D.failures T.failures result device.old store.old redo_text.old device.new store.new redo_text.new }
+    ensures left { T.honest devices.old.redo_text → LeavesFront (T.text devices.old.redo_text) (length takens.old.items) (T.text devices.new.redo_text) result }
+    ensures front { T.honest devices.old.store → OnOk result (IsPrefix (T.text devices.old.store) (T.text devices.new.store)) }
+    ensures finds { RedoSome D.Device T.TextStore devices.old devices.new count takens.old.items result }
+    ensures settles { StaySettled D.Device T.TextStore devices.old devices.new result }
+    ensures survives { RedoSomeSurvives D.Device T.TextStore devices.old devices.new count takens.old.items result }
+    ensures steps_on { StepsOn D.Device T.TextStore result devices.old devices.new }
 {
     let k = takens.len();
-    let mut place = place;
     let mut count = count;
     for i in 0..k {
         let (entry, ranges) = take_both(entries, takens);
@@ -116,21 +108,15 @@ pub fn redo_entries<D: Device, T: TextStore, A: Allocator>(
         let after = entry.kept.len;
         let end = entry_end(number, after);
         let change = entry.kept.into_change();
-        write_change(
-            device,
-            store,
-            redo_text,
-            page,
-            window,
-            spans,
-            place,
-            &change,
-            number,
-            end.as_bytes(),
-            RedoCut::From(begins),
-        )?;
+        let cut = RedoCut::From(begins);
+        head.number = number;
+        write_change(devices, head, spans, &change, end.as_bytes(), cut)?;
         count = number;
-        place = begin_last(device, page, window, takens.as_slice(), number + 1, after)?;
+        let image = &mut devices.device;
+        let page = &mut head.page;
+        let window = head.window.as_mut_slice();
+        let place = begin_last(image, page, window, takens.as_slice(), number + 1, after)?;
+        head.place = place;
     }
     Ok(count)
 }

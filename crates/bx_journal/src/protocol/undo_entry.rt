@@ -15,6 +15,7 @@ ghost use Rattle.bx_journal.specs.inner.Fading.{AllStayOpen, CutSurvives};
 ghost use Rattle.bx_journal.specs.inner.Written.{EntrySettles};
 ghost use Rattle.bx_store.specs.Store.{IsPartlyCut};
 
+use crate::devices::Devices;
 use crate::protocol::fill::{fill_last, take_last};
 use crate::protocol::redo_text::keep_undone;
 use crate::protocol::restore::{Buffers, restore_windows};
@@ -34,38 +35,41 @@ pub struct Placed {
 /// Restores the image from the record in the journal, and keeps the image that is undone. Whatever it answers, each byte
 /// stays that the record leaves out, so a pair that is open on it stays open.
 fn change_undone<D: Device, T: TextStore, A: Allocator>(
-    device: &mut D,
-    store: &mut T,
-    redo_text: &mut T,
+    devices: &mut Devices<D, T>,
     page: &mut Vec<u8, A>,
     buffers: &mut Buffers<A>,
     mark: Mark,
     number: u32,
     taken: &Saved<A>,
 ) -> Result<(), DeviceFailed>
-    requires countable { AreBelow u64.MAX (D.failures device.old) (T.failures store.old) (T.failures redo_text.old) }
-    requires within_text { T.honest store.old → mark.saved ≤ length (T.text store.old) }
-    requires restorable { CanRestore (D.room device.old) mark buffers.old }
-    requires ready { CanKeep T.honest T.text T.room redo_text.old page.old.items (vec_capacity page.old) number taken.now mark.len }
-    ensures keeps { KeepsLeftOut D.honest D.image T.honest T.text mark device.old store.old device.new }
-    ensures settled { D.honest device.old → OnOk result (Only (D.image device.new) (D.survives device.new)) }
-    ensures redo_settled { T.honest redo_text.old → OnOk result (Only (T.text redo_text.new) (T.survives redo_text.new)) }
-    ensures survives { D.honest device.old → T.honest store.old → (s : Kept) → StandsAt (T.text store.old) mark s
-        → Only (D.image device.old) (D.survives device.old) → AllStayOpen s (D.image device.old) (D.survives device.new) }
-    ensures order { T.honest store.old → (s : Kept) → StandsAt (T.text store.old) mark s
-        → ImageIsFirst D.honest D.image result (restore s) device.old device.new redo_text.old redo_text.new }
-    ensures text { T.honest store.old → T.text store.new ≡ T.text store.old }
-    ensures text_survives { T.honest store.old → NoMore (T.survives store.old) (T.survives store.new) }
+    requires countable { AreBelow D.Device T.TextStore u64.MAX devices.old }
+    requires within_text { T.honest devices.old.store → mark.saved ≤ length (T.text devices.old.store) }
+    requires restorable { CanRestore (D.room devices.old.device) mark buffers.old }
+    requires ready { CanKeep T.TextStore devices.old.redo_text page.old.items (vec_capacity page.old) number taken.now mark.len }
+    ensures keeps { KeepsLeftOut D.Device T.TextStore mark devices.old devices.new }
+    ensures settled { D.honest devices.old.device → OnOk result (Only (D.image devices.new.device) (D.survives devices.new.device)) }
+    ensures redo_settled { T.honest devices.old.redo_text → OnOk result (Only (T.text devices.new.redo_text) (T.survives devices.new.redo_text)) }
+    ensures survives { D.honest devices.old.device → T.honest devices.old.store → (s : Kept) → StandsAt (T.text devices.old.store) mark s
+        → Only (D.image devices.old.device) (D.survives devices.old.device) → AllStayOpen s (D.image devices.old.device) (D.survives devices.new.device) }
+    ensures order { T.honest devices.old.store → (s : Kept) → StandsAt (T.text devices.old.store) mark s
+        → ImageIsFirst D.honest D.image result (restore s) devices.old.device devices.new.device devices.old.redo_text devices.new.redo_text }
+    ensures text { T.honest devices.old.store → T.text devices.new.store ≡ T.text devices.old.store }
+    ensures text_survives { T.honest devices.old.store → NoMore (T.survives devices.old.store) (T.survives devices.new.store) }
     ensures emptied { OnOk result (page.new.items ≡ []) }
     ensures page_kept { vec_capacity page.old ≤ vec_capacity page.new }
     ensures buffers_kept { KeepsRoom buffers.old buffers.new }
-    ensures undoes { Undoes D.honest D.image D.room T.honest T.text T.room result
-        device.old store.old redo_text.old device.new redo_text.new number taken.now mark }
-    ensures steps_on { StepsOn D.honest T.honest D.failures T.failures result device.old store.old redo_text.old device.new store.new redo_text.new }
+    ensures undoes { Undoes D.Device T.TextStore result devices.old devices.new number taken.now mark }
+    ensures steps_on { StepsOn D.Device T.TextStore result devices.old devices.new }
 {
     let window = buffers.window.as_mut_slice();
-    restore_windows(device, store, window, &mut buffers.parts, mark)?;
-    keep_undone(redo_text, page, number, taken, mark.len)
+    restore_windows(
+        &mut devices.device,
+        &mut devices.store,
+        window,
+        &mut buffers.parts,
+        mark,
+    )?;
+    keep_undone(&mut devices.redo_text, page, number, taken, mark.len)
 }
 
 /// Cuts off the line that ends the newest entry, and puts that on the disk.
@@ -85,77 +89,64 @@ fn cut_end<T: TextStore>(store: &mut T, saved: u64) -> Result<(), DeviceFailed>
 /// Cuts off the line that ends the newest entry, and only then touches image and redo text: restores the image from what
 /// is left of the entry, and keeps the image that is undone.
 fn open_and_change<D: Device, T: TextStore, A: Allocator>(
-    device: &mut D,
-    store: &mut T,
-    redo_text: &mut T,
+    devices: &mut Devices<D, T>,
     page: &mut Vec<u8, A>,
     buffers: &mut Buffers<A>,
     mark: Mark,
     number: u32,
     taken: &Saved<A>,
 ) -> Result<(), DeviceFailed>
-    requires countable { AreBelow u64.MAX (D.failures device.old) (T.failures store.old) (T.failures redo_text.old) }
-    requires within_text { T.honest store.old → mark.saved ≤ length (T.text store.old) }
-    requires restorable { CanRestore (D.room device.old) mark buffers.old }
-    requires ready { CanKeep T.honest T.text T.room redo_text.old page.old.items (vec_capacity page.old) number taken.now mark.len }
-    ensures order { T.honest store.old → CutsFirst T.text mark.saved device.old store.old redo_text.old device.new store.new redo_text.new result }
-    ensures keeps { KeepsLeftOut D.honest D.image T.honest T.text mark device.old store.old device.new }
-    ensures settles { EntrySettles D.honest D.image D.survives T.honest T.text T.survives
-        device.old store.old redo_text.old device.new store.new redo_text.new result }
-    ensures survives { (begins : ℕ) → UndoSurvives D.honest D.image D.survives T.honest T.text T.survives number taken.now mark begins
-        device.old store.old redo_text.old device.new store.new redo_text.new }
-    ensures text { T.honest store.old → OnOk result (T.text store.new ≡ take mark.saved (T.text store.old)) }
+    requires countable { AreBelow D.Device T.TextStore u64.MAX devices.old }
+    requires within_text { T.honest devices.old.store → mark.saved ≤ length (T.text devices.old.store) }
+    requires restorable { CanRestore (D.room devices.old.device) mark buffers.old }
+    requires ready { CanKeep T.TextStore devices.old.redo_text page.old.items (vec_capacity page.old) number taken.now mark.len }
+    ensures order { T.honest devices.old.store → CutsFirst T.TextStore mark.saved devices.old devices.new result }
+    ensures keeps { KeepsLeftOut D.Device T.TextStore mark devices.old devices.new }
+    ensures settles { EntrySettles D.Device T.TextStore devices.old devices.new result }
+    ensures survives { (begins : ℕ) → UndoSurvives D.Device T.TextStore (record { begins = begins; mark = mark }) number taken.now devices.old devices.new }
+    ensures text { T.honest devices.old.store → OnOk result (T.text devices.new.store ≡ take mark.saved (T.text devices.old.store)) }
     ensures emptied { OnOk result (page.new.items ≡ []) }
     ensures page_kept { vec_capacity page.old ≤ vec_capacity page.new }
     ensures buffers_kept { KeepsRoom buffers.old buffers.new }
-    ensures undoes { Undoes D.honest D.image D.room T.honest T.text T.room result
-        device.old store.old redo_text.old device.new redo_text.new number taken.now mark }
-    ensures steps_on { StepsOn D.honest T.honest D.failures T.failures result device.old store.old redo_text.old device.new store.new redo_text.new }
+    ensures undoes { Undoes D.Device T.TextStore result devices.old devices.new number taken.now mark }
+    ensures steps_on { StepsOn D.Device T.TextStore result devices.old devices.new }
 {
-    cut_end(store, mark.saved)?;
-    change_undone(device, store, redo_text, page, buffers, mark, number, taken)?;
+    cut_end(&mut devices.store, mark.saved)?;
+    change_undone(devices, page, buffers, mark, number, taken)?;
     Ok(())
 }
 
 /// Takes the newest entry back: cuts the line that ends it, restores the image from its record, keeps the image that is
 /// undone, and cuts the rest of the entry.
 pub fn undo_entry<D: Device, T: TextStore, A: Allocator>(
-    device: &mut D,
-    store: &mut T,
-    redo: &mut T,
+    devices: &mut Devices<D, T>,
     page: &mut Vec<u8, A>,
     buffers: &mut Buffers<A>,
     entry: Placed,
     number: u32,
     taken: &Saved<A>,
 ) -> Result<(), DeviceFailed>
-    requires countable { AreBelow u64.MAX (D.failures device.old) (T.failures store.old) (T.failures redo.old) }
+    requires countable { AreBelow D.Device T.TextStore u64.MAX devices.old }
     requires order { entry.begins ≤ entry.mark.saved }
-    requires within_text { T.honest store.old → entry.mark.saved ≤ length (T.text store.old) }
-    requires restorable { CanRestore (D.room device.old) entry.mark buffers.old }
-    requires ready { CanKeep T.honest T.text T.room redo.old page.old.items (vec_capacity page.old) number taken.now entry.mark.len }
-    ensures ok { D.honest device.old → T.honest store.old
-        → UndoRests D.image T.text entry.mark entry.begins device.old store.old device.new store.new result }
-    ensures fault { D.honest device.old → T.honest store.old
-        → UndoStops D.image T.text entry.mark entry.begins device.old store.old device.new store.new result }
-    ensures left { LeftUndo D.honest D.image T.honest T.text number taken.now entry.mark entry.begins
-        device.old store.old redo.old device.new store.new redo.new result }
-    ensures settles { EntrySettles D.honest D.image D.survives T.honest T.text T.survives
-        device.old store.old redo.old device.new store.new redo.new result }
-    ensures survives { UndoSurvives D.honest D.image D.survives T.honest T.text T.survives number taken.now entry.mark entry.begins
-        device.old store.old redo.old device.new store.new redo.new }
-    ensures text { T.honest store.old → OnOk result (T.text store.new ≡ take entry.begins (T.text store.old)) }
+    requires within_text { T.honest devices.old.store → entry.mark.saved ≤ length (T.text devices.old.store) }
+    requires restorable { CanRestore (D.room devices.old.device) entry.mark buffers.old }
+    requires ready { CanKeep T.TextStore devices.old.redo_text page.old.items (vec_capacity page.old) number taken.now entry.mark.len }
+    ensures ok { D.honest devices.old.device → T.honest devices.old.store
+        → UndoRests D.Device T.TextStore entry devices.old devices.new result }
+    ensures fault { D.honest devices.old.device → T.honest devices.old.store
+        → UndoStops D.Device T.TextStore entry devices.old devices.new result }
+    ensures left { LeftUndo D.Device T.TextStore entry number taken.now devices.old devices.new result }
+    ensures settles { EntrySettles D.Device T.TextStore devices.old devices.new result }
+    ensures survives { UndoSurvives D.Device T.TextStore entry number taken.now devices.old devices.new }
+    ensures text { T.honest devices.old.store → OnOk result (T.text devices.new.store ≡ take entry.begins (T.text devices.old.store)) }
     ensures emptied { OnOk result (page.new.items ≡ []) }
     ensures page_kept { vec_capacity page.old ≤ vec_capacity page.new }
     ensures buffers_kept { KeepsRoom buffers.old buffers.new }
-    ensures undoes { Undoes D.honest D.image D.room T.honest T.text T.room result
-        device.old store.old redo.old device.new redo.new number taken.now entry.mark }
-    ensures steps_on { StepsOn D.honest T.honest D.failures T.failures result device.old store.old redo.old device.new store.new redo.new }
+    ensures undoes { Undoes D.Device T.TextStore result devices.old devices.new number taken.now entry.mark }
+    ensures steps_on { StepsOn D.Device T.TextStore result devices.old devices.new }
 {
-    open_and_change(
-        device, store, redo, page, buffers, entry.mark, number, taken,
-    )?;
-    drop_tail(store, entry.begins)
+    open_and_change(devices, page, buffers, entry.mark, number, taken)?;
+    drop_tail(&mut devices.store, entry.begins)
 }
 
 /// How many changes are undone with one more, from an image of this length.
@@ -169,60 +160,45 @@ fn undone_with(undone: u32, len: u64) -> u32
 /// Takes as many of the last entries back as there are records, the newest first, each from its text, and answers how many
 /// changes are then undone.
 pub fn undo_entries<D: Device, T: TextStore, A: Allocator>(
-    device: &mut D,
-    store: &mut T,
-    redo_text: &mut T,
+    devices: &mut Devices<D, T>,
     page: &mut Vec<u8, A>,
     buffers: &mut Buffers<A>,
     placed: &mut Vec<Placed, A>,
     takens: &mut Vec<Saved<A>, A>,
     undone: u32,
 ) -> Result<u32, DeviceFailed>
-    requires countable { AreBelow u64.MAX (D.failures device.old) (T.failures store.old) (T.failures redo_text.old) }
+    requires countable { AreBelow D.Device T.TextStore u64.MAX devices.old }
     requires same { length placed.old.items ≡ length takens.old.items }
     requires bound { undone + length takens.old.items ≤ 65535 }
-    requires placed { AllFit (D.room device.old) (length buffers.old.window.items) placed.old.items }
+    requires placed { AllFit (D.room devices.old.device) (length buffers.old.window.items) placed.old.items }
     requires parts { 0 < vec_capacity buffers.old.parts }
-    requires prepared { ArePrepared (D.honest device.old) (D.image device.old) (T.honest store.old) (T.text store.old) placed.old.items takens.old.items }
+    requires prepared { ArePrepared (D.honest devices.old.device) (D.image devices.old.device) (T.honest devices.old.store) (T.text devices.old.store) placed.old.items takens.old.items }
     requires shaped { AllShaped takens.old.items }
-    requires fits { T.honest redo_text.old → length (T.text redo_text.old) + entries_len takens.old.items ≤ T.room redo_text.old }
+    requires fits { T.honest devices.old.redo_text → length (T.text devices.old.redo_text) + entries_len takens.old.items ≤ T.room devices.old.redo_text }
     requires empty { page.old.items ≡ [] }
     requires page_room { 82 ≤ vec_capacity page.old }
-    ensures ok { D.honest device.old → T.honest store.old
-        → DropsRest D.image T.text device.old store.old device.new store.new takens.old.items result }
-    ensures stands { D.honest device.old → T.honest store.old
-        → DropsStand D.image T.text device.old store.old device.new store.new takens.old.items result }
-    ensures left { T.honest store.old → LeavesFront (T.text store.old) (length takens.old.items) (T.text store.new) result }
-    ensures fault { D.honest device.old → T.honest store.old
-        → DropsSome D.image T.text device.old store.old device.new store.new takens.old.items result }
-    ensures images { UndoAll D.honest D.image T.honest T.text
-        device.old store.old redo_text.old device.new store.new redo_text.new undone takens.old.items result }
-    ensures taken { UndoTakes D.honest D.image T.honest T.text device.old store.old redo_text.old redo_text.new undone takens.old.items result }
+    ensures ok { D.honest devices.old.device → T.honest devices.old.store
+        → DropsRest D.Device T.TextStore devices.old devices.new takens.old.items result }
+    ensures stands { D.honest devices.old.device → T.honest devices.old.store
+        → DropsStand D.Device T.TextStore devices.old devices.new takens.old.items result }
+    ensures left { T.honest devices.old.store → LeavesFront (T.text devices.old.store) (length takens.old.items) (T.text devices.new.store) result }
+    ensures fault { D.honest devices.old.device → T.honest devices.old.store
+        → DropsSome D.Device T.TextStore devices.old devices.new takens.old.items result }
+    ensures images { UndoAll D.Device T.TextStore devices.old devices.new undone takens.old.items result }
+    ensures taken { UndoTakes D.Device T.TextStore devices.old devices.new undone takens.old.items result }
     ensures few { IfOk result (λ n. n ≤ undone + length takens.old.items) }
-    ensures finds { UndoSome D.honest D.image T.honest T.text
-        device.old store.old redo_text.old device.new store.new redo_text.new undone takens.old.items result }
-    ensures settles { StaySettled D.honest D.image D.survives T.honest T.text T.survives
-        device.old store.old redo_text.old device.new store.new redo_text.new result }
-    ensures survives { UndoSomeSurvives D.honest D.image D.survives T.honest T.text T.survives
-        device.old store.old redo_text.old device.new store.new redo_text.new undone takens.old.items result }
-    ensures steps_on { StepsOn D.honest T.honest D.failures T.failures result device.old store.old redo_text.old device.new store.new redo_text.new }
+    ensures finds { UndoSome D.Device T.TextStore devices.old devices.new undone takens.old.items result }
+    ensures settles { StaySettled D.Device T.TextStore devices.old devices.new result }
+    ensures survives { UndoSomeSurvives D.Device T.TextStore devices.old devices.new undone takens.old.items result }
+    ensures steps_on { StepsOn D.Device T.TextStore result devices.old devices.new }
 {
     let k = takens.len();
     let mut undone = undone;
     for i in 0..k {
         let (entry, taken) = take_last(placed, takens);
-        undo_entry(
-            device,
-            store,
-            redo_text,
-            page,
-            buffers,
-            entry,
-            undone + 1,
-            &taken,
-        )?;
+        undo_entry(devices, page, buffers, entry, undone + 1, &taken)?;
         undone = undone_with(undone, taken.len);
-        fill_last(device, takens)?;
+        fill_last(&mut devices.device, takens)?;
     }
     Ok(undone)
 }

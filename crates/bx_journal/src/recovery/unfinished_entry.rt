@@ -18,6 +18,7 @@ ghost use Rattle.bx_entries.specs.Shown.{shown};
 ghost use Rattle.bx_entries.specs.Text.{IsAccepted, IsDamagedAt, Reading, Reads};
 ghost use Rattle.bx_journal.specs.Undoing.{HasLeft};
 
+use crate::devices::Devices;
 use crate::protocol::redo_text::cut_redo;
 use crate::protocol::restore::{Buffers, buffers_of};
 use crate::protocol::rollback::{drop_tail, take_back};
@@ -115,31 +116,29 @@ fn cut_unfinished<D: Device, T: TextStore, A: Allocator>(
 /// Empties the redo text, and then takes back what is unfinished. So a journal of finished entries alone has no redo
 /// text that isn't its own.
 fn finish<D: Device, T: TextStore, A: Allocator>(
-    device: &mut D,
-    store: &mut T,
-    redo_text: &mut T,
+    devices: &mut Devices<D, T>,
     buffers: &mut Buffers<A>,
     torn: Torn,
 ) -> Result<Recovered, DeviceFailed>
-    requires countable { AreBelow u64.MAX (D.failures device.old) (T.failures store.old) (T.failures redo_text.old) }
-    requires found { IsUnfinishedIn (T.honest store.old) (T.text store.old) torn }
-    requires room { HasRoomFor torn.mark (D.room device.old) }
+    requires countable { AreBelow D.Device T.TextStore u64.MAX devices.old }
+    requires found { IsUnfinishedIn (T.honest devices.old.store) (T.text devices.old.store) torn }
+    requires room { HasRoomFor torn.mark (D.room devices.old.device) }
     requires buffers { HasBuffersFor torn.mark buffers.old }
-    ensures opened { D.honest device.old → T.honest store.old → OpensRead D.image T.text device.old store.old device.new store.new result }
-    ensures left { T.honest store.old → (r : Reading) → Reads (shown (T.text store.old)) r → OnOk result (HasLeft (T.text store.old) (T.text store.new) r.entries) }
+    ensures opened { D.honest devices.old.device → T.honest devices.old.store → OpensRead D.image T.text devices.old.device devices.old.store devices.new.device devices.new.store result }
+    ensures left { T.honest devices.old.store → (r : Reading) → Reads (shown (T.text devices.old.store)) r → OnOk result (HasLeft (T.text devices.old.store) (T.text devices.new.store) r.entries) }
     ensures unclean { IfOk result (λ o. (o.how ≡ How.Clean → ⊥) × (o.undone ≡ 0)) }
-    ensures keeps { D.honest device.old → T.honest store.old
-        → KeepsStack result (T.text store.old) (D.image device.old) (T.text store.new) (D.image device.new) }
+    ensures keeps { D.honest devices.old.device → T.honest devices.old.store
+        → KeepsStack result (T.text devices.old.store) (D.image devices.old.device) (T.text devices.new.store) (D.image devices.new.device) }
     ensures changes { IfOk result (λ o. o.changes ≡ torn.count) }
-    ensures emptied { T.honest redo_text.old → OnOk result (T.text redo_text.new ≡ []) }
-    ensures emptied_first { T.honest redo_text.old → OnErr result ((store.new ≡ store.old) ⊎ (T.text redo_text.new ≡ [])) }
-    ensures survives { D.honest device.old → T.honest store.old → T.honest redo_text.old
-        → AreSettled D.image T.text D.survives T.survives device.old store.old redo_text.old
-        → OpeningSurvives (T.text store.old) (D.image device.old) (T.text redo_text.old) (D.survives device.new) (T.survives store.new) (T.survives redo_text.new) }
-    ensures steps_on { StepsOn D.honest T.honest D.failures T.failures result device.old store.old redo_text.old device.new store.new redo_text.new }
+    ensures emptied { T.honest devices.old.redo_text → OnOk result (T.text devices.new.redo_text ≡ []) }
+    ensures emptied_first { T.honest devices.old.redo_text → OnErr result ((devices.new.store ≡ devices.old.store) ⊎ (T.text devices.new.redo_text ≡ [])) }
+    ensures survives { D.honest devices.old.device → T.honest devices.old.store → T.honest devices.old.redo_text
+        → AreSettled D.Device T.TextStore devices.old
+        → OpeningSurvives (T.text devices.old.store) (D.image devices.old.device) (T.text devices.old.redo_text) (D.survives devices.new.device) (T.survives devices.new.store) (T.survives devices.new.redo_text) }
+    ensures steps_on { StepsOn D.Device T.TextStore result devices.old devices.new }
 {
-    cut_redo(redo_text, 0)?;
-    cut_unfinished(device, store, buffers, torn)
+    cut_redo(&mut devices.redo_text, 0)?;
+    cut_unfinished(&mut devices.device, &mut devices.store, buffers, torn)
 }
 
 /// The memory that restoring takes: as much for a record of any length.
@@ -160,32 +159,30 @@ fn buffers_for<A: Allocator + Clone>(
 /// What opening takes before its first write, with all on the disk that the three have.
 fn get_ready<D: Device, T: TextStore, A: Allocator + Clone>(
     alloc: &A,
-    device: &mut D,
-    store: &mut T,
-    redo_text: &mut T,
+    devices: &mut Devices<D, T>,
     torn: Torn,
 ) -> Result<Buffers<A>, SessionFault>
-    requires countable { AreBelow u64.MAX (D.failures device.old) (T.failures store.old) (T.failures redo_text.old) }
-    ensures lengths { D.honest device.old → (text : List ℕ) (r : Reading) → IsTorn text r torn
-        → OnOk result (HaveLengths r.entries (image_at r.stage (D.image device.old))) }
-    ensures fault { (text : List ℕ) (r : Reading) → IsTorn text r torn → IfErr result (LookReadFault (D.honest device.old) r (D.image device.old)) }
+    requires countable { AreBelow D.Device T.TextStore u64.MAX devices.old }
+    ensures lengths { D.honest devices.old.device → (text : List ℕ) (r : Reading) → IsTorn text r torn
+        → OnOk result (HaveLengths r.entries (image_at r.stage (D.image devices.old.device))) }
+    ensures fault { (text : List ℕ) (r : Reading) → IsTorn text r torn → IfErr result (LookReadFault (D.honest devices.old.device) r (D.image devices.old.device)) }
     ensures kind { IfErr result (LookFault ⊥ [] []) }
-    ensures room { OnOk result (HasRoomFor torn.mark (D.room device.new)) }
+    ensures room { OnOk result (HasRoomFor torn.mark (D.room devices.new.device)) }
     ensures buffers { IfOk result (HasBuffersFor torn.mark) }
-    ensures settled { D.honest device.old → T.honest store.old → T.honest redo_text.old
-        → OnOk result (AreSettled D.image T.text D.survives T.survives device.new store.new redo_text.new) }
-    ensures stayed { HaveStayed D.honest T.honest D.image T.text device.old store.old redo_text.old device.new store.new redo_text.new }
-    ensures no_failure { AreUnfailed D.failures T.failures device.old store.old redo_text.old device.new store.new redo_text.new result }
-    ensures counts { AreCounted D.failures T.failures device.old store.old redo_text.old device.new store.new redo_text.new result }
+    ensures settled { D.honest devices.old.device → T.honest devices.old.store → T.honest devices.old.redo_text
+        → OnOk result (AreSettled D.Device T.TextStore devices.new) }
+    ensures stayed { HaveStayed D.Device T.TextStore devices.old devices.new }
+    ensures no_failure { AreUnfailed D.Device T.TextStore devices.old devices.new result }
+    ensures counts { AreCounted D.Device T.TextStore devices.old devices.new result }
 {
     let buffers = match buffers_for(alloc, torn.mark) {
         Ok(buffers) => buffers,
         Err(fault) => return Err(fault),
     };
-    if let Err(fault) = prepare(device, torn) {
+    if let Err(fault) = prepare(&mut devices.device, torn) {
         return Err(fault);
     }
-    match settle(device, store, redo_text) {
+    match settle(devices) {
         Ok(()) => Ok(buffers),
         Err(_) => Err(SessionFault::DeviceFailed),
     }
@@ -194,41 +191,39 @@ fn get_ready<D: Device, T: TextStore, A: Allocator + Clone>(
 /// Takes back what is unfinished at the end of a journal.
 pub fn recover_read<D: Device, T: TextStore, A: Allocator + Clone>(
     alloc: &A,
-    device: &mut D,
-    store: &mut T,
-    redo_text: &mut T,
+    devices: &mut Devices<D, T>,
     torn: Torn,
 ) -> Result<Recovered, SessionFault>
-    requires countable { AreBelow u64.MAX (D.failures device.old) (T.failures store.old) (T.failures redo_text.old) }
-    requires found { IsUnfinishedIn (T.honest store.old) (T.text store.old) torn }
-    ensures opened { D.honest device.old → T.honest store.old → Opens D.image T.text device.old store.old device.new store.new result }
-    ensures left { T.honest store.old → (r : Reading) → Reads (shown (T.text store.old)) r → OnOk result (HasLeft (T.text store.old) (T.text store.new) r.entries) }
+    requires countable { AreBelow D.Device T.TextStore u64.MAX devices.old }
+    requires found { IsUnfinishedIn (T.honest devices.old.store) (T.text devices.old.store) torn }
+    ensures opened { D.honest devices.old.device → T.honest devices.old.store → Opens D.image T.text devices.old.device devices.old.store devices.new.device devices.new.store result }
+    ensures left { T.honest devices.old.store → (r : Reading) → Reads (shown (T.text devices.old.store)) r → OnOk result (HasLeft (T.text devices.old.store) (T.text devices.new.store) r.entries) }
     ensures unclean { IfOk result (λ o. (o.how ≡ How.Clean → ⊥) × (o.undone ≡ 0)) }
     ensures sum { IfOk result (λ o. o.changes + o.undone ≤ 65535) }
-    ensures faults { D.honest device.old → T.honest store.old → (r : Reading) → Reads (shown (T.text store.old)) r → IfErr result (OpenFault r (D.image device.old)) }
+    ensures faults { D.honest devices.old.device → T.honest devices.old.store → (r : Reading) → Reads (shown (T.text devices.old.store)) r → IfErr result (OpenFault r (D.image devices.old.device)) }
     ensures kind { IfErr result RecoverFault }
-    ensures differs { D.honest device.old → T.honest store.old → RefusesDiffering result (λ e. e) (shown (T.text store.old)) (D.image device.old) }
-    ensures keeps { D.honest device.old → T.honest store.old
-        → KeepsStack result (T.text store.old) (D.image device.old) (T.text store.new) (D.image device.new) }
-    ensures counted { D.honest device.old → T.honest store.old → CountsStack (shown (T.text store.old)) (D.image device.old) result }
-    ensures refused { D.honest device.old → T.honest store.old → SparesPair D.image T.text device.old store.old device.new store.new result }
-    ensures emptied { T.honest redo_text.old → OnOk result (T.text redo_text.new ≡ []) }
-    ensures emptied_first { T.honest store.old → T.honest redo_text.old → OnErr result ((T.text store.new ≡ T.text store.old) ⊎ (T.text redo_text.new ≡ [])) }
-    ensures redo_same { T.honest redo_text.old → IfErr result (λ e. AfterFault e (Unit {0}) (T.text redo_text.new ≡ T.text redo_text.old)) }
-    ensures survives { D.honest device.old → T.honest store.old → T.honest redo_text.old
+    ensures differs { D.honest devices.old.device → T.honest devices.old.store → RefusesDiffering result (λ e. e) (shown (T.text devices.old.store)) (D.image devices.old.device) }
+    ensures keeps { D.honest devices.old.device → T.honest devices.old.store
+        → KeepsStack result (T.text devices.old.store) (D.image devices.old.device) (T.text devices.new.store) (D.image devices.new.device) }
+    ensures counted { D.honest devices.old.device → T.honest devices.old.store → CountsStack (shown (T.text devices.old.store)) (D.image devices.old.device) result }
+    ensures refused { D.honest devices.old.device → T.honest devices.old.store → SparesPair D.image T.text devices.old.device devices.old.store devices.new.device devices.new.store result }
+    ensures emptied { T.honest devices.old.redo_text → OnOk result (T.text devices.new.redo_text ≡ []) }
+    ensures emptied_first { T.honest devices.old.store → T.honest devices.old.redo_text → OnErr result ((T.text devices.new.store ≡ T.text devices.old.store) ⊎ (T.text devices.new.redo_text ≡ [])) }
+    ensures redo_same { T.honest devices.old.redo_text → IfErr result (λ e. AfterFault e (Unit {0}) (T.text devices.new.redo_text ≡ T.text devices.old.redo_text)) }
+    ensures survives { D.honest devices.old.device → T.honest devices.old.store → T.honest devices.old.redo_text
         → RecoverySurvives D.image D.survives T.text T.survives result (λ o. Unit {0}) (λ e. e)
-        device.old store.old redo_text.old device.new store.new redo_text.new }
-    ensures device_honesty { D.honest device.new ↔ D.honest device.old }
-    ensures store_honesty { T.honest store.new ↔ T.honest store.old }
-    ensures redo_honesty { T.honest redo_text.new ↔ T.honest redo_text.old }
-    ensures no_failure { AreUnfailed D.failures T.failures device.old store.old redo_text.old device.new store.new redo_text.new result }
-    ensures counts { AreCounted D.failures T.failures device.old store.old redo_text.old device.new store.new redo_text.new result }
+        devices.old.device devices.old.store devices.old.redo_text devices.new.device devices.new.store devices.new.redo_text }
+    ensures device_honesty { D.honest devices.new.device ↔ D.honest devices.old.device }
+    ensures store_honesty { T.honest devices.new.store ↔ T.honest devices.old.store }
+    ensures redo_honesty { T.honest devices.new.redo_text ↔ T.honest devices.old.redo_text }
+    ensures no_failure { AreUnfailed D.Device T.TextStore devices.old devices.new result }
+    ensures counts { AreCounted D.Device T.TextStore devices.old devices.new result }
 {
-    let mut buffers = match get_ready(alloc, device, store, redo_text, torn) {
+    let mut buffers = match get_ready(alloc, devices, torn) {
         Ok(buffers) => buffers,
         Err(fault) => return Err(fault),
     };
-    match finish(device, store, redo_text, &mut buffers, torn) {
+    match finish(devices, &mut buffers, torn) {
         Ok(found) => Ok(found),
         Err(_) => Err(SessionFault::Interrupted),
     }
@@ -237,52 +232,53 @@ pub fn recover_read<D: Device, T: TextStore, A: Allocator + Clone>(
 /// Reads the journal. Beside finished entries alone the redo text is judged; anything else is taken back.
 pub fn recover<D: Device, T: TextStore, A: Allocator + Clone>(
     alloc: &A,
-    device: &mut D,
-    store: &mut T,
-    redo_text: &mut T,
+    devices: &mut Devices<D, T>,
 ) -> Result<Recovered, SessionFault>
-    requires countable { AreBelow u64.MAX (D.failures device.old) (T.failures store.old) (T.failures redo_text.old) }
-    ensures opened { D.honest device.old → T.honest store.old → Opens D.image T.text device.old store.old device.new store.new result }
-    ensures left { T.honest store.old → (r : Reading) → Reads (shown (T.text store.old)) r → OnOk result (HasLeft (T.text store.old) (T.text store.new) r.entries) }
-    ensures clean { D.honest device.old → T.honest store.old → SparesClean D.image T.text device.old store.old device.new store.new result }
-    ensures accepted { T.honest store.old → OnOk result (IsAccepted (shown (T.text store.old))) }
-    ensures damaged { T.honest store.old → IfErr result (λ e. (line : ℕ) → e ≡ SessionFault.Damaged line → IsDamagedAt (shown (T.text store.old)) line) }
-    ensures unaccepted { T.honest store.old → (IsAccepted (shown (T.text store.old)) → ⊥) → MatchResult result (λ _. ⊥) RefusesText }
-    ensures faults { D.honest device.old → T.honest store.old → (r : Reading) → Reads (shown (T.text store.old)) r → IfErr result (OpenFault r (D.image device.old)) }
+    requires countable { AreBelow D.Device T.TextStore u64.MAX devices.old }
+    ensures opened { D.honest devices.old.device → T.honest devices.old.store → Opens D.image T.text devices.old.device devices.old.store devices.new.device devices.new.store result }
+    ensures left { T.honest devices.old.store → (r : Reading) → Reads (shown (T.text devices.old.store)) r → OnOk result (HasLeft (T.text devices.old.store) (T.text devices.new.store) r.entries) }
+    ensures clean { D.honest devices.old.device → T.honest devices.old.store → SparesClean D.image T.text devices.old.device devices.old.store devices.new.device devices.new.store result }
+    ensures accepted { T.honest devices.old.store → OnOk result (IsAccepted (shown (T.text devices.old.store))) }
+    ensures damaged { T.honest devices.old.store → IfErr result (λ e. (line : ℕ) → e ≡ SessionFault.Damaged line → IsDamagedAt (shown (T.text devices.old.store)) line) }
+    ensures unaccepted { T.honest devices.old.store → (IsAccepted (shown (T.text devices.old.store)) → ⊥) → MatchResult result (λ _. ⊥) RefusesText }
+    ensures faults { D.honest devices.old.device → T.honest devices.old.store → (r : Reading) → Reads (shown (T.text devices.old.store)) r → IfErr result (OpenFault r (D.image devices.old.device)) }
     ensures kind { IfErr result OpenKind }
-    ensures unfinished { T.honest store.old → IfErr result (λ e. e ≡ SessionFault.Interrupted → IsClean (T.text store.old) → ⊥) }
-    ensures differs { D.honest device.old → T.honest store.old → RefusesDiffering result (λ e. e) (shown (T.text store.old)) (D.image device.old) }
-    ensures keeps { D.honest device.old → T.honest store.old
-        → KeepsStack result (T.text store.old) (D.image device.old) (T.text store.new) (D.image device.new) }
-    ensures counted { D.honest device.old → T.honest store.old → CountsStack (shown (T.text store.old)) (D.image device.old) result }
-    ensures refused { D.honest device.old → T.honest store.old → SparesPair D.image T.text device.old store.old device.new store.new result }
-    ensures clean_redo { T.honest redo_text.old → IfOk result (λ o. o.how ≡ How.Clean → T.text redo_text.new ≡ T.text redo_text.old) }
-    ensures emptied { T.honest redo_text.old → IfOk result (λ o. (o.how ≡ How.Clean → ⊥) → (T.text redo_text.new ≡ []) × (o.undone ≡ 0)) }
-    ensures redo_same { T.honest redo_text.old → IfErr result (λ e. AfterFault e (Unit {0}) (T.text redo_text.new ≡ T.text redo_text.old)) }
-    ensures undone { TellsUndone D.honest D.image T.honest T.text device.old store.old redo_text.old device.new redo_text.new result }
+    ensures unfinished { T.honest devices.old.store → IfErr result (λ e. e ≡ SessionFault.Interrupted → IsClean (T.text devices.old.store) → ⊥) }
+    ensures differs { D.honest devices.old.device → T.honest devices.old.store → RefusesDiffering result (λ e. e) (shown (T.text devices.old.store)) (D.image devices.old.device) }
+    ensures keeps { D.honest devices.old.device → T.honest devices.old.store
+        → KeepsStack result (T.text devices.old.store) (D.image devices.old.device) (T.text devices.new.store) (D.image devices.new.device) }
+    ensures counted { D.honest devices.old.device → T.honest devices.old.store → CountsStack (shown (T.text devices.old.store)) (D.image devices.old.device) result }
+    ensures refused { D.honest devices.old.device → T.honest devices.old.store → SparesPair D.image T.text devices.old.device devices.old.store devices.new.device devices.new.store result }
+    ensures clean_redo { T.honest devices.old.redo_text → IfOk result (λ o. o.how ≡ How.Clean → T.text devices.new.redo_text ≡ T.text devices.old.redo_text) }
+    ensures emptied { T.honest devices.old.redo_text → IfOk result (λ o. (o.how ≡ How.Clean → ⊥) → (T.text devices.new.redo_text ≡ []) × (o.undone ≡ 0)) }
+    ensures redo_same { T.honest devices.old.redo_text → IfErr result (λ e. AfterFault e (Unit {0}) (T.text devices.new.redo_text ≡ T.text devices.old.redo_text)) }
+    ensures undone { TellsUndone D.Device T.TextStore devices.old devices.new result }
     ensures sum { IfOk result (λ o. o.changes + o.undone ≤ 65535) }
-    ensures redo_refused { TellsRefused D.honest D.image T.honest T.text device.old store.old redo_text.old result }
-    ensures redo_unfit { TellsUnfit D.honest D.image T.honest T.text device.old store.old redo_text.old result }
-    ensures keeps_undone { KeepsFoundUndone D.honest D.image T.honest T.text
-        device.old store.old redo_text.old device.new redo_text.new result }
-    ensures finds_err { FindsAgain D.honest D.image T.honest T.text
-        device.old store.old redo_text.old device.new store.new redo_text.new result }
-    ensures redo_kept { KeepsRedoText D.honest D.image T.honest T.text device.old store.old redo_text.old result }
-    ensures survives { D.honest device.old → T.honest store.old → T.honest redo_text.old
+    ensures redo_refused { TellsRefused D.Device T.TextStore devices.old result }
+    ensures redo_unfit { TellsUnfit D.Device T.TextStore devices.old result }
+    ensures keeps_undone { KeepsFoundUndone D.Device T.TextStore devices.old devices.new result }
+    ensures finds_err { FindsAgain D.Device T.TextStore devices.old devices.new result }
+    ensures redo_kept { KeepsRedoText D.Device T.TextStore devices.old result }
+    ensures survives { D.honest devices.old.device → T.honest devices.old.store → T.honest devices.old.redo_text
         → RecoverySurvives D.image D.survives T.text T.survives result (λ o. o.how ≡ How.Clean → ⊥) (λ e. e)
-        device.old store.old redo_text.old device.new store.new redo_text.new }
-    ensures device_honesty { D.honest device.new ↔ D.honest device.old }
-    ensures store_honesty { T.honest store.new ↔ T.honest store.old }
-    ensures redo_honesty { T.honest redo_text.new ↔ T.honest redo_text.old }
-    ensures no_failure { AreUnfailed D.failures T.failures device.old store.old redo_text.old device.new store.new redo_text.new result }
-    ensures counts { AreCounted D.failures T.failures device.old store.old redo_text.old device.new store.new redo_text.new result }
+        devices.old.device devices.old.store devices.old.redo_text devices.new.device devices.new.store devices.new.redo_text }
+    ensures device_honesty { D.honest devices.new.device ↔ D.honest devices.old.device }
+    ensures store_honesty { T.honest devices.new.store ↔ T.honest devices.old.store }
+    ensures redo_honesty { T.honest devices.new.redo_text ↔ T.honest devices.old.redo_text }
+    ensures no_failure { AreUnfailed D.Device T.TextStore devices.old devices.new result }
+    ensures counts { AreCounted D.Device T.TextStore devices.old devices.new result }
 {
-    let found = match read_text(alloc, store) {
+    let found = match read_text(alloc, &mut devices.store) {
         Ok(found) => found,
         Err(fault) => return Err(fault),
     };
     match found {
-        Found::Finished(counted) => open_finished(alloc, device, redo_text, counted),
-        Found::Unfinished(torn) => recover_read(alloc, device, store, redo_text, torn),
+        Found::Finished(counted) => open_finished(
+            alloc,
+            &mut devices.device,
+            &mut devices.redo_text,
+            counted,
+        ),
+        Found::Unfinished(torn) => recover_read(alloc, devices, torn),
     }
 }

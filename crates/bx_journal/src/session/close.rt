@@ -26,8 +26,7 @@ impl<D: Device, T: TextStore, A: Allocator> Session<D, T, A> {
     pub fn faults(&self) -> u64
         ensures { result ≡ max (max (D.failures self.now.device) (T.failures self.now.store)) (T.failures self.now.redo_text) }
     {
-        let pair = self.device.faults().max(self.store.faults());
-        pair.max(self.redo_text.faults())
+        self.devices.faults()
     }
 
     /// Hands the three devices back as they are: the image's, the journal's, and the redo text's.
@@ -36,12 +35,6 @@ impl<D: Device, T: TextStore, A: Allocator> Session<D, T, A> {
         ensures store { result.1 ≡ self.store }
         ensures redo_text { result.2 ≡ self.redo_text }
     {
-        let Session {
-            device,
-            store,
-            redo_text,
-            ..
-        } = self;
-        (device, store, redo_text)
+        self.devices.part()
     }
 }

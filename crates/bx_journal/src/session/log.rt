@@ -102,7 +102,7 @@ impl<D: Device, T: TextStore, A: Allocator + Clone> Session<D, T, A> {
         ensures rows { T.honest self.old.store → (es : List Entry) → IsFinished (T.text self.old.store) es → IfOk result (λ rows. rows.items ≡ rows_of es) }
 
         // Nothing is changed. A broken session isn't even read.
-        ensures safe { FailsSafely D.honest T.honest D.image T.text D.failures T.failures self.old self.new result }
+        ensures safe { FailsSafely D.Device T.TextStore self.old self.new result }
         ensures text { T.honest self.old.store → T.text self.new.store ≡ T.text self.old.store }
         ensures device { self.new.device ≡ self.old.device }
         ensures redo_text { self.new.redo_text ≡ self.old.redo_text }
@@ -119,7 +119,7 @@ impl<D: Device, T: TextStore, A: Allocator + Clone> Session<D, T, A> {
         if self.is_broken {
             return Err(SessionFault::Broken);
         }
-        let rows = rows_of_text(&self.alloc, &mut self.store, self.count)?;
+        let rows = rows_of_text(&self.alloc, &mut self.devices.store, self.count)?;
         Ok(rows)
     }
 }

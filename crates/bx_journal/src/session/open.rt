@@ -3,6 +3,7 @@ ghost use Rattle.std.specs.Prelude.{◌≡◌, ◌↔◌, ◌+◌, ◌<◌, [], 
 ghost use Rattle.bx_entries.specs.Shown.{shown};
 ghost use Rattle.bx_entries.specs.Text.{IsAccepted, IsDamagedAt};
 
+use crate::devices::Devices;
 use crate::recovery::unfinished_entry::recover;
 use crate::{How, Recovered, Session, SessionFault};
 use bx_image::Device;
@@ -108,19 +109,19 @@ impl<D: Device, T: TextStore, A: Allocator + Clone> Session<D, T, A> {
         ensures counts { let d = D.failures in let t = T.failures in
             IfErr result (λ e. ThreeCounts e.3 (d device) (t store) (t redo_text) (d e.0) (t e.1) (t e.2)) }
     {
-        let mut device = device;
-        let mut store = store;
-        let mut redo_text = redo_text;
-        match recover(&alloc, &mut device, &mut store, &mut redo_text) {
+        let mut devices = Devices {
+            device,
+            store,
+            redo_text,
+        };
+        match recover(&alloc, &mut devices) {
             Ok(recovered) => {
                 let count = recovered.changes;
                 let undone = recovered.undone;
                 Ok((
                     Session {
                         alloc,
-                        device,
-                        store,
-                        redo_text,
+                        devices,
                         count,
                         undone,
                         is_broken: false,
@@ -128,7 +129,10 @@ impl<D: Device, T: TextStore, A: Allocator + Clone> Session<D, T, A> {
                     recovered,
                 ))
             }
-            Err(fault) => Err((device, store, redo_text, fault)),
+            Err(fault) => {
+                let (device, store, redo_text) = devices.part();
+                Err((device, store, redo_text, fault))
+            }
         }
     }
 }

@@ -3,9 +3,8 @@ ghost use Rattle.std.specs.Prelude.{◌≡◌, ◌↔◌, ◌+◌, ◌<◌, ◌�
 ghost use Rattle.bx_image.specs.Change.{effect, Fits};
 ghost use Rattle.bx_entries.specs.Entry.{end_text};
 ghost use Rattle.bx_journal.specs.Power.{FoundBefore};
-ghost use Rattle.bx_journal.specs.inner.Begun.{BeginsEntry, IsHead};
-ghost use Rattle.bx_journal.specs.inner.Devices.{AreCounted, AreUnfailed};
-ghost use Rattle.bx_journal.specs.inner.Ranges.{rest_len};
+ghost use Rattle.bx_journal.specs.inner.Begun.{rest_of, BeginsEntry, IsHead};
+ghost use Rattle.bx_journal.specs.inner.Devices.{AreCounted, AreUnfailed, HaveStayed};
 ghost use Rattle.bx_journal.specs.inner.Standing.{PrepareFault};
 ghost use Rattle.bx_journal.specs.inner.Written.{AreSettled};
 
@@ -14,18 +13,22 @@ pub(crate) mod overwritten;
 pub(crate) mod places;
 pub(crate) mod ranges;
 pub(crate) mod records;
+pub(crate) mod room;
 
 use crate::SessionFault;
+use crate::devices::Devices;
 use crate::protocol::settle::settle;
-use crate::session::prepare::head::{Head, begin_change};
+use crate::session::prepare::head::begin_change;
+use crate::write::head::Head;
 use bx_entries::{Words, entry_end};
-use bx_image::{Change, Device, MAX_LEN, check};
+use bx_image::{Change, Device, MAX_LEN, Span, check};
 use bx_store::TextStore;
 use std::alloc::{Allocator, Global};
 
-/// The head of the entry, begun, and the line that ends the entry.
+/// The ranges that the entry keeps, its head that is begun, and the line that ends it.
 #[derive(Drop)]
 pub struct Prepared<A: Allocator = Global> {
+    pub ranges: Vec<Span, A>,
     pub head: Head<A>,
     pub end: Words,
 }
@@ -34,48 +37,46 @@ pub struct Prepared<A: Allocator = Global> {
 /// and puts on the disk what all three have. It changes nothing.
 pub fn prepare_change<D: Device, T: TextStore, A: Allocator + Clone>(
     alloc: &A,
-    device: &mut D,
-    store: &mut T,
-    redo: &mut T,
+    devices: &mut Devices<D, T>,
     change: &Change<A>,
     number: u32,
 ) -> Result<Prepared<A>, SessionFault>
-    requires device_countable { D.failures device.old < u64.MAX }
-    requires store_countable { T.failures store.old < u64.MAX }
-    requires redo_countable { T.failures redo.old < u64.MAX }
-    ensures head { IfOk result (λ p. IsHead p.head) }
-    ensures begins { D.honest device.old → IfOk result (λ p. BeginsEntry change.now (D.image device.old) number p.head) }
-    ensures fits { D.honest device.old → IfOk result (λ p. Fits change.now (length (D.image device.old)) MAX_LEN) }
-    ensures bound { D.honest device.old → IfOk result (λ p. length (effect change.now (D.image device.old)) ≤ MAX_LEN) }
-    ensures end { D.honest device.old → IfOk result (λ p. p.end ≡ end_text number (length (effect change.now (D.image device.old)))) }
-    ensures image_room { OnOk result (length (effect change.now []) ≤ D.room device.new) }
-    ensures text_room { T.honest store.old → IfOk result
-        (λ p. length (T.text store.new) + length p.head.page.items + rest_len p.head.ranges.items p.head.place + 14 + length p.end ≤ T.room store.new) }
-    ensures settled { D.honest device.old → T.honest store.old → T.honest redo.old
-        → OnOk result (AreSettled D.image T.text D.survives T.survives device.new store.new redo.new) }
-    ensures large { D.honest device.old → IsErrOf result SessionFault.TooLarge → Fits change.now (length (D.image device.old)) MAX_LEN → ⊥ }
-    ensures fitting { D.honest device.old → IsErrOf result SessionFault.NoMemory → Fits change.now (length (D.image device.old)) MAX_LEN }
+    requires device_countable { D.failures devices.old.device < u64.MAX }
+    requires store_countable { T.failures devices.old.store < u64.MAX }
+    requires redo_countable { T.failures devices.old.redo_text < u64.MAX }
+    ensures head { IfOk result (λ p. IsHead p.ranges.items p.head) }
+    ensures begins { D.honest devices.old.device → IfOk result (λ p. BeginsEntry change.now (D.image devices.old.device) p.ranges.items p.head) }
+    ensures number { IfOk result (λ p. p.head.number ≡ number) }
+    ensures fits { D.honest devices.old.device → IfOk result (λ p. Fits change.now (length (D.image devices.old.device)) MAX_LEN) }
+    ensures bound { D.honest devices.old.device → IfOk result (λ p. length (effect change.now (D.image devices.old.device)) ≤ MAX_LEN) }
+    ensures end { D.honest devices.old.device → IfOk result (λ p. p.end ≡ end_text number (length (effect change.now (D.image devices.old.device)))) }
+    ensures image_room { OnOk result (length (effect change.now []) ≤ D.room devices.new.device) }
+    ensures text_room { T.honest devices.old.store
+        → IfOk result (λ p. length (T.text devices.new.store) + rest_of p.ranges.items p.head + length p.end ≤ T.room devices.new.store) }
+    ensures settled { D.honest devices.old.device → T.honest devices.old.store → T.honest devices.old.redo_text
+        → OnOk result (AreSettled D.Device T.TextStore devices.new) }
+    ensures large { D.honest devices.old.device → IsErrOf result SessionFault.TooLarge → Fits change.now (length (D.image devices.old.device)) MAX_LEN → ⊥ }
+    ensures fitting { D.honest devices.old.device → IsErrOf result SessionFault.NoMemory → Fits change.now (length (D.image devices.old.device)) MAX_LEN }
     ensures kind { IfErr result PrepareFault }
-    ensures image { D.honest device.old → D.image device.new ≡ D.image device.old }
-    ensures text { T.honest store.old → T.text store.new ≡ T.text store.old }
-    ensures redo_same { T.honest redo.old → T.text redo.new ≡ T.text redo.old }
-    ensures found_before { FoundBefore D.honest T.honest D.survives T.survives device.old store.old redo.old device.new store.new redo.new }
-    ensures device_honesty { D.honest device.new ↔ D.honest device.old }
-    ensures store_honesty { T.honest store.new ↔ T.honest store.old }
-    ensures redo_honesty { T.honest redo.new ↔ T.honest redo.old }
-    ensures no_failure { AreUnfailed D.failures T.failures device.old store.old redo.old device.new store.new redo.new result }
-    ensures counts { AreCounted D.failures T.failures device.old store.old redo.old device.new store.new redo.new result }
+    ensures stayed { HaveStayed D.Device T.TextStore devices.old devices.new }
+    ensures found_before { FoundBefore D.Device T.TextStore devices.old devices.new }
+    ensures no_failure { AreUnfailed D.Device T.TextStore devices.old devices.new result }
+    ensures counts { AreCounted D.Device T.TextStore devices.old devices.new result }
 {
-    let len = device.len()?;
+    let len = devices.device.len()?;
     let after = check(change, len)?;
-    let head = begin_change(alloc, device, change, number, len)?;
+    let begun = begin_change(alloc, &mut devices.device, change, number, len)?;
     let end = entry_end(number, after);
-    device.reserve(after)?;
-    let text_len = store.len()?;
+    devices.device.reserve(after)?;
+    let text_len = devices.store.len()?;
     let most = text_len
-        .saturating_add(head.len)
+        .saturating_add(begun.len)
         .saturating_add(end.as_bytes().len() as u64);
-    store.reserve(most)?;
-    settle(device, store, redo)?;
-    Ok(Prepared { head, end })
+    devices.store.reserve(most)?;
+    settle(devices)?;
+    Ok(Prepared {
+        ranges: begun.ranges,
+        head: begun.head,
+        end,
+    })
 }

@@ -103,7 +103,7 @@ impl<D: Device, T: TextStore, A: Allocator + Clone> Session<D, T, A> {
             → StepsSurvive D.image D.survives T.text T.survives redo_of j self.old self.new result }
 
         // A refusal leaves nothing to be found after a loss of power that wasn't to be found before.
-        ensures found_before { IfErr result (λ e. AfterFault e (Unit {0}) (NothingNew D.honest T.honest D.survives T.survives self.old self.new)) }
+        ensures found_before { IfErr result (λ e. AfterFault e (Unit {0}) (NothingNew D.Device T.TextStore self.old self.new)) }
 
         ensures kind { IfErr result (RedoFault self.old.undone) }
         ensures nothing { ((self.old.is_broken ≡ false) × (self.old.undone < j)) ↔ IsErrOf result (SessionFault.NothingToRedo self.old.undone) }
@@ -116,7 +116,7 @@ impl<D: Device, T: TextStore, A: Allocator + Clone> Session<D, T, A> {
         ensures whole { T.honest self.old.redo_text → OnOk result (HasCount (T.text self.old.redo_text) self.old.undone) }
 
         // A refusal changes nothing, an interruption breaks the session, and a broken one refuses all.
-        ensures safe { FailsSafely D.honest T.honest D.image T.text D.failures T.failures self.old self.new result }
+        ensures safe { FailsSafely D.Device T.TextStore self.old self.new result }
     {
         if self.is_broken {
             return Err(SessionFault::Broken);
@@ -124,25 +124,13 @@ impl<D: Device, T: TextStore, A: Allocator + Clone> Session<D, T, A> {
         if is_beyond(j, self.undone) {
             return Err(SessionFault::NothingToRedo { have: self.undone });
         }
-        let mut read = read_undone(&self.alloc, &mut self.redo_text, self.undone, j)?;
-        let mut again = prepare_redo(
-            &self.alloc,
-            &mut self.device,
-            &mut self.redo_text,
-            &mut self.store,
-            &read,
-            j,
-            self.count + 1,
-        )?;
+        let mut read = read_undone(&self.alloc, &mut self.devices.redo_text, self.undone, j)?;
+        let mut again = prepare_redo(&self.alloc, &mut self.devices, &read, j, self.count + 1)?;
         match redo_entries(
-            &mut self.device,
-            &mut self.store,
-            &mut self.redo_text,
-            &mut again.page,
-            again.window.as_mut_slice(),
+            &mut self.devices,
+            &mut again.head,
             &mut read.entries,
             &mut again.takens,
-            again.place,
             self.count,
         ) {
             Ok(count) => {

@@ -66,7 +66,7 @@ impl<D: Device, T: TextStore, A: Allocator + Clone> Session<D, T, A> {
             → StepsSurvive D.image D.survives T.text T.survives undo_of k self.old self.new result }
 
         // A refusal leaves nothing to be found after a loss of power that wasn't to be found before.
-        ensures found_before { IfErr result (λ e. AfterFault e (Unit {0}) (NothingNew D.honest T.honest D.survives T.survives self.old self.new)) }
+        ensures found_before { IfErr result (λ e. AfterFault e (Unit {0}) (NothingNew D.Device T.TextStore self.old self.new)) }
 
         ensures kind { IfErr result (UndoFault self.old.count) }
         ensures few { ((self.old.is_broken ≡ false) × (self.old.count < k)) ↔ IsErrOf result (SessionFault.TooFew self.old.count) }
@@ -79,7 +79,7 @@ impl<D: Device, T: TextStore, A: Allocator + Clone> Session<D, T, A> {
         ensures whole { T.honest self.old.store → OnOk result (HasCount (T.text self.old.store) self.old.count) }
 
         // A refusal changes nothing, an interruption breaks the session, and a broken one refuses all.
-        ensures safe { FailsSafely D.honest T.honest D.image T.text D.failures T.failures self.old self.new result }
+        ensures safe { FailsSafely D.Device T.TextStore self.old self.new result }
     {
         if self.is_broken {
             return Err(SessionFault::Broken);
@@ -87,19 +87,10 @@ impl<D: Device, T: TextStore, A: Allocator + Clone> Session<D, T, A> {
         if k > self.count {
             return Err(SessionFault::TooFew { have: self.count });
         }
-        let read = read_last_of(&self.alloc, &mut self.store, self.count, k)?;
-        let mut taking = prepare_takens(
-            &self.alloc,
-            &mut self.device,
-            &mut self.store,
-            &mut self.redo_text,
-            read,
-            k,
-        )?;
+        let read = read_last_of(&self.alloc, &mut self.devices.store, self.count, k)?;
+        let mut taking = prepare_takens(&self.alloc, &mut self.devices, read, k)?;
         match undo_entries(
-            &mut self.device,
-            &mut self.store,
-            &mut self.redo_text,
+            &mut self.devices,
             &mut taking.page,
             &mut taking.buffers,
             &mut taking.placed,

@@ -6,11 +6,13 @@ ghost use Rattle.bx_store.specs.Store.{IsPartlyAppended};
 ghost use Rattle.bx_entries.specs.Entry.{rows, head_text};
 ghost use Rattle.bx_entries.specs.Text.{ended, IsPrefix};
 ghost use Rattle.bx_entries.specs.inner.Entry.{rows_text};
+ghost use Rattle.bx_journal.specs.inner.Begun.{rest_of, IsHead, KeepsBuffers};
 ghost use Rattle.bx_journal.specs.inner.Devices.{OneMore};
 ghost use Rattle.bx_journal.specs.inner.Page.{IsPaged, row_text};
 ghost use Rattle.bx_journal.specs.inner.Ranges.{range_text, range_len, head_from, kept_over, left_len, rest_text, rest_len, AreRanges, IsBehind, IsPlace};
 
 use crate::write::entry::put_words;
+use crate::write::head::Head;
 use crate::write::page::append_page;
 use bx_entries::{Words, push_rows, row_of, save_text, start_words};
 use bx_image::{Device, DeviceFailed, Span};
@@ -280,32 +282,24 @@ pub fn begin_head<D: Device, A: Allocator>(
 pub fn put_head_from<D: Device, T: TextStore, A: Allocator>(
     device: &mut D,
     store: &mut T,
-    page: &mut Vec<u8, A>,
-    window: &mut [u8],
+    head: &mut Head<A>,
     ranges: &[Span],
-    place: Place,
-    number: u32,
 ) -> Result<(), DeviceFailed>
     requires device_countable { D.failures device.old < u64.MAX }
     requires store_countable { T.failures store.old < u64.MAX }
-    requires ordered { AreRanges (2 ^ 64) ranges.now }
+    requires head { IsHead ranges.now head.old }
     requires ranges { D.honest device.old → AreRanges (length (D.image device.old)) ranges.now }
-    requires place { IsPlace ranges.now place }
-    requires window { 16 ≤ length window.old }
-    requires fits { T.honest store.old → length (T.text store.old) + length page.old.items + rest_len ranges.now place + 14 ≤ T.room store.old }
-    requires room { 82 ≤ vec_capacity page.old }
+    requires fits { T.honest store.old → length (T.text store.old) + rest_of ranges.now head.old ≤ T.room store.old }
     ensures ok { D.honest device.old → T.honest store.old
-        → OnOk result (T.text store.new ≡ T.text store.old ++ head_from (D.image device.old) ranges.now place page.old.items number) }
+        → OnOk result (T.text store.new ≡ T.text store.old ++ head_from (D.image device.old) ranges.now head.old.place head.old.page.items head.old.number) }
     ensures fault { D.honest device.old → T.honest store.old
-        → OnErr result (IsPartlyAppended (head_from (D.image device.old) ranges.now place page.old.items number) (T.text store.old) (T.text store.new)) }
+        → OnErr result (IsPartlyAppended (head_from (D.image device.old) ranges.now head.old.place head.old.page.items head.old.number) (T.text store.old) (T.text store.new)) }
     ensures fades { D.honest device.old → T.honest store.old
-        → FadesBehind (T.text store.old) (head_from (D.image device.old) ranges.now place page.old.items number) (T.survives store.old) (T.survives store.new) }
-    ensures long { T.honest store.old
-        → OnOk result (length (T.text store.new) ≡ length (T.text store.old) + length page.old.items + rest_len ranges.now place + 14) }
+        → FadesBehind (T.text store.old) (head_from (D.image device.old) ranges.now head.old.place head.old.page.items head.old.number) (T.survives store.old) (T.survives store.new) }
+    ensures long { T.honest store.old → OnOk result (length (T.text store.new) ≡ length (T.text store.old) + rest_of ranges.now head.old) }
     ensures front { T.honest store.old → OnOk result (IsPrefix (T.text store.old) (T.text store.new)) }
-    ensures window { length window.new ≡ length window.old }
-    ensures emptied { OnOk result (page.new.items ≡ []) }
-    ensures room { vec_capacity page.old ≤ vec_capacity page.new }
+    ensures emptied { OnOk result (head.new.page.items ≡ []) }
+    ensures kept { KeepsBuffers head.old head.new }
     ensures image { D.honest device.old → D.image device.new ≡ D.image device.old }
     ensures device_survives { D.honest device.old → NoMore (D.survives device.old) (D.survives device.new) }
     ensures device_honesty { D.honest device.new ↔ D.honest device.old }
@@ -315,7 +309,9 @@ pub fn put_head_from<D: Device, T: TextStore, A: Allocator>(
     ensures no_failure { OnOk result ((D.failures device.new ≡ D.failures device.old) × (T.failures store.new ≡ T.failures store.old)) }
     ensures failure { OnErr result (OneMore (D.failures device.old) (T.failures store.old) (D.failures device.new) (T.failures store.new)) }
 {
-    put_pages(device, store, page, window, ranges, place)?;
-    put_words(store, page, save_text(number))?;
+    let window = head.window.as_mut_slice();
+    let page = &mut head.page;
+    put_pages(device, store, page, window, ranges, head.place)?;
+    put_words(store, page, save_text(head.number))?;
     append_page(store, page)
 }

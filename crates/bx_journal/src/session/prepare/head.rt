@@ -1,27 +1,24 @@
 //! The head of a change's entry, begun before the first write: its first page is made, and the others are read from the image.
 ghost use Rattle.std.specs.Prelude.{◌≡◌, ◌+◌, ◌-◌, ◌^◌, ◌<◌, ◌≤◌, length, min, IfOk, IfErr};
 ghost use Rattle.bx_image.specs.Power.{NoMore};
-ghost use Rattle.bx_journal.specs.inner.Begun.{BeginsEntry, IsHead};
+ghost use Rattle.bx_journal.specs.inner.Begun.{rest_of, BeginsEntry, IsHead};
 ghost use Rattle.bx_journal.specs.inner.Devices.{LooksAt};
 ghost use Rattle.bx_journal.specs.inner.Fault.{LacksOrFails};
 ghost use Rattle.bx_journal.specs.inner.Ranges.{left_len, AreRanges};
 
 use crate::SessionFault;
+use crate::write::head::Head;
 use crate::write::lengths::ranges_len;
 use crate::write::look::look_and_begin;
-use crate::write::ranges::Place;
 use bx_entries::new_page;
 use bx_image::{Change, Device, MAX_LEN, Span, touched_by};
 use std::alloc::{Allocator, Global};
 
-/// The ranges of the image that an entry keeps, the page that its text begins with, where its lines go on, a window to read the
-/// image in, and the length of the text up to its save line, at most `u64::MAX`.
+/// The ranges that an entry keeps, its head that is begun, and the length of its text up to its save line, at most `u64::MAX`.
 #[derive(Drop)]
-pub struct Head<A: Allocator = Global> {
+pub struct Begun<A: Allocator = Global> {
     pub ranges: Vec<Span, A>,
-    pub place: Place,
-    pub page: Vec<u8, A>,
-    pub window: Vec<u8, A>,
+    pub head: Head<A>,
     pub len: u64,
 }
 
@@ -48,12 +45,14 @@ pub fn begin_change<D: Device, A: Allocator + Clone>(
     change: &Change<A>,
     number: u32,
     len: u64,
-) -> Result<Head<A>, SessionFault>
+) -> Result<Begun<A>, SessionFault>
     requires countable { D.failures device.old < u64.MAX }
     requires few { len ≤ MAX_LEN }
     requires long { D.honest device.old → len ≡ length (D.image device.old) }
-    ensures head { IfOk result IsHead }
-    ensures begins { D.honest device.old → IfOk result (BeginsEntry change.now (D.image device.old) number) }
+    ensures head { IfOk result (λ b. IsHead b.ranges.items b.head) }
+    ensures begins { D.honest device.old → IfOk result (λ b. BeginsEntry change.now (D.image device.old) b.ranges.items b.head) }
+    ensures long { IfOk result (λ b. b.len ≡ min (rest_of b.ranges.items b.head) (2 ^ 64 - 1)) }
+    ensures number { IfOk result (λ b. b.head.number ≡ number) }
     ensures fault { IfErr result LacksOrFails }
     ensures looks { LooksAt D.honest D.image D.failures result device.old device.new }
     ensures survives { D.honest device.old → NoMore (D.survives device.old) (D.survives device.new) }
@@ -65,11 +64,15 @@ pub fn begin_change<D: Device, A: Allocator + Clone>(
     let mut window = vec![in alloc.clone()?; 0u8; WINDOW.min(len).max(16) as usize]?;
     let part = window.as_mut_slice();
     let place = look_and_begin(device, &mut page, part, spans, number, len)?;
-    Ok(Head {
-        ranges,
+    let head = Head {
+        number,
         place,
         page,
         window,
+    };
+    Ok(Begun {
+        ranges,
+        head,
         len: total,
     })
 }

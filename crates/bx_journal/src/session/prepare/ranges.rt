@@ -1,6 +1,6 @@
 //! What some redos take before their first write: the ranges that they will touch, a page with the begin of the first entry, a
 //! window, and room.
-ghost use Rattle.std.specs.Prelude.{◌≡◌, ◌+◌, ◌-◌, ◌^◌, ◌<◌, ◌≤◌, [], length, drop, min, reverse, vec_capacity, IfOk, IfErr, OnOk, is_err};
+ghost use Rattle.std.specs.Prelude.{◌≡◌, ◌+◌, ◌-◌, ◌^◌, ◌<◌, ◌≤◌, [], length, drop, min, reverse, vec_capacity, All, IfOk, IfErr, OnOk, is_err};
 ghost use Rattle.bx_image.specs.Device.{GoesOn};
 ghost use Rattle.bx_image.specs.Power.{NoMore};
 ghost use Rattle.bx_journal.specs.Fault.{DeviceFault};
@@ -13,11 +13,14 @@ ghost use Rattle.bx_journal.specs.inner.Undoing.{HasRoomFor};
 ghost use Rattle.bx_journal.specs.inner.Written.{AreSettled};
 
 use crate::SessionFault;
+use crate::devices::Devices;
 use crate::protocol::redo_entry::begin_last;
 use crate::protocol::settle::settle;
 use crate::read::entries::FinishedRead;
 use crate::session::prepare::head::{SPARE, WINDOW};
-use crate::session::prepare::records::{length_above, make_room};
+use crate::session::prepare::records::{length_above, longest_of};
+use crate::session::prepare::room::make_room;
+use crate::write::head::Head;
 use crate::write::lengths::ranges_len;
 use crate::write::ranges::Place;
 use bx_entries::{EntryRead, new_page};
@@ -25,14 +28,12 @@ use bx_image::{Device, DeviceFailed, MAX_LEN, Span, touched_to_restore};
 use bx_store::TextStore;
 use std::alloc::{Allocator, Global};
 
-/// The ranges that each entry which is to be restored touches, in their order; a page with the begin of the last one's text, where
-/// its lines go on, a window to read the image in, and the length of all texts, at most `u64::MAX`.
+/// The ranges that each entry which is to be restored touches, in their order; the head of the last one's text, and the length of all
+/// texts, at most `u64::MAX`.
 #[derive(Drop)]
 pub struct Again<A: Allocator = Global> {
     pub takens: Vec<Vec<Span, A>, A>,
-    pub place: Place,
-    pub page: Vec<u8, A>,
-    pub window: Vec<u8, A>,
+    pub head: Head<A>,
     pub len: u64,
 }
 
@@ -107,20 +108,24 @@ fn take_memory<A: Allocator + Clone>(
     ensures touched { IfOk result (λ o. AreTouched len (reverse entries.now) (reverse o.takens.items)) }
     ensures count { IfOk result (λ o. length o.takens.items ≡ k) }
     ensures long { IfOk result (λ o. o.len ≡ min (entries_long o.takens.items) (2 ^ 64 - 1)) }
-    ensures empty { IfOk result (λ o. o.page.items ≡ []) }
-    ensures page_room { IfOk result (λ o. 82 ≤ vec_capacity o.page) }
-    ensures window { IfOk result (λ o. 16 ≤ length o.window.items) }
+    ensures empty { IfOk result (λ o. o.head.page.items ≡ []) }
+    ensures page_room { IfOk result (λ o. 82 ≤ vec_capacity o.head.page) }
+    ensures window { IfOk result (λ o. 16 ≤ length o.head.window.items) }
     ensures kind { IfErr result (λ e. e ≡ SessionFault.NoMemory) }
 {
     let takens = all_ranges(alloc, entries, k, len)?;
     let total = entries_len(takens.as_slice());
     let page = new_page(alloc.clone()?, total.saturating_add(SPARE))?;
     let window = vec![in alloc.clone()?; 0u8; WINDOW.min(total).max(16) as usize]?;
-    Ok(Again {
-        takens,
+    let head = Head {
+        number: 0,
         place: Place { range: 0, done: 0 },
         page,
         window,
+    };
+    Ok(Again {
+        takens,
+        head,
         len: total,
     })
 }
@@ -135,102 +140,105 @@ fn begin_first<D: Device, A: Allocator>(
     requires countable { D.failures device.old < u64.MAX }
     requires long { D.honest device.old → len ≡ length (D.image device.old) }
     requires within { IsFirstWithin len (reverse again.takens.items) }
-    requires empty { again.page.items ≡ [] }
-    requires room { 82 ≤ vec_capacity again.page }
-    requires window { 16 ≤ length again.window.items }
-    ensures begun { IfOk result (λ o. IsFirstBegun (D.honest device.old) (D.image device.old) number (reverse o.takens.items) o.page.items o.place) }
+    requires empty { again.head.page.items ≡ [] }
+    requires room { 82 ≤ vec_capacity again.head.page }
+    requires window { 16 ≤ length again.head.window.items }
+    ensures begun { IfOk result (λ o. IsFirstBegun (D.honest device.old) (D.image device.old) number (reverse o.takens.items) o.head.page.items o.head.place) }
     ensures takens { IfOk result (λ o. o.takens ≡ again.takens) }
-    ensures room { IfOk result (λ o. 82 ≤ vec_capacity o.page) }
-    ensures window { IfOk result (λ o. 16 ≤ length o.window.items) }
+    ensures room { IfOk result (λ o. 82 ≤ vec_capacity o.head.page) }
+    ensures window { IfOk result (λ o. 16 ≤ length o.head.window.items) }
     ensures image { D.honest device.old → D.image device.new ≡ D.image device.old }
     ensures survives { D.honest device.old → NoMore (D.survives device.old) (D.survives device.new) }
     ensures goes_on { GoesOn D.honest D.room D.failures (is_err result) device.old device.new }
 {
     let Again {
         takens,
-        page,
-        window,
+        head,
         len: total,
-        ..
     } = again;
-    let mut page = page;
-    let mut window = window;
-    let part = window.as_mut_slice();
-    let place = begin_last(device, &mut page, part, takens.as_slice(), number, len)?;
+    let mut head = head;
+    let part = head.window.as_mut_slice();
+    let page = &mut head.page;
+    let place = begin_last(device, page, part, takens.as_slice(), number, len)?;
+    head.place = place;
     Ok(Again {
         takens,
-        place,
-        page,
-        window,
+        head,
         len: total,
     })
 }
 
-/// Takes all that restoring the last k entries of the text `from` needs: each gives the text `to` an entry, of this number and on.
+/// The greatest length that one of the last k entries restores.
+fn longest_of_last<A: Allocator>(read: &FinishedRead<A>, k: u32) -> u64
+    requires few { k ≤ length read.now.entries.items }
+    ensures { All (λ e. e.kept.len ≤ result) (drop (length read.now.entries.items - k) read.now.entries.items) }
+{
+    let first = read.entries.len() - k as usize;
+    let (_, last) = read.entries.as_slice().split_at(first);
+    longest_of(last)
+}
+
+/// Takes all that restoring the last k entries of the redo text needs: each gives the journal an entry, of this number and on.
 /// Then it looks at what the first of them overwrites, and begins its text. It changes nothing.
 fn take_ranges<D: Device, T: TextStore, A: Allocator + Clone>(
     alloc: &A,
-    device: &mut D,
-    from: &mut T,
-    to: &mut T,
+    devices: &mut Devices<D, T>,
     read: &FinishedRead<A>,
     k: u32,
     number: u32,
 ) -> Result<Again<A>, SessionFault>
-    requires device_countable { D.failures device.old < u64.MAX }
-    requires to_countable { T.failures to.old < u64.MAX }
+    requires device_countable { D.failures devices.old.device < u64.MAX }
+    requires to_countable { T.failures devices.old.store < u64.MAX }
     requires few { k ≤ length read.now.entries.items }
-    ensures kept { HasRoomFor (D.room device.new) read.now.entries.items k result }
-    ensures ready { IfOk result (IsReadyAgain (D.honest device.old) (D.image device.old) read.now.entries.items k number) }
-    ensures roomed { T.honest to.old → IfOk result (λ o. length (T.text to.new) + entries_long o.takens.items ≤ T.room to.new) }
+    ensures kept { HasRoomFor (D.room devices.new.device) read.now.entries.items k result }
+    ensures ready { IfOk result (IsReadyAgain (D.honest devices.old.device) (D.image devices.old.device) read.now.entries.items k number) }
+    ensures roomed { T.honest devices.old.store → IfOk result (λ o. length (T.text devices.new.store) + entries_long o.takens.items ≤ T.room devices.new.store) }
     ensures kind { IfErr result DeviceFault }
-    ensures stayed { HaveStayed D.honest T.honest D.image T.text device.old from.old to.old device.new from.new to.new }
-    ensures found_before { FoundBefore D.honest T.honest D.survives T.survives device.old from.old to.old device.new from.new to.new }
-    ensures no_failure { AreUnfailed D.failures T.failures device.old from.old to.old device.new from.new to.new result }
-    ensures counts { AreCounted D.failures T.failures device.old from.old to.old device.new from.new to.new result }
+    ensures stayed { HaveStayed D.Device T.TextStore devices.old devices.new }
+    ensures found_before { FoundBefore D.Device T.TextStore devices.old devices.new }
+    ensures no_failure { AreUnfailed D.Device T.TextStore devices.old devices.new result }
+    ensures counts { AreCounted D.Device T.TextStore devices.old devices.new result }
 {
-    let len = device.len()?;
-    let to_len = to.len()?;
+    let len = devices.device.len()?;
+    let to_len = devices.store.len()?;
     let again = take_memory(alloc, read.entries.as_slice(), k, len)?;
-    make_room(device, from, to, read, k, to_len, again.len)?;
-    let begun = begin_first(device, again, number, len)?;
+    let longest = longest_of_last(read, k);
+    make_room(devices, longest, to_len.saturating_add(again.len), read.len)?;
+    let begun = begin_first(&mut devices.device, again, number, len)?;
     Ok(begun)
 }
 
-/// Takes all that making the last k entries of the text `from` again needs: each gives the text `to` an entry, of this number and
-/// on. It looks at what the first of them overwrites, and puts on the disk what all three have. It changes nothing.
+/// Takes all that making the last k entries of the redo text again needs: each gives the journal an entry, of this number and on. It looks at what the first of them overwrites, and puts on the disk what all three have. It changes nothing.
 ///
 /// # Errors
-/// `DeviceFailed` of the lengths of the image and of `to`, `NoMemory`, also of an image that an entry can't tell, `DeviceFailed` of
+/// `DeviceFailed` of the lengths of image and journal, `NoMemory`, also of an image that an entry can't tell, `DeviceFailed` of
 /// reading the image, in this order, and then `DeviceFailed` of what can't be put on the disk.
 pub fn prepare_redo<D: Device, T: TextStore, A: Allocator + Clone>(
     alloc: &A,
-    device: &mut D,
-    from: &mut T,
-    to: &mut T,
+    devices: &mut Devices<D, T>,
     read: &FinishedRead<A>,
     k: u32,
     number: u32,
 ) -> Result<Again<A>, SessionFault>
-    requires device_countable { D.failures device.old < u64.MAX }
-    requires from_countable { T.failures from.old < u64.MAX }
-    requires to_countable { T.failures to.old < u64.MAX }
+    requires device_countable { D.failures devices.old.device < u64.MAX }
+    requires from_countable { T.failures devices.old.redo_text < u64.MAX }
+    requires to_countable { T.failures devices.old.store < u64.MAX }
     requires few { k ≤ length read.now.entries.items }
-    ensures kept { HasRoomFor (D.room device.new) read.now.entries.items k result }
-    ensures ready { IfOk result (IsReadyAgain (D.honest device.old) (D.image device.old) read.now.entries.items k number) }
-    ensures roomed { T.honest to.old → IfOk result (λ o. length (T.text to.new) + entries_long o.takens.items ≤ T.room to.new) }
-    ensures settled { D.honest device.old → T.honest from.old → T.honest to.old
-        → OnOk result (AreSettled D.image T.text D.survives T.survives device.new from.new to.new) }
+    ensures kept { HasRoomFor (D.room devices.new.device) read.now.entries.items k result }
+    ensures ready { IfOk result (IsReadyAgain (D.honest devices.old.device) (D.image devices.old.device) read.now.entries.items k number) }
+    ensures roomed { T.honest devices.old.store → IfOk result (λ o. length (T.text devices.new.store) + entries_long o.takens.items ≤ T.room devices.new.store) }
+    ensures settled { D.honest devices.old.device → T.honest devices.old.store → T.honest devices.old.redo_text
+        → OnOk result (AreSettled D.Device T.TextStore devices.new) }
     ensures kind { IfErr result DeviceFault }
-    ensures stayed { HaveStayed D.honest T.honest D.image T.text device.old from.old to.old device.new from.new to.new }
-    ensures found_before { FoundBefore D.honest T.honest D.survives T.survives device.old from.old to.old device.new from.new to.new }
-    ensures no_failure { AreUnfailed D.failures T.failures device.old from.old to.old device.new from.new to.new result }
-    ensures counts { AreCounted D.failures T.failures device.old from.old to.old device.new from.new to.new result }
+    ensures stayed { HaveStayed D.Device T.TextStore devices.old devices.new }
+    ensures found_before { FoundBefore D.Device T.TextStore devices.old devices.new }
+    ensures no_failure { AreUnfailed D.Device T.TextStore devices.old devices.new result }
+    ensures counts { AreCounted D.Device T.TextStore devices.old devices.new result }
 {
-    let again = match take_ranges(alloc, device, from, to, read, k, number) {
+    let again = match take_ranges(alloc, devices, read, k, number) {
         Ok(again) => again,
         Err(fault) => return Err(fault),
     };
-    settle(device, from, to)?;
+    settle(devices)?;
     Ok(again)
 }

@@ -12,6 +12,7 @@ ghost use Rattle.bx_journal.specs.inner.Undoing.{AreReadFrom, HasRoomFor};
 ghost use Rattle.bx_journal.specs.inner.Windows.{HasShortLines};
 
 use crate::SessionFault;
+use crate::devices::Devices;
 use crate::protocol::fill::fill_last;
 use crate::protocol::restore::{Buffers, buffers_of};
 use crate::protocol::settle::settle;
@@ -19,10 +20,10 @@ use crate::protocol::undo_entry::Placed;
 use crate::read::entries::FinishedRead;
 use crate::session::prepare::overwritten::{Overwritten, all_overwritten, all_zeros};
 use crate::session::prepare::places::places;
+use crate::session::prepare::room::make_room;
 use bx_entries::{EntryRead, head_len, new_page};
 use bx_image::{Device, Saved};
 use bx_store::TextStore;
-use bx_text::NoMemory;
 use std::alloc::{Allocator, Global};
 
 /// A record for each entry that is to be restored, in their order, and where these stand in their text; the length of the longest image
@@ -49,7 +50,7 @@ pub struct Plan<A: Allocator = Global> {
 const END_LINE: u64 = 32;
 
 /// The greatest length that one of the entries restores.
-fn longest_of<A: Allocator>(entries: &[EntryRead<A>]) -> u64
+pub fn longest_of<A: Allocator>(entries: &[EntryRead<A>]) -> u64
     ensures { All (λ e. e.kept.len ≤ result) entries.now }
 {
     let mut longest = 0;
@@ -155,137 +156,91 @@ fn take_memory<A: Allocator + Clone>(
     })
 }
 
-/// Makes room in the image for this length, in the one text for what it has, and in the other text for this many bytes more than it
-/// has. It changes nothing.
-fn make_room_for<D: Device, T: TextStore>(
-    device: &mut D,
-    from: &mut T,
-    to: &mut T,
-    longest: u64,
-    from_len: u64,
-    to_len: u64,
-    more: u64,
-) -> Result<(), NoMemory>
-    ensures image { OnOk result (longest ≤ D.room device.new) }
-    ensures roomed { OnOk result (min (to_len + more) (2 ^ 64 - 1) ≤ T.room to.new) }
-    ensures limit { OnOk result (min (to_len + more) (2 ^ 64 - 1) ≤ 2 ^ 62) }
-    ensures stayed { HaveStayed D.honest T.honest D.image T.text device.old from.old to.old device.new from.new to.new }
-    ensures found_before { FoundBefore D.honest T.honest D.survives T.survives device.old from.old to.old device.new from.new to.new }
-    ensures failures { (D.failures device.new ≡ D.failures device.old) × (T.failures from.new ≡ T.failures from.old) × (T.failures to.new ≡ T.failures to.old) }
-{
-    device.reserve(longest)?;
-    from.reserve(from_len)?;
-    to.reserve(to_len.saturating_add(more))
-}
-
-/// Makes room for restoring the last k entries of a text: in the image for the longest that they restore, in their
-/// text for what it has, and in the other text for this many bytes more than it has. It changes nothing.
-pub fn make_room<D: Device, T: TextStore, A: Allocator>(
-    device: &mut D,
-    from: &mut T,
-    to: &mut T,
-    read: &FinishedRead<A>,
-    k: u32,
-    to_len: u64,
-    more: u64,
-) -> Result<(), NoMemory>
-    requires few { k ≤ length read.now.entries.items }
-    ensures kept { HasRoomFor (D.room device.new) read.now.entries.items k result }
-    ensures roomed { OnOk result (min (to_len + more) (2 ^ 64 - 1) ≤ T.room to.new) }
-    ensures limit { OnOk result (min (to_len + more) (2 ^ 64 - 1) ≤ 2 ^ 62) }
-    ensures stayed { HaveStayed D.honest T.honest D.image T.text device.old from.old to.old device.new from.new to.new }
-    ensures found_before { FoundBefore D.honest T.honest D.survives T.survives device.old from.old to.old device.new from.new to.new }
-    ensures failures { (D.failures device.new ≡ D.failures device.old) × (T.failures from.new ≡ T.failures from.old) × (T.failures to.new ≡ T.failures to.old) }
-{
-    let first = read.entries.len() - k as usize;
-    let (_, last) = read.entries.as_slice().split_at(first);
-    make_room_for(device, from, to, longest_of(last), read.len, to_len, more)
-}
-
-/// Takes all the memory of restoring the last k entries of the text `from`; each gives the text `to` an entry,
+/// Takes all the memory of restoring the last k entries of the journal; each gives the redo text an entry,
 /// and then reads what the first of them overwrites. It changes nothing.
 fn take_records<D: Device, T: TextStore, A: Allocator + Clone>(
     alloc: &A,
-    device: &mut D,
-    from: &mut T,
-    to: &mut T,
+    devices: &mut Devices<D, T>,
     read: FinishedRead<A>,
     k: u32,
 ) -> Result<Taking<A>, SessionFault>
-    requires device_countable { D.failures device.old < u64.MAX }
-    requires to_countable { T.failures to.old < u64.MAX }
+    requires device_countable { D.failures devices.old.device < u64.MAX }
+    requires to_countable { T.failures devices.old.redo_text < u64.MAX }
     requires few { k ≤ length read.entries.items }
     requires order { AreOrdered read.entries.items }
     ensures places { IfOk result (λ o. o.placed.items ≡ map (place_in read.longest) (drop (length read.entries.items - k) read.entries.items)) }
-    ensures fit { IfOk result (λ o. AllFit (D.room device.new) (length o.buffers.window.items) o.placed.items) }
+    ensures fit { IfOk result (λ o. AllFit (D.room devices.new.device) (length o.buffers.window.items) o.placed.items) }
     ensures parts { IfOk result (λ o. 0 < vec_capacity o.buffers.parts) }
-    ensures filled { D.honest device.old → IfOk result (λ o. AreReady (D.image device.old) (reverse read.entries.items) (reverse o.takens.items)) }
+    ensures filled { D.honest devices.old.device → IfOk result (λ o. AreReady (D.image devices.old.device) (reverse read.entries.items) (reverse o.takens.items)) }
     ensures shaped { IfOk result (λ o. AllShaped o.takens.items) }
     ensures count { IfOk result (λ o. length o.takens.items ≡ k) }
-    ensures roomed { T.honest to.old → IfOk result (λ o. length (T.text to.new) + entries_long o.takens.items ≤ T.room to.new) }
+    ensures roomed { T.honest devices.old.redo_text → IfOk result (λ o. length (T.text devices.new.redo_text) + entries_long o.takens.items ≤ T.room devices.new.redo_text) }
     ensures empty { IfOk result (λ o. o.page.items ≡ []) }
     ensures page_room { IfOk result (λ o. 82 ≤ vec_capacity o.page) }
     ensures kind { IfErr result DeviceFault }
-    ensures stayed { HaveStayed D.honest T.honest D.image T.text device.old from.old to.old device.new from.new to.new }
-    ensures found_before { FoundBefore D.honest T.honest D.survives T.survives device.old from.old to.old device.new from.new to.new }
-    ensures no_failure { AreUnfailed D.failures T.failures device.old from.old to.old device.new from.new to.new result }
-    ensures counts { AreCounted D.failures T.failures device.old from.old to.old device.new from.new to.new result }
+    ensures stayed { HaveStayed D.Device T.TextStore devices.old devices.new }
+    ensures found_before { FoundBefore D.Device T.TextStore devices.old devices.new }
+    ensures no_failure { AreUnfailed D.Device T.TextStore devices.old devices.new result }
+    ensures counts { AreCounted D.Device T.TextStore devices.old devices.new result }
 {
-    let len = device.len()?;
-    let to_len = to.len()?;
+    let len = devices.device.len()?;
+    let to_len = devices.redo_text.len()?;
     let from_len = read.len;
     let mut taking = match take_memory(alloc, read, k, len) {
         Ok(taking) => taking,
         Err(fault) => return Err(fault),
     };
     let more = entries_len(taking.takens.as_slice());
-    make_room_for(device, from, to, taking.longest, from_len, to_len, more)?;
-    fill_last(device, &mut taking.takens)?;
+    make_room(
+        devices,
+        taking.longest,
+        from_len,
+        to_len.saturating_add(more),
+    )?;
+    fill_last(&mut devices.device, &mut taking.takens)?;
     Ok(taking)
 }
 
-/// Takes all the memory of restoring the last k entries of the text `from`; each gives the text `to` an entry,
+/// Takes all the memory of restoring the last k entries of the journal; each gives the redo text an entry,
 /// reads what the first of them overwrites, and puts on the disk what all three have. It changes nothing.
 ///
 /// # Errors
-/// `DeviceFailed` of the lengths of the image and of `to`, `NoMemory`, `DeviceFailed` of reading the image, in this order,
+/// `DeviceFailed` of the lengths of image and redo text, `NoMemory`, `DeviceFailed` of reading the image, in this order,
 /// and then `DeviceFailed` of what can't be put on the disk.
 pub fn prepare_takens<D: Device, T: TextStore, A: Allocator + Clone>(
     alloc: &A,
-    device: &mut D,
-    from: &mut T,
-    to: &mut T,
+    devices: &mut Devices<D, T>,
     read: FinishedRead<A>,
     k: u32,
 ) -> Result<Taking<A>, SessionFault>
-    requires device_countable { D.failures device.old < u64.MAX }
-    requires from_countable { T.failures from.old < u64.MAX }
-    requires to_countable { T.failures to.old < u64.MAX }
+    requires device_countable { D.failures devices.old.device < u64.MAX }
+    requires from_countable { T.failures devices.old.store < u64.MAX }
+    requires to_countable { T.failures devices.old.redo_text < u64.MAX }
     requires few { k ≤ length read.entries.items }
-    requires read { AreReadFrom (T.honest from.old) (T.text from.old) read.entries.items }
-    requires short { HasShortLines (T.honest from.old) (T.text from.old) read.longest }
+    requires read { AreReadFrom (T.honest devices.old.store) (T.text devices.old.store) read.entries.items }
+    requires short { HasShortLines (T.honest devices.old.store) (T.text devices.old.store) read.longest }
     ensures prepared { IfOk result
-        (λ o. ArePrepared (D.honest device.new) (D.image device.new) (T.honest from.new) (T.text from.new) o.placed.items o.takens.items) }
-    ensures fit { IfOk result (λ o. AllFit (D.room device.new) (length o.buffers.window.items) o.placed.items) }
+        (λ o. ArePrepared (D.honest devices.new.device) (D.image devices.new.device) (T.honest devices.new.store) (T.text devices.new.store) o.placed.items o.takens.items) }
+    ensures fit { IfOk result (λ o. AllFit (D.room devices.new.device) (length o.buffers.window.items) o.placed.items) }
     ensures parts { IfOk result (λ o. 0 < vec_capacity o.buffers.parts) }
     ensures same { IfOk result (λ o. length o.placed.items ≡ length o.takens.items) }
     ensures shaped { IfOk result (λ o. AllShaped o.takens.items) }
     ensures count { IfOk result (λ o. length o.takens.items ≡ k) }
-    ensures roomed { T.honest to.old → IfOk result (λ o. length (T.text to.new) + entries_long o.takens.items ≤ T.room to.new) }
+    ensures roomed { T.honest devices.old.redo_text → IfOk result (λ o. length (T.text devices.new.redo_text) + entries_long o.takens.items ≤ T.room devices.new.redo_text) }
     ensures empty { IfOk result (λ o. o.page.items ≡ []) }
     ensures page_room { IfOk result (λ o. 82 ≤ vec_capacity o.page) }
-    ensures settled { D.honest device.old → T.honest from.old → T.honest to.old
-        → OnOk result (AreSettled D.image T.text D.survives T.survives device.new from.new to.new) }
+    ensures settled { D.honest devices.old.device → T.honest devices.old.store → T.honest devices.old.redo_text
+        → OnOk result (AreSettled D.Device T.TextStore devices.new) }
     ensures kind { IfErr result DeviceFault }
-    ensures stayed { HaveStayed D.honest T.honest D.image T.text device.old from.old to.old device.new from.new to.new }
-    ensures found_before { FoundBefore D.honest T.honest D.survives T.survives device.old from.old to.old device.new from.new to.new }
-    ensures no_failure { AreUnfailed D.failures T.failures device.old from.old to.old device.new from.new to.new result }
-    ensures counts { AreCounted D.failures T.failures device.old from.old to.old device.new from.new to.new result }
+    ensures stayed { HaveStayed D.Device T.TextStore devices.old devices.new }
+    ensures found_before { FoundBefore D.Device T.TextStore devices.old devices.new }
+    ensures no_failure { AreUnfailed D.Device T.TextStore devices.old devices.new result }
+    ensures counts { AreCounted D.Device T.TextStore devices.old devices.new result }
 {
-    let taking = match take_records(alloc, device, from, to, read, k) {
+    let taking = match take_records(alloc, devices, read, k) {
         Ok(taking) => taking,
         Err(fault) => return Err(fault),
     };
-    settle(device, from, to)?;
+    settle(devices)?;
     Ok(taking)
 }

@@ -30,21 +30,18 @@ always_err : {T E P : Type 0} (r : Result T E) → P → OnErr r P
 always_err (Ok x) p = tt
 always_err (Err e) p = p
 
-pub append_head_of-requires-clause-ranges : goal.append_head_of-requires-clause-ranges
-append_head_of-requires-clause-ranges g c = c.requires.ranges
-
 pub append_head_of-requires-clause-begun : goal.append_head_of-requires-clause-begun
 append_head_of-requires-clause-begun g c = c.requires.begun
 
 pub returns-in_err-append_head_of-clause-fault : goal.returns-in_err-append_head_of-clause-fault
 returns-in_err-append_head_of-clause-fault g c dh th stack writes =
-    let x : List ℕ = g.D.Device.image c.args.device.now in
+    let x : List ℕ = g.D.Device.image c.args.devices.now.device in
     let found = c.in_err-append_head_of.ensures.fault dh th x stack (kept_of (saved c.args.change.now x)) writes.starts in
     always_err c.from_residual.result (inl (subst (λ y. Recovers (g.T.TextStore.text c.append_head_of.new.store) y stack) (sym (c.in_err-append_head_of.ensures.image dh)) found))
 
 pub returns-in_err-change_with-clause-fault : goal.returns-in_err-change_with-clause-fault
 returns-in_err-change_with-clause-fault g c dh th stack writes =
-    let x : List ℕ = g.D.Device.image c.args.device.now in
+    let x : List ℕ = g.D.Device.image c.args.devices.now.device in
     let y : List ℕ = g.D.Device.image c.change_with.new.device in
     let s : Kept = kept_of (saved c.args.change.now x) in
     let text : List ℕ = g.T.TextStore.text c.append_head_of.new.store in
@@ -64,32 +61,32 @@ returns-clause-image g c dh =
 
 pub returns-clause-ok : goal.returns-clause-ok
 returns-clause-ok g c dh th stack writes =
-    let x : List ℕ = g.D.Device.image c.args.device.now in
+    let x : List ℕ = g.D.Device.image c.args.devices.now.device in
     let y : List ℕ = g.D.Device.image c.change_with.new.device in
     let text : List ℕ = g.T.TextStore.text c.append_head_of.new.store in
     let is : y ≡ effect c.args.change.now x = c.in_ok-change_with.ensures.image (c.in_ok-append_head_of.ensures.device_honesty.1 dh) ∙ ap (effect c.args.change.now) (c.in_ok-append_head_of.ensures.image dh) in
     let opened = c.in_ok-append_head_of.ensures.ok dh th x stack (kept_of (saved c.args.change.now x)) writes.starts in
     let stays = subst (λ z. StaysOpenFor c.args.change.now z y) (c.in_ok-append_head_of.ensures.image dh) (c.change_with.ensures.phase (c.in_ok-append_head_of.ensures.device_honesty.1 dh)) in
-    let ends = ends_of c.args.change.now (g.T.TextStore.text c.args.store.now) text x y stack (head_text c.args.number (kept_over x c.args.ranges.now)) c.args.end.now writes (stays text stack opened) is in
+    let ends = ends_of c.args.change.now (g.T.TextStore.text c.args.devices.now.store) text x y stack (head_text c.args.head.now.number (kept_over x c.args.ranges.now)) c.args.end.now writes (stays text stack opened) is in
     on_ok_weaker c.append_end.result (subst (λ z. IsAtRest (g.T.TextStore.text c.append_end.new.store) y (z ∷ stack)) is)
     (c.append_end.ensures.ok (c.in_ok-append_head_of.ensures.store_honesty.1 th) y stack (as_read (kept_of (saved c.args.change.now x))) ends)
 
 pub returns-clause-fault : goal.returns-clause-fault
 returns-clause-fault g c dh th stack writes =
-    let x : List ℕ = g.D.Device.image c.args.device.now in
+    let x : List ℕ = g.D.Device.image c.args.devices.now.device in
     let y : List ℕ = g.D.Device.image c.change_with.new.device in
     let text : List ℕ = g.T.TextStore.text c.append_head_of.new.store in
     let is : y ≡ effect c.args.change.now x = c.in_ok-change_with.ensures.image (c.in_ok-append_head_of.ensures.device_honesty.1 dh) ∙ ap (effect c.args.change.now) (c.in_ok-append_head_of.ensures.image dh) in
     let opened = c.in_ok-append_head_of.ensures.ok dh th x stack (kept_of (saved c.args.change.now x)) writes.starts in
     let stays = subst (λ z. StaysOpenFor c.args.change.now z y) (c.in_ok-append_head_of.ensures.image dh) (c.change_with.ensures.phase (c.in_ok-append_head_of.ensures.device_honesty.1 dh)) in
-    let ends = ends_of c.args.change.now (g.T.TextStore.text c.args.store.now) text x y stack (head_text c.args.number (kept_over x c.args.ranges.now)) c.args.end.now writes (stays text stack opened) is in
+    let ends = ends_of c.args.change.now (g.T.TextStore.text c.args.devices.now.store) text x y stack (head_text c.args.head.now.number (kept_over x c.args.ranges.now)) c.args.end.now writes (stays text stack opened) is in
     on_err_weaker c.append_end.result (λ h. subst (λ z. RecoversEither (g.T.TextStore.text c.append_end.new.store) y stack (z ∷ stack)) is (either_of _ y stack (y ∷ stack) h))
     (c.append_end.ensures.fault (c.in_ok-append_head_of.ensures.store_honesty.1 th) y stack (as_read (kept_of (saved c.args.change.now x))) ends)
 
 pub returns-in_err-append_head_of-clause-left : goal.returns-in_err-append_head_of-clause-left
 returns-in_err-append_head_of-clause-left g c dh th rh stack writes =
-    let x : List ℕ = g.D.Device.image c.args.device.now in
-    let r : List ℕ = g.T.TextStore.text c.args.redo.now in
+    let x : List ℕ = g.D.Device.image c.args.devices.now.device in
+    let r : List ℕ = g.T.TextStore.text c.args.devices.now.redo_text in
     let new : List ℕ = effect c.args.change.now x in
     let text : List ℕ = g.T.TextStore.text c.append_head_of.new.store in
     let left = before_stops text x r (side_of stack x r) (side_of (new ∷ stack) new (take (place_of c.args.part) r)) refl refl
@@ -99,9 +96,9 @@ returns-in_err-append_head_of-clause-left g c dh th rh stack writes =
 
 pub returns-in_err-change_with-clause-left : goal.returns-in_err-change_with-clause-left
 returns-in_err-change_with-clause-left g c dh th rh stack writes =
-    let x : List ℕ = g.D.Device.image c.args.device.now in
+    let x : List ℕ = g.D.Device.image c.args.devices.now.device in
     let y : List ℕ = g.D.Device.image c.change_with.new.device in
-    let r : List ℕ = g.T.TextStore.text c.args.redo.now in
+    let r : List ℕ = g.T.TextStore.text c.args.devices.now.redo_text in
     let new : List ℕ = effect c.args.change.now x in
     let s : Kept = kept_of (saved c.args.change.now x) in
     let text : List ℕ = g.T.TextStore.text c.append_head_of.new.store in
@@ -112,15 +109,15 @@ returns-in_err-change_with-clause-left g c dh th rh stack writes =
 
 pub returns-clause-left : goal.returns-clause-left
 returns-clause-left g c dh th rh stack writes =
-    let x : List ℕ = g.D.Device.image c.args.device.now in
+    let x : List ℕ = g.D.Device.image c.args.devices.now.device in
     let y : List ℕ = g.D.Device.image c.change_with.new.device in
-    let r : List ℕ = g.T.TextStore.text c.args.redo.now in
+    let r : List ℕ = g.T.TextStore.text c.args.devices.now.redo_text in
     let new : List ℕ = effect c.args.change.now x in
     let text : List ℕ = g.T.TextStore.text c.append_head_of.new.store in
     let is : y ≡ new = c.in_ok-change_with.ensures.image (c.in_ok-append_head_of.ensures.device_honesty.1 dh) ∙ ap (effect c.args.change.now) (c.in_ok-append_head_of.ensures.image dh) in
     let opened = c.in_ok-append_head_of.ensures.ok dh th x stack (kept_of (saved c.args.change.now x)) writes.starts in
     let stays = subst (λ z. StaysOpenFor c.args.change.now z y) (c.in_ok-append_head_of.ensures.image dh) (c.change_with.ensures.phase (c.in_ok-append_head_of.ensures.device_honesty.1 dh)) in
-    let ends = ends_of c.args.change.now (g.T.TextStore.text c.args.store.now) text x y stack (head_text c.args.number (kept_over x c.args.ranges.now)) c.args.end.now writes (stays text stack opened) is in
+    let ends = ends_of c.args.change.now (g.T.TextStore.text c.args.devices.now.store) text x y stack (head_text c.args.head.now.number (kept_over x c.args.ranges.now)) c.args.end.now writes (stays text stack opened) is in
     let last : List ℕ = g.T.TextStore.text c.append_end.new.store in
     on_err_weaker c.append_end.result
     (λ h. last_stops last y (g.T.TextStore.text c.change_with.new.redo_text) (side_of stack x r) (side_of (new ∷ stack) new (take (place_of c.args.part) r)) is (c.in_ok-change_with.ensures.redo rh)
@@ -150,8 +147,8 @@ returns-clause-front g c th =
 
 pub returns-in_err-append_head_of-clause-survives : goal.returns-in_err-append_head_of-clause-survives
 returns-in_err-append_head_of-clause-survives g c dh th rh settled stack writes y new redo image_there there redo_there =
-    let x : List ℕ = g.D.Device.image c.args.device.now in
-    let r : List ℕ = g.T.TextStore.text c.args.redo.now in
+    let x : List ℕ = g.D.Device.image c.args.devices.now.device in
+    let r : List ℕ = g.T.TextStore.text c.args.devices.now.redo_text in
     let z : List ℕ = effect c.args.change.now x in
     let head = c.in_err-append_head_of.ensures in
     let same : y ≡ x = settled.device y (head.device_survives dh y image_there) in
@@ -160,8 +157,8 @@ returns-in_err-append_head_of-clause-survives g c dh th rh settled stack writes 
 
 pub returns-in_err-change_with-clause-survives : goal.returns-in_err-change_with-clause-survives
 returns-in_err-change_with-clause-survives g c dh th rh settled stack writes y new redo image_there there redo_there =
-    let x : List ℕ = g.D.Device.image c.args.device.now in
-    let r : List ℕ = g.T.TextStore.text c.args.redo.now in
+    let x : List ℕ = g.D.Device.image c.args.devices.now.device in
+    let r : List ℕ = g.T.TextStore.text c.args.devices.now.redo_text in
     let z : List ℕ = effect c.args.change.now x in
     let s : Kept = kept_of (saved c.args.change.now x) in
     let text : List ℕ = g.T.TextStore.text c.append_head_of.new.store in
@@ -178,8 +175,8 @@ returns-in_err-change_with-clause-survives g c dh th rh settled stack writes y n
 
 pub returns-clause-survives : goal.returns-clause-survives
 returns-clause-survives g c dh th rh settled stack writes y new redo image_there there redo_there =
-    let x : List ℕ = g.D.Device.image c.args.device.now in
-    let r : List ℕ = g.T.TextStore.text c.args.redo.now in
+    let x : List ℕ = g.D.Device.image c.args.devices.now.device in
+    let r : List ℕ = g.T.TextStore.text c.args.devices.now.redo_text in
     let z : List ℕ = effect c.args.change.now x in
     let s : Kept = kept_of (saved c.args.change.now x) in
     let text : List ℕ = g.T.TextStore.text c.append_head_of.new.store in
@@ -191,7 +188,7 @@ returns-clause-survives g c dh th rh settled stack writes y new redo image_there
     let same : y ≡ w = changed.settled still y image_there in
     let opened = head.ok dh th x stack s writes.starts in
     let stays = subst (λ v. StaysOpenFor c.args.change.now v w) (head.image dh) (changed.phase still) in
-    let ends = ends_of c.args.change.now (g.T.TextStore.text c.args.store.now) text x w stack (head_text c.args.number (kept_over x c.args.ranges.now)) c.args.end.now writes (stays text stack opened) is in
+    let ends = ends_of c.args.change.now (g.T.TextStore.text c.args.devices.now.store) text x w stack (head_text c.args.head.now.number (kept_over x c.args.ranges.now)) c.args.end.now writes (stays text stack opened) is in
     let found = c.append_end.ensures.survives (head.store_honesty.1 th) (head.settled th) w stack (as_read s) ends new there in
     last_stops (shown new) y redo (side_of stack x r) (side_of (z ∷ stack) z (take (place_of c.args.part) r)) (same ∙ is) (changed.redo_settled rh redo redo_there ∙ changed.redo rh)
     (at_both (shown new) y w z stack same is found)

@@ -1,4 +1,5 @@
 use Rattle.std.proofs.Common.{◌≡◌, ◌∙◌, ◌+◌, ◌^◌, ◌∷◌, ◌++◌, [], ◌<◌, ◌≤◌, ℕ, List, length, drop, refl, ap, sym, subst, arith, append-nil, length-append}
+use Rattle.std.specs.List.{length_refill}
 use Rattle.std.specs.Prelude.{reverse}
 use Rattle.std.proofs.lemmas.Result.{err_from_is_err_and}
 use Rattle.bx_image.specs.Change.{effect, saved, IsAsGood}
@@ -53,19 +54,19 @@ touched g c =
 
 -- its head is begun
 begun : (g : _) (c : After-as_slice-spans g)
-    → IsBegun (g.D.Device.honest c.args.device.now) (g.D.Device.image c.loop-i.device) (c.loop-i.count + 1) c.as_slice-spans.result.now c.loop-i.page.items c.loop-i.place
+    → IsBegun (g.D.Device.honest c.args.devices.now.device) (g.D.Device.image c.loop-i.devices.device) (c.loop-i.count + 1) c.as_slice-spans.result.now c.loop-i.head.page.items c.loop-i.head.place
 begun g c =
-    let x : List ℕ = g.D.Device.image c.loop-i.device in
+    let x : List ℕ = g.D.Device.image c.loop-i.devices.device in
     let n : ℕ = c.loop-i.count + 1 in
-    let page : List ℕ = c.loop-i.page.items in
-    let place = c.loop-i.place in
-    let honest : Type 0 = g.D.Device.honest c.args.device.now in
+    let page : List ℕ = c.loop-i.head.page.items in
+    let place = c.loop-i.head.place in
+    let honest : Type 0 = g.D.Device.honest c.args.devices.now.device in
     subst (λ r. IsBegun honest x n r page place) (sym c.as_slice-spans.ensures.value)
     (begun_pop x n c.take_both-entry.new.takens.items c.take_both-entry.result.1 page place (subst (λ us. IsFirstBegun honest x n (reverse us) page place) c.take_both-entry.ensures.ranges c.loop-i.invariant.begun))
 
 -- what its entry keeps
 keeps : (g : _) (c : After-as_slice-spans g)
-    → IsKeptOf (g.D.Device.honest c.args.device.now) (g.D.Device.image c.loop-i.device) c.take_both-entry.result.0 (kept_over (g.D.Device.image c.loop-i.device) c.as_slice-spans.result.now)
+    → IsKeptOf (g.D.Device.honest c.args.devices.now.device) (g.D.Device.image c.loop-i.devices.device) c.take_both-entry.result.0 (kept_over (g.D.Device.image c.loop-i.devices.device) c.as_slice-spans.result.now)
 keeps g c = kept_by (touched g c).0 c.loop-i.invariant.touched.long (begun g c).bytes
 
 -- the room that its entry takes
@@ -82,39 +83,42 @@ by g c = record {
 }
 
 -- the entry is made again, whether or not the next record is filled
-made : (g : _) (c : After-begin_last g) → IsMadeAgain (g.T.TextStore.honest c.args.redo_text.now) (g.D.Device.honest c.args.device.now) (g.T.TextStore.honest c.args.store.now) (g.T.TextStore.text c.loop-i.redo_text) (g.D.Device.image c.loop-i.device) (g.T.TextStore.text c.loop-i.store)
-    (g.T.TextStore.text c.write_change.new.redo) (g.D.Device.image c.begin_last.new.device) (g.T.TextStore.text c.write_change.new.store) c.take_both-entry.result.0 (kept_over (g.D.Device.image c.loop-i.device) c.as_slice-spans.result.now) c.loop-i.count c.into_change-change.result c.as_bytes.result.now
+made : (g : _) (c : After-begin_last g) → IsMadeAgain (g.T.TextStore.honest c.args.devices.now.redo_text) (g.D.Device.honest c.args.devices.now.device) (g.T.TextStore.honest c.args.devices.now.store) (g.T.TextStore.text c.loop-i.devices.redo_text) (g.D.Device.image c.loop-i.devices.device) (g.T.TextStore.text c.loop-i.devices.store)
+    (g.T.TextStore.text c.write_change.new.devices.redo_text) (g.D.Device.image c.begin_last.new.device) (g.T.TextStore.text c.write_change.new.devices.store) c.take_both-entry.result.0 (kept_over (g.D.Device.image c.loop-i.devices.device) c.as_slice-spans.result.now) c.loop-i.count c.into_change-change.result c.as_bytes.result.now
 made g c =
-    let x : List ℕ = g.D.Device.image c.loop-i.device in
+    let x : List ℕ = g.D.Device.image c.loop-i.devices.device in
     let change = c.into_change-change.result in
     let on = c.loop-i.invariant.steps_on in
     let wrote = c.in_ok-write_change.ensures in
-    let same = λ (h : g.D.Device.honest c.args.device.now). c.begin_last.ensures.image (wrote.steps_on.device_honesty.1 (on.device_honesty.1 h)) in
+    let same = λ (h : g.D.Device.honest c.args.devices.now.device). c.begin_last.ensures.image (wrote.steps_on.device_honesty.1 (on.device_honesty.1 h)) in
     record {
       changed = λ dh. same dh ∙ wrote.image (on.device_honesty.1 dh);
       good = λ dh. subst (IsAsGood (kept_of (saved change x)) x) (sym (same dh)) (wrote.back (on.device_honesty.1 dh));
       cut = λ rh. wrote.redo (on.redo_honesty.1 rh);
       written = λ dh th. wrote.text (on.device_honesty.1 dh) (on.store_honesty.1 th);
       rests = λ dh th stack writes.
-          subst (λ z. IsAtRest (g.T.TextStore.text c.write_change.new.store) z (effect change x ∷ stack)) (sym (same dh)) (wrote.ok (on.device_honesty.1 dh) (on.store_honesty.1 th) stack writes);
+          subst (λ z. IsAtRest (g.T.TextStore.text c.write_change.new.devices.store) z (effect change x ∷ stack)) (sym (same dh)) (wrote.ok (on.device_honesty.1 dh) (on.store_honesty.1 th) stack writes);
     }
 
-pub write_change-requires-clause-ordered : goal.write_change-requires-clause-ordered
-write_change-requires-clause-ordered g c =
-    let here = (touched g (goal.at.write_change-requires-clause-ordered g c).After-as_slice-spans).0 in
-    ranges_more (2 ^ 62) (2 ^ 64) _ (omega arith) (told_ranges _ (told_of here))
-
-pub write_change-requires-clause-ranges : goal.write_change-requires-clause-ranges
-write_change-requires-clause-ranges g c now =
-    let inv = c.loop-i.invariant in
-    let here = (touched g (goal.at.write_change-requires-clause-ranges g c).After-as_slice-spans).0 in
-    are_ranges (length (g.D.Device.image c.loop-i.device)) _ (subst (λ n. LieWithin n c.as_slice-spans.result.now) (inv.touched.long (inv.steps_on.device_honesty.0 now)) here.within)
-
-pub write_change-requires-clause-place : goal.write_change-requires-clause-place
-write_change-requires-clause-place g c = (begun g (goal.at.write_change-requires-clause-place g c).After-as_slice-spans).is_place
+pub write_change-requires-clause-head : goal.write_change-requires-clause-head
+write_change-requires-clause-head g c =
+    let at = (goal.at.write_change-requires-clause-head g c).After-as_slice-spans in
+    record {
+      ordered = ranges_more (2 ^ 62) (2 ^ 64) _ (omega arith) (told_ranges _ (told_of (touched g at).0));
+      place = (begun g at).is_place;
+      window = c.loop-i.invariant.window;
+      room = c.loop-i.invariant.page_room;
+    }
 
 pub write_change-requires-clause-begun : goal.write_change-requires-clause-begun
-write_change-requires-clause-begun g c now = (begun g (goal.at.write_change-requires-clause-begun g c).After-as_slice-spans).text (c.loop-i.invariant.steps_on.device_honesty.0 now)
+write_change-requires-clause-begun g c now =
+    let inv = c.loop-i.invariant in
+    let at = (goal.at.write_change-requires-clause-begun g c).After-as_slice-spans in
+    let dh = inv.steps_on.device_honesty.0 now in
+    record {
+      within = are_ranges (length (g.D.Device.image c.loop-i.devices.device)) _ (subst (λ n. LieWithin n c.as_slice-spans.result.now) (inv.touched.long dh) (touched g at).0.within);
+      text = (begun g at).text dh;
+    }
 
 pub write_change-requires-clause-image_room : goal.write_change-requires-clause-image_room
 write_change-requires-clause-image_room g c =
@@ -163,7 +167,7 @@ begin_last-requires-clause-long g c now =
     let wrote = c.in_ok-write_change.ensures in
     let dh = on.device_honesty.0 (wrote.steps_on.device_honesty.0 now) in
     sym (ap length (restored (turn g at.After-take_both-entry) (keeps g at.After-as_slice-spans) (by g at.After-as_bytes) (wrote.image (on.device_honesty.1 dh)))
-    ∙ length-restore (kept_of c.take_both-entry.result.0.kept) (g.D.Device.image c.loop-i.device))
+    ∙ length-restore (kept_of c.take_both-entry.result.0.kept) (g.D.Device.image c.loop-i.devices.device))
 
 pub begin_last-requires-clause-within : goal.begin_last-requires-clause-within
 begin_last-requires-clause-within g c =
@@ -186,7 +190,7 @@ returns-in_err-place-clause-finds g c dh th rh s rest count =
     always_err c.from_residual-in_err-place.result (
       c.loop-i.i + 1,
       omega (arith, c.loop-i-test.true, c.len-k.ensures),
-      rest_is_found (g.T.TextStore.text c.write_change.new.store) (g.D.Device.image c.begin_last.new.device) (g.T.TextStore.text c.write_change.new.redo) (redo_of (c.loop-i.i + 1) s)
+      rest_is_found (g.T.TextStore.text c.write_change.new.devices.store) (g.D.Device.image c.begin_last.new.device) (g.T.TextStore.text c.write_change.new.devices.redo_text) (redo_of (c.loop-i.i + 1) s)
           (record { rest = rests_again last kept again done rh dh th s (record { rest = inv.rest dh th rh s rest count; undone = here.0.undone }) here.1; undone = next.0.undone }),
     )
 
@@ -199,7 +203,7 @@ returns-in_err-place-clause-fault g c dh th stack rest count =
     always_err c.from_residual-in_err-place.result (
       c.loop-i.i + 1,
       omega (arith, c.loop-i-test.true, c.len-k.ensures),
-      (on.0, on.1, rest_recovers (g.T.TextStore.text c.write_change.new.store) (g.D.Device.image c.begin_last.new.device) (on.0 ++ stack) on.2),
+      (on.0, on.1, rest_recovers (g.T.TextStore.text c.write_change.new.devices.store) (g.D.Device.image c.begin_last.new.device) (on.0 ++ stack) on.2),
     )
 
 pub loop-i-preserved : goal.loop-i-preserved
@@ -220,7 +224,7 @@ loop-i-preserved g c =
       left = one_less last done.cut (omega (arith, wrote.room, next.goes_on.no_less_room));
       touched = record {
         len = e.kept.len;
-        long = λ dh. sym (ap length (restored last kept again (done.changed dh)) ∙ length-restore (kept_of e.kept) (g.D.Device.image c.loop-i.device));
+        long = λ dh. sym (ap length (restored last kept again (done.changed dh)) ∙ length-restore (kept_of e.kept) (g.D.Device.image c.loop-i.devices.device));
         touched = (touched g at.After-as_slice-spans).1;
       };
       begun = begun_same (c.loop-i.count + 1 + 1) c.begin_last.new.page.items c.in_ok-place.place (λ dh. wrote.steps_on.device_honesty.1 (inv.steps_on.device_honesty.1 dh)) (λ dh. next.image (wrote.steps_on.device_honesty.1 (inv.steps_on.device_honesty.1 dh))) c.as_slice.ensures.value next.begun;
@@ -240,13 +244,14 @@ loop-i-preserved g c =
       settled = λ dh th rh on.
           let here = inv.steps_on in
           let d = here.device_honesty.1 dh in
-          looked_at _ _ _ _ _ _ _ _ (next.image (wrote.steps_on.device_honesty.1 d)) (next.survives (wrote.steps_on.device_honesty.1 d)) (wrote.settles d (here.store_honesty.1 th) (here.redo_honesty.1 rh));
+          looked_at _ _ _ _ (next.image (wrote.steps_on.device_honesty.1 d)) (next.survives (wrote.steps_on.device_honesty.1 d)) (wrote.settles d (here.store_honesty.1 th) (here.redo_honesty.1 rh));
       on_top = λ dh th stack rest count.
           rests_on last kept again done dh th (omega (arith, last.most, inv.bound)) inv.made stack (some_stands _ _ stack rest.stands) count (inv.on_top dh th stack rest count);
       stood = λ dh th stack stands count.
           stands_on last kept again done dh th (omega (arith, last.most, inv.bound)) inv.made stack (some_stands _ _ stack stands) count (inv.stood dh th stack stands count);
-      page_room = omega (arith, inv.page_room, wrote.page_kept, next.room);
-      window = omega (arith, inv.window, wrote.window, next.window);
+      page_room = omega (arith, inv.page_room, wrote.kept.page, next.room);
+      window = subst (λ n. 16 ≤ n) (length_refill c.write_change.new.head.window.len c.write_change.new.head.window.items c.begin_last.new.window c.write_change.new.head.window.ok.0)
+          (omega (arith, inv.window, wrote.kept.window, c.write_change.new.head.window.ok.0));
       rest = λ dh th rh s rest count.
           let here = inv.images dh th rh s (standing rest) count in
           rests_again last kept again done rh dh th s (record { rest = inv.rest dh th rh s rest count; undone = here.0.undone }) here.1;
@@ -263,7 +268,7 @@ loop-i-init g c = record {
   begun = c.requires.begun;
   made = omega arith;
   bound = c.requires.bound;
-  front = λ th. ([], sym (append-nil (g.T.TextStore.text c.args.store.now)));
+  front = λ th. ([], sym (append-nil (g.T.TextStore.text c.args.devices.now.store)));
   steps_on = none_yet;
   fits = c.requires.fits;
   settled = λ dh th rh on. on;
@@ -283,35 +288,35 @@ all_taken g c = omega (arith, c.len-k.ensures, c.loop-i.invariant.left.more, c.l
 pub returns-clause-found : goal.returns-clause-found
 returns-clause-found g c dh th rh s rest count =
     let inv = c.loop-i.invariant in
-    subst (λ k. AreAtRest (g.T.TextStore.text c.loop-i.store) (g.D.Device.image c.loop-i.device) (g.T.TextStore.text c.loop-i.redo_text) (redo_of k s)) (all_taken g (goal.at.returns-clause-found g c).After-loop-i)
+    subst (λ k. AreAtRest (g.T.TextStore.text c.loop-i.devices.store) (g.D.Device.image c.loop-i.devices.device) (g.T.TextStore.text c.loop-i.devices.redo_text) (redo_of k s)) (all_taken g (goal.at.returns-clause-found g c).After-loop-i)
     (record { rest = inv.rest dh th rh s rest count; undone = (inv.images dh th rh s (standing rest) count).0.undone })
 
 pub returns-clause-images : goal.returns-clause-images
 returns-clause-images g c dh th rh s stands count =
-    subst (λ k. AreStanding (g.T.TextStore.text c.loop-i.store) (g.D.Device.image c.loop-i.device) (g.T.TextStore.text c.loop-i.redo_text) (redo_of k s)) (all_taken g (goal.at.returns-clause-images g c).After-loop-i)
+    subst (λ k. AreStanding (g.T.TextStore.text c.loop-i.devices.store) (g.D.Device.image c.loop-i.devices.device) (g.T.TextStore.text c.loop-i.devices.redo_text) (redo_of k s)) (all_taken g (goal.at.returns-clause-images g c).After-loop-i)
     (c.loop-i.invariant.images dh th rh s stands count).0
 
 pub returns-clause-rests : goal.returns-clause-rests
 returns-clause-rests g c dh th stack rest count =
-    subst (λ k. OnTop k stack (IsAtRest (g.T.TextStore.text c.loop-i.store) (g.D.Device.image c.loop-i.device))) (all_taken g (goal.at.returns-clause-rests g c).After-loop-i) (c.loop-i.invariant.on_top dh th stack rest count)
+    subst (λ k. OnTop k stack (IsAtRest (g.T.TextStore.text c.loop-i.devices.store) (g.D.Device.image c.loop-i.devices.device))) (all_taken g (goal.at.returns-clause-rests g c).After-loop-i) (c.loop-i.invariant.on_top dh th stack rest count)
 
 pub returns-clause-stands : goal.returns-clause-stands
 returns-clause-stands g c dh th stack stands count =
-    subst (λ k. OnTop k stack (StandsFor (g.T.TextStore.text c.loop-i.store) (g.D.Device.image c.loop-i.device))) (all_taken g (goal.at.returns-clause-stands g c).After-loop-i) (c.loop-i.invariant.stood dh th stack stands count)
+    subst (λ k. OnTop k stack (StandsFor (g.T.TextStore.text c.loop-i.devices.store) (g.D.Device.image c.loop-i.devices.device))) (all_taken g (goal.at.returns-clause-stands g c).After-loop-i) (c.loop-i.invariant.stood dh th stack stands count)
 
 pub returns-clause-taken : goal.returns-clause-taken
 returns-clause-taken g c dh th rh es finished =
     let inv = c.loop-i.invariant in
     let all = all_taken g (goal.at.returns-clause-taken g c).After-loop-i in
     let none : length c.loop-i.takens.items ≡ 0 = omega (arith, inv.left.more, all) in
-    ap (λ k. taken_by k (drop c.loop-i.i es) (g.D.Device.image c.loop-i.device) c.loop-i.count (g.T.TextStore.text c.loop-i.store)) (sym none) ∙ inv.taken dh th rh es finished
+    ap (λ k. taken_by k (drop c.loop-i.i es) (g.D.Device.image c.loop-i.devices.device) c.loop-i.count (g.T.TextStore.text c.loop-i.devices.store)) (sym none) ∙ inv.taken dh th rh es finished
 
 pub returns-clause-number : goal.returns-clause-number
 returns-clause-number g c = omega (arith, c.loop-i.invariant.made, all_taken g (goal.at.returns-clause-number g c).After-loop-i)
 
 pub returns-clause-left : goal.returns-clause-left
 returns-clause-left g c rh entries finished =
-    subst (λ n. HasLeft (g.T.TextStore.text c.args.redo_text.now) (g.T.TextStore.text c.loop-i.redo_text) (drop n entries)) (all_taken g (goal.at.returns-clause-left g c).After-loop-i) (left_at c.loop-i.invariant.left rh entries finished)
+    subst (λ n. HasLeft (g.T.TextStore.text c.args.devices.now.redo_text) (g.T.TextStore.text c.loop-i.devices.redo_text) (drop n entries)) (all_taken g (goal.at.returns-clause-left g c).After-loop-i) (left_at c.loop-i.invariant.left rh entries finished)
 
 pub returns-in_err-write_change-clause-steps_on : goal.returns-in_err-write_change-clause-steps_on
 returns-in_err-write_change-clause-steps_on g c = step_fails c.from_residual.result (err_from_is_err_and c.from_residual.result c.from_residual.ensures.1).1 c.loop-i.invariant.steps_on c.in_err-write_change.ensures.steps_on
@@ -347,7 +352,7 @@ returns-in_err-place-clause-survives g c dh th rh on s rest count =
     let did = c.in_ok-write_change.ensures in
     let d = inv.steps_on.device_honesty.1 dh in
     let still = did.steps_on.device_honesty.1 d in
-    let settled = looked_at _ _ _ _ _ _ _ _ (c.in_err-place.ensures.image still) (c.in_err-place.ensures.survives still) (did.settles d (inv.steps_on.store_honesty.1 th) (inv.steps_on.redo_honesty.1 rh)) in
+    let settled = looked_at _ _ _ _ (c.in_err-place.ensures.image still) (c.in_err-place.ensures.survives still) (did.settles d (inv.steps_on.store_honesty.1 th) (inv.steps_on.redo_honesty.1 rh)) in
     survive_err c.from_residual-in_err-place.result (λ y new redo. (j : ℕ) × (j ≤ length c.args.takens.now.items) × Finds (shown new) y redo (redo_of j s)) _ _ _ (λ y new redo image_there there redo_there. (
       c.loop-i.i + 1,
       omega (arith, c.loop-i-test.true, c.len-k.ensures),

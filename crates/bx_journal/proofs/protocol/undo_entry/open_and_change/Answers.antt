@@ -45,21 +45,21 @@ moved text x y below same h = subst (λ z. Recovers text z (x ∷ below) ⊎ Rec
 
 pub returns-in_err-cut_end-clause-survives : goal.returns-in_err-cut_end-clause-survives
 returns-in_err-cut_end-clause-survives g c begins dh th rh settled below v e t st y new redo image_there there redo_there =
-    let x : List ℕ = g.D.Device.image c.args.device.now in
-    let r : List ℕ = g.T.TextStore.text c.args.redo_text.now in
+    let x : List ℕ = g.D.Device.image c.args.devices.now.device in
+    let r : List ℕ = g.T.TextStore.text c.args.devices.now.redo_text in
     let same : y ≡ x = settled.device y image_there in
     first_stops (shown new) y redo (side_of (x ∷ below) x r) (side_of below (restore e.saved x) (kept_text r (kept_of c.args.taken.now) c.args.number c.args.mark.len)) same (settled.redo redo redo_there)
     (moved (shown new) x y below same (c.in_err-cut_end.ensures.survives th settled.store x below v e begins t new there))
 
 pub returns-in_err-change_undone-clause-survives : goal.returns-in_err-change_undone-clause-survives
 returns-in_err-change_undone-clause-survives g c begins dh th rh settled below v e t st y new redo image_there there redo_there =
-    let x : List ℕ = g.D.Device.image c.args.device.now in
-    let r : List ℕ = g.T.TextStore.text c.args.redo_text.now in
+    let x : List ℕ = g.D.Device.image c.args.devices.now.device in
+    let r : List ℕ = g.T.TextStore.text c.args.devices.now.redo_text in
     let cut = c.in_ok-cut_end.ensures in
     let still = cut.goes_on.honesty.1 th in
     let stopped = c.in_err-change_undone.ensures in
     let text : List ℕ = g.T.TextStore.text c.cut_end.new.store in
-    let opened = first_ok (g.T.TextStore.text c.args.store.now) x below v e begins c.args.mark.saved t text (cut.text th) in
+    let opened = first_ok (g.T.TextStore.text c.args.devices.now.store) x below v e begins c.args.mark.saved t text (cut.text th) in
     let open_there = stopped.survives dh still e.saved (stands _ _ c.args.mark e.saved th c.requires.within_text st (cut.text th)) settled.device y image_there v text below opened in
     let found : shown new ≡ text = ap shown (cut.settled th new (stopped.text_survives still new there)) ∙ open_shown v e.saved text y below open_there in
     let old : Side = side_of (x ∷ below) x r in
@@ -68,13 +68,13 @@ returns-in_err-change_undone-clause-survives g c begins dh th rh settled below v
 
 pub returns-clause-survives : goal.returns-clause-survives
 returns-clause-survives g c begins dh th rh settled below v e t st y new redo image_there there redo_there =
-    let x : List ℕ = g.D.Device.image c.args.device.now in
-    let r : List ℕ = g.T.TextStore.text c.args.redo_text.now in
+    let x : List ℕ = g.D.Device.image c.args.devices.now.device in
+    let r : List ℕ = g.T.TextStore.text c.args.devices.now.redo_text in
     let cut = c.in_ok-cut_end.ensures in
     let still = cut.goes_on.honesty.1 th in
     let done = c.in_ok-change_undone.ensures in
     let text : List ℕ = g.T.TextStore.text c.cut_end.new.store in
-    let opened = first_ok (g.T.TextStore.text c.args.store.now) x below v e begins c.args.mark.saved t text (cut.text th) in
+    let opened = first_ok (g.T.TextStore.text c.args.devices.now.store) x below v e begins c.args.mark.saved t text (cut.text th) in
     let open_there = done.survives dh still e.saved (stands _ _ c.args.mark e.saved th c.requires.within_text st (cut.text th)) settled.device y image_there v text below opened in
     let found : shown new ≡ text = ap shown (cut.settled th new (done.text_survives still new there)) ∙ open_shown v e.saved text y below open_there in
     let old : Side = side_of (x ∷ below) x r in

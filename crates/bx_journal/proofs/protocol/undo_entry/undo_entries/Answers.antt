@@ -31,18 +31,18 @@ last g c = placed_turn c.loop-i.invariant.left c.take_last-taken.ensures.entry c
 
 -- the entry is undone, whether or not the next record is filled
 back : (g : _) (c : After-fill_last g) (here : PlacedTurn c.loop-i.invariant.left c.take_last-taken.new.placed.items c.take_last-taken.result.0 c.take_last-taken.new.takens.items c.take_last-taken.result.1)
-    → IsTakenBack (g.T.TextStore.honest c.args.store.now) (g.D.Device.honest c.args.device.now) (g.T.TextStore.honest c.args.redo_text.now) (g.T.TextStore.text c.loop-i.store) (g.D.Device.image c.loop-i.device) (g.T.TextStore.text c.loop-i.redo_text)
-    (g.T.TextStore.text c.undo_entry.new.store) (g.D.Device.image c.fill_last.new.device) (g.T.TextStore.text c.undo_entry.new.redo) here.e c.take_last-taken.result.1 c.loop-i.undone
+    → IsTakenBack (g.T.TextStore.honest c.args.devices.now.store) (g.D.Device.honest c.args.devices.now.device) (g.T.TextStore.honest c.args.devices.now.redo_text) (g.T.TextStore.text c.loop-i.devices.store) (g.D.Device.image c.loop-i.devices.device) (g.T.TextStore.text c.loop-i.devices.redo_text)
+    (g.T.TextStore.text c.undo_entry.new.devices.store) (g.D.Device.image c.fill_last.new.device) (g.T.TextStore.text c.undo_entry.new.devices.redo_text) here.e c.take_last-taken.result.1 c.loop-i.undone
 back g c here =
     let on = c.loop-i.invariant.steps_on in
     let undo = c.in_ok-undo_entry.ensures in
-    let text : List ℕ = g.T.TextStore.text c.loop-i.store in
-    let same = λ (h : g.D.Device.honest c.args.device.now). c.fill_last.ensures.image (undo.steps_on.device_honesty.1 (on.device_honesty.1 h)) in
+    let text : List ℕ = g.T.TextStore.text c.loop-i.devices.store in
+    let same = λ (h : g.D.Device.honest c.args.devices.now.device). c.fill_last.ensures.image (undo.steps_on.device_honesty.1 (on.device_honesty.1 h)) in
     record {
       restored = λ th dh. same dh ∙ undo.undoes.image_is (on.device_honesty.1 dh) (on.store_honesty.1 th) (kept_of here.e.kept) (here.placed.stands th);
       cut = λ th. undo.text (on.store_honesty.1 th) ∙ ap (λ b. take b text) here.placed.begins;
-      kept = λ rh. undo.undoes.redo_is (on.redo_honesty.1 rh) ∙ ap (kept_text (g.T.TextStore.text c.loop-i.redo_text) (kept_of c.take_last-taken.result.1) (c.loop-i.undone + 1)) here.placed.len;
-      rests = λ dh th below newest. subst (λ z. IsAtRest (g.T.TextStore.text c.undo_entry.new.store) z below) (sym (same dh))
+      kept = λ rh. undo.undoes.redo_is (on.redo_honesty.1 rh) ∙ ap (kept_text (g.T.TextStore.text c.loop-i.devices.redo_text) (kept_of c.take_last-taken.result.1) (c.loop-i.undone + 1)) here.placed.len;
+      rests = λ dh th below newest. subst (λ z. IsAtRest (g.T.TextStore.text c.undo_entry.new.devices.store) z below) (sym (same dh))
           (undo.ok (on.device_honesty.1 dh) (on.store_honesty.1 th) below here.e.version (entry_of here.e) (placed_marks here.placed newest) (here.placed.stands th));
     }
 
@@ -83,7 +83,7 @@ returns-in_err-undo_entry-clause-finds g c dh th rh s rest count =
     let less : c.loop-i.i < length c.args.takens.now.items = omega (arith, c.loop-i-test.true, c.len-k.ensures) in
     let at = last g (goal.at.returns-in_err-undo_entry-clause-finds g c).After-take_last-taken in
     always_err _ (undo_stopped at.turn th dh less s (record { rest = inv.rest dh th s.stack rest.rest; undone = here.0.undone }) here.1
-    (λ below newest. at_place at.placed (g.T.TextStore.text c.loop-i.redo_text) (kept_of c.take_last-taken.result.1) (c.loop-i.undone + 1) (c.in_err-undo_entry.ensures.left (inv.steps_on.device_honesty.1 dh) (inv.steps_on.store_honesty.1 th) (inv.steps_on.redo_honesty.1 rh) below at.e.version (entry_of at.e) (placed_marks at.placed newest) (at.placed.stands th))))
+    (λ below newest. at_place at.placed (g.T.TextStore.text c.loop-i.devices.redo_text) (kept_of c.take_last-taken.result.1) (c.loop-i.undone + 1) (c.in_err-undo_entry.ensures.left (inv.steps_on.device_honesty.1 dh) (inv.steps_on.store_honesty.1 th) (inv.steps_on.redo_honesty.1 rh) below at.e.version (entry_of at.e) (placed_marks at.placed newest) (at.placed.stands th))))
 
 pub returns-in_err-undo_entry-clause-fault : goal.returns-in_err-undo_entry-clause-fault
 returns-in_err-undo_entry-clause-fault g c dh th stack rest =
@@ -113,7 +113,7 @@ returns-in_err-fill_last-clause-finds g c dh th rh s rest count =
     always_err c.from_residual-in_err-fill_last.result (
       c.loop-i.i + 1,
       omega (arith, c.loop-i-test.true, c.len-k.ensures),
-      rest_is_found (g.T.TextStore.text c.undo_entry.new.store) (g.D.Device.image c.fill_last.new.device) (g.T.TextStore.text c.undo_entry.new.redo) (undo_of (c.loop-i.i + 1) s)
+      rest_is_found (g.T.TextStore.text c.undo_entry.new.devices.store) (g.D.Device.image c.fill_last.new.device) (g.T.TextStore.text c.undo_entry.new.devices.redo_text) (undo_of (c.loop-i.i + 1) s)
           (record { rest = rests_below turn done th dh s.stack (inv.rest dh th s.stack rest.rest); undone = next.0.undone }),
     )
 
@@ -148,7 +148,7 @@ loop-i-preserved g c =
       settled = λ dh th rh on.
           let here = inv.steps_on in
           let d = here.device_honesty.1 dh in
-          looked_at _ _ _ _ _ _ _ _ (filled.image (undo.steps_on.device_honesty.1 d)) (filled.survives (undo.steps_on.device_honesty.1 d)) (undo.settles d (here.store_honesty.1 th) (here.redo_honesty.1 rh));
+          looked_at _ _ _ _ (filled.image (undo.steps_on.device_honesty.1 d)) (filled.survives (undo.steps_on.device_honesty.1 d)) (undo.settles d (here.store_honesty.1 th) (here.redo_honesty.1 rh));
       empty = undo.emptied;
       page_room = omega (arith, inv.page_room, undo.page_kept);
       rest = λ dh th stack rest. rests_below turn done th dh stack (inv.rest dh th stack rest);
@@ -189,7 +189,7 @@ returns-clause-images g c dh th rh s stands count =
     let all = all_taken g (goal.at.returns-clause-images g c).After-loop-i in
     let here = c.loop-i.invariant.images dh th rh s stands count in (
       here.1 ∙ ap (λ (k : ℕ). length (undo_of k s).undone) all,
-      subst (λ k. AreStanding (g.T.TextStore.text c.loop-i.store) (g.D.Device.image c.loop-i.device) (g.T.TextStore.text c.loop-i.redo_text) (undo_of k s)) all here.0,
+      subst (λ k. AreStanding (g.T.TextStore.text c.loop-i.devices.store) (g.D.Device.image c.loop-i.devices.device) (g.T.TextStore.text c.loop-i.devices.redo_text) (undo_of k s)) all here.0,
     )
 
 pub returns-clause-taken : goal.returns-clause-taken
@@ -197,19 +197,19 @@ returns-clause-taken g c dh th rh es finished =
     let inv = c.loop-i.invariant in
     let all = all_taken g (goal.at.returns-clause-taken g c).After-loop-i in
     let none : length c.loop-i.takens.items ≡ 0 = omega (arith, inv.left.left.more, all) in
-    ap (λ k. taken_by k (drop c.loop-i.i es) (g.D.Device.image c.loop-i.device) c.loop-i.undone (g.T.TextStore.text c.loop-i.redo_text)) (sym none) ∙ inv.taken dh th rh es finished
+    ap (λ k. taken_by k (drop c.loop-i.i es) (g.D.Device.image c.loop-i.devices.device) c.loop-i.undone (g.T.TextStore.text c.loop-i.devices.redo_text)) (sym none) ∙ inv.taken dh th rh es finished
 
 pub returns-clause-ok : goal.returns-clause-ok
 returns-clause-ok g c dh th stack rest =
-    subst (λ n. IsAtRest (g.T.TextStore.text c.loop-i.store) (g.D.Device.image c.loop-i.device) (drop n stack)) (all_taken g (goal.at.returns-clause-ok g c).After-loop-i) (c.loop-i.invariant.rest dh th stack rest)
+    subst (λ n. IsAtRest (g.T.TextStore.text c.loop-i.devices.store) (g.D.Device.image c.loop-i.devices.device) (drop n stack)) (all_taken g (goal.at.returns-clause-ok g c).After-loop-i) (c.loop-i.invariant.rest dh th stack rest)
 
 pub returns-clause-stands : goal.returns-clause-stands
 returns-clause-stands g c dh th stack stands =
-    subst (λ n. StandsFor (g.T.TextStore.text c.loop-i.store) (g.D.Device.image c.loop-i.device) (drop n stack)) (all_taken g (goal.at.returns-clause-stands g c).After-loop-i) (c.loop-i.invariant.stood dh th stack stands)
+    subst (λ n. StandsFor (g.T.TextStore.text c.loop-i.devices.store) (g.D.Device.image c.loop-i.devices.device) (drop n stack)) (all_taken g (goal.at.returns-clause-stands g c).After-loop-i) (c.loop-i.invariant.stood dh th stack stands)
 
 pub returns-clause-left : goal.returns-clause-left
 returns-clause-left g c th entries finished =
-    subst (λ n. HasLeft (g.T.TextStore.text c.args.store.now) (g.T.TextStore.text c.loop-i.store) (drop n entries)) (all_taken g (goal.at.returns-clause-left g c).After-loop-i) (left_at c.loop-i.invariant.left.left th entries finished)
+    subst (λ n. HasLeft (g.T.TextStore.text c.args.devices.now.store) (g.T.TextStore.text c.loop-i.devices.store) (drop n entries)) (all_taken g (goal.at.returns-clause-left g c).After-loop-i) (left_at c.loop-i.invariant.left.left th entries finished)
 
 pub returns-in_err-undo_entry-clause-steps_on : goal.returns-in_err-undo_entry-clause-steps_on
 returns-in_err-undo_entry-clause-steps_on g c = step_fails c.from_residual.result (err_from_is_err_and c.from_residual.result c.from_residual.ensures.1).1 c.loop-i.invariant.steps_on c.in_err-undo_entry.ensures.steps_on
@@ -230,7 +230,7 @@ returns-in_err-undo_entry-clause-survives g c dh th rh on s rest count =
     let less : c.loop-i.i < length c.args.takens.now.items = omega (arith, c.loop-i-test.true, c.len-k.ensures) in
     let p = last g at.After-take_last-taken in
     survive_err c.from_residual.result (λ y new redo. (j : ℕ) × (j ≤ length c.args.takens.now.items) × Finds (shown new) y redo (undo_of j s)) _ _ _ (λ y new redo image_there there redo_there. undo_stopped p.turn th dh less s (record { rest = inv.rest dh th s.stack rest.rest; undone = here.0.undone }) here.1
-    (λ below newest. at_place p.placed (g.T.TextStore.text c.loop-i.redo_text) (kept_of c.take_last-taken.result.1) (c.loop-i.undone + 1) (c.in_err-undo_entry.ensures.survives d t u (inv.settled dh th rh on) below p.e.version (entry_of p.e) (placed_marks p.placed newest) (p.placed.stands th) y new redo image_there there redo_there)))
+    (λ below newest. at_place p.placed (g.T.TextStore.text c.loop-i.devices.redo_text) (kept_of c.take_last-taken.result.1) (c.loop-i.undone + 1) (c.in_err-undo_entry.ensures.survives d t u (inv.settled dh th rh on) below p.e.version (entry_of p.e) (placed_marks p.placed newest) (p.placed.stands th) y new redo image_there there redo_there)))
 
 pub returns-in_err-fill_last-clause-survives : goal.returns-in_err-fill_last-clause-survives
 returns-in_err-fill_last-clause-survives g c dh th rh on s rest count =
@@ -245,7 +245,7 @@ returns-in_err-fill_last-clause-survives g c dh th rh on s rest count =
     let did = c.in_ok-undo_entry.ensures in
     let d = inv.steps_on.device_honesty.1 dh in
     let still = did.steps_on.device_honesty.1 d in
-    let settled = looked_at _ _ _ _ _ _ _ _ (c.in_err-fill_last.ensures.image still) (c.in_err-fill_last.ensures.survives still) (did.settles d (inv.steps_on.store_honesty.1 th) (inv.steps_on.redo_honesty.1 rh)) in
+    let settled = looked_at _ _ _ _ (c.in_err-fill_last.ensures.image still) (c.in_err-fill_last.ensures.survives still) (did.settles d (inv.steps_on.store_honesty.1 th) (inv.steps_on.redo_honesty.1 rh)) in
     survive_err c.from_residual-in_err-fill_last.result (λ y new redo. (j : ℕ) × (j ≤ length c.args.takens.now.items) × Finds (shown new) y redo (undo_of j s)) _ _ _ (λ y new redo image_there there redo_there. (
       c.loop-i.i + 1,
       omega (arith, c.loop-i-test.true, c.len-k.ensures),

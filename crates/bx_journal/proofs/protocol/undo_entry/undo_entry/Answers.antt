@@ -28,12 +28,12 @@ moved text x y below same h = subst (λ z. Recovers text z (x ∷ below) ⊎ Rec
 
 pub returns-in_err-open_and_change-clause-left : goal.returns-in_err-open_and_change-clause-left
 returns-in_err-open_and_change-clause-left g c dh th rh below v e t st =
-    let x : List ℕ = g.D.Device.image c.args.device.now in
-    let y : List ℕ = g.D.Device.image c.open_and_change.new.device in
-    let r : List ℕ = g.T.TextStore.text c.args.redo.now in
-    let redo : List ℕ = g.T.TextStore.text c.open_and_change.new.redo_text in
-    let first : List ℕ = g.T.TextStore.text c.args.store.now in
-    let text : List ℕ = g.T.TextStore.text c.open_and_change.new.store in
+    let x : List ℕ = g.D.Device.image c.args.devices.now.device in
+    let y : List ℕ = g.D.Device.image c.open_and_change.new.devices.device in
+    let r : List ℕ = g.T.TextStore.text c.args.devices.now.redo_text in
+    let redo : List ℕ = g.T.TextStore.text c.open_and_change.new.devices.redo_text in
+    let first : List ℕ = g.T.TextStore.text c.args.devices.now.store in
+    let text : List ℕ = g.T.TextStore.text c.open_and_change.new.devices.store in
     let begins : ℕ = c.args.entry.begins in
     let saved : ℕ = c.args.entry.mark.saved in
     let old : Side = side_of (x ∷ below) x r in
@@ -47,10 +47,10 @@ returns-in_err-open_and_change-clause-left g c dh th rh below v e t st =
 
 pub returns-in_err-open_and_change-clause-fault : goal.returns-in_err-open_and_change-clause-fault
 returns-in_err-open_and_change-clause-fault g c dh th below v e t st =
-    let x : List ℕ = g.D.Device.image c.args.device.now in
-    let y : List ℕ = g.D.Device.image c.open_and_change.new.device in
-    let first : List ℕ = g.T.TextStore.text c.args.store.now in
-    let text : List ℕ = g.T.TextStore.text c.open_and_change.new.store in
+    let x : List ℕ = g.D.Device.image c.args.devices.now.device in
+    let y : List ℕ = g.D.Device.image c.open_and_change.new.devices.device in
+    let first : List ℕ = g.T.TextStore.text c.args.devices.now.store in
+    let text : List ℕ = g.T.TextStore.text c.open_and_change.new.devices.store in
     let begins : ℕ = c.args.entry.begins in
     let saved : ℕ = c.args.entry.mark.saved in
     let stop = c.in_err-open_and_change.ensures in
@@ -73,39 +73,39 @@ returns-clause-undoes g c =
 
 pub returns-clause-ok : goal.returns-clause-ok
 returns-clause-ok g c dh th below v e t st =
-    let x : List ℕ = g.D.Device.image c.args.device.now in
-    let y : List ℕ = g.D.Device.image c.open_and_change.new.device in
-    let text : List ℕ = g.T.TextStore.text c.open_and_change.new.store in
+    let x : List ℕ = g.D.Device.image c.args.devices.now.device in
+    let y : List ℕ = g.D.Device.image c.open_and_change.new.devices.device in
+    let text : List ℕ = g.T.TextStore.text c.open_and_change.new.devices.store in
     let done = c.in_ok-open_and_change.ensures in
-    let tail = first_tail (g.T.TextStore.text c.args.store.now) x below v e c.args.entry.begins c.args.entry.mark.saved t text (done.text th) in
+    let tail = first_tail (g.T.TextStore.text c.args.devices.now.store) x below v e c.args.entry.begins c.args.entry.mark.saved t text (done.text th) in
     let good = IsAsGood-unmapped e.saved x y (done.keeps dh th e.saved st) tail.sound.unfinished in
     c.drop_tail.ensures.ok (done.steps_on.store_honesty.1 th) y below t.entries (Ending v e.saved)
     (tail_moves text x y below t.entries v e.saved c.args.entry.begins tail good) (good.same ∙ sym (done.undoes.image_is dh th e.saved st))
 
 pub returns-clause-left : goal.returns-clause-left
 returns-clause-left g c dh th rh below v e t st =
-    let x : List ℕ = g.D.Device.image c.args.device.now in
-    let y : List ℕ = g.D.Device.image c.open_and_change.new.device in
-    let r : List ℕ = g.T.TextStore.text c.args.redo.now in
-    let text : List ℕ = g.T.TextStore.text c.open_and_change.new.store in
+    let x : List ℕ = g.D.Device.image c.args.devices.now.device in
+    let y : List ℕ = g.D.Device.image c.open_and_change.new.devices.device in
+    let r : List ℕ = g.T.TextStore.text c.args.devices.now.redo_text in
+    let text : List ℕ = g.T.TextStore.text c.open_and_change.new.devices.store in
     let old : Side = side_of (x ∷ below) x r in
     let new : Side = side_of below (restore e.saved x) (kept_text r (kept_of c.args.taken.now) c.args.number c.args.entry.mark.len) in
     let done = c.in_ok-open_and_change.ensures in
-    let tail = first_tail (g.T.TextStore.text c.args.store.now) x below v e c.args.entry.begins c.args.entry.mark.saved t text (done.text th) in
+    let tail = first_tail (g.T.TextStore.text c.args.devices.now.store) x below v e c.args.entry.begins c.args.entry.mark.saved t text (done.text th) in
     let good = IsAsGood-unmapped e.saved x y (done.keeps dh th e.saved st) tail.sound.unfinished in
     let restored = done.undoes.image_is dh th e.saved st in
     on_err_weaker c.drop_tail.result
-    (behind_stops (g.T.TextStore.text c.drop_tail.new.store) y (g.T.TextStore.text c.open_and_change.new.redo_text) old new restored (done.undoes.redo_is rh))
+    (behind_stops (g.T.TextStore.text c.drop_tail.new.store) y (g.T.TextStore.text c.open_and_change.new.devices.redo_text) old new restored (done.undoes.redo_is rh))
     (c.drop_tail.ensures.fault (done.steps_on.store_honesty.1 th) y below t.entries (Ending v e.saved)
     (tail_moves text x y below t.entries v e.saved c.args.entry.begins tail good) (good.same ∙ sym restored))
 
 pub returns-clause-fault : goal.returns-clause-fault
 returns-clause-fault g c dh th below v e t st =
-    let x : List ℕ = g.D.Device.image c.args.device.now in
-    let y : List ℕ = g.D.Device.image c.open_and_change.new.device in
-    let text : List ℕ = g.T.TextStore.text c.open_and_change.new.store in
+    let x : List ℕ = g.D.Device.image c.args.devices.now.device in
+    let y : List ℕ = g.D.Device.image c.open_and_change.new.devices.device in
+    let text : List ℕ = g.T.TextStore.text c.open_and_change.new.devices.store in
     let done = c.in_ok-open_and_change.ensures in
-    let tail = first_tail (g.T.TextStore.text c.args.store.now) x below v e c.args.entry.begins c.args.entry.mark.saved t text (done.text th) in
+    let tail = first_tail (g.T.TextStore.text c.args.devices.now.store) x below v e c.args.entry.begins c.args.entry.mark.saved t text (done.text th) in
     let good = IsAsGood-unmapped e.saved x y (done.keeps dh th e.saved st) tail.sound.unfinished in
     on_err_weaker c.drop_tail.result inr
     (c.drop_tail.ensures.fault (done.steps_on.store_honesty.1 th) y below t.entries (Ending v e.saved)
@@ -116,17 +116,17 @@ returns-in_err-open_and_change-clause-survives g c = c.in_err-open_and_change.en
 
 pub returns-clause-survives : goal.returns-clause-survives
 returns-clause-survives g c dh th rh settled below v e t st y new redo image_there there redo_there =
-    let x : List ℕ = g.D.Device.image c.args.device.now in
-    let z : List ℕ = g.D.Device.image c.open_and_change.new.device in
-    let r : List ℕ = g.T.TextStore.text c.args.redo.now in
-    let text : List ℕ = g.T.TextStore.text c.open_and_change.new.store in
+    let x : List ℕ = g.D.Device.image c.args.devices.now.device in
+    let z : List ℕ = g.D.Device.image c.open_and_change.new.devices.device in
+    let r : List ℕ = g.T.TextStore.text c.args.devices.now.redo_text in
+    let text : List ℕ = g.T.TextStore.text c.open_and_change.new.devices.store in
     let old : Side = side_of (x ∷ below) x r in
     let new_side : Side = side_of below (restore e.saved x) (kept_text r (kept_of c.args.taken.now) c.args.number c.args.entry.mark.len) in
     let done = c.in_ok-open_and_change.ensures in
     let on_disk = done.settles dh th rh in
     let cut_is = done.text th in
-    let first = first_ok (g.T.TextStore.text c.args.store.now) x below v e c.args.entry.begins c.args.entry.mark.saved t text cut_is in
-    let tail = first_tail (g.T.TextStore.text c.args.store.now) x below v e c.args.entry.begins c.args.entry.mark.saved t text cut_is in
+    let first = first_ok (g.T.TextStore.text c.args.devices.now.store) x below v e c.args.entry.begins c.args.entry.mark.saved t text cut_is in
+    let tail = first_tail (g.T.TextStore.text c.args.devices.now.store) x below v e c.args.entry.begins c.args.entry.mark.saved t text cut_is in
     let good = IsAsGood-unmapped e.saved x z (done.keeps dh th e.saved st) tail.sound.unfinished in
     let restored = done.undoes.image_is dh th e.saved st in
     let same : y ≡ z = on_disk.device y image_there in

@@ -40,15 +40,15 @@ returns-in_err-cut_redo-clause-steps_on g c = record {
 
 pub returns-in_err-cut_redo-clause-survives : goal.returns-in_err-cut_redo-clause-survives
 returns-in_err-cut_redo-clause-survives g c dh th rh on s found y new r there text_there redo_there =
-    let text : List ℕ = g.T.TextStore.text c.args.store.now in
-    let x : List ℕ = g.D.Device.image c.args.device.now in
-    stopped_found text x new y r s.stack found.recovers (found_unclean (g.T.TextStore.honest c.args.store.now) text c.args.torn c.requires.found th) (on.store new text_there) (on.device y there)
+    let text : List ℕ = g.T.TextStore.text c.args.devices.now.store in
+    let x : List ℕ = g.D.Device.image c.args.devices.now.device in
+    stopped_found text x new y r s.stack found.recovers (found_unclean (g.T.TextStore.honest c.args.devices.now.store) text c.args.torn c.requires.found th) (on.store new text_there) (on.device y there)
 
 pub returns-clause-survives : goal.returns-clause-survives
 returns-clause-survives g c dh th rh on s found y new r there text_there redo_there =
-    let text : List ℕ = g.T.TextStore.text c.args.store.now in
-    let x : List ℕ = g.D.Device.image c.args.device.now in
+    let text : List ℕ = g.T.TextStore.text c.args.devices.now.store in
+    let x : List ℕ = g.D.Device.image c.args.devices.now.device in
     let cut = c.in_ok-cut_redo.ensures in
     emptied_found new y r s.stack (c.cut_unfinished.ensures.survives dh th on.device on.store s.stack found.recovers y new there text_there)
     (cut.settled rh r redo_there ∙ cut.redo rh)
-    (found_few (g.T.TextStore.honest c.args.store.now) text x s.stack c.args.torn c.requires.found th found.recovers)
+    (found_few (g.T.TextStore.honest c.args.devices.now.store) text x s.stack c.args.torn c.requires.found th found.recovers)

@@ -15,20 +15,20 @@ use Rattle.bx_journal.proofs.recovery.unfinished_entry.recover_read.Goals as goa
 pub returns-in-Err-clause-faults : goal.returns-in-Err-clause-faults
 returns-in-Err-clause-faults g c dh th r reads =
     let i = c.requires.found.torn th in
-    let same : i.reading ≡ r = torn_once (shown (g.T.TextStore.text c.args.store.now)) (shown (g.T.TextStore.text c.args.store.now)) c.args.torn i.reading r i.torn refl reads in
-    look_opens (g.D.Device.honest c.args.device.now) i.reading.entries (g.D.Device.image c.args.device.now) (image_at i.reading.stage (g.D.Device.image c.args.device.now)) r c.in-Err.fault dh
-    (sym (ap (λ (q : Reading). q.entries) same)) (sym (ap (λ (q : Reading). image_at q.stage (g.D.Device.image c.args.device.now)) same)) (c.in-Err.ensures.fault (shown (g.T.TextStore.text c.args.store.now)) i.reading i.torn)
+    let same : i.reading ≡ r = torn_once (shown (g.T.TextStore.text c.args.devices.now.store)) (shown (g.T.TextStore.text c.args.devices.now.store)) c.args.torn i.reading r i.torn refl reads in
+    look_opens (g.D.Device.honest c.args.devices.now.device) i.reading.entries (g.D.Device.image c.args.devices.now.device) (image_at i.reading.stage (g.D.Device.image c.args.devices.now.device)) r c.in-Err.fault dh
+    (sym (ap (λ (q : Reading). q.entries) same)) (sym (ap (λ (q : Reading). image_at q.stage (g.D.Device.image c.args.devices.now.device)) same)) (c.in-Err.ensures.fault (shown (g.T.TextStore.text c.args.devices.now.store)) i.reading i.torn)
 
 pub returns-in-Err-clause-differs : goal.returns-in-Err-clause-differs
 returns-in-Err-clause-differs g c dh th r n reads differs =
-    let x : List ℕ = g.D.Device.image c.args.device.now in
+    let x : List ℕ = g.D.Device.image c.args.devices.now.device in
     let i = c.requires.found.torn th in
-    let same : i.reading ≡ r = torn_once (shown (g.T.TextStore.text c.args.store.now)) (shown (g.T.TextStore.text c.args.store.now)) c.args.torn i.reading r i.torn refl reads in
-    look_refuses (g.D.Device.honest c.args.device.now) i.reading.entries (image_at i.reading.stage x) n c.in-Err.fault dh
-    (subst (λ (q : Reading). Differs q.entries (image_at q.stage x) n) (sym same) differs) (c.in-Err.ensures.fault (shown (g.T.TextStore.text c.args.store.now)) i.reading i.torn)
+    let same : i.reading ≡ r = torn_once (shown (g.T.TextStore.text c.args.devices.now.store)) (shown (g.T.TextStore.text c.args.devices.now.store)) c.args.torn i.reading r i.torn refl reads in
+    look_refuses (g.D.Device.honest c.args.devices.now.device) i.reading.entries (image_at i.reading.stage x) n c.in-Err.fault dh
+    (subst (λ (q : Reading). Differs q.entries (image_at q.stage x) n) (sym same) differs) (c.in-Err.ensures.fault (shown (g.T.TextStore.text c.args.devices.now.store)) i.reading i.torn)
 
 pub returns-in-Err-clause-keeps : goal.returns-in-Err-clause-keeps
-returns-in-Err-clause-keeps g c dh th stack rec = (tt, (subst (λ t. Recovers (shown t) (g.D.Device.image c.get_ready.new.device) stack) (sym (c.get_ready.ensures.stayed.text_same th)) (subst (λ x. Recovers (shown (g.T.TextStore.text c.args.store.now)) x stack) (sym (c.get_ready.ensures.stayed.image_same dh)) rec)))
+returns-in-Err-clause-keeps g c dh th stack rec = (tt, (subst (λ t. Recovers (shown t) (g.D.Device.image c.get_ready.new.devices.device) stack) (sym (c.get_ready.ensures.stayed.text_same th)) (subst (λ x. Recovers (shown (g.T.TextStore.text c.args.devices.now.store)) x stack) (sym (c.get_ready.ensures.stayed.image_same dh)) rec)))
 
 pub returns-in-Err-clause-refused : goal.returns-in-Err-clause-refused
 returns-in-Err-clause-refused g c dh th = after_same c.in-Err.fault _ (c.get_ready.ensures.stayed.text_same th, c.get_ready.ensures.stayed.image_same dh)
@@ -40,20 +40,20 @@ pub returns-in-Err-clause-kind : goal.returns-in-Err-clause-kind
 returns-in-Err-clause-kind g c = look_kind ⊥ [] [] c.in-Err.fault c.in-Err.ensures.kind
 
 pub returns-in-Err-clause-redo_same : goal.returns-in-Err-clause-redo_same
-returns-in-Err-clause-redo_same g c th = after_same c.in-Err.fault _ (c.get_ready.ensures.stayed.other_same th)
+returns-in-Err-clause-redo_same g c th = after_same c.in-Err.fault _ (c.get_ready.ensures.stayed.redo_same th)
 
 pub returns-in-Ok-finish-clause-opened : goal.returns-in-Ok-finish-clause-opened
 returns-in-Ok-finish-clause-opened g c dh th r reads =
-    let x : List ℕ = g.D.Device.image c.args.device.now in
+    let x : List ℕ = g.D.Device.image c.args.devices.now.device in
     let image = c.get_ready.ensures.stayed.image_same dh in
     let text = c.get_ready.ensures.stayed.text_same th in
     let i = c.requires.found.torn th in
-    let same : i.reading ≡ r = torn_once (shown (g.T.TextStore.text c.args.store.now)) (shown (g.T.TextStore.text c.args.store.now)) c.args.torn i.reading r i.torn refl reads in
-    let lengths = c.in-Ok.ensures.lengths dh (shown (g.T.TextStore.text c.args.store.now)) i.reading i.torn in
+    let same : i.reading ≡ r = torn_once (shown (g.T.TextStore.text c.args.devices.now.store)) (shown (g.T.TextStore.text c.args.devices.now.store)) c.args.torn i.reading r i.torn refl reads in
+    let lengths = c.in-Ok.ensures.lengths dh (shown (g.T.TextStore.text c.args.devices.now.store)) i.reading i.torn in
     let here = subst (λ z. HaveLengths r.entries (image_at r.stage z)) (sym image) (subst (λ (q : Reading). HaveLengths q.entries (image_at q.stage x)) same lengths) in
-    let found = c.in-Ok-finish.ensures.opened (c.get_ready.ensures.stayed.device_honesty.1 dh) (c.get_ready.ensures.stayed.text_honesty.1 th) r (subst (λ t. Reads (shown t) r) (sym text) reads) here in
-    subst (λ t. IsOpened t x r (g.T.TextStore.text c.finish.new.store) (g.D.Device.image c.finish.new.device) c.in-Ok-finish.found.how c.in-Ok-finish.found.changes) text
-    (subst (λ z. IsOpened (g.T.TextStore.text c.get_ready.new.store) z r (g.T.TextStore.text c.finish.new.store) (g.D.Device.image c.finish.new.device) c.in-Ok-finish.found.how c.in-Ok-finish.found.changes) image found)
+    let found = c.in-Ok-finish.ensures.opened (c.get_ready.ensures.stayed.device_honesty.1 dh) (c.get_ready.ensures.stayed.store_honesty.1 th) r (subst (λ t. Reads (shown t) r) (sym text) reads) here in
+    subst (λ t. IsOpened t x r (g.T.TextStore.text c.finish.new.devices.store) (g.D.Device.image c.finish.new.devices.device) c.in-Ok-finish.found.how c.in-Ok-finish.found.changes) text
+    (subst (λ z. IsOpened (g.T.TextStore.text c.get_ready.new.devices.store) z r (g.T.TextStore.text c.finish.new.devices.store) (g.D.Device.image c.finish.new.devices.device) c.in-Ok-finish.found.how c.in-Ok-finish.found.changes) image found)
 
 pub returns-in-Ok-finish-clause-sum : goal.returns-in-Ok-finish-clause-sum
 returns-in-Ok-finish-clause-sum g c =
@@ -61,20 +61,20 @@ returns-in-Ok-finish-clause-sum g c =
 
 pub returns-in-Ok-finish-clause-differs : goal.returns-in-Ok-finish-clause-differs
 returns-in-Ok-finish-clause-differs g c dh th r n reads differs =
-    let x : List ℕ = g.D.Device.image c.args.device.now in
+    let x : List ℕ = g.D.Device.image c.args.devices.now.device in
     let i = c.requires.found.torn th in
-    let same : i.reading ≡ r = torn_once (shown (g.T.TextStore.text c.args.store.now)) (shown (g.T.TextStore.text c.args.store.now)) c.args.torn i.reading r i.torn refl reads in
-    same_lengths i.reading.entries (image_at i.reading.stage x) n (c.in-Ok.ensures.lengths dh (shown (g.T.TextStore.text c.args.store.now)) i.reading i.torn)
+    let same : i.reading ≡ r = torn_once (shown (g.T.TextStore.text c.args.devices.now.store)) (shown (g.T.TextStore.text c.args.devices.now.store)) c.args.torn i.reading r i.torn refl reads in
+    same_lengths i.reading.entries (image_at i.reading.stage x) n (c.in-Ok.ensures.lengths dh (shown (g.T.TextStore.text c.args.devices.now.store)) i.reading i.torn)
     (subst (λ (q : Reading). Differs q.entries (image_at q.stage x) n) (sym same) differs)
 
 pub returns-in-Ok-finish-clause-keeps : goal.returns-in-Ok-finish-clause-keeps
 returns-in-Ok-finish-clause-keeps g c dh th stack rec =
-    let kept = c.in-Ok-finish.ensures.keeps (c.get_ready.ensures.stayed.device_honesty.1 dh) (c.get_ready.ensures.stayed.text_honesty.1 th) stack (subst (λ t. Recovers (shown t) (g.D.Device.image c.get_ready.new.device) stack) (sym (c.get_ready.ensures.stayed.text_same th)) (subst (λ x. Recovers (shown (g.T.TextStore.text c.args.store.now)) x stack) (sym (c.get_ready.ensures.stayed.image_same dh)) rec)) in
+    let kept = c.in-Ok-finish.ensures.keeps (c.get_ready.ensures.stayed.device_honesty.1 dh) (c.get_ready.ensures.stayed.store_honesty.1 th) stack (subst (λ t. Recovers (shown t) (g.D.Device.image c.get_ready.new.devices.device) stack) (sym (c.get_ready.ensures.stayed.text_same th)) (subst (λ x. Recovers (shown (g.T.TextStore.text c.args.devices.now.store)) x stack) (sym (c.get_ready.ensures.stayed.image_same dh)) rec)) in
     (kept.0, tt)
 
 pub returns-in-Ok-finish-clause-counted : goal.returns-in-Ok-finish-clause-counted
 returns-in-Ok-finish-clause-counted g c dh th stack rec =
-    torn_stack (shown (g.T.TextStore.text c.args.store.now)) (shown (g.T.TextStore.text c.args.store.now)) (g.D.Device.image c.args.device.now) stack c.args.torn (c.requires.found.torn th).reading (c.requires.found.torn th).torn refl rec
+    torn_stack (shown (g.T.TextStore.text c.args.devices.now.store)) (shown (g.T.TextStore.text c.args.devices.now.store)) (g.D.Device.image c.args.devices.now.device) stack c.args.torn (c.requires.found.torn th).reading (c.requires.found.torn th).torn refl rec
     ∙ ap suc (sym c.in-Ok-finish.ensures.changes)
 
 pub returns-in-Ok-finish-clause-device_honesty : goal.returns-in-Ok-finish-clause-device_honesty
@@ -84,8 +84,8 @@ returns-in-Ok-finish-clause-device_honesty g c =
 pub returns-in-Ok-finish-clause-left : goal.returns-in-Ok-finish-clause-left
 returns-in-Ok-finish-clause-left g c th r reads =
     let text = c.get_ready.ensures.stayed.text_same th in
-    subst (λ t. HasLeft t (g.T.TextStore.text c.finish.new.store) r.entries) text
-    (c.in-Ok-finish.ensures.left (c.get_ready.ensures.stayed.text_honesty.1 th) r (subst (λ t. Reads (shown t) r) (sym text) reads))
+    subst (λ t. HasLeft t (g.T.TextStore.text c.finish.new.devices.store) r.entries) text
+    (c.in-Ok-finish.ensures.left (c.get_ready.ensures.stayed.store_honesty.1 th) r (subst (λ t. Reads (shown t) r) (sym text) reads))
 
 pub returns-in-Err-clause-emptied_first : goal.returns-in-Err-clause-emptied_first
 returns-in-Err-clause-emptied_first g c th rh = inl (c.get_ready.ensures.stayed.text_same th)
@@ -95,7 +95,7 @@ returns-in-Err-clause-survives g c dh th rh s found = look_silent ⊥ [] [] _ c.
 
 pub finish-requires-clause-found : goal.finish-requires-clause-found
 finish-requires-clause-found g c = record {
-  torn = λ h. subst (λ t. IsTornIn t c.args.torn) (sym (c.get_ready.ensures.stayed.text_same (c.get_ready.ensures.stayed.text_honesty.0 h))) (c.requires.found.torn (c.get_ready.ensures.stayed.text_honesty.0 h));
+  torn = λ h. subst (λ t. IsTornIn t c.args.torn) (sym (c.get_ready.ensures.stayed.text_same (c.get_ready.ensures.stayed.store_honesty.0 h))) (c.requires.found.torn (c.get_ready.ensures.stayed.store_honesty.0 h));
   few = c.requires.found.few;
   order = c.requires.found.order;
 }
@@ -104,29 +104,29 @@ pub finish-requires-clause-countable : goal.finish-requires-clause-countable
 finish-requires-clause-countable g c = let n = c.in-Ok.ensures.no_failure in (omega (arith, n.0, c.requires.countable.0), omega (arith, n.1, c.requires.countable.1), omega (arith, n.2, c.requires.countable.2))
 
 pub returns-in-Ok-finish-clause-emptied : goal.returns-in-Ok-finish-clause-emptied
-returns-in-Ok-finish-clause-emptied g c rh = c.in-Ok-finish.ensures.emptied (c.get_ready.ensures.stayed.other_honesty.1 rh)
+returns-in-Ok-finish-clause-emptied g c rh = c.in-Ok-finish.ensures.emptied (c.get_ready.ensures.stayed.redo_honesty.1 rh)
 
 pub returns-in-Ok-finish-clause-store_honesty : goal.returns-in-Ok-finish-clause-store_honesty
 returns-in-Ok-finish-clause-store_honesty g c =
-    (λ h. c.get_ready.ensures.stayed.text_honesty.0 (c.finish.ensures.steps_on.store_honesty.0 h), λ h. c.finish.ensures.steps_on.store_honesty.1 (c.get_ready.ensures.stayed.text_honesty.1 h))
+    (λ h. c.get_ready.ensures.stayed.store_honesty.0 (c.finish.ensures.steps_on.store_honesty.0 h), λ h. c.finish.ensures.steps_on.store_honesty.1 (c.get_ready.ensures.stayed.store_honesty.1 h))
 
 pub returns-in-Ok-finish-clause-redo_honesty : goal.returns-in-Ok-finish-clause-redo_honesty
 returns-in-Ok-finish-clause-redo_honesty g c =
-    (λ h. c.get_ready.ensures.stayed.other_honesty.0 (c.finish.ensures.steps_on.redo_honesty.0 h), λ h. c.finish.ensures.steps_on.redo_honesty.1 (c.get_ready.ensures.stayed.other_honesty.1 h))
+    (λ h. c.get_ready.ensures.stayed.redo_honesty.0 (c.finish.ensures.steps_on.redo_honesty.0 h), λ h. c.finish.ensures.steps_on.redo_honesty.1 (c.get_ready.ensures.stayed.redo_honesty.1 h))
 
 pub returns-in-Ok-finish-clause-no_failure : goal.returns-in-Ok-finish-clause-no_failure
 returns-in-Ok-finish-clause-no_failure g c = let a = c.in-Ok-finish.ensures.steps_on.no_failure in let b = c.in-Ok.ensures.no_failure in (a.0 ∙ b.0, a.1 ∙ b.1, a.2 ∙ b.2)
 
 pub returns-in-Ok-finish-clause-survives : goal.returns-in-Ok-finish-clause-survives
 returns-in-Ok-finish-clause-survives g c dh th rh s found done =
-    c.finish.ensures.survives (c.get_ready.ensures.stayed.device_honesty.1 dh) (c.get_ready.ensures.stayed.text_honesty.1 th) (c.get_ready.ensures.stayed.other_honesty.1 rh) (c.in-Ok.ensures.settled dh th rh) s
-    (subst (λ t. Found t (g.D.Device.image c.get_ready.new.device) (g.T.TextStore.text c.get_ready.new.redo_text) s) (sym (c.get_ready.ensures.stayed.text_same th))
-    (subst (λ z. Found (g.T.TextStore.text c.args.store.now) z (g.T.TextStore.text c.get_ready.new.redo_text) s) (sym (c.get_ready.ensures.stayed.image_same dh))
-    (subst (λ u. Found (g.T.TextStore.text c.args.store.now) (g.D.Device.image c.args.device.now) u s) (sym (c.get_ready.ensures.stayed.other_same rh)) found)))
+    c.finish.ensures.survives (c.get_ready.ensures.stayed.device_honesty.1 dh) (c.get_ready.ensures.stayed.store_honesty.1 th) (c.get_ready.ensures.stayed.redo_honesty.1 rh) (c.in-Ok.ensures.settled dh th rh) s
+    (subst (λ t. Found t (g.D.Device.image c.get_ready.new.devices.device) (g.T.TextStore.text c.get_ready.new.devices.redo_text) s) (sym (c.get_ready.ensures.stayed.text_same th))
+    (subst (λ z. Found (g.T.TextStore.text c.args.devices.now.store) z (g.T.TextStore.text c.get_ready.new.devices.redo_text) s) (sym (c.get_ready.ensures.stayed.image_same dh))
+    (subst (λ u. Found (g.T.TextStore.text c.args.devices.now.store) (g.D.Device.image c.args.devices.now.device) u s) (sym (c.get_ready.ensures.stayed.redo_same rh)) found)))
 
 pub returns-clause-survives : goal.returns-clause-survives
 returns-clause-survives g c dh th rh s found =
-    c.finish.ensures.survives (c.get_ready.ensures.stayed.device_honesty.1 dh) (c.get_ready.ensures.stayed.text_honesty.1 th) (c.get_ready.ensures.stayed.other_honesty.1 rh) (c.in-Ok.ensures.settled dh th rh) s
-    (subst (λ t. Found t (g.D.Device.image c.get_ready.new.device) (g.T.TextStore.text c.get_ready.new.redo_text) s) (sym (c.get_ready.ensures.stayed.text_same th))
-    (subst (λ z. Found (g.T.TextStore.text c.args.store.now) z (g.T.TextStore.text c.get_ready.new.redo_text) s) (sym (c.get_ready.ensures.stayed.image_same dh))
-    (subst (λ u. Found (g.T.TextStore.text c.args.store.now) (g.D.Device.image c.args.device.now) u s) (sym (c.get_ready.ensures.stayed.other_same rh)) found)))
+    c.finish.ensures.survives (c.get_ready.ensures.stayed.device_honesty.1 dh) (c.get_ready.ensures.stayed.store_honesty.1 th) (c.get_ready.ensures.stayed.redo_honesty.1 rh) (c.in-Ok.ensures.settled dh th rh) s
+    (subst (λ t. Found t (g.D.Device.image c.get_ready.new.devices.device) (g.T.TextStore.text c.get_ready.new.devices.redo_text) s) (sym (c.get_ready.ensures.stayed.text_same th))
+    (subst (λ z. Found (g.T.TextStore.text c.args.devices.now.store) z (g.T.TextStore.text c.get_ready.new.devices.redo_text) s) (sym (c.get_ready.ensures.stayed.image_same dh))
+    (subst (λ u. Found (g.T.TextStore.text c.args.devices.now.store) (g.D.Device.image c.args.devices.now.device) u s) (sym (c.get_ready.ensures.stayed.redo_same rh)) found)))

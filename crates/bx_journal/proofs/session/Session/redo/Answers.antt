@@ -24,21 +24,21 @@ use Rattle.bx_journal.proofs.session.Session.redo.Goals.{After-prepare_redo}
 
 -- what was read and taken before the first write
 stayed : (g : _) (c : After-prepare_redo g)
-    → HaveStayed g.D.Device.honest g.T.TextStore.honest g.D.Device.image g.T.TextStore.text c.self.inside.device c.self.inside.store c.self.inside.redo_text c.prepare_redo.new.device c.prepare_redo.new.to c.prepare_redo.new.from
-stayed g c = other_order (looked_at c.read_undone.ensures.looks c.prepare_redo.ensures.stayed)
+    → HaveStayed g.D.Device g.T.TextStore c.self.inside.devices c.prepare_redo.new.devices
+stayed g c = redo_looked_at c.read_undone.ensures.looks c.prepare_redo.ensures.stayed
 
 pub returns-in_err-read-clause-undamaged : goal.returns-in_err-read-clause-undamaged
 returns-in_err-read-clause-undamaged g c =
     rw (← c.self.view_is) (λ rh has.
     let none : (line : ℕ) → c.in_err-read.field-0.0 ≡ RedoDamaged line → ⊥ =
-    redo_in_step (g.T.TextStore.honest c.self.inside.redo_text) (g.T.TextStore.text c.self.inside.redo_text) c.self.inside.undone c.in_err-read.field-0.0 rh has c.in_err-read.ensures.fault in
+    redo_in_step (g.T.TextStore.honest c.self.inside.devices.redo_text) (g.T.TextStore.text c.self.inside.devices.redo_text) c.self.inside.undone c.in_err-read.field-0.0 rh has c.in_err-read.ensures.fault in
     grind (arith, common_steps, none))
 
 pub returns-in_err-read-clause-damaged : goal.returns-in_err-read-clause-damaged
 returns-in_err-read-clause-damaged g c =
     rw (← c.self.view_is) (λ rh.
-    let out : (line : ℕ) → c.in_err-read.field-0.0 ≡ RedoDamaged line → IsOutOfStep (g.T.TextStore.text c.self.inside.redo_text) c.self.inside.undone line =
-    λ line is. subst (RedoAgainFault (g.T.TextStore.honest c.self.inside.redo_text) (g.T.TextStore.text c.self.inside.redo_text) c.self.inside.undone) is c.in_err-read.ensures.fault rh in
+    let out : (line : ℕ) → c.in_err-read.field-0.0 ≡ RedoDamaged line → IsOutOfStep (g.T.TextStore.text c.self.inside.devices.redo_text) c.self.inside.undone line =
+    λ line is. subst (RedoAgainFault (g.T.TextStore.honest c.self.inside.devices.redo_text) (g.T.TextStore.text c.self.inside.devices.redo_text) c.self.inside.undone) is c.in_err-read.ensures.fault rh in
     grind (arith, common_steps, out))
 
 pub redo_entries-requires-clause-kept : goal.redo_entries-requires-clause-kept
@@ -48,7 +48,7 @@ redo_entries-requires-clause-kept g c =
 pub redo_entries-requires-clause-read : goal.redo_entries-requires-clause-read
 redo_entries-requires-clause-read g c =
     let before = stayed g (goal.at.redo_entries-requires-clause-read g c).After-prepare_redo in
-    read_since before.other_honesty.0 before.other_same c.in_ok-read.ensures.read
+    read_since before.redo_honesty.0 before.redo_same c.in_ok-read.ensures.read
 
 pub redo_entries-requires-clause-touched : goal.redo_entries-requires-clause-touched
 redo_entries-requires-clause-touched g c =
@@ -59,10 +59,10 @@ redo_entries-requires-clause-touched g c =
 pub redo_entries-requires-clause-begun : goal.redo_entries-requires-clause-begun
 redo_entries-requires-clause-begun g c =
     let taken = c.prepare_redo.ensures.stayed in
-    begun_same (c.self.inside.count + 1) {rs = c.in_ok-again.again.takens.items} {slice = c.in_ok-again.again.takens.items} c.in_ok-again.again.page.items c.in_ok-again.again.place taken.device_honesty.0 (λ now. taken.image_same (taken.device_honesty.0 now)) refl c.in_ok-again.ensures.ready.begun
+    begun_same (c.self.inside.count + 1) {rs = c.in_ok-again.again.takens.items} {slice = c.in_ok-again.again.takens.items} c.in_ok-again.again.head.page.items c.in_ok-again.again.head.place taken.device_honesty.0 (λ now. taken.image_same (taken.device_honesty.0 now)) refl c.in_ok-again.ensures.ready.begun
 
 pub redo_entries-requires-clause-fits : goal.redo_entries-requires-clause-fits
-redo_entries-requires-clause-fits g c th = c.in_ok-again.ensures.roomed (c.prepare_redo.ensures.stayed.other_honesty.0 th)
+redo_entries-requires-clause-fits g c th = c.in_ok-again.ensures.roomed (c.prepare_redo.ensures.stayed.store_honesty.0 th)
 
 pub returns-in-Ok-clause-stands : goal.returns-in-Ok-clause-stands
 returns-in-Ok-clause-stands g c =
@@ -111,25 +111,25 @@ returns-in-Ok-clause-sound g c =
 pub returns-in-Ok-clause-whole : goal.returns-in-Ok-clause-whole
 returns-in-Ok-clause-whole g c =
     rw (← c.self.view_is) (λ rh.
-    let last = c.in_ok-read.ensures.read in has_count (g.T.TextStore.text c.self.inside.redo_text) last.text c.in_ok-read.read.entries.items c.self.inside.undone last.read (last.is rh))
+    let last = c.in_ok-read.ensures.read in has_count (g.T.TextStore.text c.self.inside.devices.redo_text) last.text c.in_ok-read.read.entries.items c.self.inside.undone last.read (last.is rh))
 
 pub returns-in-Ok-clause-text : goal.returns-in-Ok-clause-text
 returns-in-Ok-clause-text g c =
     rw (← c.self.view_is) (λ rh.
     let before = stayed g (goal.at.returns-in-Ok-clause-text g c).After-prepare_redo in
-    left_since (before.other_same rh) c.in_ok-again.ensures.ready.count (c.in-Ok.ensures.left (before.other_honesty.1 rh)))
+    left_since (before.redo_same rh) c.in_ok-again.ensures.ready.count (c.in-Ok.ensures.left (before.redo_honesty.1 rh)))
 
 pub returns-in-Ok-clause-grown : goal.returns-in-Ok-clause-grown
 returns-in-Ok-clause-grown g c =
     rw (← c.self.view_is) (λ dh th rh es finished.
     let before = stayed g (goal.at.returns-in-Ok-clause-grown g c).After-prepare_redo in
-    grown_since c.self.inside.count c.in_ok-again.ensures.ready.count (before.image_same dh) (before.text_same th) (before.other_same rh)
-    (c.in-Ok.ensures.taken (before.device_honesty.1 dh) (before.text_honesty.1 th) (before.other_honesty.1 rh)) es finished)
+    grown_since c.self.inside.count c.in_ok-again.ensures.ready.count (before.image_same dh) (before.text_same th) (before.redo_same rh)
+    (c.in-Ok.ensures.taken (before.device_honesty.1 dh) (before.store_honesty.1 th) (before.redo_honesty.1 rh)) es finished)
 
 pub returns-in-Ok-clause-front : goal.returns-in-Ok-clause-front
 returns-in-Ok-clause-front g c =
     rw (← c.self.view_is) (λ th.
-    subst (λ t. IsPrefix t (g.T.TextStore.text c.redo_entries.new.store)) (c.prepare_redo.ensures.stayed.other_same th) (c.in-Ok.ensures.front (c.prepare_redo.ensures.stayed.other_honesty.1 th)))
+    subst (λ t. IsPrefix t (g.T.TextStore.text c.redo_entries.new.devices.store)) (c.prepare_redo.ensures.stayed.text_same th) (c.in-Ok.ensures.front (c.prepare_redo.ensures.stayed.store_honesty.1 th)))
 
 pub returns-clause-finds : goal.returns-clause-finds
 returns-clause-finds g c =
@@ -164,7 +164,7 @@ returns-clause-survives g c =
     let on = c.in_ok-again.ensures.settled dh (c.in_ok-read.ensures.looks.honesty.1 rh) th in
     let rest = rest_step before (λ d t u i rest. rest) dh th rh s ready has in
     found_some _ _ _ redo_of _ _ (rw c.in_ok-again.ensures.ready.count at
-    (c.in-Err.ensures.survives (before.device_honesty.1 dh) (before.text_honesty.1 th) (before.other_honesty.1 rh) (record { device = on.device; store = on.redo; redo = on.store }) s rest (omega (arith, ready.count)) y new redo image_there there redo_there)))
+    (c.in-Err.ensures.survives (before.device_honesty.1 dh) (before.store_honesty.1 th) (before.redo_honesty.1 rh) on s rest (omega (arith, ready.count)) y new redo image_there there redo_there)))
 
 -- and where it is made
 pub returns-in-Ok-clause-survives : goal.returns-in-Ok-clause-survives
@@ -172,10 +172,10 @@ returns-in-Ok-clause-survives g c =
     rw (← c.self.view_is) (λ dh th rh s ready has y new redo image_there there redo_there.
     let before = stayed g (goal.at.returns-in-Ok-clause-survives g c).After-prepare_redo in
     let d = before.device_honesty.1 dh in
-    let t = before.text_honesty.1 th in
-    let u = before.other_honesty.1 rh in
+    let t = before.store_honesty.1 th in
+    let u = before.redo_honesty.1 rh in
     let on = c.in_ok-again.ensures.settled dh (c.in_ok-read.ensures.looks.honesty.1 rh) th in
-    let settled = c.in-Ok.ensures.settles d t u (record { device = on.device; store = on.redo; redo = on.store }) in
+    let settled = c.in-Ok.ensures.settles d t u on in
     let done = rest_step before c.in-Ok.ensures.found dh th rh s ready has (omega (arith, ready.count)) in
     found_of _ _ _ _ (rw c.in_ok-again.ensures.ready.count at
     (found_at_rest _ _ _ _ _ _ (redo_of _ s) done.rest done.undone (settled.device y image_there) (settled.store new there) (settled.redo redo redo_there))))
@@ -183,17 +183,17 @@ returns-in-Ok-clause-survives g c =
 -- what a refusal leaves to be found was to be found before
 pub returns-in_err-read-clause-found_before : goal.returns-in_err-read-clause-found_before
 returns-in_err-read-clause-found_before g c =
-    let before : FoundBefore g.D.Device.honest g.T.TextStore.honest g.D.Device.survives g.T.TextStore.survives c.self.inside.device c.self.inside.store c.self.inside.redo_text c.self.inside.device c.self.inside.store c.read_undone.new.redo_text =
-    record { device_before = λ h x there. there; text_before = λ h x there. there; other_before = c.read_undone.ensures.survives } in
+    let before : FoundBefore g.D.Device g.T.TextStore c.self.inside.devices (record { device = c.self.inside.devices.device; store = c.self.inside.devices.store; redo_text = c.read_undone.new.redo_text }) =
+    record { device_before = λ h x there. there; store_before = λ h x there. there; redo_before = c.read_undone.ensures.survives } in
     rw (← c.self.view_is) (any_fault _ before)
 
 pub returns-in_err-again-clause-found_before : goal.returns-in_err-again-clause-found_before
 returns-in_err-again-clause-found_before g c =
     let taken = c.prepare_redo.ensures.found_before in
-    let before : FoundBefore g.D.Device.honest g.T.TextStore.honest g.D.Device.survives g.T.TextStore.survives c.self.inside.device c.self.inside.store c.self.inside.redo_text c.prepare_redo.new.device c.prepare_redo.new.to c.prepare_redo.new.from =
+    let before : FoundBefore g.D.Device g.T.TextStore c.self.inside.devices c.prepare_redo.new.devices =
     record {
       device_before = taken.device_before;
-      text_before = taken.other_before;
-      other_before = λ h. NoMore_then _ _ _ (c.read_undone.ensures.survives h) (taken.text_before (c.read_undone.ensures.looks.honesty.1 h));
+      store_before = taken.store_before;
+      redo_before = λ h. NoMore_then _ _ _ (c.read_undone.ensures.survives h) (taken.redo_before (c.read_undone.ensures.looks.honesty.1 h));
     } in
     rw (← c.self.view_is) (any_fault _ before)

@@ -22,21 +22,21 @@ use Rattle.bx_journal.proofs.session.Session.undo.Goals.{After-prepare_takens}
 
 -- what was read and taken before the first write
 stayed : (g : _) (c : After-prepare_takens g)
-    → HaveStayed g.D.Device.honest g.T.TextStore.honest g.D.Device.image g.T.TextStore.text c.self.inside.device c.self.inside.store c.self.inside.redo_text c.prepare_takens.new.device c.prepare_takens.new.from c.prepare_takens.new.to
+    → HaveStayed g.D.Device g.T.TextStore c.self.inside.devices c.prepare_takens.new.devices
 stayed g c = looked_at c.read_last_of.ensures.looks c.prepare_takens.ensures.stayed
 
 pub returns-in_err-read-clause-undamaged : goal.returns-in_err-read-clause-undamaged
 returns-in_err-read-clause-undamaged g c =
     rw (← c.self.view_is) (λ th has.
     let none : (line : ℕ) → c.in_err-read.field-0.0 ≡ Damaged line → ⊥ =
-    in_step (g.T.TextStore.honest c.self.inside.store) (g.T.TextStore.text c.self.inside.store) c.self.inside.count c.in_err-read.field-0.0 th has c.in_err-read.ensures.fault in
+    in_step (g.T.TextStore.honest c.self.inside.devices.store) (g.T.TextStore.text c.self.inside.devices.store) c.self.inside.count c.in_err-read.field-0.0 th has c.in_err-read.ensures.fault in
     grind (arith, common_steps, none))
 
 pub returns-in_err-read-clause-damaged : goal.returns-in_err-read-clause-damaged
 returns-in_err-read-clause-damaged g c =
     rw (← c.self.view_is) (λ th.
-    let out : (line : ℕ) → c.in_err-read.field-0.0 ≡ Damaged line → IsOutOfStep (g.T.TextStore.text c.self.inside.store) c.self.inside.count line =
-    λ line is. subst (AgainFault (g.T.TextStore.honest c.self.inside.store) (g.T.TextStore.text c.self.inside.store) c.self.inside.count) is c.in_err-read.ensures.fault th in
+    let out : (line : ℕ) → c.in_err-read.field-0.0 ≡ Damaged line → IsOutOfStep (g.T.TextStore.text c.self.inside.devices.store) c.self.inside.count line =
+    λ line is. subst (AgainFault (g.T.TextStore.honest c.self.inside.devices.store) (g.T.TextStore.text c.self.inside.devices.store) c.self.inside.count) is c.in_err-read.ensures.fault th in
     grind (arith, common_steps, out))
 
 pub prepare_takens-requires-clause-read : goal.prepare_takens-requires-clause-read
@@ -46,7 +46,7 @@ prepare_takens-requires-clause-read g c =
 pub prepare_takens-requires-clause-short : goal.prepare_takens-requires-clause-short
 prepare_takens-requires-clause-short g c =
     let looks = c.read_last_of.ensures.looks in
-    short_before (g.T.TextStore.honest c.read_last_of.new.store) (g.T.TextStore.honest c.self.inside.store) (g.T.TextStore.text c.read_last_of.new.store) (g.T.TextStore.text c.self.inside.store)
+    short_before (g.T.TextStore.honest c.read_last_of.new.store) (g.T.TextStore.honest c.self.inside.devices.store) (g.T.TextStore.text c.read_last_of.new.store) (g.T.TextStore.text c.self.inside.devices.store)
     c.in_ok-read.read.longest looks.honesty.0 (λ h. sym (looks.same (looks.honesty.0 h))) c.in_ok-read.ensures.short
 
 pub returns-in-Ok-clause-accepted : goal.returns-in-Ok-clause-accepted
@@ -74,13 +74,13 @@ returns-in-Ok-clause-sound g c =
 pub returns-in-Ok-clause-whole : goal.returns-in-Ok-clause-whole
 returns-in-Ok-clause-whole g c =
     rw (← c.self.view_is) (λ th.
-    let last = c.in_ok-read.ensures.read in has_count (g.T.TextStore.text c.self.inside.store) last.text c.in_ok-read.read.entries.items c.self.inside.count last.read (last.is th))
+    let last = c.in_ok-read.ensures.read in has_count (g.T.TextStore.text c.self.inside.devices.store) last.text c.in_ok-read.read.entries.items c.self.inside.count last.read (last.is th))
 
 pub returns-in-Ok-clause-text : goal.returns-in-Ok-clause-text
 returns-in-Ok-clause-text g c =
     rw (← c.self.view_is) (λ th.
     let before = stayed g (goal.at.returns-in-Ok-clause-text g c).After-prepare_takens in
-    left_since (before.text_same th) c.in_ok-taking.ensures.count (c.in-Ok.ensures.left (before.text_honesty.1 th)))
+    left_since (before.text_same th) c.in_ok-taking.ensures.count (c.in-Ok.ensures.left (before.store_honesty.1 th)))
 
 pub returns-clause-fault : goal.returns-clause-fault
 returns-clause-fault g c =
@@ -133,7 +133,7 @@ returns-clause-survives g c =
     let settled = c.in_ok-taking.ensures.settled dh (c.in_ok-read.ensures.looks.honesty.1 th) rh in
     let rest = rest_step before (λ d t u i rest. rest) dh th rh s ready has in
     found_some _ _ _ undo_of _ _ (rw c.in_ok-taking.ensures.count at
-    (c.in-Err.ensures.survives (before.device_honesty.1 dh) (before.text_honesty.1 th) (before.other_honesty.1 rh) settled s rest has.counted y new redo image_there there redo_there)))
+    (c.in-Err.ensures.survives (before.device_honesty.1 dh) (before.store_honesty.1 th) (before.redo_honesty.1 rh) settled s rest has.counted y new redo image_there there redo_there)))
 
 -- and where it is made
 pub returns-in-Ok-clause-survives : goal.returns-in-Ok-clause-survives
@@ -141,8 +141,8 @@ returns-in-Ok-clause-survives g c =
     rw (← c.self.view_is) (λ dh th rh s ready has y new redo image_there there redo_there.
     let before = stayed g (goal.at.returns-in-Ok-clause-survives g c).After-prepare_takens in
     let d = before.device_honesty.1 dh in
-    let t = before.text_honesty.1 th in
-    let u = before.other_honesty.1 rh in
+    let t = before.store_honesty.1 th in
+    let u = before.redo_honesty.1 rh in
     let settled = c.in-Ok.ensures.settles d t u (c.in_ok-taking.ensures.settled dh (c.in_ok-read.ensures.looks.honesty.1 th) rh) in
     let rest = rest_step before (λ d t u i rest. rest) dh th rh s ready has in
     let done = c.in-Ok.ensures.images d t u s (standing rest) has.counted in
@@ -152,17 +152,17 @@ returns-in-Ok-clause-survives g c =
 -- what a refusal leaves to be found was to be found before
 pub returns-in_err-read-clause-found_before : goal.returns-in_err-read-clause-found_before
 returns-in_err-read-clause-found_before g c =
-    let before : FoundBefore g.D.Device.honest g.T.TextStore.honest g.D.Device.survives g.T.TextStore.survives c.self.inside.device c.self.inside.store c.self.inside.redo_text c.self.inside.device c.read_last_of.new.store c.self.inside.redo_text =
-    record { device_before = λ h x there. there; text_before = c.read_last_of.ensures.survives; other_before = λ h x there. there } in
+    let before : FoundBefore g.D.Device g.T.TextStore c.self.inside.devices (record { device = c.self.inside.devices.device; store = c.read_last_of.new.store; redo_text = c.self.inside.devices.redo_text }) =
+    record { device_before = λ h x there. there; store_before = c.read_last_of.ensures.survives; redo_before = λ h x there. there } in
     rw (← c.self.view_is) (any_fault _ before)
 
 pub returns-in_err-taking-clause-found_before : goal.returns-in_err-taking-clause-found_before
 returns-in_err-taking-clause-found_before g c =
     let taken = c.prepare_takens.ensures.found_before in
-    let before : FoundBefore g.D.Device.honest g.T.TextStore.honest g.D.Device.survives g.T.TextStore.survives c.self.inside.device c.self.inside.store c.self.inside.redo_text c.prepare_takens.new.device c.prepare_takens.new.from c.prepare_takens.new.to =
+    let before : FoundBefore g.D.Device g.T.TextStore c.self.inside.devices c.prepare_takens.new.devices =
     record {
       device_before = taken.device_before;
-      text_before = λ h. NoMore_then _ _ _ (c.read_last_of.ensures.survives h) (taken.text_before (c.read_last_of.ensures.looks.honesty.1 h));
-      other_before = taken.other_before;
+      store_before = λ h. NoMore_then _ _ _ (c.read_last_of.ensures.survives h) (taken.store_before (c.read_last_of.ensures.looks.honesty.1 h));
+      redo_before = taken.redo_before;
     } in
     rw (← c.self.view_is) (any_fault _ before)

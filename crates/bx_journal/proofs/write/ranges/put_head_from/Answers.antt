@@ -11,8 +11,8 @@ use Rattle.bx_journal.proofs.write.ranges.put_head_from.Goals as goal
 
 pub returns-in_err-put_pages-clause-fault : goal.returns-in_err-put_pages-clause-fault
 returns-in_err-put_pages-clause-fault g c dh th =
-    let lines : List ℕ = c.args.page.now.items ++ rest_text (g.D.Device.image c.args.device.now) c.args.ranges.now c.args.place in
-    at_err _ (part_front lines (ended (save_line c.args.number)) _ _ (c.in_err-put_pages.ensures.fault dh th))
+    let lines : List ℕ = c.args.head.now.page.items ++ rest_text (g.D.Device.image c.args.device.now) c.args.ranges.now c.args.head.now.place in
+    at_err _ (part_front lines (ended (save_line c.args.head.now.number)) _ _ (c.in_err-put_pages.ensures.fault dh th))
 
 pub put_words-requires-clause-fits : goal.put_words-requires-clause-fits
 put_words-requires-clause-fits g c now =
@@ -21,7 +21,7 @@ put_words-requires-clause-fits g c now =
 
 pub returns-in_err-put_words-clause-fault : goal.returns-in_err-put_words-clause-fault
 returns-in_err-put_words-clause-fault g c dh th =
-    let lines : List ℕ = c.args.page.now.items ++ rest_text (g.D.Device.image c.args.device.now) c.args.ranges.now c.args.place in
+    let lines : List ℕ = c.args.head.now.page.items ++ rest_text (g.D.Device.image c.args.device.now) c.args.ranges.now c.args.head.now.place in
     at_err _ (part_is _ _ _ _ (ap (λ l. lines ++ ended l) c.save_text.ensures.text)
     (part_behind lines (ended c.save_text.result) _ _ _ _ (c.in_ok-put_pages.ensures.ok dh th) (c.in_err-put_words.ensures.fault (c.in_ok-put_pages.ensures.store_honesty.1 th))))
 
@@ -36,7 +36,7 @@ append_page-requires-clause-fits g c now =
       paged_length (page ++ ended c.save_text.result) _ _ _ (c.in_ok-put_words.ensures.ok mid),
       length-append page (ended c.save_text.result),
       ap (λ l. length (ended l)) c.save_text.ensures.text,
-      save_long c.args.number,
+      save_long c.args.head.now.number,
       c.requires.fits th,
       c.in_ok-put_pages.ensures.store_room,
       c.in_ok-put_words.ensures.goes_on.no_less_room,
@@ -45,16 +45,16 @@ append_page-requires-clause-fits g c now =
 pub returns-clause-ok : goal.returns-clause-ok
 returns-clause-ok g c dh th =
     let mid = c.in_ok-put_pages.ensures.store_honesty.1 th in
-    let lines : List ℕ = c.args.page.now.items ++ rest_text (g.D.Device.image c.args.device.now) c.args.ranges.now c.args.place in
+    let lines : List ℕ = c.args.head.now.page.items ++ rest_text (g.D.Device.image c.args.device.now) c.args.ranges.now c.args.head.now.place in
     let all = paged_is _ _ _ _ _ (ap (λ l. lines ++ ended l) c.save_text.ensures.text) (paged_more lines (ended c.save_text.result) _ _ _ _ _ (c.in_ok-put_pages.ensures.ok dh th) (c.in_ok-put_words.ensures.ok mid)) in
-    on_ok_weaker c.append_page.result (paged_all (lines ++ ended (save_line c.args.number)) _ _ _ _ all) (c.append_page.ensures.ok (c.in_ok-put_words.ensures.goes_on.honesty.1 mid))
+    on_ok_weaker c.append_page.result (paged_all (lines ++ ended (save_line c.args.head.now.number)) _ _ _ _ all) (c.append_page.ensures.ok (c.in_ok-put_words.ensures.goes_on.honesty.1 mid))
 
 pub returns-clause-fault : goal.returns-clause-fault
 returns-clause-fault g c dh th =
     let mid = c.in_ok-put_pages.ensures.store_honesty.1 th in
-    let lines : List ℕ = c.args.page.now.items ++ rest_text (g.D.Device.image c.args.device.now) c.args.ranges.now c.args.place in
+    let lines : List ℕ = c.args.head.now.page.items ++ rest_text (g.D.Device.image c.args.device.now) c.args.ranges.now c.args.head.now.place in
     let all = paged_is _ _ _ _ _ (ap (λ l. lines ++ ended l) c.save_text.ensures.text) (paged_more lines (ended c.save_text.result) _ _ _ _ _ (c.in_ok-put_pages.ensures.ok dh th) (c.in_ok-put_words.ensures.ok mid)) in
-    on_err_weaker c.append_page.result (part_last (lines ++ ended (save_line c.args.number)) _ _ _ _ all) (c.append_page.ensures.fault (c.in_ok-put_words.ensures.goes_on.honesty.1 mid))
+    on_err_weaker c.append_page.result (part_last (lines ++ ended (save_line c.args.head.now.number)) _ _ _ _ all) (c.append_page.ensures.fault (c.in_ok-put_words.ensures.goes_on.honesty.1 mid))
 
 pub returns-clause-long : goal.returns-clause-long
 returns-clause-long g c th =
@@ -69,7 +69,7 @@ returns-clause-long g c th =
       paged_length (page ++ ended c.save_text.result) _ _ _ (c.in_ok-put_words.ensures.ok mid),
       length-append page (ended c.save_text.result),
       ap (λ l. length (ended l)) c.save_text.ensures.text,
-      save_long c.args.number,
+      save_long c.args.head.now.number,
     ))
     (c.append_page.ensures.ok (c.in_ok-put_words.ensures.goes_on.honesty.1 mid))
 
@@ -80,20 +80,20 @@ returns-clause-front g c th =
 
 pub returns-in_err-put_pages-clause-fades : goal.returns-in_err-put_pages-clause-fades
 returns-in_err-put_pages-clause-fades g c dh th =
-    let lines : List ℕ = c.args.page.now.items ++ rest_text (g.D.Device.image c.args.device.now) c.args.ranges.now c.args.place in
-    fades_front _ lines (ended (save_line c.args.number)) _ _ (c.in_err-put_pages.ensures.fades dh th)
+    let lines : List ℕ = c.args.head.now.page.items ++ rest_text (g.D.Device.image c.args.device.now) c.args.ranges.now c.args.head.now.place in
+    fades_front _ lines (ended (save_line c.args.head.now.number)) _ _ (c.in_err-put_pages.ensures.fades dh th)
 
 pub returns-in_err-put_words-clause-fades : goal.returns-in_err-put_words-clause-fades
 returns-in_err-put_words-clause-fades g c dh th =
-    let lines : List ℕ = c.args.page.now.items ++ rest_text (g.D.Device.image c.args.device.now) c.args.ranges.now c.args.place in
-    fades_is _ (lines ++ ended c.save_text.result) (lines ++ ended (save_line c.args.number)) _ _ (ap (λ l. lines ++ ended l) c.save_text.ensures.text)
+    let lines : List ℕ = c.args.head.now.page.items ++ rest_text (g.D.Device.image c.args.device.now) c.args.ranges.now c.args.head.now.place in
+    fades_is _ (lines ++ ended c.save_text.result) (lines ++ ended (save_line c.args.head.now.number)) _ _ (ap (λ l. lines ++ ended l) c.save_text.ensures.text)
     (fades_behind lines (ended c.save_text.result) _ _ _ _ _ _ (c.in_ok-put_pages.ensures.ok dh th) (c.in_ok-put_pages.ensures.fades dh th) (c.in_err-put_words.ensures.fades (c.in_ok-put_pages.ensures.store_honesty.1 th)))
 
 pub returns-clause-fades : goal.returns-clause-fades
 returns-clause-fades g c dh th =
     let mid = c.in_ok-put_pages.ensures.store_honesty.1 th in
-    let lines : List ℕ = c.args.page.now.items ++ rest_text (g.D.Device.image c.args.device.now) c.args.ranges.now c.args.place in
+    let lines : List ℕ = c.args.head.now.page.items ++ rest_text (g.D.Device.image c.args.device.now) c.args.ranges.now c.args.head.now.place in
     let all = paged_is _ _ _ _ _ (ap (λ l. lines ++ ended l) c.save_text.ensures.text) (paged_more lines (ended c.save_text.result) _ _ _ _ _ (c.in_ok-put_pages.ensures.ok dh th) (c.in_ok-put_words.ensures.ok mid)) in
-    let put = fades_is _ (lines ++ ended c.save_text.result) (lines ++ ended (save_line c.args.number)) _ _ (ap (λ l. lines ++ ended l) c.save_text.ensures.text)
+    let put = fades_is _ (lines ++ ended c.save_text.result) (lines ++ ended (save_line c.args.head.now.number)) _ _ (ap (λ l. lines ++ ended l) c.save_text.ensures.text)
     (fades_behind lines (ended c.save_text.result) _ _ _ _ _ _ (c.in_ok-put_pages.ensures.ok dh th) (c.in_ok-put_pages.ensures.fades dh th) (c.in_ok-put_words.ensures.fades mid)) in
-    fades_last (lines ++ ended (save_line c.args.number)) _ _ _ _ _ _ all put (c.append_page.ensures.fades (c.in_ok-put_words.ensures.goes_on.honesty.1 mid))
+    fades_last (lines ++ ended (save_line c.args.head.now.number)) _ _ _ _ _ _ all put (c.append_page.ensures.fades (c.in_ok-put_words.ensures.goes_on.honesty.1 mid))

@@ -35,14 +35,20 @@ returns-clause-head g c =
     let few : c.args.len ≤ 281474976710655 = c.requires.few in
     let begun = c.in_ok-place.ensures in
     let wide : 16 ≤ c.in_ok-window.window.len = omega (arith, c.in_ok-window.window.ok.0, c.in_ok-window.ensures.len, c.max.ensures, c.min.ensures) in
-    let all : 48 + left_len slice 0 ≡ length c.look_and_begin.new.page.items + rest_len spans p + 14 = omega (arith, begun.long, ap (λ r. rest_len r p) is) in
     record {
       ordered = all_ranges c.args.len (2 ^ 64) spans spans refl (omega (arith, few)) c.in_ok-ranges.ensures.within;
       place = subst (λ r. IsPlace r p) is begun.place;
       window = subst (λ n. 16 ≤ n) (length_refill c.in_ok-window.window.len c.in_ok-window.window.items c.look_and_begin.new.window c.in_ok-window.window.ok.0) wide;
       room = omega (arith, begun.room, c.in_ok-page.ensures.room);
-      long = c.head_len_of-total.ensures ∙ ap (λ n. min n (2 ^ 64 - 1)) all;
     }
+
+pub returns-clause-long : goal.returns-clause-long
+returns-clause-long g c =
+    let spans : List Span = c.in_ok-ranges.ranges.items in
+    let slice : List Span = c.as_slice-spans.result.now in
+    let p : Place = c.in_ok-place.place in
+    let all : 48 + left_len slice 0 ≡ length c.look_and_begin.new.page.items + rest_len spans p + 14 = omega (arith, c.in_ok-place.ensures.long, ap (λ r. rest_len r p) c.as_slice-spans.ensures.value) in
+    c.head_len_of-total.ensures ∙ ap (λ n. min n (2 ^ 64 - 1)) all
 
 pub returns-clause-begins : goal.returns-clause-begins
 returns-clause-begins g c honest =
@@ -56,8 +62,10 @@ returns-clause-begins g c honest =
     let within : LieWithin (length x) spans = subst (λ n. LieWithin n spans) long c.in_ok-ranges.ensures.within in
     let begun = c.in_ok-place.ensures in
     record {
-      ranges = are_ranges (length x) spans within;
-      text = subst (λ r. head_from x r p page c.args.number ≡ head_text c.args.number (kept_over x r)) is (begun.begun honest);
+      begun = record {
+        within = are_ranges (length x) spans within;
+        text = subst (λ r. head_from x r p page c.args.number ≡ head_text c.args.number (kept_over x r)) is (begun.begun honest);
+      };
       saved_is = sym (kept_as x spans (saved c.args.change.now x) (c.in_ok-ranges.ensures.saved x (sym long)));
       kept = kept_of_image x spans within (subst (λ r. HaveBytes (kept_over x r).runs) is (begun.bytes honest));
     }

@@ -14,4 +14,4 @@ returns-clause-begun g c =
 
 pub returns-clause-window : goal.returns-clause-window
 returns-clause-window g c =
-    subst (λ n. 16 ≤ n) (length_refill c.args.again.window.len c.args.again.window.items c.begin_last.new.window c.args.again.window.ok.0) (omega (arith, c.args.again.window.ok.0, c.requires.window))
+    subst (λ n. 16 ≤ n) (length_refill c.args.again.head.window.len c.args.again.head.window.items c.begin_last.new.window c.args.again.head.window.ok.0) (omega (arith, c.args.again.head.window.ok.0, c.requires.window))

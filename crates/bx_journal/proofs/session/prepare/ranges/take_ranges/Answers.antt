@@ -5,8 +5,10 @@ use Rattle.bx_image.proofs.Survivors.{NoMore_then}
 use Rattle.bx_journal.specs.Power.{FoundBefore}
 use Rattle.bx_journal.specs.inner.Devices.{HaveStayed}
 use Rattle.bx_journal.specs.inner.Touched.{AreTouched, entries_over}
-use Rattle.bx_journal.proofs.DeviceLemmas.{both_ways}
+use Rattle.bx_journal.proofs.DeviceLemmas.{both_ways, with_device}
+use Rattle.bx_journal.proofs.LookedLemmas.{found_then, stayed_then}
 use Rattle.bx_journal.proofs.TouchedLemmas.{begun_same, first_within}
+use Rattle.bx_journal.proofs.AgainLemmas.{kept_last}
 use Rattle.bx_journal.proofs.UndoLoop.{kept_more}
 use Rattle.bx_journal.proofs.session.prepare.ranges.take_ranges.Goals as goal
 use Rattle.bx_journal.proofs.session.prepare.ranges.take_ranges.Goals.{After-begin_first, After-make_room}
@@ -16,7 +18,7 @@ touched : (g : _) (c : After-make_room g) → AreTouched c.in_ok-len.len (revers
 touched g c = subst (λ fs. AreTouched c.in_ok-len.len (reverse fs) (reverse c.in_ok-again.again.takens.items)) c.as_slice.ensures.value c.in_ok-again.ensures.touched
 
 -- the image is as it was
-image : (g : _) (c : After-make_room g) → g.D.Device.honest c.args.device.now → g.D.Device.image c.make_room.new.device ≡ g.D.Device.image c.args.device.now
+image : (g : _) (c : After-make_room g) → g.D.Device.honest c.args.devices.now.device → g.D.Device.image c.make_room.new.devices.device ≡ g.D.Device.image c.args.devices.now.device
 image g c h = c.make_room.ensures.stayed.image_same (c.len.ensures.goes_on.honesty.1 h) ∙ c.len.ensures.image h
 
 pub begin_first-requires-clause-long : goal.begin_first-requires-clause-long
@@ -32,12 +34,13 @@ begin_first-requires-clause-within g c =
 pub returns-clause-kept : goal.returns-clause-kept
 returns-clause-kept g c text count read =
     let es = c.args.read.now.entries.items in
-    kept_more (g.D.Device.room c.make_room.new.device) (g.D.Device.room c.begin_first.new.device) (drop (length es - c.args.k) es) (c.in_ok-make_room.ensures.kept text count read) c.begin_first.ensures.goes_on.no_less_room
+    kept_more (g.D.Device.room c.make_room.new.devices.device) (g.D.Device.room c.begin_first.new.device) (drop (length es - c.args.k) es)
+    (kept_last text es (drop (length es - c.args.k) es) count (length es - c.args.k) c.longest_of_last-longest.result (g.D.Device.room c.make_room.new.devices.device) read refl c.longest_of_last-longest.ensures c.in_ok-make_room.ensures.image) c.begin_first.ensures.goes_on.no_less_room
 
 pub returns-clause-ready : goal.returns-clause-ready
 returns-clause-ready g c =
     let at = goal.at.returns-clause-ready g c in
-    let first = λ (h : g.D.Device.honest c.args.device.now). c.make_room.ensures.stayed.device_honesty.1 (c.len.ensures.goes_on.honesty.1 h) in
+    let first = λ (h : g.D.Device.honest c.args.devices.now.device). c.make_room.ensures.stayed.device_honesty.1 (c.len.ensures.goes_on.honesty.1 h) in
     let begun = c.in_ok-begun.ensures in
     let o = c.in_ok-begun.begun in
     record {
@@ -47,67 +50,58 @@ returns-clause-ready g c =
         long = c.in_ok-len.ensures.len;
         touched = subst (λ (ts : Vec (Vec Span g.row.A.Denot) g.row.A.Denot). AreTouched c.in_ok-len.len (reverse c.args.read.now.entries.items) (reverse ts.items)) (sym begun.takens) (touched g at.After-make_room);
       };
-      begun = begun_same c.args.number {rs = o.takens.items} {slice = o.takens.items} o.page.items o.place first (λ h. sym (image g at.After-make_room h)) refl begun.begun;
+      begun = begun_same c.args.number {rs = o.takens.items} {slice = o.takens.items} o.head.page.items o.head.place first (λ h. sym (image g at.After-make_room h)) refl begun.begun;
       page_room = begun.room;
       window = begun.window;
     }
 
 pub returns-clause-roomed : goal.returns-clause-roomed
 returns-clause-roomed g c th =
-    let text : length (g.T.TextStore.text c.make_room.new.to) ≡ length (g.T.TextStore.text c.args.to.now) = ap length (c.make_room.ensures.stayed.other_same (c.len-2.ensures.goes_on.honesty.1 th) ∙ c.len-2.ensures.text th) in
+    let text : length (g.T.TextStore.text c.make_room.new.devices.store) ≡ length (g.T.TextStore.text c.args.devices.now.store) = ap length (c.make_room.ensures.stayed.text_same (c.len-2.ensures.goes_on.honesty.1 th) ∙ c.len-2.ensures.text th) in
     let same : entries_over c.in_ok-begun.begun.takens.items ≡ entries_over c.in_ok-again.again.takens.items =
     ap (λ (ts : Vec (Vec Span g.row.A.Denot) g.row.A.Denot). entries_over ts.items) c.in_ok-begun.ensures.takens in
-    omega (arith, text, same, c.in_ok-to_len.ensures.len th, c.in_ok-again.ensures.long, c.in_ok-make_room.ensures.roomed, c.in_ok-make_room.ensures.limit)
+    omega (arith, text, same, c.in_ok-to_len.ensures.len th, c.in_ok-again.ensures.long, c.saturating_add.ensures, c.in_ok-make_room.ensures.store, c.in_ok-make_room.ensures.limit.0)
 
--- up to the room that was made, and with what was looked at
-room_stayed : (g : _) (c : After-make_room g)
-    → HaveStayed g.D.Device.honest g.T.TextStore.honest g.D.Device.image g.T.TextStore.text c.args.device.now c.args.from.now c.args.to.now c.make_room.new.device c.make_room.new.from c.make_room.new.to
-room_stayed g c =
-    let room = c.make_room.ensures.stayed in
-    let first = c.len.ensures.goes_on.honesty in
-    let other = c.len-2.ensures.goes_on.honesty in
-    record {
-      device_honesty = both_ways room.device_honesty first;
-      text_honesty = room.text_honesty;
-      other_honesty = both_ways room.other_honesty other;
-      image_same = λ h. room.image_same (first.1 h) ∙ c.len.ensures.image h;
-      text_same = room.text_same;
-      other_same = λ h. room.other_same (other.1 h) ∙ c.len-2.ensures.text h;
-    }
+-- the lengths were looked at before
+before_room : (g : _) (c : After-make_room g) → HaveStayed g.D.Device g.T.TextStore c.args.devices.now (record { device = c.len.new.self; store = c.len-2.new.self; redo_text = c.args.devices.now.redo_text })
+before_room g c = record {
+  device_honesty = c.len.ensures.goes_on.honesty;
+  store_honesty = c.len-2.ensures.goes_on.honesty;
+  redo_honesty = ((λ h. h), λ h. h);
+  image_same = c.len.ensures.image;
+  text_same = c.len-2.ensures.text;
+  redo_same = λ h. refl;
+}
 
-room_found : (g : _) (c : After-make_room g)
-    → FoundBefore g.D.Device.honest g.T.TextStore.honest g.D.Device.survives g.T.TextStore.survives c.args.device.now c.args.from.now c.args.to.now c.make_room.new.device c.make_room.new.from c.make_room.new.to
+room_stayed : (g : _) (c : After-make_room g) → HaveStayed g.D.Device g.T.TextStore c.args.devices.now c.make_room.new.devices
+room_stayed g c = stayed_then (before_room g c) c.make_room.ensures.stayed
+
+room_found : (g : _) (c : After-make_room g) → FoundBefore g.D.Device g.T.TextStore c.args.devices.now c.make_room.new.devices
 room_found g c =
-    let room = c.make_room.ensures.found_before in
-    record {
-      device_before = λ h. NoMore_then _ _ _ (c.len.ensures.survives h) (room.device_before (c.len.ensures.goes_on.honesty.1 h));
-      text_before = room.text_before;
-      other_before = λ h. NoMore_then _ _ _ (c.len-2.ensures.survives h) (room.other_before (c.len-2.ensures.goes_on.honesty.1 h));
-    }
+    found_then (before_room g c) (record { device_before = c.len.ensures.survives; store_before = c.len-2.ensures.survives; redo_before = λ h text there. there }) c.make_room.ensures.found_before
 
-all_stayed : (g : _) (c : After-begin_first g)
-    → HaveStayed g.D.Device.honest g.T.TextStore.honest g.D.Device.image g.T.TextStore.text c.args.device.now c.args.from.now c.args.to.now c.make_room.new.device c.make_room.new.from c.make_room.new.to
-    → HaveStayed g.D.Device.honest g.T.TextStore.honest g.D.Device.image g.T.TextStore.text c.args.device.now c.args.from.now c.args.to.now c.begin_first.new.device c.make_room.new.from c.make_room.new.to
+-- and the image, for the first entry
+all_stayed : (g : _) (c : After-begin_first g) → HaveStayed g.D.Device g.T.TextStore c.args.devices.now c.make_room.new.devices
+    → HaveStayed g.D.Device g.T.TextStore c.args.devices.now (with_device c.make_room.new.devices c.begin_first.new.device)
 all_stayed g c room =
     let last = c.begin_first.ensures in
     record {
       device_honesty = both_ways last.goes_on.honesty room.device_honesty;
-      text_honesty = room.text_honesty;
-      other_honesty = room.other_honesty;
+      store_honesty = room.store_honesty;
+      redo_honesty = room.redo_honesty;
       image_same = λ h. last.image (room.device_honesty.1 h) ∙ room.image_same h;
       text_same = room.text_same;
-      other_same = room.other_same;
+      redo_same = room.redo_same;
     }
 
-all_found : (g : _) (c : After-begin_first g)
-    → HaveStayed g.D.Device.honest g.T.TextStore.honest g.D.Device.image g.T.TextStore.text c.args.device.now c.args.from.now c.args.to.now c.make_room.new.device c.make_room.new.from c.make_room.new.to
-    → FoundBefore g.D.Device.honest g.T.TextStore.honest g.D.Device.survives g.T.TextStore.survives c.args.device.now c.args.from.now c.args.to.now c.make_room.new.device c.make_room.new.from c.make_room.new.to
-    → FoundBefore g.D.Device.honest g.T.TextStore.honest g.D.Device.survives g.T.TextStore.survives c.args.device.now c.args.from.now c.args.to.now c.begin_first.new.device c.make_room.new.from c.make_room.new.to
+all_found : (g : _) (c : After-begin_first g) → HaveStayed g.D.Device g.T.TextStore c.args.devices.now c.make_room.new.devices
+    → FoundBefore g.D.Device g.T.TextStore c.args.devices.now c.make_room.new.devices
+    → FoundBefore g.D.Device g.T.TextStore c.args.devices.now (with_device c.make_room.new.devices c.begin_first.new.device)
 all_found g c stayed room =
     record {
       device_before = λ h. NoMore_then _ _ _ (room.device_before h) (c.begin_first.ensures.survives (stayed.device_honesty.1 h));
-      text_before = room.text_before;
-      other_before = room.other_before;
+      store_before = room.store_before;
+      redo_before = room.redo_before;
     }
 
 pub returns-in_err-make_room-clause-stayed : goal.returns-in_err-make_room-clause-stayed
