@@ -1,6 +1,6 @@
 //! Dumps and copies of what stands behind bytes of an input that were passed, as a seek passes them.
-ghost use Rattle.std.specs.Prelude.{◌≡◌, ◌+◌, ◌*◌, ◌/◌, ◌%◌, ◌^◌, ◌<◌, ◌≤◌, IfOk, IfErr, min};
-ghost use Rattle.bx_cli.specs.JobBehind.{CanPass, DumpsJobBehind, StopsJobBehind, passable_of};
+ghost use Rattle.std.specs.Prelude.{◌≡◌, ◌+◌, ◌*◌, ◌%◌, ◌^◌, ◌≤◌, IfOk, IfErr};
+ghost use Rattle.bx_cli.specs.JobBehind.{CanPass, DumpsJobBehind, StopsJobBehind};
 ghost use Rattle.bx_cli.specs.inner.JobBehind.{CopiesBehind, DumpsLookBehind, DumpsOdBehind, StopsCopyBehind, StopsLookBehind, StopsOdBehind};
 ghost use Rattle.bx_dd.specs.Behind.{IsRest};
 ghost use Rattle.bx_dump.specs.Behind.{IsHexdumpRest, IsOdRest, IsXxdRest};
@@ -159,26 +159,4 @@ fn plan_rest(plan: &Plan, passed: u64) -> Plan
         letters: plan.letters,
         shape: plan.shape,
     }
-}
-
-/// The bytes of a dump that a seek can pass: all but the last that are skipped, as far as the input and addresses go.
-pub(crate) fn passable_of(skip: u64, first: u64, length: u64) -> u64
-    requires { first ≤ 2 ^ 62 }
-    ensures value { result ≡ passable_of skip first length }
-    ensures skip { result ≤ skip }
-    ensures first { first + result ≤ 2 ^ 62 }
-    ensures within { result ≤ length }
-{
-    skip.min(length).saturating_sub(1).min((1 << 62) - first)
-}
-
-/// The bytes of the whole blocks that are skipped, as far as the input goes.
-pub(crate) fn blocks_of(skip: u64, ibs: u64, length: u64) -> u64
-    requires { 0 < ibs }
-    ensures value { result ≡ min skip (length / ibs) * ibs }
-    ensures skip { result ≤ skip * ibs }
-    ensures whole { result % ibs ≡ 0 }
-    ensures within { result ≤ length }
-{
-    skip.min(length / ibs) * ibs
 }

@@ -2,7 +2,7 @@
 ghost use Rattle.std.specs.Prelude.{◌≡◌, ◌≤◌, ◌^◌, ◌++◌, codes, is_some};
 ghost use Rattle.bx_dd.specs.Parsing.{IsPlanOf};
 
-use crate::behind::{blocks_of, passable_of};
+use crate::passable::{blocks_of, passable_of};
 use bx_dd::Plan;
 use bx_dump::hexdump::HexdumpOptions;
 use bx_dump::od::OdOptions;

@@ -18,6 +18,7 @@ mod instead;
 mod job;
 pub mod laws;
 mod options;
+mod passable;
 mod plan;
 
 pub use behind::run_dump_behind;
