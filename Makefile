@@ -64,13 +64,15 @@ pictures: all
 	scripts/states.py --bx ./bx docs/pictures/states.svg
 
 # The options of bx beside those of its help, man page, completions and README.md; the definitions beside docs/BELIEVE.md; the
-# code that documents quote beside its source; the phrases that are to go; and which room imports which.
+# code that documents quote beside its source; the phrases that are to go; which room imports which; and the sizes of definitions,
+# functions and contracts.
 check-docs: all
 	scripts/check-options.py --bx ./bx
 	scripts/believe.py
 	scripts/quotes.py
 	scripts/check-words.py
 	scripts/check-rooms.py
+	scripts/check-sizes.py
 
 # What bash, zsh and fish offer, where they are installed.
 check-completions:

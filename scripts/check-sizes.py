@@ -1,147 +1,157 @@
 #!/usr/bin/env python3
 """Counts the parameters of definitions, the arguments of functions and the `ensures` of public calls, and fails above the limits.
 
-Usage: scripts/check-sizes.py [--list]
+Usage: scripts/check-sizes.py [--list] [NAME ..]
 
-A definition of `specs/` has at most 8 parameters, those in braces left out; a function of a product crate has at most 6
-arguments, `self` left out; a public call of a library has at most 12 `ensures`. What is above its limit and stays so is named
-below with its number, which may only fall. --list prints the largest of each.
+A definition of `specs/` has at most 8 parameters: those in braces don't count, nor do those of a `module _` around it. A function
+of a product crate has at most 6 arguments, `self` left out. A public call of a library has at most 12 `ensures`: a function that
+its `lib.rt` exports, or a method of a type or trait that it exports. What is above its limit and stays so is named below with its
+number, which may only fall. --list prints what is above, and each NAME the counts of all that has the name.
 """
 import argparse
 import re
 import sys
 
 import crates
+from uses import used
 
-PARAMETERS, ARGUMENTS, ENSURES = 8, 6, 12
+LIMITS = {"parameters": 8, "arguments": 6, "ensures": 12}
 # crates of tests alone
 TESTS = {"bx_layer_tests", "bx_tests", "bx_cases", "bx_case_files", "bx_scripts", "bx_ration", "bx_examples"}
-# what stays above its limit: `docs/DECISIONS.md` says why
+# what stays above its limit, as "KIND CRATE: NAME (FILE)": `docs/DECISIONS.md` says why
 ALLOWED = {
 }
+HEAD = re.compile(r"( *)(?:(?:pub|abbrev|unfoldable|opaque|data|record) +)+(?!mod )([^\s(){}:]+)")
+FUNCTION = re.compile(r" *(pub(?:\([a-z]+\))? )?(?:const |unsafe )*fn (\w+)")
+BLOCK = re.compile(r"(?:pub )?(impl|trait)\b(?:<.*?>)? (?:\w+(?:<.*>)? for )?(\w+)")
+DEFINITION, CODE = "([{}])", "<([{}])>"
 
 
-def split(text, mark):
+def closing(text, at, brackets):
+    """The place behind the bracket that closes the one at a place, or the text's end; an arrow's > is none."""
+    depth, half = 0, len(brackets) // 2
+    for i in range(at, len(text)):
+        depth += text[i] in brackets[:half]
+        depth -= text[i] in brackets[half:] and not (text[i] == ">" and text[i - 1] in "-=")
+        if not depth:
+            return i + 1
+    return len(text)
+
+
+def split(text, mark, brackets=DEFINITION):
     """A text's parts between marks that stand outside of all brackets."""
-    parts, depth, last, at = [], 0, 0, 0
+    parts, at, last = [], 0, 0
     while at < len(text):
-        depth += (text[at] in "([{<") - (text[at] in ")]}>" and text[at - 1] not in "-=")
-        if not depth and text.startswith(mark, at):
+        if text[at] == mark:
             parts.append(text[last:at])
-            at += len(mark)
-            last = at
-        else:
-            at += 1
+            last = at + 1
+        at = closing(text, at, brackets) if text[at] in brackets[: len(brackets) // 2] else at + 1
     return [*parts, text[last:]]
 
 
-def definitions(path):
-    """The definitions of a file of specs, each with its parameters: those of its head and those before its type's last arrow."""
-    lines = path.read_text(encoding="utf-8").split("\n")
-    for number, line in enumerate(lines):
-        head = re.match(r"(?:(?:pub|abbrev|unfoldable|opaque|data|record|module)\s+)*(?:pub\s+)?([^\s(){}:]+)((?:\s|\().*)?:", line)
-        starts = re.match(r"(?:(?:abbrev|unfoldable|opaque|data|record)\s+)*pub\s+(?:(?:abbrev|unfoldable|opaque|data|record)\s+)*([^\s(){}:]+)", line)
-        if not starts:
-            continue
-        whole, at = line, number + 1
-        while at < len(lines) and re.match(r"\s+\S", lines[at]) and not re.match(r"\s+(pub|constructor)\s", lines[at]):
-            whole += " " + lines[at].strip()
-            at += 1
-        yield starts[1], parameters(whole[starts.end():])
+def binders(text):
+    """How many names each binder binds that counts, where a text is binders alone; one in braces binds none that does."""
+    counts, text = [], text.strip()
+    while text[:1] in ("(", "{"):
+        end = closing(text, 0, DEFINITION)
+        names, *types = split(text[1 : end - 1], ":")
+        counts.append(0 if text[0] == "{" else len(names.split()))
+        if not types:
+            return []
+        text = text[end:].lstrip()
+    return [] if text else counts
 
 
 def parameters(text):
-    """How many parameters a definition's text behind its name has, those in braces left out."""
-    text = re.sub(r"\bwhere\s*$", "", text)
-    head, _, result = text.partition(":") if not re.match(r"\s*[({]", text) else heads(text)
-    count = sum(len(names.split()) for names in re.findall(r"\(([^():]*?):", bound(head)))
-    arrows = [part for part in split(result, "→") if not re.fullmatch(r"\s*\{.*\}\s*", part, re.S)]
-    more = 0
-    for part in arrows[:-1]:
-        named = re.match(r"\s*\(([^():]*?):", part)
-        more += len(named[1].split()) if named else 1
-    return count + more
+    """How many parameters a definition's text behind its name has: those of its head, and those before its type's last arrow."""
+    head, *rest = split(text, ":")
+    return sum(binders(head)) + sum(sum(binders(part) or [1]) for part in split(":".join(rest), "→")[:-1])
 
 
-def heads(text):
-    """The parameters in front of a definition's colon, and its type behind it."""
-    parts = split(text, ":")
-    return parts[0], ":", ":".join(parts[1:])
+def definitions(path):
+    """The definitions of a file of specs, each with its parameters."""
+    lines, at = path.read_text(encoding="utf-8").split("\n"), 0
+    while at < len(lines):
+        head, first, at = HEAD.match(lines[at]), at, at + 1
+        while head and at < len(lines) and lines[at].startswith(head[1] + " "):
+            at += 1
+        if head:
+            yield head[2], parameters(re.split(r"\bwhere\b", " ".join(lines[first:at])[head.end() :])[0])
 
 
-def bound(head):
-    """A head without the parameters in braces, and without what stands inside of the types of the others."""
-    out, depth = "", 0
-    for at, char in enumerate(head):
-        depth += char == "{"
-        if not depth:
-            out += char
-        depth -= char == "}"
-    return re.sub(r"\(([^():]*):(?:[^()]|\((?:[^()]|\([^()]*\))*\))*\)", r"(\1: )", out)
+def exported(source):
+    """What a crate's `lib.rt` exports: paths of items, and the public modules, whose public items all are."""
+    items, modules, todo = set(), set(), [()] if (source / "lib.rt").exists() else []
+    while todo:
+        module = todo.pop()
+        text = (source / "/".join(module or ("lib",))).with_suffix(".rt").read_text(encoding="utf-8")
+        modules.add(module)
+        items |= {(*module, *path) for path in used(text, "pub ")}
+        todo += [(*module, name) for name in re.findall(r"(?m)^pub mod (\w+);", text)]
+    return items, modules
 
 
-def functions(path):
-    """The functions of a source, each with whether it is public, its arguments and its `ensures`."""
-    text = re.sub(r"//.*", "", path.read_text(encoding="utf-8"))
-    for head in re.finditer(r"(?m)^( *)(pub(?:\([a-z]+\))? )?(?:const |final |unsafe )*fn (\w+)", text):
-        at = head.end()
-        if text[at] == "<":
-            at = closing(text, at, "<", ">")
-        if text[at] != "(":
+def is_exported(name, module, items, modules):
+    """Whether an item of a module is exported: by its path, which may pass over modules below the one that it names."""
+    return module in modules or any(item[-1] == name and module[: len(item) - 1] == item[:-1] for item in items)
+
+
+def functions(path, module, items, modules):
+    """The functions of a source: each name with its arguments, its `ensures`, and whether it is a public call."""
+    lines, block = [line.split("//")[0] for line in path.read_text(encoding="utf-8").split("\n")], None
+    for at, line in enumerate(lines):
+        block = BLOCK.match(line) or (None if line.startswith("}") else block)
+        head = FUNCTION.match(line)
+        if not head:
             continue
-        end = closing(text, at, "(", ")")
-        arguments = [part for part in split(text[at + 1 : end - 1], ",") if part.strip()]
-        arguments = [part for part in arguments if not re.fullmatch(r"\s*&?(mut )?self\s*", part)]
-        rest = text[end:]
-        body = re.search(rf"(?m)^{head[1]}\{{|;\s*$", rest)
-        clauses = re.findall(r"(?m)^\s*ensures\b", rest[: body.start() if body else len(rest)])
-        yield head[3], head[2] == "pub ", len(arguments), len(clauses)
+        rest = "\n".join([line[head.end() :], *lines[at + 1 :]])
+        start = closing(rest, 0, CODE) if rest[0] == "<" else 0
+        end = closing(rest, start, CODE)
+        arguments = [part for part in split(rest[start + 1 : end - 1], ",", CODE) if part.strip()]
+        count = sum(not re.match(r"\s*(&\s*('\w+ )?)?(mut )?self\b", part) for part in arguments)
+        contract = re.split(r"(?m)(?:\{\}?|;)$", rest[end:], maxsplit=1)[0]
+        ensures = len(re.findall(r"(?m)^ *ensures\b", contract))
+        is_public = head[1] == "pub " or bool(block) and block[1] == "trait"
+        if block:
+            is_public = is_public and (module in modules or any(item[-1] == block[2] for item in items))
+        else:
+            is_public = is_public and is_exported(head[2], module, items, modules)
+        yield f"{block[2]}::{head[2]}" if block else head[2], count, ensures, is_public
 
 
-def closing(text, at, opens, closes):
-    """The place behind the bracket that closes the one at a place."""
-    depth = 0
-    while True:
-        if text[at] == opens:
-            depth += 1
-        elif text[at] == closes and text[at - 1] not in "-=":
-            depth -= 1
-            if not depth:
-                return at + 1
-        at += 1
-
-
-def found():
-    """What is counted: the kind, the limit, the number and the name."""
+def counted():
+    """All that is counted: its kind, its number, and its name with crate and file."""
     for name in crates.read():
         top = crates.ROOT / "crates" / name
         for path in sorted((top / "specs").rglob("*.antt")):
             for word, count in definitions(path):
-                yield "parameters", PARAMETERS, count, f"{name}: {word} ({path.relative_to(top)})"
-        if name in TESTS:
-            continue
-        for path in sorted((top / "src").rglob("*.rt")):
-            for word, is_public, arguments, ensures in functions(path):
+                yield "parameters", count, f"{name}: {word} ({path.relative_to(top)})"
+        items, modules = exported(top / "src")
+        for path in sorted((top / "src").rglob("*.rt")) if name not in TESTS else []:
+            module = path.relative_to(top / "src").with_suffix("").parts
+            for word, arguments, ensures, is_public in functions(path, () if module == ("lib",) else module, items, modules):
                 at = f"{name}: {word} ({path.relative_to(top)})"
-                yield "arguments", ARGUMENTS, arguments, at
+                yield "arguments", arguments, at
                 if is_public:
-                    yield "ensures", ENSURES, ensures, at
+                    yield "ensures", ensures, at
 
 
 def main():
     parser = argparse.ArgumentParser(description=__doc__.split("\n", maxsplit=1)[0])
-    parser.add_argument("--list", action="store_true", help="print the largest of each kind")
-    listed = parser.parse_args().list
-    rows = sorted(found(), key=lambda row: (row[0], -row[2], row[3]))
-    wrong = 0
-    for kind in ("parameters", "arguments", "ensures"):
-        of_kind = [row for row in rows if row[0] == kind]
-        above = [row for row in of_kind if row[2] > row[1]]
-        for _, limit, count, at in above if listed else []:
-            print(f"{count} {kind} (at most {limit}): {at}")
-        for _, _, count, at in above:
-            wrong += count > ALLOWED.get((kind, at), 0)
-        print(f"{kind}: at most {of_kind[0][1]} are wanted, {of_kind[0][2]} is the largest, {len(above)} are above")
+    parser.add_argument("--list", action="store_true", help="print what is above its limit")
+    parser.add_argument("names", nargs="*", metavar="NAME", help="print the counts of what has the name")
+    options = parser.parse_args()
+    rows, wrong, left = sorted(counted(), key=lambda row: (-row[1], row[2])), [], dict(ALLOWED)
+    for kind, limit in LIMITS.items():
+        of_kind = [row[1:] for row in rows if row[0] == kind]
+        above = [row for row in of_kind if row[0] > limit]
+        for count, at in of_kind:
+            if options.list and count > limit or at.split(" (")[0].replace("::", " ").split()[-1] in options.names:
+                print(f"{count} {kind} (at most {limit}): {at}")
+        wrong += [f"{kind} {at}: {count}" for count, at in above if count != left.pop(f"{kind} {at}", limit)]
+        print(f"{kind}: at most {limit} are wanted, {of_kind[0][0]} is the largest, {len(above)} are above")
+    wrong += [f"{at}: it isn't above the limit any more" for at in left]
+    print("\n".join(wrong) if wrong else f"nothing is above its limit but {len(ALLOWED)} that are named")
     sys.exit(1 if wrong else 0)
 
 

@@ -36,6 +36,7 @@ CHECKS = [
     Check("quoted code", "quotes.py"),
     Check("words", "check-words.py"),
     Check("rooms", "check-rooms.py"),
+    Check("sizes", "check-sizes.py"),
     Check("hints", "hints.py --bx BX"),
     Check("completions of bash", "check-completions.py bash", "bash"),
     Check("completions of zsh", "check-completions.py zsh", "zsh"),
