@@ -148,7 +148,8 @@ def main():
         for count, at in of_kind:
             if options.list and count > limit or at.split(" (")[0].replace("::", " ").split()[-1] in options.names:
                 print(f"{count} {kind} (at most {limit}): {at}")
-        wrong += [f"{kind} {at}: {count}" for count, at in above if count != left.pop(f"{kind} {at}", limit)]
+        named = [left.pop(f"{kind} {at}", limit) for _, at in above]
+        wrong += [f"{kind} {at}: {count}, in place of {most}" for (count, at), most in zip(above, named) if count != most]
         print(f"{kind}: at most {limit} are wanted, {of_kind[0][0]} is the largest, {len(above)} are above")
     wrong += [f"{at}: it isn't above the limit any more" for at in left]
     print("\n".join(wrong) if wrong else f"nothing is above its limit but {len(ALLOWED)} that are named")
