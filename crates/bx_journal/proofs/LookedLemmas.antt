@@ -115,14 +115,16 @@ module _ {D T : Type 0} {d : DeviceViews D} {t : StoreViews T} where
       step (stayed.device_honesty.1 dh) (stayed.store_honesty.1 th) (stayed.redo_honesty.1 rh) s
       (record { stands = pair_stays (λ t x. StandsFor t x s.stack) stayed dh th standing.stands; undone = undone_stays s stayed dh rh standing.count has })
 
--- which text a step writes beside the one whose entries it takes
-pub taken_step : {dh dh_new th th_new uh uh_new : Type 0} {x x_new text text_new redo redo_new new : List ℕ} {k m : ℕ} (n : ℕ)
-    → (dh → dh_new) → (dh → x_new ≡ x) → (th → th_new) → (th → text_new ≡ text) → (uh → uh_new) → (uh → redo_new ≡ redo) → m ≡ k
-    → (dh_new → th_new → uh_new → (es : List Entry) → IsFinished text_new es → new ≡ taken_by m es x_new n redo_new)
-    → dh → th → uh → (es : List Entry) → IsFinished text es → new ≡ taken_by k es x n redo
-taken_step {x = x} {redo = redo} {redo_new = redo_new} {m = m} n d_on image_same t_on text_same u_on redo_same count step dh th uh es finished =
-    step (d_on dh) (t_on th) (u_on uh) es (subst (λ z. IsFinished z es) (sym (text_same th)) finished)
-    ∙ ap (λ y. taken_by m es y n redo_new) (image_same dh) ∙ ap (taken_by m es x n) (redo_same uh) ∙ ap (λ j. taken_by j es x n redo) count
+  -- which text an undo writes beside the journal, whose entries it takes
+  pub taken_step : {old new : Devices D T} {written : List ℕ} {k m : ℕ} (n : ℕ) → HaveStayed d t old new → m ≡ k
+      → (d.honest new.device → t.honest new.store → t.honest new.redo_text → (es : List Entry) → IsFinished (t.text new.store) es
+      → written ≡ taken_by m es (d.image new.device) n (t.text new.redo_text))
+      → d.honest old.device → t.honest old.store → t.honest old.redo_text → (es : List Entry) → IsFinished (t.text old.store) es
+      → written ≡ taken_by k es (d.image old.device) n (t.text old.redo_text)
+  taken_step {old = old} {new = new} {m = m} n stayed count step dh th uh es finished =
+      step (stayed.device_honesty.1 dh) (stayed.store_honesty.1 th) (stayed.redo_honesty.1 uh) es (subst (λ z. IsFinished z es) (sym (stayed.text_same th)) finished)
+      ∙ ap (λ x. taken_by m es x n (t.text new.redo_text)) (stayed.image_same dh) ∙ ap (taken_by m es (d.image old.device) n) (stayed.redo_same uh)
+      ∙ ap (λ j. taken_by j es (d.image old.device) n (t.text old.redo_text)) count
 
 -- what was read of a text before it was looked at again
 pub read_since : {A : Type 0} {before now : Type 0} {stored text : List ℕ} {len count : ℕ} {es : List (EntryRead A)} → (now → before) → (before → text ≡ stored) → IsLastFrom before stored len es count

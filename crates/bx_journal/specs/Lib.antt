@@ -1,5 +1,6 @@
 pub mod Calls
 pub mod Fault
+pub mod Faults
 pub mod Laws
 pub mod Machine
 pub mod Phase

@@ -1,24 +1,28 @@
 -- What opening leaves and answers, of the devices that it is given.
-use Rattle.std.specs.Prelude.{◌≡◌, ℕ, List, [], Result, MatchResult}
+use Rattle.std.specs.Prelude.{◌≡◌, ◌↔◌, ℕ, List, [], false, Result, IfOk, IfErr, OnOk, MatchResult}
 use Rattle.bx_journal.specs.declared.answers.How.{How}
 use Rattle.bx_journal.specs.declared.answers.How.TheVariants.{Clean}
 use Rattle.bx_journal.specs.declared.answers.Recovered.{Recovered}
 use Rattle.bx_journal.specs.declared.fault.SessionFault.{SessionFault}
-use Rattle.bx_journal.specs.declared.fault.SessionFault.TheVariants.{LengthDiffers, RedoDamaged}
+use Rattle.bx_journal.specs.declared.fault.SessionFault.TheVariants.{Damaged, Interrupted, LengthDiffers, RedoDamaged}
 use Rattle.bx_entries.specs.Shown.{shown}
-use Rattle.bx_entries.specs.Text.{Reading, Reads}
-use Rattle.bx_journal.specs.Calls.{AfterFault, Differs}
+use Rattle.bx_entries.specs.Text.{IsAccepted, IsDamagedAt, Reading, Reads}
+use Rattle.bx_journal.specs.Calls.{AfterFault, Differs, OpenFault}
 use Rattle.bx_journal.specs.Images.{Images}
 use Rattle.bx_journal.specs.Judging.{RefusesRedo}
-use Rattle.bx_journal.specs.Opening.{IsOpened, RefusesLength}
+use Rattle.bx_journal.specs.Opening.{IsOpened, RefusesLength, RefusesText, ThreeCounts}
 use Rattle.bx_journal.specs.Power.{Found}
 use Rattle.bx_journal.specs.Machine.{changes_of}
 use Rattle.bx_journal.specs.Phase.{IsAtRest}
-use Rattle.bx_journal.specs.Redo.{IsRedoOf, RefusesRedoAt, found_undone}
+use Rattle.bx_journal.specs.Recovery.{OpenKind}
+use Rattle.bx_journal.specs.Redo.{IsClean, IsRedoOf, RefusesRedoAt, found_undone}
 use Rattle.bx_journal.specs.Session.{HasUndone, IsReady}
 use Rattle.bx_journal.specs.SessionView.{SessionView}
 use Rattle.bx_journal.specs.Stack.{Recovers, image_at, recovered}
 use Rattle.bx_journal.specs.Standing.{IsStanding}
+use Rattle.bx_journal.specs.Undoing.{HasLeft}
+use Rattle.bx_image.specs.declared.device.Device.{Ghosts as DeviceViews}
+use Rattle.bx_store.specs.declared.store.TextStore.{Ghosts as StoreViews}
 
 -- image and journal are as they were
 abbrev pub IsPairSame : {D T : Type 0} → (D → List ℕ) → (T → List ℕ) → D → T → D → T → Type 0
@@ -65,11 +69,6 @@ RefusesUnfit result fault text x redo = (line : ℕ) → RefusesRedoAt text x re
 abbrev pub KeepsImages : {D T : Type 0} → (D → List ℕ) → (T → List ℕ) → D → T → T → SessionView D T → Recovered → Type 0
 KeepsImages image text d t u s o = (i : Images) → Found (text t) (image d) (text u) i → HasUndone image text s (found_undone o.how i.undone)
 
--- opening finds the images that it found before, behind an interruption without those that were undone
-abbrev pub Refinds : {D T : Type 0} → (D → List ℕ) → (T → List ℕ) → D → T → T → D → T → T → SessionFault → Type 0
-Refinds image text d t u d_new t_new u_new e = (s : Images) → Found (text t) (image d) (text u) s →
-    AfterFault e (Found (text t_new) (image d_new) (text u_new) (record { stack = s.stack; undone = [] })) (Found (text t_new) (image d_new) (text u_new) s)
-
 -- a redo text in which opening finds images is never refused
 abbrev pub KeepsRedo : {D T : Type 0} → (D → List ℕ) → (T → List ℕ) → D → T → T → SessionFault → Type 0
 KeepsRedo image text d t u e = (s : Images) → Found (text t) (image d) (text u) s → (line : ℕ) → e ≡ RedoDamaged line → ⊥
@@ -85,3 +84,63 @@ pub record IsReopened {D T : Type 0} (image : D → List ℕ) (text : T → List
   pub redo_same : text s.redo_text ≡ text u
   pub ready : IsReady image text s images.stack
   pub undone : HasUndone image text s images.undone
+
+-- what opening answers: a session and what was found, or the three devices and a fault
+abbrev pub Opening : Type 0 → Type 0 → Type 0
+Opening D T = Result (SessionView D T × Recovered) (D × T × T × SessionFault)
+
+-- What is found, whatever image it is: the pair that is left stands for the recovered stack, and the session says how many changes that are
+pub record FindsStack {D T : Type 0} (d : DeviceViews D) (t : StoreViews T) (x : D) (s : T) (result : Opening D T) : Type 0 where
+  pub opened : d.honest x → t.honest s → AsRead (t.text s) (λ r. IfOk result (λ o. OpensAs d.image t.text x s r o.0 o.1))
+  pub standing : d.honest x → t.honest s → AsRead (t.text s) (λ r. IfOk result (λ o. StandsRecovered d.image t.text x r o.0))
+  pub left : t.honest s → AsRead (t.text s) (λ r. IfOk result (λ o. HasLeft (t.text s) (t.text o.0.store) r.entries))
+  pub fresh : IfOk result (λ o. (o.0.count ≡ o.1.changes) × (o.0.undone ≡ o.1.undone) × (o.0.is_broken ≡ false))
+
+-- A text that isn't accepted is never opened, and one that is accepted is never called damaged
+pub record JudgesText {D T : Type 0} (t : StoreViews T) (s : T) (result : Opening D T) : Type 0 where
+  pub accepted : t.honest s → OnOk result (IsAccepted (shown (t.text s)))
+  pub damaged : t.honest s → IfErr result (λ e. (line : ℕ) → e.3 ≡ Damaged line → IsDamagedAt (shown (t.text s)) line)
+  pub unaccepted : t.honest s → (IsAccepted (shown (t.text s)) → ⊥) → MatchResult result (λ _. ⊥) (λ e. RefusesText e.3)
+
+-- Which fault comes: a length differs exactly where the newest finished entry tells another one than that of the image below which it
+-- stands, an interruption comes only where something was unfinished, and no fault of another call comes at all
+pub record AnswersFault {D T : Type 0} (d : DeviceViews D) (t : StoreViews T) (x : D) (s : T) (result : Opening D T) : Type 0 where
+  pub faults : d.honest x → t.honest s → AsRead (t.text s) (λ r. IfErr result (λ e. OpenFault r (d.image x) e.3))
+  pub differs : d.honest x → t.honest s → RefusesDiffering result (λ e. e.3) (shown (t.text s)) (d.image x)
+  pub lengths_kept : d.honest x → t.honest s → IfErr result (λ e. KeepsLengths (t.text s) (d.image x) e.3)
+  pub unfinished : t.honest s → IfErr result (λ e. e.3 ≡ Interrupted → IsClean (t.text s) → ⊥)
+  pub kind : IfErr result (λ e. OpenKind e.3)
+
+-- What a fault leaves: the stack is kept, each fault but an interruption leaves all as it was, and behind that one opening finds the images
+-- that it found before, without those that were undone
+pub record SparesDevices {D T : Type 0} (d : DeviceViews D) (t : StoreViews T) (x : D) (s u : T) (result : Opening D T) : Type 0 where
+  pub keeps_err : d.honest x → t.honest s → IfErr result (λ e. KeepsFound (t.text s) (d.image x) (t.text e.1) (d.image e.0))
+  pub refused : d.honest x → t.honest s → IfErr result (λ e. AfterFault e.3 (Unit {0}) (IsPairSame d.image t.text x s e.0 e.1))
+  pub redo_same : t.honest u → IfErr result (λ e. AfterFault e.3 (Unit {0}) (t.text e.2 ≡ t.text u))
+  pub finds_err : d.honest x → t.honest s → t.honest u → (i : Images) → Found (t.text s) (d.image x) (t.text u) i
+      → IfErr result (λ e. AfterFault e.3 (Found (t.text e.1) (d.image e.0) (t.text e.2) (record { stack = i.stack; undone = [] }))
+      (Found (t.text e.1) (d.image e.0) (t.text e.2) i))
+
+-- What becomes of the redo text: beside a finished journal it stays, and stands for the undone images; what is unfinished empties it
+pub record OpensRedo {D T : Type 0} (d : DeviceViews D) (t : StoreViews T) (x : D) (s u : T) (result : Opening D T) : Type 0 where
+  pub clean_redo : t.honest u → IfOk result (λ o. o.1.how ≡ Clean → t.text o.0.redo_text ≡ t.text u)
+  pub emptied : t.honest u → IfOk result (λ o. (o.1.how ≡ Clean → ⊥) → (t.text o.0.redo_text ≡ []) × (o.1.undone ≡ 0))
+  pub undone : d.honest x → t.honest s → t.honest u → IfOk result (λ o. (undone : List (List ℕ)) × HasUndone d.image t.text o.0 undone)
+  pub keeps_undone : d.honest x → t.honest s → t.honest u → IfOk result (λ o. KeepsImages d.image t.text x s u o.0 o.1)
+
+-- A redo text is refused exactly where it isn't one of the image and of as many changes, and then at the one line
+pub record JudgesRedo {D T : Type 0} (d : DeviceViews D) (t : StoreViews T) (x : D) (s u : T) (result : Opening D T) : Type 0 where
+  pub redo_refused : d.honest x → t.honest s → t.honest u → IfErr result (λ e. RefusesRightly d.image t.text x s u e.3)
+  pub redo_unfit : d.honest x → t.honest s → t.honest u → RefusesUnfit result (λ e. e.3) (t.text s) (d.image x) (t.text u)
+  pub redo_kept : d.honest x → t.honest s → t.honest u → IfErr result (λ e. KeepsRedo d.image t.text x s u e.3)
+
+-- Each device is honest as it was, and counts a failure more where its call failed
+pub record CountsCalls {D T : Type 0} (d : DeviceViews D) (t : StoreViews T) (x : D) (s u : T) (result : Opening D T) : Type 0 where
+  pub device_honesty : IfOk result (λ o. d.honest o.0.device ↔ d.honest x)
+  pub store_honesty : IfOk result (λ o. t.honest o.0.store ↔ t.honest s)
+  pub redo_honesty : IfOk result (λ o. t.honest o.0.redo_text ↔ t.honest u)
+  pub honesty_err : IfErr result (λ e. (d.honest e.0 ↔ d.honest x) × (t.honest e.1 ↔ t.honest s) × (t.honest e.2 ↔ t.honest u))
+  pub device_failures : IfOk result (λ o. d.failures o.0.device ≡ d.failures x)
+  pub store_failures : IfOk result (λ o. t.failures o.0.store ≡ t.failures s)
+  pub redo_failures : IfOk result (λ o. t.failures o.0.redo_text ≡ t.failures u)
+  pub counts : IfErr result (λ e. ThreeCounts e.3 (d.failures x) (t.failures s) (t.failures u) (d.failures e.0) (t.failures e.1) (t.failures e.2))

@@ -2,6 +2,8 @@
 use Rattle.std.specs.Prelude.{◌≡◌, ◌≤◌, ◌++◌, ℕ, List, length, drop, Result, Ok, IfOk, IfErr, OnOk}
 use Rattle.bx_image.specs.declared.change.Change.{Change}
 use Rattle.bx_image.specs.Change.{effect, saved}
+use Rattle.bx_image.specs.declared.device.Device.{Ghosts as DeviceViews}
+use Rattle.bx_store.specs.declared.store.TextStore.{Ghosts as StoreViews}
 use Rattle.bx_entries.specs.Entry.{entry_text}
 use Rattle.bx_entries.specs.Finished.{IsFinished}
 use Rattle.bx_entries.specs.Kept.{kept_of}
@@ -94,3 +96,10 @@ module _ {D T : Type 0} (image : D → List ℕ) (text : T → List ℕ) where
   abbrev pub GrowsByTaken : {V E : Type 0} → ℕ → SessionView D T → SessionView D T → Result V E → Type 0
   GrowsByTaken j old new result = (entries : List Entry) → IsFinished (text old.redo_text) entries →
       OnOk result (text new.store ≡ taken_by j entries (image old.device) old.count (text old.store))
+
+-- Whatever the redo text gives, a redo of j keeps the old stack: it stands with j images on top, behind an interruption with some, and another fault
+-- leaves all as it was
+pub record KeepsBelow {D T : Type 0} (d : DeviceViews D) (t : StoreViews T) (j : ℕ) (old new : SessionView D T) (result : Result ℕ SessionFault) : Type 0 where
+  pub stands : d.honest old.device → t.honest old.store → StandsOnTop d.image t.text j old new result
+  pub ready : d.honest old.device → t.honest old.store → StaysOnTop d.image t.text j old new result
+  pub fault : d.honest old.device → t.honest old.store → StopsRedo d.image t.text j old new result

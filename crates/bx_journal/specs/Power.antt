@@ -55,7 +55,9 @@ module _ {D T : Type 0} (image : D → List ℕ) (survives : D → List ℕ → 
   abbrev pub EmptiedSurvives : Images → D → T → T → Type 0
   EmptiedSurvives s d t u = (x new redo : List ℕ) → survives d x → text_survives t new → text_survives u redo → Found new x redo (record { stack = s.stack; undone = [] })
 
-  -- of what opening finds unfinished: that is dropped or taken back, or behind an interruption still there
-  abbrev pub RecoverySurvives : {V E : Type 0} → Result V E → (V → Type 0) → (E → SessionFault) → D → T → T → D → T → T → Type 0
-  RecoverySurvives result unfinished fault d t u d_new t_new u_new = (s : Images) → Found (text t) (image d) (text u) s →
-      MatchResult result (λ v. unfinished v → EmptiedSurvives s d_new t_new u_new) (λ e. AfterFault (fault e) (EmptiedSurvives s d_new t_new u_new) (Unit {0}))
+-- of what opening finds unfinished: that is dropped or taken back, or behind an interruption still there
+abbrev pub RecoverySurvives : {D T V E : Type 0} → DeviceViews D → StoreViews T → Result V E → (V → Type 0) → (E → SessionFault) → Devices D T → Devices D T → Type 0
+RecoverySurvives d t result unfinished fault old new =
+    let emptied = λ (s : Images). EmptiedSurvives d.image d.survives t.text t.survives s new.device new.store new.redo_text in
+    (s : Images) → Found (t.text old.store) (d.image old.device) (t.text old.redo_text) s →
+    MatchResult result (λ v. unfinished v → emptied s) (λ e. AfterFault (fault e) (emptied s) (Unit {0}))

@@ -6,12 +6,12 @@ use Rattle.bx_entries.specs.Finished.{IsFinished}
 use Rattle.bx_entries.specs.Text.{Entry, IsPrefix, IsDamagedAt, IsAccepted}
 use Rattle.bx_journal.specs.Fault.{DeviceFault, WritingFault}
 
--- what undoing leaves of the text: a front, which is these finished entries alone
+-- what is left of a text: a prefix, which is these finished entries alone
 pub record HasLeft (old new : List ℕ) (entries : List Entry) : Type 0 where
   pub front : IsPrefix new old
   pub finished : IsFinished new entries
 
--- of a text that is finished entries alone a front is left, which is these without the newest k
+-- of a text that is finished entries alone a prefix is left, which is these without the newest k
 abbrev pub LeavesFront : {V E : Type 0} → List ℕ → ℕ → List ℕ → Result V E → Type 0
 LeavesFront text k new result = (all : List Entry) → IsFinished text all → OnOk result (HasLeft text new (drop k all))
 

@@ -24,7 +24,6 @@ pub mod Restoring
 pub mod Rows
 pub mod Showing
 pub mod Steps
-pub mod Standing
 pub mod Step
 pub mod Takens
 pub mod Touched

@@ -20,16 +20,4 @@ impl<D: Device, T: TextStore> Devices<D, T> {
         let pair = self.device.faults().max(self.store.faults());
         pair.max(self.redo_text.faults())
     }
-
-    /// The three devices as they are: the image's, the journal's, and the redo text's.
-    pub fn part(self) -> (D, T, T)
-        ensures { result ≡ (self.device, self.store, self.redo_text) }
-    {
-        let Devices {
-            device,
-            store,
-            redo_text,
-        } = self;
-        (device, store, redo_text)
-    }
 }

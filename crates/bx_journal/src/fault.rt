@@ -31,7 +31,7 @@ pub enum SessionFault {
     /// 65,535 changes stand.
     #[error("journal is full")]
     JournalFull,
-    /// A device failed after something was written: opening the pair again recovers it.
+    /// A device failed after something was written: opening the three again recovers them.
     #[error("interrupted: open again to recover")]
     Interrupted,
     /// An earlier call was interrupted.

@@ -1,14 +1,13 @@
 //! A session: changes to an image, each with its entry in the journal, a write-ahead undo log.
-ghost use Rattle.std.specs.Prelude.{◌≡◌, ◌↔◌, ◌+◌, ◌<◌, ◌≤◌, [], length, true, false, IfOk, IfErr, OnOk, IsErrOf};
-ghost use Rattle.bx_image.specs.Change.{Fits};
+ghost use Rattle.std.specs.Prelude.{◌≡◌, ◌+◌, ◌<◌, ◌≤◌, [], false, IfOk, IfErr, OnOk};
 ghost use Rattle.bx_journal.specs.Machine.{PerformStep, changed};
 
-mod close;
 mod log;
 mod open;
 mod prepare;
 mod redo;
 mod undo;
+mod view;
 
 use crate::SessionFault;
 use crate::devices::Devices;
@@ -16,7 +15,7 @@ use crate::protocol::entry::write_change;
 use crate::protocol::redo_text::RedoCut;
 use crate::session::prepare::prepare_change;
 use bx_entries::MOST_CHANGES;
-use bx_image::{Change, Device, MAX_LEN};
+use bx_image::{Change, Device};
 use bx_store::TextStore;
 use std::alloc::{Allocator, Global};
 use std::marker::Model;
@@ -46,7 +45,7 @@ impl<D: Device, T: TextStore, A: Allocator + Clone> Session<D, T, A> {
     ghost use Rattle.bx_journal.specs.Calls.{AfterFault};
     ghost use Rattle.bx_journal.specs.Power.{NothingNew, ChangeSurvives};
     ghost use Rattle.bx_journal.specs.Session.{FailsSafely, HasUndone};
-    ghost use Rattle.bx_journal.specs.Standing.{PerformFault};
+    ghost use Rattle.bx_journal.specs.Faults.{FaultsOfChange};
 
     /// Changes the image, and answers the change's number, which is how many changes then stand. What was undone is
     /// given up: the redo text is then empty.
@@ -84,11 +83,8 @@ impl<D: Device, T: TextStore, A: Allocator + Clone> Session<D, T, A> {
         // A refusal leaves nothing to be found after a loss of power that wasn't to be found before.
         ensures found_before { IfErr result (λ e. AfterFault e (Unit {0}) (NothingNew D.Device T.TextStore self.old self.new)) }
 
-        ensures kind { IfErr result PerformFault }
-        ensures full { IsErrOf result SessionFault.JournalFull ↔ ((self.old.is_broken ≡ false) × (65535 ≤ self.old.count)) }
-        ensures large { D.honest self.old.device → IsErrOf result SessionFault.TooLarge → Fits change.now (length (D.image self.old.device)) MAX_LEN → ⊥ }
-        ensures fits { D.honest self.old.device → IsErrOf result SessionFault.NoMemory → Fits change.now (length (D.image self.old.device)) MAX_LEN }
-        ensures fitted { D.honest self.old.device → IsErrOf result SessionFault.Interrupted → Fits change.now (length (D.image self.old.device)) MAX_LEN }
+        // Which faults come, and when.
+        ensures faults { FaultsOfChange D.Device change.now self.old result }
 
         // A refusal changes nothing, an interruption breaks the session, and a broken one refuses all.
         ensures safe { FailsSafely D.Device T.TextStore self.old self.new result }

@@ -3,7 +3,8 @@ use Rattle.std.specs.Prelude.{◌≡◌, ◌⊎◌}
 use Rattle.bx_store.specs.declared.fault.TextFault.{TextFault}
 use Rattle.bx_store.specs.declared.fault.TextFault.TheVariants.{NoMemory as TextMemory, DeviceFailed as TextFailed}
 use Rattle.bx_journal.specs.declared.fault.SessionFault.{SessionFault}
-use Rattle.bx_journal.specs.declared.fault.SessionFault.TheVariants.{NoMemory, DeviceFailed, Damaged, RedoDamaged}
+use Rattle.bx_journal.specs.declared.fault.SessionFault.TheVariants.{NoMemory, DeviceFailed, Damaged, RedoDamaged, TooLarge}
+use Rattle.bx_journal.specs.Fault.{DeviceFault}
 
 -- a call that only looks at a device lacks memory, or the device failed
 abbrev pub LacksOrFails : SessionFault → Type 0
@@ -18,3 +19,8 @@ reading_fault TextFailed = DeviceFailed
 abbrev pub redo_fault : SessionFault → SessionFault
 redo_fault (Damaged line) = RedoDamaged line
 redo_fault e = e
+
+-- which fault a change may meet before its first write
+abbrev pub PrepareFault : SessionFault → Type 0
+PrepareFault TooLarge = Unit {0}
+PrepareFault e = DeviceFault e

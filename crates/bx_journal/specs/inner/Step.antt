@@ -83,13 +83,12 @@ TailStops text begins new result =
     → OnErr result (Recovers new x stack)
 
 -- where the change of an unfinished entry is taken back, image and journal are at rest
-abbrev pub TakesTail : {D T V E : Type 0} → (D → List ℕ) → (T → List ℕ) → Kept → ℕ → D → T → D → T → Result V E → Type 0
-TakesTail image text s begins d t d_new t_new result =
-    (stack : List (List ℕ)) (es : List Entry) (v : Version) → HasTail (shown (text t)) (image d) stack es (Ending v s) begins
-    → OnOk result (IsAtRest (text t_new) (image d_new) stack)
+abbrev pub TakesTail : {V E : Type 0} → Kept → ℕ → List ℕ → List ℕ → List ℕ → List ℕ → Result V E → Type 0
+TakesTail s begins text x text_new x_new result =
+    (stack : List (List ℕ)) (es : List Entry) (v : Version) → HasTail (shown text) x stack es (Ending v s) begins → OnOk result (IsAtRest text_new x_new stack)
 
 -- and where that is stopped opening finds the same stack
-abbrev pub StopsTail : {D T V E : Type 0} → (D → List ℕ) → (T → List ℕ) → Kept → ℕ → D → T → D → T → Result V E → Type 0
-StopsTail image text s begins d t d_new t_new result =
-    (stack : List (List ℕ)) (es : List Entry) (v : Version) → HasTail (shown (text t)) (image d) stack es (Ending v s) begins
-    → OnErr result (Recovers (shown (text t_new)) (image d_new) stack)
+abbrev pub StopsTail : {V E : Type 0} → Kept → ℕ → List ℕ → List ℕ → List ℕ → List ℕ → Result V E → Type 0
+StopsTail s begins text x text_new x_new result =
+    (stack : List (List ℕ)) (es : List Entry) (v : Version) → HasTail (shown text) x stack es (Ending v s) begins
+    → OnErr result (Recovers (shown text_new) x_new stack)

@@ -53,9 +53,9 @@ pub fn take_back<D: Device, T: TextStore, A: Allocator>(
     requires buffers { HasBuffersFor (Some mark) buffers.old }
     requires image_room { mark.len ≤ D.room device.old }
     ensures ok { D.honest device.old → T.honest store.old → (s : Kept) → StandsAt (T.text store.old) mark s
-        → TakesTail D.image T.text s begins device.old store.old device.new store.new result }
+        → TakesTail s begins (T.text store.old) (D.image device.old) (T.text store.new) (D.image device.new) result }
     ensures fault { D.honest device.old → T.honest store.old → (s : Kept) → StandsAt (T.text store.old) mark s
-        → StopsTail D.image T.text s begins device.old store.old device.new store.new result }
+        → StopsTail s begins (T.text store.old) (D.image device.old) (T.text store.new) (D.image device.new) result }
     ensures image { D.honest device.old → T.honest store.old → (s : Kept) → StandsAt (T.text store.old) mark s
         → OnOk result (D.image device.new ≡ restore s (D.image device.old)) }
     ensures text { T.honest store.old → OnOk result (T.text store.new ≡ take begins (T.text store.old)) }

@@ -211,8 +211,7 @@ pub fn recover_read<D: Device, T: TextStore, A: Allocator + Clone>(
     ensures emptied_first { T.honest devices.old.store → T.honest devices.old.redo_text → OnErr result ((T.text devices.new.store ≡ T.text devices.old.store) ⊎ (T.text devices.new.redo_text ≡ [])) }
     ensures redo_same { T.honest devices.old.redo_text → IfErr result (λ e. AfterFault e (Unit {0}) (T.text devices.new.redo_text ≡ T.text devices.old.redo_text)) }
     ensures survives { D.honest devices.old.device → T.honest devices.old.store → T.honest devices.old.redo_text
-        → RecoverySurvives D.image D.survives T.text T.survives result (λ o. Unit {0}) (λ e. e)
-        devices.old.device devices.old.store devices.old.redo_text devices.new.device devices.new.store devices.new.redo_text }
+        → RecoverySurvives D.Device T.TextStore result (λ o. Unit {0}) (λ e. e) devices.old devices.new }
     ensures device_honesty { D.honest devices.new.device ↔ D.honest devices.old.device }
     ensures store_honesty { T.honest devices.new.store ↔ T.honest devices.old.store }
     ensures redo_honesty { T.honest devices.new.redo_text ↔ T.honest devices.old.redo_text }
@@ -260,8 +259,7 @@ pub fn recover<D: Device, T: TextStore, A: Allocator + Clone>(
     ensures finds_err { FindsAgain D.Device T.TextStore devices.old devices.new result }
     ensures redo_kept { KeepsRedoText D.Device T.TextStore devices.old result }
     ensures survives { D.honest devices.old.device → T.honest devices.old.store → T.honest devices.old.redo_text
-        → RecoverySurvives D.image D.survives T.text T.survives result (λ o. o.how ≡ How.Clean → ⊥) (λ e. e)
-        devices.old.device devices.old.store devices.old.redo_text devices.new.device devices.new.store devices.new.redo_text }
+        → RecoverySurvives D.Device T.TextStore result (λ o. o.how ≡ How.Clean → ⊥) (λ e. e) devices.old devices.new }
     ensures device_honesty { D.honest devices.new.device ↔ D.honest devices.old.device }
     ensures store_honesty { T.honest devices.new.store ↔ T.honest devices.old.store }
     ensures redo_honesty { T.honest devices.new.redo_text ↔ T.honest devices.old.redo_text }

@@ -5,7 +5,7 @@ ghost use Rattle.bx_entries.specs.Entry.{end_text};
 ghost use Rattle.bx_journal.specs.Power.{FoundBefore};
 ghost use Rattle.bx_journal.specs.inner.Begun.{rest_of, BeginsEntry, IsHead};
 ghost use Rattle.bx_journal.specs.inner.Devices.{AreCounted, AreUnfailed, HaveStayed};
-ghost use Rattle.bx_journal.specs.inner.Standing.{PrepareFault};
+ghost use Rattle.bx_journal.specs.inner.Fault.{PrepareFault};
 ghost use Rattle.bx_journal.specs.inner.Written.{AreSettled};
 
 pub(crate) mod head;

@@ -57,9 +57,9 @@ impl<D: Device, T: TextStore, A: Allocator + Clone> Session<D, T, A> {
     ghost use Rattle.bx_journal.specs.Calls.{AfterFault};
     ghost use Rattle.bx_journal.specs.Power.{NothingNew, StepsSurvive};
     ghost use Rattle.bx_journal.specs.Session.{FailsSafely};
-    ghost use Rattle.bx_journal.specs.Performing.{FindsSome, GrowsByTaken, RedoesImages, StandsOnTop, StaysOnTop, StaysRedone, StopsRedo};
-    ghost use Rattle.bx_journal.specs.Undoing.{HasCount, IsOutOfStep, LeavesFront, RedoFault};
-    ghost use Rattle.bx_journal.specs.declared.fault.SessionFault.TheVariants.{RedoDamaged};
+    ghost use Rattle.bx_journal.specs.Performing.{FindsSome, GrowsByTaken, KeepsBelow, RedoesImages, StaysRedone};
+    ghost use Rattle.bx_journal.specs.Faults.{FaultsOfRedo};
+    ghost use Rattle.bx_journal.specs.Undoing.{LeavesFront};
 
     /// Makes the last j undone changes again, the one undone last first, and answers how many changes then stand.
     ///
@@ -84,9 +84,7 @@ impl<D: Device, T: TextStore, A: Allocator + Clone> Session<D, T, A> {
             × (self.new.undone + j ≡ self.old.undone) × (self.new.is_broken ≡ false)) }
 
         // Whatever the redo text gives, the old stack still stands, with j images on top, behind an interruption with some.
-        ensures stands { D.honest self.old.device → T.honest self.old.store → StandsOnTop D.image T.text j self.old self.new result }
-        ensures ready { D.honest self.old.device → T.honest self.old.store → StaysOnTop D.image T.text j self.old self.new result }
-        ensures fault { D.honest self.old.device → T.honest self.old.store → StopsRedo D.image T.text j self.old self.new result }
+        ensures stands { KeepsBelow D.Device T.TextStore j self.old self.new result }
 
         // The redo text is then that of the other entries, and the journal goes on with what each of the j took of the image.
         ensures text { T.honest self.old.redo_text → LeavesFront (T.text self.old.redo_text) j (T.text self.new.redo_text) result }
@@ -105,15 +103,8 @@ impl<D: Device, T: TextStore, A: Allocator + Clone> Session<D, T, A> {
         // A refusal leaves nothing to be found after a loss of power that wasn't to be found before.
         ensures found_before { IfErr result (λ e. AfterFault e (Unit {0}) (NothingNew D.Device T.TextStore self.old self.new)) }
 
-        ensures kind { IfErr result (RedoFault self.old.undone) }
-        ensures nothing { ((self.old.is_broken ≡ false) × (self.old.undone < j)) ↔ IsErrOf result (SessionFault.NothingToRedo self.old.undone) }
-
-        // The redo text is called damaged exactly where it isn't this many finished entries alone.
-        ensures damaged { T.honest self.old.redo_text → IfErr result (λ e. (n : ℕ) → e ≡ RedoDamaged n
-            → IsOutOfStep (T.text self.old.redo_text) self.old.undone n) }
-        ensures undamaged { T.honest self.old.redo_text → HasCount (T.text self.old.redo_text) self.old.undone
-            → IfErr result (λ e. (n : ℕ) → e ≡ RedoDamaged n → ⊥) }
-        ensures whole { T.honest self.old.redo_text → OnOk result (HasCount (T.text self.old.redo_text) self.old.undone) }
+        // Which faults come, and when: the redo text is called damaged exactly where it isn't this many finished entries alone.
+        ensures faults { FaultsOfRedo T.TextStore j self.old result }
 
         // A refusal changes nothing, an interruption breaks the session, and a broken one refuses all.
         ensures safe { FailsSafely D.Device T.TextStore self.old self.new result }

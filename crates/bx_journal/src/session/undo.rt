@@ -25,7 +25,8 @@ impl<D: Device, T: TextStore, A: Allocator + Clone> Session<D, T, A> {
     ghost use Rattle.bx_journal.specs.Power.{NothingNew, StepsSurvive};
     ghost use Rattle.bx_journal.specs.Session.{FailsSafely};
     ghost use Rattle.bx_journal.specs.Performing.{FindsSome, KeepsTaken, StaysReady, Steps, StopsUndo, UndoesImages};
-    ghost use Rattle.bx_journal.specs.Undoing.{HasCount, IsOutOfStep, LeavesFront, UndoFault};
+    ghost use Rattle.bx_journal.specs.Faults.{FaultsOfUndo};
+    ghost use Rattle.bx_journal.specs.Undoing.{LeavesFront};
 
     /// Takes the last k changes back, the newest first, and answers how many are left. Their images are then undone, and
     /// can be made again; but an image of more than `MAX_LEN` bytes, and what was undone before it, is given up.
@@ -42,8 +43,8 @@ impl<D: Device, T: TextStore, A: Allocator + Clone> Session<D, T, A> {
         // Accepted, it makes the machine's step, and the session goes on.
         ensures accepted { D.honest self.old.device → T.honest self.old.store → Steps D.image T.text self.old self.new UndoStep k drop result }
         ensures sound { D.honest self.old.device → T.honest self.old.store → StaysReady D.image T.text self.old self.new (drop k) result }
-        ensures left { IfOk result (λ left. (left + k ≡ self.old.count) × (self.new.count ≡ left) × (self.new.is_broken ≡ false)) }
-        ensures few_undone { OnOk result (self.new.undone ≤ self.old.undone + k) }
+        ensures left { IfOk result (λ left. (left + k ≡ self.old.count) × (self.new.count ≡ left) × (self.new.is_broken ≡ false)
+            × (self.new.undone ≤ self.old.undone + k)) }
 
         // The text is then that of the other entries.
         ensures text { T.honest self.old.store → LeavesFront (T.text self.old.store) k (T.text self.new.store) result }
@@ -68,15 +69,8 @@ impl<D: Device, T: TextStore, A: Allocator + Clone> Session<D, T, A> {
         // A refusal leaves nothing to be found after a loss of power that wasn't to be found before.
         ensures found_before { IfErr result (λ e. AfterFault e (Unit {0}) (NothingNew D.Device T.TextStore self.old self.new)) }
 
-        ensures kind { IfErr result (UndoFault self.old.count) }
-        ensures few { ((self.old.is_broken ≡ false) × (self.old.count < k)) ↔ IsErrOf result (SessionFault.TooFew self.old.count) }
-
-        // The text is called damaged exactly where it isn't this many finished entries alone.
-        ensures damaged { T.honest self.old.store → IfErr result (λ e. (n : ℕ) → e ≡ SessionFault.Damaged n
-            → IsOutOfStep (T.text self.old.store) self.old.count n) }
-        ensures undamaged { T.honest self.old.store → HasCount (T.text self.old.store) self.old.count
-            → IfErr result (λ e. (n : ℕ) → e ≡ SessionFault.Damaged n → ⊥) }
-        ensures whole { T.honest self.old.store → OnOk result (HasCount (T.text self.old.store) self.old.count) }
+        // Which faults come, and when: the text is called damaged exactly where it isn't this many finished entries alone.
+        ensures faults { FaultsOfUndo T.TextStore k self.old result }
 
         // A refusal changes nothing, an interruption breaks the session, and a broken one refuses all.
         ensures safe { FailsSafely D.Device T.TextStore self.old self.new result }

@@ -6,31 +6,102 @@ use Rattle.bx_journal.proofs.OpenLemmas.{recovers_same}
 use Rattle.bx_journal.proofs.Reopening.{kept_undone, rest_clean, rest_fault, rest_found, rest_reads, rest_recovers_shown}
 use Rattle.bx_journal.proofs.session.Session.open.Goals as goal
 
-pub returns-in-Ok-clause-standing : goal.returns-in-Ok-clause-standing
-returns-in-Ok-clause-standing g c dh th r reads =
-    let o = c.in-Ok.ensures.opened dh th r reads in
-    record { stands = o.stands; count = length-stack_of r.entries (image_at r.stage (g.D.Device.image c.args.device)) ∙ ap suc (sym o.changes_are); whole = refl }
+pub returns-in-Ok-clause-found : goal.returns-in-Ok-clause-found
+returns-in-Ok-clause-found g c =
+    let o = c.in-Ok.ensures in
+    record {
+      opened = o.opened;
+      standing = λ dh th r reads.
+          let opened = o.opened dh th r reads in
+          record { stands = opened.stands; count = length-stack_of r.entries (image_at r.stage (g.D.Device.image c.args.device)) ∙ ap suc (sym opened.changes_are); whole = refl };
+      left = o.left;
+      fresh = (refl, refl, refl);
+    }
+
+pub returns-in-Err-clause-found : goal.returns-in-Err-clause-found
+returns-in-Err-clause-found g c = record { opened = λ dh th r reads. tt; standing = λ dh th r reads. tt; left = λ th r reads. tt; fresh = tt }
+
+pub returns-in-Ok-clause-text : goal.returns-in-Ok-clause-text
+returns-in-Ok-clause-text g c = record { accepted = c.in-Ok.ensures.accepted; damaged = λ th. tt; unaccepted = c.in-Ok.ensures.unaccepted }
+
+pub returns-in-Err-clause-text : goal.returns-in-Err-clause-text
+returns-in-Err-clause-text g c = record { accepted = λ th. tt; damaged = c.in-Err.ensures.damaged; unaccepted = c.in-Err.ensures.unaccepted }
+
+pub returns-in-Ok-clause-fault : goal.returns-in-Ok-clause-fault
+returns-in-Ok-clause-fault g c =
+    record { faults = λ dh th r reads. tt; differs = c.in-Ok.ensures.differs; lengths_kept = λ dh th. tt; unfinished = λ th. tt; kind = tt }
+
+pub returns-in-Err-clause-fault : goal.returns-in-Err-clause-fault
+returns-in-Err-clause-fault g c =
+    let e = c.in-Err.ensures in
+    record {
+      faults = e.faults;
+      differs = e.differs;
+      lengths_kept = λ dh th stack rec n is.
+          recovers_same (shown (g.T.TextStore.text c.args.store)) (g.D.Device.image c.args.device) stack c.in-Err.fault n rec (e.faults dh th rec.reading rec.reads) is;
+      unfinished = e.unfinished;
+      kind = e.kind;
+    }
+
+pub returns-in-Ok-clause-spares : goal.returns-in-Ok-clause-spares
+returns-in-Ok-clause-spares g c = record { keeps_err = λ dh th. tt; refused = λ dh th. tt; redo_same = λ rh. tt; finds_err = λ dh th rh i found. tt }
+
+pub returns-in-Err-clause-spares : goal.returns-in-Err-clause-spares
+returns-in-Err-clause-spares g c =
+    let e = c.in-Err.ensures in
+    record { keeps_err = λ dh th stack rec. (e.keeps dh th stack rec).1; refused = e.refused; redo_same = e.redo_same; finds_err = e.finds_err }
+
+pub returns-in-Ok-clause-redo : goal.returns-in-Ok-clause-redo
+returns-in-Ok-clause-redo g c =
+    let o = c.in-Ok.ensures in
+    record {
+      clean_redo = o.clean_redo;
+      emptied = o.emptied;
+      undone = λ dh th rh. let found = o.undone dh th rh in (found.0, record { redo = found.1; counted = found.2 });
+      keeps_undone = λ dh th rh s finds. let found = o.keeps_undone dh th rh s finds in record { redo = found.0; counted = found.1 };
+    }
+
+pub returns-in-Err-clause-redo : goal.returns-in-Err-clause-redo
+returns-in-Err-clause-redo g c = record { clean_redo = λ rh. tt; emptied = λ rh. tt; undone = λ dh th rh. tt; keeps_undone = λ dh th rh. tt }
+
+pub returns-in-Ok-clause-redo_fault : goal.returns-in-Ok-clause-redo_fault
+returns-in-Ok-clause-redo_fault g c = record { redo_refused = λ dh th rh. tt; redo_unfit = c.in-Ok.ensures.redo_unfit; redo_kept = λ dh th rh. tt }
+
+pub returns-in-Err-clause-redo_fault : goal.returns-in-Err-clause-redo_fault
+returns-in-Err-clause-redo_fault g c =
+    let e = c.in-Err.ensures in record { redo_refused = e.redo_refused; redo_unfit = e.redo_unfit; redo_kept = e.redo_kept }
+
+pub returns-in-Ok-clause-devices : goal.returns-in-Ok-clause-devices
+returns-in-Ok-clause-devices g c =
+    let o = c.in-Ok.ensures in
+    record {
+      device_honesty = o.device_honesty;
+      store_honesty = o.store_honesty;
+      redo_honesty = o.redo_honesty;
+      honesty_err = tt;
+      device_failures = o.no_failure.0;
+      store_failures = o.no_failure.1;
+      redo_failures = o.no_failure.2;
+      counts = tt;
+    }
+
+pub returns-in-Err-clause-devices : goal.returns-in-Err-clause-devices
+returns-in-Err-clause-devices g c =
+    let e = c.in-Err.ensures in
+    record {
+      device_honesty = tt;
+      store_honesty = tt;
+      redo_honesty = tt;
+      honesty_err = (e.device_honesty, e.store_honesty, e.redo_honesty);
+      device_failures = tt;
+      store_failures = tt;
+      redo_failures = tt;
+      counts = e.counts;
+    }
 
 pub returns-in-Ok-clause-keeps : goal.returns-in-Ok-clause-keeps
 returns-in-Ok-clause-keeps g c dh th stack rec =
     record { rest = (c.in-Ok.ensures.keeps dh th stack rec).0; count = c.in-Ok.ensures.counted dh th stack rec; whole = refl }
-
-pub returns-in-Err-clause-keeps_err : goal.returns-in-Err-clause-keeps_err
-returns-in-Err-clause-keeps_err g c dh th stack rec = (c.in-Err.ensures.keeps dh th stack rec).1
-
-pub returns-in-Err-clause-lengths_kept : goal.returns-in-Err-clause-lengths_kept
-returns-in-Err-clause-lengths_kept g c dh th stack rec n is =
-    recovers_same (shown (g.T.TextStore.text c.args.store)) (g.D.Device.image c.args.device) stack c.in-Err.fault n rec (c.in-Err.ensures.faults dh th rec.reading rec.reads) is
-
-pub returns-in-Ok-clause-undone : goal.returns-in-Ok-clause-undone
-returns-in-Ok-clause-undone g c dh th rh =
-    let found = c.in-Ok.ensures.undone dh th rh in
-    (found.0, record { redo = found.1; counted = found.2 })
-
-pub returns-in-Ok-clause-keeps_undone : goal.returns-in-Ok-clause-keeps_undone
-returns-in-Ok-clause-keeps_undone g c dh th rh s finds =
-    let found = c.in-Ok.ensures.keeps_undone dh th rh s finds in
-    record { redo = found.0; counted = found.1 }
 
 pub returns-in-Ok-clause-reopens : goal.returns-in-Ok-clause-reopens
 returns-in-Ok-clause-reopens g c dh th rh s (rest, undone) =

@@ -1,4 +1,4 @@
-use Rattle.std.proofs.Common.{◌≡◌, ◌+◌, ℕ, length, length-append, refl, ap, sym, ◌∙◌, subst, arith}
+use Rattle.std.proofs.Common.{rules, ◌≡◌, ◌+◌, ℕ, length, length-append, refl, ap, sym, ◌∙◌, subst, arith}
 use Rattle.std.proofs.lemmas.Grind.{common_steps}
 use Rattle.bx_journal.specs.declared.fault.SessionFault.TheVariants.{RedoDamaged}
 use Rattle.bx_entries.specs.Text.{IsPrefix}
@@ -15,7 +15,7 @@ use Rattle.bx_image.proofs.Survivors.{NoMore_then}
 use Rattle.bx_journal.proofs.DeviceLemmas.{one_more}
 use Rattle.bx_journal.specs.Power.{FoundBefore}
 use Rattle.bx_journal.proofs.SafeLemmas.{accepts, any_fault, interrupts, refuses}
-use Rattle.bx_journal.proofs.LookedLemmas.{left_since, looked_at, none_failed, other_order, pair_step, read_since, rest_step, standing_step}
+use Rattle.bx_journal.proofs.LookedLemmas.{left_since, none_failed, pair_step, redo_looked_at, read_since, rest_step, standing_step}
 use Rattle.bx_journal.specs.Images.{redo_of}
 use Rattle.bx_journal.proofs.TouchedLemmas.{begun_same}
 use Rattle.bx_journal.proofs.StepSurvivors.{found_at_rest, found_of, found_some}
@@ -27,19 +27,23 @@ stayed : (g : _) (c : After-prepare_redo g)
     → HaveStayed g.D.Device g.T.TextStore c.self.inside.devices c.prepare_redo.new.devices
 stayed g c = redo_looked_at c.read_undone.ensures.looks c.prepare_redo.ensures.stayed
 
-pub returns-in_err-read-clause-undamaged : goal.returns-in_err-read-clause-undamaged
-returns-in_err-read-clause-undamaged g c =
-    rw (← c.self.view_is) (λ rh has.
-    let none : (line : ℕ) → c.in_err-read.field-0.0 ≡ RedoDamaged line → ⊥ =
-    redo_in_step (g.T.TextStore.honest c.self.inside.devices.redo_text) (g.T.TextStore.text c.self.inside.devices.redo_text) c.self.inside.undone c.in_err-read.field-0.0 rh has c.in_err-read.ensures.fault in
-    grind (arith, common_steps, none))
-
-pub returns-in_err-read-clause-damaged : goal.returns-in_err-read-clause-damaged
-returns-in_err-read-clause-damaged g c =
-    rw (← c.self.view_is) (λ rh.
-    let out : (line : ℕ) → c.in_err-read.field-0.0 ≡ RedoDamaged line → IsOutOfStep (g.T.TextStore.text c.self.inside.devices.redo_text) c.self.inside.undone line =
-    λ line is. subst (RedoAgainFault (g.T.TextStore.honest c.self.inside.devices.redo_text) (g.T.TextStore.text c.self.inside.devices.redo_text) c.self.inside.undone) is c.in_err-read.ensures.fault rh in
-    grind (arith, common_steps, out))
+pub returns-in_err-read-clause-faults : goal.returns-in_err-read-clause-faults
+returns-in_err-read-clause-faults g c =
+    record {
+      kind = search rules;
+      nothing = search rules;
+      damaged =
+          rw (← c.self.view_is) (λ rh.
+          let out : (line : ℕ) → c.in_err-read.field-0.0 ≡ RedoDamaged line → IsOutOfStep (g.T.TextStore.text c.self.inside.devices.redo_text) c.self.inside.undone line =
+          λ line is. subst (RedoAgainFault (g.T.TextStore.honest c.self.inside.devices.redo_text) (g.T.TextStore.text c.self.inside.devices.redo_text) c.self.inside.undone) is c.in_err-read.ensures.fault rh in
+          grind (arith, common_steps, out));
+      undamaged =
+          rw (← c.self.view_is) (λ rh has.
+          let none : (line : ℕ) → c.in_err-read.field-0.0 ≡ RedoDamaged line → ⊥ =
+          redo_in_step (g.T.TextStore.honest c.self.inside.devices.redo_text) (g.T.TextStore.text c.self.inside.devices.redo_text) c.self.inside.undone c.in_err-read.field-0.0 rh has c.in_err-read.ensures.fault in
+          grind (arith, common_steps, none));
+      whole = search rules;
+    }
 
 pub redo_entries-requires-clause-kept : goal.redo_entries-requires-clause-kept
 redo_entries-requires-clause-kept g c =
@@ -66,26 +70,33 @@ redo_entries-requires-clause-fits g c th = c.in_ok-again.ensures.roomed (c.prepa
 
 pub returns-in-Ok-clause-stands : goal.returns-in-Ok-clause-stands
 returns-in-Ok-clause-stands g c =
-    rw (← c.self.view_is) (λ dh th stack standing.
-    let before = stayed g (goal.at.returns-in-Ok-clause-stands g c).After-prepare_redo in
-    let many : c.self.inside.count ≡ changes_of stack = omega (arith, standing.count) in
-    let on = rw c.in_ok-again.ensures.ready.count at (pair_step (λ t x. StandsFor t x stack) before (λ d t stands. c.in-Ok.ensures.stands d t stack stands many) dh th standing.stands) in
-    (on.0, on.1, record { stands = on.2; count = omega (arith, length-append on.0 stack, on.1, standing.count, c.in-Ok.ensures.number, c.in_ok-again.ensures.ready.count); whole = standing.whole }))
+    record {
+      stands =
+          rw (← c.self.view_is) (λ dh th stack standing.
+          let before = stayed g (goal.at.returns-in-Ok-clause-stands g c).After-prepare_redo in
+          let many : c.self.inside.count ≡ changes_of stack = omega (arith, standing.count) in
+          let on = rw c.in_ok-again.ensures.ready.count at (pair_step (λ t x. StandsFor t x stack) before (λ d t stands. c.in-Ok.ensures.stands d t stack stands many) dh th standing.stands) in
+          (on.0, on.1, record { stands = on.2; count = omega (arith, length-append on.0 stack, on.1, standing.count, c.in-Ok.ensures.number, c.in_ok-again.ensures.ready.count); whole = standing.whole }));
+      ready =
+          rw (← c.self.view_is) (λ dh th stack ready.
+          let before = stayed g (goal.at.returns-in-Ok-clause-stands g c).After-prepare_redo in
+          let many : c.self.inside.count ≡ changes_of stack = omega (arith, ready.count) in
+          let on = rw c.in_ok-again.ensures.ready.count at (pair_step (λ t x. IsAtRest t x stack) before (λ d t rest. c.in-Ok.ensures.rests d t stack rest many) dh th ready.rest) in
+          (on.0, on.1, record { rest = on.2; count = omega (arith, length-append on.0 stack, on.1, ready.count, c.in-Ok.ensures.number, c.in_ok-again.ensures.ready.count); whole = ready.whole }));
+      fault = λ dh th stack ready. tt;
+    }
 
-pub returns-in-Ok-clause-ready : goal.returns-in-Ok-clause-ready
-returns-in-Ok-clause-ready g c =
-    rw (← c.self.view_is) (λ dh th stack ready.
-    let before = stayed g (goal.at.returns-in-Ok-clause-ready g c).After-prepare_redo in
-    let many : c.self.inside.count ≡ changes_of stack = omega (arith, ready.count) in
-    let on = rw c.in_ok-again.ensures.ready.count at (pair_step (λ t x. IsAtRest t x stack) before (λ d t rest. c.in-Ok.ensures.rests d t stack rest many) dh th ready.rest) in
-    (on.0, on.1, record { rest = on.2; count = omega (arith, length-append on.0 stack, on.1, ready.count, c.in-Ok.ensures.number, c.in_ok-again.ensures.ready.count); whole = ready.whole }))
-
-pub returns-clause-fault : goal.returns-clause-fault
-returns-clause-fault g c =
-    rw (← c.self.view_is) (λ dh th stack ready.
-    let before = stayed g (goal.at.returns-clause-fault g c).After-prepare_redo in
-    let many : c.self.inside.count ≡ changes_of stack = omega (arith, ready.count) in
-    rw c.in_ok-again.ensures.ready.count at (pair_step (λ t x. IsAtRest t x stack) before (λ d t rest. c.in-Err.ensures.fault d t stack rest many) dh th ready.rest))
+pub returns-clause-stands : goal.returns-clause-stands
+returns-clause-stands g c =
+    record {
+      stands = λ dh th stack standing. tt;
+      ready = λ dh th stack ready. tt;
+      fault =
+          rw (← c.self.view_is) (λ dh th stack ready.
+          let before = stayed g (goal.at.returns-clause-stands g c).After-prepare_redo in
+          let many : c.self.inside.count ≡ changes_of stack = omega (arith, ready.count) in
+          rw c.in_ok-again.ensures.ready.count at (pair_step (λ t x. IsAtRest t x stack) before (λ d t rest. c.in-Err.ensures.fault d t stack rest many) dh th ready.rest));
+    }
 
 pub returns-in-Ok-clause-accepted : goal.returns-in-Ok-clause-accepted
 returns-in-Ok-clause-accepted g c =
@@ -108,10 +119,17 @@ returns-in-Ok-clause-sound g c =
       record { redo = left.3; counted = left.4 },
     ))
 
-pub returns-in-Ok-clause-whole : goal.returns-in-Ok-clause-whole
-returns-in-Ok-clause-whole g c =
-    rw (← c.self.view_is) (λ rh.
-    let last = c.in_ok-read.ensures.read in has_count (g.T.TextStore.text c.self.inside.devices.redo_text) last.text c.in_ok-read.read.entries.items c.self.inside.undone last.read (last.is rh))
+pub returns-in-Ok-clause-faults : goal.returns-in-Ok-clause-faults
+returns-in-Ok-clause-faults g c =
+    record {
+      kind = tt;
+      nothing = search rules;
+      damaged = λ th. tt;
+      undamaged = λ th has. tt;
+      whole =
+          rw (← c.self.view_is) (λ rh.
+          let last = c.in_ok-read.ensures.read in has_count (g.T.TextStore.text c.self.inside.devices.redo_text) last.text c.in_ok-read.read.entries.items c.self.inside.undone last.read (last.is rh));
+    }
 
 pub returns-in-Ok-clause-text : goal.returns-in-Ok-clause-text
 returns-in-Ok-clause-text g c =
@@ -144,24 +162,24 @@ returns-in_err-again-clause-safe g c =
     rw (← c.self.view_is) (
     refuses c.from_residual-in_err-again.result c.in_err-again.field-0.0 (grind (arith, common_steps, found.1, found.2)) c.in_err-again.ensures.kind c.if-self.false refl refl refl
     (stayed g (goal.at.returns-in_err-again-clause-safe g c).After-prepare_redo) c.in_err-again.ensures.counts
-    (λ h. (h.0, h.2, omega (arith, h.1, read.no_failure), omega (arith, h.3, read.no_failure))) (λ h. (h.0, h.2, h.1 ∙ read.no_failure)))
+    (λ h. (h.0, h.1, omega (arith, h.2, read.no_failure), omega (arith, h.3, read.no_failure))) (λ h. (h.0, h.1, h.2 ∙ read.no_failure)))
 
 pub returns-in-Ok-clause-safe : goal.returns-in-Ok-clause-safe
 returns-in-Ok-clause-safe g c =
     let same = c.in_ok-again.ensures.no_failure in
-    rw (← c.self.view_is) (accepts c.if-self.false (one_more _ (none_failed (stayed g (goal.at.returns-in-Ok-clause-safe g c).After-prepare_redo) (same.0, same.2, same.1 ∙ c.in_ok-read.ensures.looks.no_failure)) c.in-Ok.ensures.steps_on))
+    rw (← c.self.view_is) (accepts c.if-self.false (one_more _ (none_failed (stayed g (goal.at.returns-in-Ok-clause-safe g c).After-prepare_redo) (same.0, same.1, same.2 ∙ c.in_ok-read.ensures.looks.no_failure)) c.in-Ok.ensures.steps_on))
 
 pub returns-clause-safe : goal.returns-clause-safe
 returns-clause-safe g c =
     let same = c.in_ok-again.ensures.no_failure in
-    rw (← c.self.view_is) (interrupts c.if-self.false refl refl refl (one_more _ (none_failed (stayed g (goal.at.returns-clause-safe g c).After-prepare_redo) (same.0, same.2, same.1 ∙ c.in_ok-read.ensures.looks.no_failure)) c.in-Err.ensures.steps_on))
+    rw (← c.self.view_is) (interrupts c.if-self.false refl refl refl (one_more _ (none_failed (stayed g (goal.at.returns-clause-safe g c).After-prepare_redo) (same.0, same.1, same.2 ∙ c.in_ok-read.ensures.looks.no_failure)) c.in-Err.ensures.steps_on))
 
 -- what is found behind an interruption
 pub returns-clause-survives : goal.returns-clause-survives
 returns-clause-survives g c =
     rw (← c.self.view_is) (λ dh th rh s ready has y new redo image_there there redo_there.
     let before = stayed g (goal.at.returns-clause-survives g c).After-prepare_redo in
-    let on = c.in_ok-again.ensures.settled dh (c.in_ok-read.ensures.looks.honesty.1 rh) th in
+    let on = c.in_ok-again.ensures.settled dh th (c.in_ok-read.ensures.looks.honesty.1 rh) in
     let rest = rest_step before (λ d t u i rest. rest) dh th rh s ready has in
     found_some _ _ _ redo_of _ _ (rw c.in_ok-again.ensures.ready.count at
     (c.in-Err.ensures.survives (before.device_honesty.1 dh) (before.store_honesty.1 th) (before.redo_honesty.1 rh) on s rest (omega (arith, ready.count)) y new redo image_there there redo_there)))
@@ -174,7 +192,7 @@ returns-in-Ok-clause-survives g c =
     let d = before.device_honesty.1 dh in
     let t = before.store_honesty.1 th in
     let u = before.redo_honesty.1 rh in
-    let on = c.in_ok-again.ensures.settled dh (c.in_ok-read.ensures.looks.honesty.1 rh) th in
+    let on = c.in_ok-again.ensures.settled dh th (c.in_ok-read.ensures.looks.honesty.1 rh) in
     let settled = c.in-Ok.ensures.settles d t u on in
     let done = rest_step before c.in-Ok.ensures.found dh th rh s ready has (omega (arith, ready.count)) in
     found_of _ _ _ _ (rw c.in_ok-again.ensures.ready.count at

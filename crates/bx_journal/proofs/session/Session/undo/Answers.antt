@@ -1,4 +1,4 @@
-use Rattle.std.proofs.Common.{◌≡◌, ℕ, refl, ◌∙◌, sym, subst, arith, length-drop}
+use Rattle.std.proofs.Common.{rules, ◌≡◌, ℕ, refl, ◌∙◌, sym, subst, arith, length-drop}
 use Rattle.std.proofs.lemmas.Grind.{common_steps}
 use Rattle.bx_journal.specs.declared.fault.SessionFault.TheVariants.{Damaged}
 use Rattle.bx_journal.specs.Phase.{IsAtRest}
@@ -25,19 +25,23 @@ stayed : (g : _) (c : After-prepare_takens g)
     → HaveStayed g.D.Device g.T.TextStore c.self.inside.devices c.prepare_takens.new.devices
 stayed g c = looked_at c.read_last_of.ensures.looks c.prepare_takens.ensures.stayed
 
-pub returns-in_err-read-clause-undamaged : goal.returns-in_err-read-clause-undamaged
-returns-in_err-read-clause-undamaged g c =
-    rw (← c.self.view_is) (λ th has.
-    let none : (line : ℕ) → c.in_err-read.field-0.0 ≡ Damaged line → ⊥ =
-    in_step (g.T.TextStore.honest c.self.inside.devices.store) (g.T.TextStore.text c.self.inside.devices.store) c.self.inside.count c.in_err-read.field-0.0 th has c.in_err-read.ensures.fault in
-    grind (arith, common_steps, none))
-
-pub returns-in_err-read-clause-damaged : goal.returns-in_err-read-clause-damaged
-returns-in_err-read-clause-damaged g c =
-    rw (← c.self.view_is) (λ th.
-    let out : (line : ℕ) → c.in_err-read.field-0.0 ≡ Damaged line → IsOutOfStep (g.T.TextStore.text c.self.inside.devices.store) c.self.inside.count line =
-    λ line is. subst (AgainFault (g.T.TextStore.honest c.self.inside.devices.store) (g.T.TextStore.text c.self.inside.devices.store) c.self.inside.count) is c.in_err-read.ensures.fault th in
-    grind (arith, common_steps, out))
+pub returns-in_err-read-clause-faults : goal.returns-in_err-read-clause-faults
+returns-in_err-read-clause-faults g c =
+    record {
+      kind = search rules;
+      few = search rules;
+      damaged =
+          rw (← c.self.view_is) (λ th.
+          let out : (line : ℕ) → c.in_err-read.field-0.0 ≡ Damaged line → IsOutOfStep (g.T.TextStore.text c.self.inside.devices.store) c.self.inside.count line =
+          λ line is. subst (AgainFault (g.T.TextStore.honest c.self.inside.devices.store) (g.T.TextStore.text c.self.inside.devices.store) c.self.inside.count) is c.in_err-read.ensures.fault th in
+          grind (arith, common_steps, out));
+      undamaged =
+          rw (← c.self.view_is) (λ th has.
+          let none : (line : ℕ) → c.in_err-read.field-0.0 ≡ Damaged line → ⊥ =
+          in_step (g.T.TextStore.honest c.self.inside.devices.store) (g.T.TextStore.text c.self.inside.devices.store) c.self.inside.count c.in_err-read.field-0.0 th has c.in_err-read.ensures.fault in
+          grind (arith, common_steps, none));
+      whole = search rules;
+    }
 
 pub prepare_takens-requires-clause-read : goal.prepare_takens-requires-clause-read
 prepare_takens-requires-clause-read g c =
@@ -71,10 +75,17 @@ returns-in-Ok-clause-sound g c =
       whole = ready.whole;
     })
 
-pub returns-in-Ok-clause-whole : goal.returns-in-Ok-clause-whole
-returns-in-Ok-clause-whole g c =
-    rw (← c.self.view_is) (λ th.
-    let last = c.in_ok-read.ensures.read in has_count (g.T.TextStore.text c.self.inside.devices.store) last.text c.in_ok-read.read.entries.items c.self.inside.count last.read (last.is th))
+pub returns-in-Ok-clause-faults : goal.returns-in-Ok-clause-faults
+returns-in-Ok-clause-faults g c =
+    record {
+      kind = tt;
+      few = search rules;
+      damaged = λ th. tt;
+      undamaged = λ th has. tt;
+      whole =
+          rw (← c.self.view_is) (λ th.
+          let last = c.in_ok-read.ensures.read in has_count (g.T.TextStore.text c.self.inside.devices.store) last.text c.in_ok-read.read.entries.items c.self.inside.count last.read (last.is th));
+    }
 
 pub returns-in-Ok-clause-text : goal.returns-in-Ok-clause-text
 returns-in-Ok-clause-text g c =

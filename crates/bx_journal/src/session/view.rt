@@ -2,6 +2,7 @@
 ghost use Rattle.std.specs.Prelude.{◌≡◌, max};
 
 use crate::Session;
+use crate::devices::Devices;
 use bx_image::Device;
 use bx_store::TextStore;
 use std::alloc::Allocator;
@@ -35,6 +36,11 @@ impl<D: Device, T: TextStore, A: Allocator> Session<D, T, A> {
         ensures store { result.1 ≡ self.store }
         ensures redo_text { result.2 ≡ self.redo_text }
     {
-        self.devices.part()
+        let Devices {
+            device,
+            store,
+            redo_text,
+        } = self.devices;
+        (device, store, redo_text)
     }
 }
