@@ -7,18 +7,18 @@ use Rattle.bx_entries.specs.declared.read.count.Place.{Place}
 use Rattle.bx_entries.specs.declared.read.count.Place.TheVariants.{Between as BetweenPlace, Saving as SavingPlace, Ending as EndingPlace}
 use Rattle.bx_entries.specs.declared.read.count.Tally.{Tally}
 use Rattle.bx_entries.specs.declared.read.rows.Summed.{Summed}
-use Rattle.bx_entries.specs.Kept.{Run, Kept, with_run}
-use Rattle.bx_entries.specs.Line.{saved_in}
-use Rattle.bx_entries.specs.Text.{Entry, Saving, Reading, ended}
+use Rattle.bx_entries.specs.Kept.{Kept}
+use Rattle.bx_entries.specs.Text.{Saving, Reading, ended, next_at}
 use Rattle.bx_entries.specs.inner.Followed.{AreFullSaved, BeginsFull, IsFullSaved}
 use Rattle.bx_entries.specs.inner.Form.{IsFullAt}
-use Rattle.bx_entries.specs.inner.Rows.{HasAdded, SumsTo, saved_at, summed_of, with_more}
+use Rattle.bx_entries.specs.inner.Event.{kept_with}
+use Rattle.bx_entries.specs.inner.Rows.{SumsTo, summed_of, with_more}
 use Rattle.bx_entries.specs.inner.Tally.{AreFullAt, IsTallied, LeadsTo, tally_of}
 use Rattle.bx_entries.proofs.FollowLemmas.{not_save}
 use Rattle.bx_entries.proofs.SavedLines.{saved_reads}
 use Rattle.bx_entries.proofs.StepLemmas.{adds}
-use Rattle.bx_entries.proofs.SumLemmas.{save_sums}
-use Rattle.bx_entries.proofs.TallyLemmas.{HasForm, IsFirstLine, LeadsIn, has_form, line_taken, save_counts, take_sum, tallied_on}
+use Rattle.bx_entries.proofs.SumLemmas.{sum_saved}
+use Rattle.bx_entries.proofs.TallyLemmas.{HasForm, IsFirstLine, has_form, line_taken, take_sum, tallied_on}
 
 -- a line that is full, where its bytes lie within the length
 pub begins_full : (len at : ℕ) (text : List ℕ) → IsFullAt at text → at + 16 ≤ len → BeginsFull len text
@@ -59,19 +59,27 @@ one_full len count text so more = record {
 pub full_first : (len at : ℕ) (text bytes : List ℕ) → IsFullSaved len at text bytes → IsFirstLine text 67
 full_first len at text bytes full = record { below = omega (arith, full.long); plain = full.plain; is = full.ended }
 
--- a full line leads from a tally to itself
+-- a full line adds its bytes to what an entry keeps
+pub full_adds : (r : Reading) (v : Version) (s : Kept) (text : List ℕ) → r.stage ≡ Saving v s → (f : BeginsFull s.len text)
+    → next_at r.entries r.stage (take 67 text) ≡ Some (record { entries = r.entries; stage = Saving v (kept_with s (record { at = f.0; bytes = f.1 })) })
+full_adds r v s text stage f =
+    let line : List ℕ = take 67 text in
+    let long : length line ≡ 67 = omega (arith, length-take 67 text, f.3.long) in
+    let number : ℕ = suc (length r.entries) in
+    ap (λ z. next_at r.entries z line) stage ∙ adds r.entries number v s line refl (record { at = f.0; bytes = f.1 }) (not_save number line long) f.3.saved
+
+-- so it leads from a tally to itself
 full_leads : (only_second : Bool) (r : Reading) (t : Tally) (v : Version) (len : ℕ) (text : List ℕ) → tally_of r ≡ t → t.place ≡ SavingPlace v len → BeginsFull len text
     → LeadsTo only_second r (take 67 text) t
 full_leads only_second r t v len text is place begins =
-    let full = begins.3 in
-    let line : List ℕ = take 67 text in
-    let run : Run = record { at = begins.0; bytes = begins.1 } in
-    let long : length line ≡ 67 = omega (arith, length-take 67 text, full.long) in
-    let lead : (es : List Entry) (s : Kept) → suc (length es) ≡ t.count + 1 → s.len ≡ len → LeadsIn es (Saving v s) line (SavingPlace v len) = λ es s number same.
-    let saved : saved_in s.len line ≡ Some run = ap (λ n. saved_in n line) same ∙ full.saved in
-    (Saving v (record { len = s.len; runs = with_run s.runs run }), adds es (t.count + 1) v s line number run (not_save (t.count + 1) line long) saved, ap (SavingPlace v) same) in
-    subst (λ p. LeadsTo only_second r line (record { count = t.count; told = t.told; place = p })) (sym place)
-    (save_counts only_second r t line is (t.count + 1) v len (SavingPlace v len) place refl lead)
+    let was : HasForm r.stage (SavingPlace v len) = has_form r.stage (SavingPlace v len) (ap (λ (u : Tally). u.place) is ∙ place) in
+    let full : BeginsFull was.0.len text = subst (λ n. BeginsFull n text) (sym was.2) begins in
+    record {
+      reading = record { entries = r.entries; stage = Saving v (kept_with was.0 (record { at = full.0; bytes = full.1 })) };
+      leads = full_adds r v was.0 text was.1 full;
+      is = ap (λ z. tally_of (record { entries = r.entries; stage = z })) (sym was.1) ∙ is;
+      tell = λ only tell. tell;
+    }
 
 -- the first lines of those, one after another
 full_counts : (only_second : Bool) (front text : List ℕ) (t : Tally) (v : Version) (len n count k : ℕ) → t.place ≡ SavingPlace v len → AreFullSaved len text count → k ≤ count
@@ -118,13 +126,16 @@ tallied_full only_second front window rest t taken n m count left so h =
     (subst (λ l. IsTallied only_second l t ((n + m) + count)) whole (full_tallied only_second (front ++ take taken window) rest t (n + m) count so h))
 
 -- a full line adds its bytes to sums
+abbrev pub full_sums_at : (r : Reading) (now : Summed) (v : Version) (s : Kept) (text : List ℕ) → summed_of r ≡ now → r.stage ≡ Saving v s → BeginsFull s.len text → SumsTo r (take 67 text) (with_more now 16)
+full_sums_at r now v s text is stage full = record {
+  reading = record { entries = r.entries; stage = Saving v (kept_with s (record { at = full.0; bytes = full.1 })) };
+  leads = full_adds r v s text stage full;
+  is = sum_saved r.entries v s (record { at = full.0; bytes = full.1 }) ∙ ap (with_more (summed_of (record { entries = r.entries; stage = Saving v s }))) full.2
+      ∙ ap (λ z. with_more (summed_of (record { entries = r.entries; stage = z })) 16) (sym stage) ∙ ap (λ n. with_more n 16) is;
+}
+
 pub full_sums : (r : Reading) (now : Summed) (v : Version) (len : ℕ) (text : List ℕ) → summed_of r ≡ now → now.tally.place ≡ SavingPlace v len → BeginsFull len text
     → SumsTo r (take 67 text) (with_more now 16)
 full_sums r now v len text is place begins =
-    let line : List ℕ = take 67 text in
-    let run : Run = record { at = begins.0; bytes = begins.1 } in
-    let to : LeadsTo false r line now.tally = full_leads false r now.tally v len text (ap (λ (s : Summed). s.tally) is) place begins in
-    let added : HasAdded len now.tally.place line 16 = subst (λ p. HasAdded len p line 16) (sym place) (run, begins.3.saved, begins.2) in
     let was : HasForm r.stage (SavingPlace v len) = has_form r.stage (SavingPlace v len) (ap (λ (s : Summed). s.tally.place) is ∙ place) in
-    let long : len ≡ now.len = sym was.2 ∙ ap (λ z. (saved_at r.entries z).len) (sym was.1) ∙ ap (λ (s : Summed). s.len) is in
-    subst (λ n. SumsTo r line (record { tally = now.tally; len = n; saved = now.saved + 16 })) long (save_sums r now now.tally line is to v len 16 place added)
+    full_sums_at r now v was.0 text is was.1 (subst (λ n. BeginsFull n text) (sym was.2) begins)

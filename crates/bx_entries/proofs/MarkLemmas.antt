@@ -1,7 +1,5 @@
 -- Entries that are marked: a line more, and full lines.
 use Rattle.std.proofs.Common.{◌≡◌, ◌⊎◌, ℕ, zero, suc, ◌+◌, ◌*◌, ◌≤◌, Bool, true, false, List, [], ◌∷◌, ◌++◌, length, length-append, map, refl, ap, sym, ◌∙◌, subst, inl, inr, arith, append_assoc, append-nil, take, drop, length-take, Option, Some}
-use Rattle.std.specs.Prelude.{if◌then◌else◌, option_map}
-use Rattle.std.specs.Str.{bytes_eq}
 use Rattle.std.proofs.lemmas.List.{length-map}
 use Rattle.bx_entries.specs.declared.format.version.Version.{Version}
 use Rattle.bx_entries.specs.declared.read.count.Place.{Place}
@@ -12,15 +10,15 @@ use Rattle.bx_entries.specs.declared.read.rows.Summed.{Summed}
 use Rattle.bx_entries.specs.Kept.{Run, Kept, with_run}
 use Rattle.bx_entries.specs.Line.{save_line, saved_in}
 use Rattle.bx_entries.specs.Spelled.{EntryLines, GiveRuns, entry_in, lines_of, runs_behind}
-use Rattle.bx_entries.specs.Text.{Entry, Stage, Between, Saving, Ending, Reading, Split, ended, joined, split, start, next_at, after_lines}
-use Rattle.bx_entries.specs.inner.Followed.{AreFullSaved}
-use Rattle.bx_entries.specs.inner.Marks.{GoOnWith, IsBegun, IsMarked, IsMarkedOn, ended_mark, mark_of, marks_of, saved_to, size_of}
+use Rattle.bx_entries.specs.Text.{Entry, Stage, Between, Saving, Ending, Reading, Split, ended, joined, split, start, after_lines}
+use Rattle.bx_entries.specs.inner.Event.{kept_with}
+use Rattle.bx_entries.specs.inner.Followed.{AreFullSaved, BeginsFull}
+use Rattle.bx_entries.specs.inner.Marks.{GoOnWith, IsBegun, IsMarked, IsMarkedOn, ended_mark, mark_of, marks_of, size_of}
 use Rattle.bx_entries.specs.inner.Plain.{HasNoNewline}
 use Rattle.bx_entries.specs.inner.Rows.{SumsTo, summed_of, with_more}
 use Rattle.bx_entries.specs.inner.Tally.{AreFullAt, place_of}
 use Rattle.bx_entries.proofs.Foreign.{joined_lines}
-use Rattle.bx_entries.proofs.FullLemmas.{full_first, full_sums}
-use Rattle.bx_entries.proofs.Inverse.{map_some, next_between, next_ending, same_bytes}
+use Rattle.bx_entries.proofs.FullLemmas.{full_first, full_sums_at}
 use Rattle.bx_entries.proofs.RangeSteps.{behind_some, runs_behind-append}
 use Rattle.bx_entries.proofs.Runs.{after_lines-append}
 use Rattle.bx_entries.proofs.Splits.{split-append, split-ended}
@@ -42,23 +40,6 @@ marked_none s none = record {
   runs = tt;
   marks_are = refl;
 }
-
--- what a line does among saved lines: it ends them, or is one
-abbrev Saves : List Entry → Version → Kept → List ℕ → Reading → Type 0
-Saves es v s line q = ((line ≡ save_line (suc (length es))) × (q ≡ record { entries = es; stage = Ending v s }))
-    ⊎ ((piece : Run) × (saved_in s.len line ≡ Some piece) × (q ≡ record { entries = es; stage = Saving v (record { len = s.len; runs = with_run s.runs piece }) }))
-
-next_saves : (es : List Entry) (v : Version) (s : Kept) (line : List ℕ) (q : Reading) → next_at es (Saving v s) line ≡ Some q → Saves es v s line q
-unfolding next_at
-next_saves es v s line q e = by_test (bytes_eq line (save_line (suc (length es)))) refl e
-  where
-    by_test : (b : Bool) → bytes_eq line (save_line (suc (length es))) ≡ b
-        → (if b then Some (record { entries = es; stage = Ending v s }) else option_map (λ (piece : Run). (record { entries = es; stage = Saving v (record { len = s.len; runs = with_run s.runs piece }) })) (saved_in s.len line)) ≡ Some q
-        → Saves es v s line q
-    by_test true is e = inl (same_bytes line (save_line (suc (length es))) is, cc)
-    by_test false is e =
-        let some = map_some (λ (piece : Run). (record { entries = es; stage = Saving v (record { len = s.len; runs = with_run s.runs piece }) })) (saved_in s.len line) q e in
-        inr (some.0, some.1, sym some.2)
 
 -- one line more
 module _ (text line : List ℕ) (marks : List Mark) (now : Marking) (sums : Summed) (h : IsMarked text now marks) (plain : HasNoNewline line) (lead : SumsTo h.reading line sums) where
@@ -107,12 +88,6 @@ module _ (text line : List ℕ) (marks : List Mark) (now : Marking) (sums : Summ
   number_is : suc (length h.reading.entries) ≡ suc (length h.entries)
   number_is = ap suc (sym (ap length h.are) ∙ length-map h.entries entry_in)
 
-  old_form : (p : Place) → now.sums.tally.place ≡ p → HasForm h.reading.stage p
-  old_form p at = has_form h.reading.stage p (ap (λ (s : Summed). s.tally.place) h.is ∙ at)
-
-  led : (stage : Stage) → h.reading.stage ≡ stage → next_at h.reading.entries stage line ≡ Some q
-  led stage is = ap (λ s. next_at h.reading.entries s line) (sym is) ∙ lead.leads
-
   were : (stage : Stage) → h.reading.stage ≡ stage → GoOnWith h.entries stage h.behind now.from now.to
   were stage is = subst (λ s. GoOnWith h.entries s h.behind now.from now.to) is h.goes_on
 
@@ -123,14 +98,12 @@ module _ (text line : List ℕ) (marks : List Mark) (now : Marking) (sums : Summ
   Goes from to = IsMarked (text ++ ended line) (record { sums = sums; from = from; to = to }) (marks ++ ended_mark sums.tally.place (record { sums = sums; from = from; to = to }))
 
   -- a line that begins an entry
-  pub marked_start : (after : ℕ) → now.sums.tally.place ≡ BetweenPlace → after ≡ length text + length line + 1 → Goes after after
+  pub marked_start : (v : Version) (len after : ℕ) → h.reading.stage ≡ Between → q ≡ record { entries = h.reading.entries; stage = Saving v (record { len = len; runs = [] }) }
+      → after ≡ length text + length line + 1 → Goes after after
   unfolding runs_behind
-  marked_start after at long =
-      let between : h.reading.stage ≡ Between = old_form BetweenPlace at in
-      let b = next_between h.reading.entries line q (led Between between) in
-      let s : Kept = record { len = b.1.1; runs = [] } in
-      let q_is : q ≡ record { entries = h.reading.entries; stage = Saving b.1.0 s } = b.2 ∙ ap (λ z. record { entries = h.reading.entries; stage = z }) b.1.7 in
-      let stage_is : q.stage ≡ Saving b.1.0 s = ap (λ (r : Reading). r.stage) q_is in
+  marked_start v len after between q_is long =
+      let s : Kept = record { len = len; runs = [] } in
+      let stage_is : q.stage ≡ Saving v s = ap (λ (r : Reading). r.stage) q_is in
       let none : h.behind ≡ [] = were Between between in
       let behind : h.behind ++ line ∷ [] ≡ line ∷ [] = ap (λ ls. ls ++ line ∷ []) none in
       let all = lines_more (line ∷ []) behind in
@@ -144,81 +117,62 @@ module _ (text line : List ℕ) (marks : List Mark) (now : Marking) (sums : Summ
       } in
       marked after after h.entries (line ∷ []) (marks ++ ended_mark sums.tally.place (record { sums = sums; from = after; to = after }))
       (h.are ∙ sym (ap (λ (r : Reading). r.entries) q_is)) all (subst (λ z. GoOnWith h.entries z (line ∷ []) after after) (sym stage_is) begun) h.runs
-      (no_mark (record { sums = sums; from = after; to = after }) (Saving b.1.0 s) stage_is refl)
+      (no_mark (record { sums = sums; from = after; to = after }) (Saving v s) stage_is refl)
 
-  -- a line among saved lines
-  pub marked_save : (v : Version) (n after : ℕ) → now.sums.tally.place ≡ SavingPlace v n → after ≡ length text + length line + 1 → Goes now.from (saved_to now.to sums.tally.place after)
-  marked_save v n after at long = elim (next_saves h.reading.entries v s line q (led (Saving v s) was.1)) [ inl ends ↦ by_end ends.0 ends.1 | inr adds ↦ by_line adds.0 adds.1 adds.2 ]
-    where
-      was : HasForm h.reading.stage (SavingPlace v n)
-      was = old_form (SavingPlace v n) at
+  -- the save line
+  pub marked_save : (v : Version) (s : Kept) → h.reading.stage ≡ Saving v s → q ≡ record { entries = h.reading.entries; stage = Ending v s } → line ≡ save_line (suc (length h.reading.entries)) → Goes now.from now.to
+  marked_save v s was q_is save =
+      let b : IsBegun h.entries s.len s.runs [] h.behind now.from now.to = were (Saving v s) was in
+      let stage_is : q.stage ≡ Ending v s = ap (λ (r : Reading). r.stage) q_is in
+      let tail : List (List ℕ) = save_line (suc (length h.entries)) ∷ [] in
+      let line_is : line ≡ save_line (suc (length h.entries)) = save ∙ ap save_line number_is in
+      let behind : h.behind ++ line ∷ [] ≡ b.first ∷ (b.saved ++ tail) =
+      ap (λ ls. ls ++ line ∷ []) b.is ∙ ap (λ ls. b.first ∷ (ls ++ line ∷ [])) (append-nil b.saved) ∙ ap (λ l. b.first ∷ (b.saved ++ l ∷ [])) line_is in
+      let begun : IsBegun h.entries s.len s.runs tail (b.first ∷ (b.saved ++ tail)) now.from now.to = record { first = b.first; saved = b.saved; is = refl; begins = b.begins; ends = b.ends; runs = b.runs } in
+      marked now.from now.to h.entries (b.first ∷ (b.saved ++ tail)) (marks ++ ended_mark sums.tally.place (record { sums = sums; from = now.from; to = now.to }))
+      (h.are ∙ sym (ap (λ (r : Reading). r.entries) q_is)) (lines_more (b.first ∷ (b.saved ++ tail)) behind)
+      (subst (λ z. GoOnWith h.entries z (b.first ∷ (b.saved ++ tail)) now.from now.to) (sym stage_is) begun) h.runs
+      (no_mark (record { sums = sums; from = now.from; to = now.to }) (Ending v s) stage_is refl)
 
-      s : Kept
-      s = was.0
-
-      b : IsBegun h.entries s.len s.runs [] h.behind now.from now.to
-      b = were (Saving v s) was.1
-
-      -- what is said of the places by the line's form
-      placed : (stage : Stage) (to : ℕ) → q.stage ≡ stage → saved_to now.to (place_of stage) after ≡ to → Goes now.from to → Goes now.from (saved_to now.to sums.tally.place after)
-      placed stage to is same goes = subst (λ n. Goes now.from n) (sym same ∙ ap (λ p. saved_to now.to p after) (sym (ap place_of is) ∙ place_is)) goes
-
-      by_end : line ≡ save_line (suc (length h.reading.entries)) → q ≡ record { entries = h.reading.entries; stage = Ending v s } → Goes now.from (saved_to now.to sums.tally.place after)
-      by_end save q_is =
-          let stage_is : q.stage ≡ Ending v s = ap (λ (r : Reading). r.stage) q_is in
-          let tail : List (List ℕ) = save_line (suc (length h.entries)) ∷ [] in
-          let line_is : line ≡ save_line (suc (length h.entries)) = save ∙ ap save_line number_is in
-          let behind : h.behind ++ line ∷ [] ≡ b.first ∷ (b.saved ++ tail) =
-          ap (λ ls. ls ++ line ∷ []) b.is ∙ ap (λ ls. b.first ∷ (ls ++ line ∷ [])) (append-nil b.saved) ∙ ap (λ l. b.first ∷ (b.saved ++ l ∷ [])) line_is in
-          let begun : IsBegun h.entries s.len s.runs tail (b.first ∷ (b.saved ++ tail)) now.from now.to = record { first = b.first; saved = b.saved; is = refl; begins = b.begins; ends = b.ends; runs = b.runs } in
-          placed (Ending v s) now.to stage_is refl
-          (marked now.from now.to h.entries (b.first ∷ (b.saved ++ tail)) (marks ++ ended_mark sums.tally.place (record { sums = sums; from = now.from; to = now.to }))
-          (h.are ∙ sym (ap (λ (r : Reading). r.entries) q_is)) (lines_more (b.first ∷ (b.saved ++ tail)) behind)
-          (subst (λ z. GoOnWith h.entries z (b.first ∷ (b.saved ++ tail)) now.from now.to) (sym stage_is) begun) h.runs
-          (no_mark (record { sums = sums; from = now.from; to = now.to }) (Ending v s) stage_is refl))
-
-      by_line : (p : Run) → saved_in s.len line ≡ Some p → q ≡ record { entries = h.reading.entries; stage = Saving v (record { len = s.len; runs = with_run s.runs p }) }
-          → Goes now.from (saved_to now.to sums.tally.place after)
-      by_line p gives q_is =
-          let t : Kept = record { len = s.len; runs = with_run s.runs p } in
-          let stage_is : q.stage ≡ Saving v t = ap (λ (r : Reading). r.stage) q_is in
-          let saved : List (List ℕ) = b.saved ++ line ∷ [] in
-          let lines : List (List ℕ) = b.first ∷ (saved ++ []) in
-          let behind : h.behind ++ line ∷ [] ≡ lines =
-          ap (λ ls. ls ++ line ∷ []) b.is ∙ ap (λ ls. b.first ∷ (ls ++ line ∷ [])) (append-nil b.saved) ∙ ap (λ ls. b.first ∷ ls) (sym (append-nil saved)) in
-          let all = lines_more lines behind in
-          let bare : lines_of h.entries ++ lines ≡ lines_of h.entries ++ b.first ∷ saved = ap (λ ls. lines_of h.entries ++ b.first ∷ ls) (append-nil saved) in
-          let begun : IsBegun h.entries t.len t.runs [] lines now.from after = record {
-            first = b.first;
-            saved = saved;
-            is = refl;
-            begins = b.begins;
-            ends = size_is (lines_of h.entries ++ b.first ∷ saved) after (all ∙ bare) long;
-            runs = ap (λ rs. with_run rs p) b.runs ∙ sym (behind_some s.len (runs_behind s.len [] b.saved) line p gives) ∙ sym (runs_behind-append s.len [] b.saved (line ∷ []));
-          } in
-          placed (Saving v t) after stage_is refl
-          (marked now.from after h.entries lines (marks ++ ended_mark sums.tally.place (record { sums = sums; from = now.from; to = after }))
-          (h.are ∙ sym (ap (λ (r : Reading). r.entries) q_is)) all (subst (λ z. GoOnWith h.entries z lines now.from after) (sym stage_is) begun) h.runs
-          (no_mark (record { sums = sums; from = now.from; to = after }) (Saving v t) stage_is refl))
+  -- a saved line
+  pub marked_line : (v : Version) (s : Kept) (p : Run) (after : ℕ) → h.reading.stage ≡ Saving v s → q ≡ record { entries = h.reading.entries; stage = Saving v (kept_with s p) } → saved_in s.len line ≡ Some p
+      → after ≡ length text + length line + 1 → Goes now.from after
+  marked_line v s p after was q_is gives long =
+      let b : IsBegun h.entries s.len s.runs [] h.behind now.from now.to = were (Saving v s) was in
+      let t : Kept = kept_with s p in
+      let stage_is : q.stage ≡ Saving v t = ap (λ (r : Reading). r.stage) q_is in
+      let saved : List (List ℕ) = b.saved ++ line ∷ [] in
+      let lines : List (List ℕ) = b.first ∷ (saved ++ []) in
+      let behind : h.behind ++ line ∷ [] ≡ lines =
+      ap (λ ls. ls ++ line ∷ []) b.is ∙ ap (λ ls. b.first ∷ (ls ++ line ∷ [])) (append-nil b.saved) ∙ ap (λ ls. b.first ∷ ls) (sym (append-nil saved)) in
+      let all = lines_more lines behind in
+      let bare : lines_of h.entries ++ lines ≡ lines_of h.entries ++ b.first ∷ saved = ap (λ ls. lines_of h.entries ++ b.first ∷ ls) (append-nil saved) in
+      let begun : IsBegun h.entries t.len t.runs [] lines now.from after = record {
+        first = b.first;
+        saved = saved;
+        is = refl;
+        begins = b.begins;
+        ends = size_is (lines_of h.entries ++ b.first ∷ saved) after (all ∙ bare) long;
+        runs = ap (λ rs. with_run rs p) b.runs ∙ sym (behind_some s.len (runs_behind s.len [] b.saved) line p gives) ∙ sym (runs_behind-append s.len [] b.saved (line ∷ []));
+      } in
+      marked now.from after h.entries lines (marks ++ ended_mark sums.tally.place (record { sums = sums; from = now.from; to = after }))
+      (h.are ∙ sym (ap (λ (r : Reading). r.entries) q_is)) all (subst (λ z. GoOnWith h.entries z lines now.from after) (sym stage_is) begun) h.runs
+      (no_mark (record { sums = sums; from = now.from; to = after }) (Saving v t) stage_is refl)
 
   -- a line that ends an entry
-  pub marked_end : (v : Version) → now.sums.tally.place ≡ EndingPlace v → Goes now.from now.to
+  pub marked_end : (v : Version) (s : Kept) (told : Option ℕ) → h.reading.stage ≡ Ending v s → q ≡ record { entries = record { saved = s; after = told } ∷ h.reading.entries; stage = Between } → Goes now.from now.to
   unfolding lines_of marks_of
-  marked_end v at =
-      let was : HasForm h.reading.stage (EndingPlace v) = old_form (EndingPlace v) at in
-      let s : Kept = was.0 in
-      let b : IsBegun h.entries s.len s.runs (save_line (suc (length h.entries)) ∷ []) h.behind now.from now.to = were (Ending v s) was.1 in
-      let e = next_ending h.reading.entries v s line q (led (Ending v s) was.1) in
-      let entry : Entry = record { saved = s; after = e.0 } in
-      let q_is : q ≡ record { entries = entry ∷ h.reading.entries; stage = Between } = e.1 in
+  marked_end v s told was q_is =
+      let b : IsBegun h.entries s.len s.runs (save_line (suc (length h.entries)) ∷ []) h.behind now.from now.to = were (Ending v s) was in
+      let entry : Entry = record { saved = s; after = told } in
       let stage_is : q.stage ≡ Between = ap (λ (r : Reading). r.stage) q_is in
       let c : EntryLines = record { entry = entry; first = b.first; saved = b.saved; last = line } in
       let sums_are : summed_of (record { entries = entry ∷ h.reading.entries; stage = Between }) ≡ sums = ap summed_of (sym q_is) ∙ lead.is in
       let behind : h.behind ++ line ∷ [] ≡ b.first ∷ (b.saved ++ save_line (suc (length h.entries)) ∷ line ∷ []) =
       ap (λ ls. ls ++ line ∷ []) b.is ∙ ap (λ ls. b.first ∷ ls) (append_assoc b.saved (save_line (suc (length h.entries)) ∷ []) (line ∷ [])) in
       let mark : mark_of h.entries c ≡ record { from = now.from; to = now.to; len = sums.len; after = sums.tally.told; saved = sums.saved } =
-      ap (λ n. record { from = n; to = size_of (lines_of h.entries ++ b.first ∷ b.saved); len = s.len; after = e.0; saved = (summed_of (record { entries = entry ∷ h.reading.entries; stage = Between })).saved }) (sym b.begins)
-      ∙ ap (λ n. record { from = now.from; to = n; len = s.len; after = e.0; saved = (summed_of (record { entries = entry ∷ h.reading.entries; stage = Between })).saved }) (sym b.ends)
+      ap (λ n. record { from = n; to = size_of (lines_of h.entries ++ b.first ∷ b.saved); len = s.len; after = told; saved = (summed_of (record { entries = entry ∷ h.reading.entries; stage = Between })).saved }) (sym b.begins)
+      ∙ ap (λ n. record { from = now.from; to = n; len = s.len; after = told; saved = (summed_of (record { entries = entry ∷ h.reading.entries; stage = Between })).saved }) (sym b.ends)
       ∙ ap (λ (z : Summed). record { from = now.from; to = now.to; len = z.len; after = z.tally.told; saved = z.saved }) sums_are in
       let pushed : marks ++ ended_mark sums.tally.place (record { sums = sums; from = now.from; to = now.to }) ≡ marks_of h.entries ++ mark_of h.entries c ∷ [] =
       ap (λ p. marks ++ ended_mark p (record { sums = sums; from = now.from; to = now.to })) (sym place_is ∙ ap place_of stage_is)
@@ -271,10 +225,12 @@ marked_by front text m marks v len count (suc k) place so below h =
     let after : ℕ = m.to + 68 * suc k in
     let before : IsMarked all now marks = marked_by front text m marks v len count k place so (omega (arith, below)) h in
     let long : after ≡ length all + length (take 67 rest) + 1 = omega (arith, to_is all marks now v len place before, length-take 67 rest, begins.3.long) in
-    let line = marked_save all (take 67 rest) marks now next before begins.3.plain (full_sums before.reading now.sums v len rest before.is place begins) v len after place long in
+    let was : HasForm before.reading.stage (SavingPlace v len) = has_form before.reading.stage (SavingPlace v len) (ap (λ (s : Summed). s.tally.place) before.is ∙ place) in
+    let full : BeginsFull was.0.len rest = subst (λ n. BeginsFull n rest) (sym was.2) begins in
+    let line = marked_line all (take 67 rest) marks now next before begins.3.plain (full_sums_at before.reading now.sums v was.0 rest before.is was.1 full)
+    v was.0 (record { at = full.0; bytes = full.1 }) after was.1 refl full.3.saved long in
     let at : IsMarked (all ++ ended (take 67 rest)) (record { sums = next; from = m.from; to = after }) (marks ++ []) =
-    subst (λ p. IsMarked (all ++ ended (take 67 rest)) (record { sums = next; from = m.from; to = saved_to now.to p after })
-    (marks ++ ended_mark p (record { sums = next; from = m.from; to = saved_to now.to p after }))) place line in
+    subst (λ p. IsMarked (all ++ ended (take 67 rest)) (record { sums = next; from = m.from; to = after }) (marks ++ ended_mark p (record { sums = next; from = m.from; to = after }))) place line in
     let size : 68 * suc k ≡ 68 * k + 68 = omega arith in
     let saved : m.sums.saved + 16 * k + 16 ≡ m.sums.saved + 16 * suc k = omega arith in
     let end : take (68 * k) text ++ ended (take 67 rest) ≡ take (68 * suc k) text =

@@ -1,16 +1,22 @@
 -- What was read, with its places, when one more entry comes.
-use Rattle.std.proofs.Common.{◌≡◌, ℕ, suc, ◌+◌, ◌-◌, ◌≤◌, List, [], ◌∷◌, ◌++◌, length, refl, ap, sym, ◌∙◌, arith, Option, Some, None, length-append}
-use Rattle.std.specs.Prelude.{option_and_then, slice_get}
-use Rattle.bx_image.specs.declared.record.Saved.{Saved}
+use Rattle.std.proofs.Common.{◌≡◌, ℕ, suc, ◌+◌, ◌-◌, ◌≤◌, List, [], ◌∷◌, ◌++◌, length, map, refl, ap, sym, ◌∙◌, subst, arith, Option, Some, length-append}
+use Rattle.std.specs.Prelude.{option_and_then, slice_get, Vec}
+use Rattle.bx_text.specs.declared.owned.pieces.Piece.{Piece}
+use Rattle.bx_entries.specs.declared.format.line.SavedLine.{SavedLine}
 use Rattle.bx_entries.specs.declared.format.version.Version.{Version}
+use Rattle.bx_entries.specs.declared.read.classify.Event.TheVariants.{Begun, Saved, Complete, Committed}
+use Rattle.bx_entries.specs.declared.read.count.Place.{Place}
 use Rattle.bx_entries.specs.declared.read.types.EntryRead.{EntryRead}
-use Rattle.bx_entries.specs.declared.read.types.StageRead.TheVariants.{Between as BetweenRead, Ending as EndingRead}
-use Rattle.bx_entries.specs.Line.{after_in}
-use Rattle.bx_entries.specs.Text.{Entry, Between, next_at}
-use Rattle.bx_entries.specs.inner.Text.{next}
-use Rattle.bx_entries.specs.inner.Mark.{HasMarks}
+use Rattle.bx_entries.specs.declared.read.types.StageRead.{StageRead}
+use Rattle.bx_entries.specs.declared.read.types.StageRead.TheVariants.{Between as BetweenRead, Saving as SavingRead, Ending as EndingRead}
+use Rattle.bx_entries.specs.Kept.{kept_of, run_of}
+use Rattle.bx_entries.specs.Text.{Entry, Between, Saving}
+use Rattle.bx_entries.specs.inner.Event.{LeadsAs}
+use Rattle.bx_entries.specs.inner.Mark.{HasMarks, IsMark}
 use Rattle.bx_entries.specs.Parsed.{told_by}
-use Rattle.bx_entries.specs.inner.Parsed.{entry_of, entries_onto, entries_of, reading_onto, AreMarked, IsMarked}
+use Rattle.bx_entries.specs.inner.Parsed.{entry_of, entries_onto, entries_of, reading_onto, stage_of, AreMarked, IsMarked, KeepsMarks}
+use Rattle.bx_entries.specs.inner.Tally.{place_of, tally_of}
+use Rattle.bx_entries.specs.inner.TakeLine.{IsCompleted, IsFinishedBy, IsSavedOn, TakesLine}
 
 pub onto-push : {A : Type 0} → (done : List Entry) (es : List (EntryRead A)) (e : EntryRead A) → entries_onto done (es ++ e ∷ []) ≡ entry_of e ∷ entries_onto done es
 onto-push done [] e = refl
@@ -41,27 +47,71 @@ pub marked-below : {A : Type 0} → (text : List ℕ) (done : List Entry) (from 
 marked-below text done from to more [] are le = omega (arith, are, le)
 marked-below text done from to more (e ∷ es) are le = (are.0, are.1, marked-below text (entry_of e ∷ done) e.saved to more es are.2 le)
 
--- the line that ends an entry
-pub entry_ends : {A : Type 0} → (older : List Entry) (es : List (EntryRead A)) (e : EntryRead A) (n : ℕ) (line : List ℕ) → suc (length older + length es) ≡ n → after_in e.version n line ≡ Some e.after
-    → next (reading_onto older es (EndingRead e.version e.kept e.begins e.saved)) line ≡ Some (reading_onto older (es ++ e ∷ []) BetweenRead)
-unfolding next_at
-entry_ends older es e n line counted is =
-    let number : suc (length (entries_onto older es)) ≡ n = omega (arith, length-onto older es, counted) in
-    rw (number, is) (ap (λ fs. Some (record { entries = fs; stage = Between })) (sym (onto-push older es e)))
-
-pub entry_stops : {A : Type 0} → (older : List Entry) (es : List (EntryRead A)) (v : Version) (kept : Saved A) (begins saved n : ℕ) (line : List ℕ) → suc (length older + length es) ≡ n → after_in v n line ≡ None
-    → next (reading_onto older es (EndingRead v kept begins saved)) line ≡ None
-unfolding next_at
-entry_stops older es v kept begins saved n line counted none =
-    let number : suc (length (entries_onto older es)) ≡ n = omega (arith, length-onto older es, counted) in
-    rw (number, none) refl
-
 pub entry_marked : {A : Type 0} → (text : List ℕ) (older : List Entry) (es : List (EntryRead A)) (e : EntryRead A) (at after : ℕ) → IsMarked text older es (EndingRead e.version e.kept e.begins e.saved) at → at ≤ after
     → IsMarked text older (es ++ e ∷ []) BetweenRead after
 entry_marked text older es e at after m le = (
   marked-push text older 0 at after es e m.0 (record { beginning = m.1; saving = m.2; order = m.3 }) (omega (arith, m.4, le)),
   omega (arith, m.5, length-append es (e ∷ [])),
 )
+
+-- what was read, seen as a tally
+pub tally_read : {A : Type 0} → (older : List Entry) (es : List (EntryRead A)) (stage : StageRead A) (count : ℕ) (told : Option ℕ) (place : Place) → count ≡ length older → told ≡ told_by (entries_onto older es)
+    → place ≡ place_of (stage_of stage) → tally_of (reading_onto older es stage) ≡ record { count = count + length es; told = told; place = place }
+tally_read older es stage count told place counted tells at =
+    let all : length (entries_onto older es) ≡ count + length es = omega (arith, length-onto older es, counted) in
+    rw (all, tells, at) refl
+
+-- what was read, with one entry more
+pub entry_finished : {A : Type 0} → (es news : List (EntryRead A)) (e : EntryRead A) → news ≡ es ++ e ∷ [] → IsFinishedBy es (EndingRead e.version e.kept e.begins e.saved) e.after news
+entry_finished es news e is v s ending =
+    let same : kept_of e.kept ≡ s = cc in (
+      λ older. ap (entries_onto older) is ∙ onto-push older es e ∙ ap (λ k. record { saved = k; after = e.after } ∷ entries_onto older es) same,
+      λ text older at to marked le. subst (λ fs. IsMarked text older fs BetweenRead to) (sym is) (entry_marked text older es e at to marked le),
+    )
+
+-- one more line: it begins an entry, is among its saved lines, is its save line, or ends it
+module _ {A : Type 0} (older : List Entry) (es : List (EntryRead A)) (stage : StageRead A) (at : ℕ) (line : List ℕ) where
+  between : (text : List ℕ) (stage : StageRead A) → stage_of stage ≡ Between → IsMarked text older es stage at → AreMarked text older 0 es at
+  between text BetweenRead is m = m.0
+  between text (SavingRead v len runs begins) is m = absurd (cc)
+  between text (EndingRead v kept begins saved) is m = absurd (cc)
+
+  pub takes_begun : (v : Version) (len : ℕ) (runs : Vec (Piece A) A) → runs.items ≡ [] → LeadsAs (entries_onto older es) (stage_of stage) line (Begun v len)
+      → TakesLine older es stage at line es (Some (SavingRead v len runs at))
+  takes_begun v len runs none to = record {
+    leads = to.leads ∙ ap Some to.is.1 ∙ ap (λ (rs : List (Piece A)). Some (record { entries = entries_onto older es; stage = Saving v (record { len = len; runs = map run_of rs }) })) (sym none);
+    marked = λ text after marked mark is next. (
+        between text stage to.is.0 marked,
+        subst (λ s. IsMark text at (record { entries = entries_onto older es; stage = s })) to.is.0 mark,
+        omega (arith, is),
+        omega (arith, to.is.2, length-onto older es),
+    );
+  }
+
+  pub takes_saved : (l : SavedLine) (new : StageRead A) → IsSavedOn stage l new → LeadsAs (entries_onto older es) (stage_of stage) line (Saved l) → TakesLine older es stage at line es (Some new)
+  takes_saved l new on to =
+      let next = on to.is.0 to.is.1 to.is.2 in
+      record {
+        leads = to.leads ∙ ap Some to.is.3 ∙ ap (λ s. Some (record { entries = entries_onto older es; stage = s })) (sym next.0);
+        marked = λ text after marked mark is. next.1 after text older es at marked (omega (arith, is));
+      }
+
+  pub takes_complete : (v : Version) (new : StageRead A) → IsCompleted stage (at + length line + 1) new → LeadsAs (entries_onto older es) (stage_of stage) line (Complete v) → TakesLine older es stage at line es (Some new)
+  takes_complete v new on to =
+      let next = on v to.is.0 to.is.1 in
+      record {
+        leads = to.leads ∙ ap Some to.is.2 ∙ ap (λ s. Some (record { entries = entries_onto older es; stage = s })) (sym next.0);
+        marked = λ text after marked mark is. subst (λ n. KeepsMarks text older es n (Some new)) (sym is) (next.1 text older es at marked (omega arith));
+      }
+
+  pub takes_committed : (after : Option ℕ) (news : List (EntryRead A)) → IsFinishedBy es stage after news → LeadsAs (entries_onto older es) (stage_of stage) line (Committed after)
+      → TakesLine older es stage at line news (Some BetweenRead)
+  takes_committed after news on to =
+      let next = on to.is.0 to.is.1 to.is.2 in
+      record {
+        leads = to.leads ∙ ap Some to.is.3 ∙ ap (λ fs. Some (record { entries = fs; stage = Between })) (sym (next.0 older));
+        marked = λ text end marked mark is done. next.1 text older at end marked (omega (arith, is));
+      }
 
 told-onto : {A : Type 0} → (done : List Entry) (f : EntryRead A) (es : List (EntryRead A)) → told_by (entries_onto (entry_of f ∷ done) es) ≡ option_and_then (λ (e : EntryRead A). e.after) (slice_get (f ∷ es) (length es))
 told-onto done f [] = refl

@@ -1,9 +1,9 @@
 -- What a line does, from what the tests on it say.
-use Rattle.std.proofs.Common.{◌≡◌, ℕ, suc, Bool, true, false, List, length, refl, Some, None}
+use Rattle.std.proofs.Common.{◌≡◌, ℕ, suc, Bool, true, false, List, ◌∷◌, length, refl, Option, Some, None}
 use Rattle.std.specs.Str.{bytes_eq}
 use Rattle.bx_entries.specs.Kept.{Run, Kept, with_run}
 use Rattle.bx_entries.specs.declared.format.version.Version.{Version}
-use Rattle.bx_entries.specs.Line.{save_line, saved_in}
+use Rattle.bx_entries.specs.Line.{after_in, save_line, saved_in}
 use Rattle.bx_entries.specs.Text.{Entry, Stage, Between, Saving, Ending, begins, next_at}
 use Rattle.std.specs.Prelude.{◌<◌, ◌≤◌, nat_lt}
 use Rattle.std.proofs.Common.{arith}
@@ -23,7 +23,13 @@ module _ (es : List Entry) (n : ℕ) (v : Version) (s : Kept) (line : List ℕ) 
   unfolding next_at
   stops is none = rw (e, is, none) refl
 
-pub ruleset saving_steps = (saves, adds, stops)
+  pub ends : (after : Option ℕ) → after_in v n line ≡ Some after → next_at es (Ending v s) line ≡ Some (record { entries = record { saved = s; after = after } ∷ es; stage = Between })
+  unfolding next_at
+  ends after is = rw (e, is) refl
+
+  pub goes_on : after_in v n line ≡ None → next_at es (Ending v s) line ≡ None
+  unfolding next_at
+  goes_on none = rw (e, none) refl
 
 room_test : (es : List Entry) (n : ℕ) (full : Bool) → suc (length es) ≡ n → (full ≡ true → n ≤ 65535) → (full ≡ false → 65535 < n) → nat_lt (length es) 65535 ≡ full
 room_test es n true e h k = let most : n ≤ 65535 = h refl in let room : length es < 65535 = omega arith in grind (arith, common_steps)

@@ -1,27 +1,23 @@
 -- Counting entries: what a line does, and the loop over lines.
 use Rattle.std.proofs.Common.{◌≡◌, ℕ, Bool, zero, suc, ◌+◌, ◌<◌, List, [], ◌∷◌, ◌++◌, length, take, drop, refl, ap, sym, ◌∙◌, subst, inl, arith, append_assoc, append-nil, length-append, length-take, Option, Some, None}
-use Rattle.std.specs.Prelude.{is_some, IsTrue}
-use Rattle.bx_entries.specs.declared.format.version.Version.{Version}
+use Rattle.std.specs.Prelude.{IsTrue}
+use Rattle.bx_entries.specs.declared.read.classify.Event.{Event}
+use Rattle.bx_entries.specs.declared.read.classify.Event.TheVariants.{Begun, Saved, Complete, Committed}
 use Rattle.bx_entries.specs.declared.read.count.Place.{Place}
 use Rattle.bx_entries.specs.declared.read.count.Place.TheVariants.{Between as BetweenPlace, Saving as SavingPlace, Ending as EndingPlace}
 use Rattle.bx_entries.specs.declared.read.count.Tally.{Tally}
 use Rattle.bx_entries.specs.Kept.{Kept}
-use Rattle.bx_entries.specs.Line.{after_in}
-use Rattle.bx_entries.specs.Text.{Entry, Stage, Between, Saving, Ending, Reading, Split, ended, split, start, next_at, after_lines}
+use Rattle.bx_entries.specs.Text.{Entry, Stage, Between, Saving, Ending, Reading, Split, ended, split, start, after_lines}
+use Rattle.bx_entries.specs.Finished.{AllTell}
+use Rattle.bx_entries.specs.inner.Event.{IsEvent, LeadsAs, tally_behind}
 use Rattle.bx_entries.specs.inner.Text.{next}
 use Rattle.bx_entries.specs.Parsed.{told_by}
 use Rattle.bx_entries.specs.inner.Plain.{HasNoNewline}
 use Rattle.std.proofs.lemmas.List.{take-append-drop, drop-take}
 use Rattle.std.proofs.Math.Seq.{drop-append_seam}
-use Rattle.bx_entries.specs.inner.Tally.{place_of, tally_of, LeadsTo, IsTallied, IsCountedAll}
+use Rattle.bx_entries.specs.inner.Tally.{place_of, tally_of, LeadsTo, Tells, IsTallied, IsCountedAll}
 use Rattle.bx_entries.proofs.Runs.{after_lines-append}
 use Rattle.bx_entries.proofs.Splits.{split-append, split-ended}
-
-abbrev made : ℕ → Option ℕ → Place → Tally
-made n m p = record { count = n; told = m; place = p }
-
-abbrev pub LeadsIn : List Entry → Stage → List ℕ → Place → Type 0
-LeadsIn es s line p = (t : Stage) × (next_at es s line ≡ Some (record { entries = es; stage = t })) × (place_of t ≡ p)
 
 -- a stage that is at a place is of the place's form, whatever was saved
 abbrev pub HasForm : Stage → Place → Type 0
@@ -37,55 +33,29 @@ has_form stage p is = subst (HasForm stage) is (form_of stage)
     form_of (Saving v s) = (s, refl, refl)
     form_of (Ending v s) = (s, refl)
 
-ends : (es : List Entry) (s : Kept) (n : ℕ) (v : Version) (line : List ℕ) (after : Option ℕ) → suc (length es) ≡ n → Some after ≡ after_in v n line
-    → next_at es (Ending v s) line ≡ Some (record { entries = record { saved = s; after = after } ∷ es; stage = Between })
-unfolding next_at
-ends es s n v line after e is = rw (e, sym is) refl
+-- what is seen of a reading as a tally, behind a line
+pub event_counts : (r q : Reading) (line : List ℕ) (e : Event) → IsEvent r.entries r.stage line q e → tally_of q ≡ tally_behind (tally_of r) e
+event_counts r q line (Begun v len) is = ap tally_of is.1
+event_counts r q line (Saved l) is = ap tally_of is.3 ∙ ap (λ s. tally_of (record { entries = r.entries; stage = s })) (sym is.2)
+event_counts r q line (Complete v) is = ap tally_of is.2
+event_counts r q line (Committed after) is =
+    let more : suc (length r.entries) ≡ length r.entries + 1 = omega arith in
+    ap tally_of is.3 ∙ ap (λ n. record { count = n; told = after; place = BetweenPlace }) more
 
-module _ (only_second : Bool) (r : Reading) (t : Tally) (line : List ℕ) (is : tally_of r ≡ t) where
-  counted : length r.entries ≡ t.count
-  counted = ap (λ (u : Tally). u.count) is
+all_tell : (r q : Reading) (line : List ℕ) (e : Event) → IsEvent r.entries r.stage line q e → Tells e → AllTell r.entries → AllTell q.entries
+all_tell r q line (Begun v len) is tells all = subst (λ (p : Reading). AllTell p.entries) (sym is.1) all
+all_tell r q line (Saved l) is tells all = subst (λ (p : Reading). AllTell p.entries) (sym is.3) all
+all_tell r q line (Complete v) is tells all = subst (λ (p : Reading). AllTell p.entries) (sym is.2) all
+all_tell r q line (Committed after) is tells all = subst (λ (p : Reading). AllTell p.entries) (sym is.3) (tells, all)
 
-  told : told_by r.entries ≡ t.told
-  told = ap (λ (u : Tally). u.told) is
-
-  form : HasForm r.stage t.place
-  form = has_form r.stage t.place (ap (λ (u : Tally). u.place) is)
-
-  leads : (s : Stage) (p : Place) → r.stage ≡ s → LeadsIn r.entries s line p → LeadsTo only_second r line (record { count = t.count; told = t.told; place = p })
-  leads s p at lead = record {
-    reading = record { entries = r.entries; stage = lead.0 };
-    leads = ap (λ z. next_at r.entries z line) at ∙ lead.1;
-    is = ap (λ n. made n (told_by r.entries) (place_of lead.0)) counted ∙ ap (λ m. made t.count m (place_of lead.0)) told ∙ ap (made t.count t.told) lead.2;
-    tell = λ only tell. tell;
-  }
-
-  pub start_counts : (number : ℕ) (p : Place) → t.place ≡ BetweenPlace → number ≡ t.count + 1
-      → ((es : List Entry) → suc (length es) ≡ number → t.told ≡ told_by es → LeadsIn es Between line p)
-      → LeadsTo only_second r line (record { count = t.count; told = t.told; place = p })
-  start_counts number p place one lead =
-      let at : r.stage ≡ Between = subst (HasForm r.stage) place form in
-      leads Between p at (lead r.entries (omega (arith, counted, one)) (sym told))
-
-  pub save_counts : (number : ℕ) (v : Version) (len : ℕ) (p : Place) → t.place ≡ SavingPlace v len → number ≡ t.count + 1
-      → ((es : List Entry) (s : Kept) → suc (length es) ≡ number → s.len ≡ len → LeadsIn es (Saving v s) line p)
-      → LeadsTo only_second r line (record { count = t.count; told = t.told; place = p })
-  save_counts number v len p place one lead =
-      let at : HasForm r.stage (SavingPlace v len) = subst (HasForm r.stage) place form in
-      leads (Saving v at.0) p at.1 (lead r.entries at.0 (omega (arith, counted, one)) at.2)
-
-  pub end_counts : (number : ℕ) (v : Version) (after : Option ℕ) → t.place ≡ EndingPlace v → number ≡ t.count + 1
-      → Some after ≡ after_in v number line → (IsTrue only_second → IsTrue (is_some after))
-      → LeadsTo only_second r line (record { count = number; told = after; place = BetweenPlace })
-  end_counts number v after place one is_end second =
-      let at : HasForm r.stage (EndingPlace v) = subst (HasForm r.stage) place form in
-      let n : suc (length r.entries) ≡ number = omega (arith, counted, one) in
-      record {
-        reading = record { entries = record { saved = at.0; after = after } ∷ r.entries; stage = Between };
-        leads = ap (λ z. next_at r.entries z line) at.1 ∙ ends r.entries at.0 number v line after n is_end;
-        is = ap (λ m. made m after BetweenPlace) n;
-        tell = λ only tell. (second only, tell);
-      }
+-- one more line leads from a tally to the next
+pub leads_to : (only_second : Bool) (r : Reading) (t : Tally) (line : List ℕ) (e : Event) → tally_of r ≡ t → (IsTrue only_second → Tells e) → LeadsAs r.entries r.stage line e → LeadsTo only_second r line (tally_behind t e)
+leads_to only_second r t line e is tells to = record {
+  reading = to.reading;
+  leads = to.leads;
+  is = event_counts r to.reading line e to.is ∙ ap (λ u. tally_behind u e) is;
+  tell = λ only. all_tell r to.reading line e to.is (tells only);
+}
 
 pub take_less : (n m : ℕ) (xs : List ℕ) → take n (take (n + m) xs) ≡ take n xs
 take_less zero m xs = refl

@@ -1,5 +1,6 @@
 -- What no public contract of another crate names. Some calls that this crate exports, for bx_journal alone, name it.
 pub mod Entry
+pub mod Event
 pub mod Fault
 pub mod Faded
 pub mod Followed

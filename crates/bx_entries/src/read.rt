@@ -1,4 +1,5 @@
 //! A journal's text, read line by line into entries and the stage at its end, or only counted.
+pub(crate) mod classify;
 pub(crate) mod count;
 pub(crate) mod lines;
 pub(crate) mod marks;

@@ -59,12 +59,6 @@ pub record IsMarked (text : List ℕ) (m : Marking) (marks : List Mark) : Type 0
   pub runs : GiveRuns entries
   pub marks_are : marks ≡ marks_of entries
 
--- where saved lines end behind a line that leads to a place and ends at `after`
-abbrev pub saved_to : ℕ → Place → ℕ → ℕ
-saved_to to (SavingPlace v len) after = after
-saved_to to BetweenPlace after = to
-saved_to to (EndingPlace v) after = to
-
 -- a marking behind this many full saved lines more
 abbrev pub IsMarkedOn : Marking → ℕ → Marking → Type 0
 IsMarkedOn m count next = next ≡ record { sums = with_more m.sums (16 * count); from = m.from; to = m.to + 68 * count }

@@ -1,11 +1,11 @@
 -- Entries that are read for the rows of a log, and not kept.
-use Rattle.std.specs.Prelude.{◌≡◌, ◌+◌, ℕ, Some, List, [], ◌∷◌, length, map, sum}
-use Rattle.bx_entries.specs.declared.read.count.Place.{Place}
-use Rattle.bx_entries.specs.declared.read.count.Place.TheVariants.{Between as BetweenPlace, Saving as SavingPlace, Ending as EndingPlace}
+use Rattle.std.specs.Prelude.{◌≡◌, ◌+◌, ℕ, Some, List, [], ◌∷◌, length, map, sum, take}
+use Rattle.bx_entries.specs.declared.read.classify.Event.{Event}
+use Rattle.bx_entries.specs.declared.read.classify.Event.TheVariants.{Begun, Saved, Complete, Committed}
 use Rattle.bx_entries.specs.declared.read.rows.Summed.{Summed}
 use Rattle.bx_entries.specs.Kept.{Run, Kept}
-use Rattle.bx_entries.specs.Line.{saved_in}
 use Rattle.bx_entries.specs.Text.{Entry, Stage, Between, Saving, Ending, Reading}
+use Rattle.bx_entries.specs.inner.Event.{tally_behind}
 use Rattle.bx_entries.specs.inner.Text.{next}
 use Rattle.bx_entries.specs.inner.Tally.{tally_of}
 
@@ -34,15 +34,16 @@ pub record SumsTo (r : Reading) (line : List ℕ) (s : Summed) : Type 0 where
   pub leads : next r line ≡ Some reading
   pub is : summed_of reading ≡ s
 
--- how many bytes a line gives that leads from the saved lines of an entry to a place
-abbrev pub HasAdded : ℕ → Place → List ℕ → ℕ → Type 0
-HasAdded len BetweenPlace line more = ⊥
-HasAdded len (SavingPlace v n) line more = (p : Run) × (saved_in len line ≡ Some p) × (length p.bytes ≡ more)
-HasAdded len (EndingPlace v) line more = more ≡ 0
-
 -- the sums with this many bytes more of the newest entry
 abbrev pub with_more : Summed → ℕ → Summed
 with_more s more = record { tally = s.tally; len = s.len; saved = s.saved + more }
+
+-- the sums behind a line
+abbrev pub summed_behind : Summed → Event → Summed
+summed_behind s (Begun v len) = record { tally = tally_behind s.tally (Begun v len); len = len; saved = 0 }
+summed_behind s (Saved l) = with_more s (length (take l.count l.bytes))
+summed_behind s (Complete v) = record { tally = tally_behind s.tally (Complete v); len = s.len; saved = s.saved }
+summed_behind s (Committed after) = record { tally = tally_behind s.tally (Committed after); len = s.len; saved = s.saved }
 
 abbrev pub IsMore : Summed → ℕ → Summed → Type 0
 IsMore s more now = now ≡ with_more s more

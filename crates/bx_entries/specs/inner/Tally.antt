@@ -1,10 +1,12 @@
 -- Entries that are counted, and not kept.
-use Rattle.std.specs.Prelude.{◌≡◌, ◌+◌, ◌++◌, ℕ, Bool, IsTrue, Option, Some, List, [], length, take}
+use Rattle.std.specs.Prelude.{◌≡◌, ◌+◌, ◌++◌, ℕ, Bool, IsTrue, is_some, Option, Some, List, [], length, take}
+use Rattle.bx_entries.specs.declared.read.classify.Event.{Event}
+use Rattle.bx_entries.specs.declared.read.classify.Event.TheVariants.{Begun, Saved, Complete, Committed}
 use Rattle.bx_entries.specs.declared.read.count.Place.{Place}
 use Rattle.bx_entries.specs.declared.read.count.Place.TheVariants.{Between as BetweenPlace, Saving as SavingPlace, Ending as EndingPlace}
 use Rattle.bx_entries.specs.declared.read.count.Tally.{Tally}
 use Rattle.bx_entries.specs.declared.read.window.Passed.{Passed}
-use Rattle.bx_entries.specs.Text.{Entry, Stage, Between, Saving, Ending, Reading, next_at, split, start, after_lines}
+use Rattle.bx_entries.specs.Text.{Entry, Stage, Between, Saving, Ending, Reading, split, start, after_lines}
 use Rattle.bx_entries.specs.inner.Followed.{AreFullSaved}
 use Rattle.bx_entries.specs.inner.Text.{next}
 use Rattle.bx_entries.specs.Parsed.{told_by}
@@ -16,13 +18,16 @@ place_of Between = BetweenPlace
 place_of (Saving v s) = SavingPlace v s.len
 place_of (Ending v s) = EndingPlace v
 
--- a line leads from a stage behind these entries to another behind them, which is seen as this place
-abbrev pub StaysIn : List Entry → Stage → List ℕ → Place → Type 0
-StaysIn es from line place = (s : Stage) × (next_at es from line ≡ Some (record { entries = es; stage = s })) × (place_of s ≡ place)
-
 -- a reading without what was saved
 abbrev pub tally_of : Reading → Tally
 tally_of r = record { count = length r.entries; told = told_by r.entries; place = place_of r.stage }
+
+-- a line that isn't the end of an entry that tells no length
+abbrev pub Tells : Event → Type 0
+Tells (Committed after) = IsTrue (is_some after)
+Tells (Begun v len) = Unit {0}
+Tells (Saved l) = Unit {0}
+Tells (Complete v) = Unit {0}
 
 -- where a line leads from a reading, seen as a tally: where only entries that tell their lengths are taken, all go on doing so
 pub record LeadsTo (only_second : Bool) (r : Reading) (line : List ℕ) (t : Tally) : Type 0 where

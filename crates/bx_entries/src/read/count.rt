@@ -1,17 +1,11 @@
-//! One more line of a journal's text whose entries are counted, and nothing else of it is kept.
-ghost use Rattle.std.specs.Prelude.{◌≡◌, ◌+◌, ◌*◌, ◌<◌, ◌≤◌, ◌++◌, ◌∷◌, List, suc, length, take, drop, is_some, IsTrue, Some, IfSome, IfNone};
-ghost use Rattle.bx_entries.specs.Kept.{Kept as Record};
-ghost use Rattle.bx_entries.specs.Line.{after_in as after_at};
+//! What is left of a journal's text whose entries are counted: where it stands, and how far whole lines go from there.
+ghost use Rattle.std.specs.Prelude.{◌≡◌, ◌+◌, ◌*◌, ◌<◌, ◌≤◌, ◌++◌, ◌∷◌, length, take, drop, IfSome, IfNone};
 ghost use Rattle.bx_entries.specs.inner.Plain.{HasNoNewline};
-ghost use Rattle.bx_entries.specs.inner.Tally.{AreFullAt, LeadsTo, StaysIn, tally_of};
-ghost use Rattle.bx_entries.specs.Text.{Between as Resting, Saving as Keeping, Entry, Reading};
-ghost use Rattle.bx_entries.specs.Parsed.{told_by};
+ghost use Rattle.bx_entries.specs.inner.Tally.{AreFullAt};
 
 use crate::Version;
-use crate::format::line::{after_in, is_save, saved_in};
 use crate::format::newline::{end_at, line_end};
 use crate::read::runs::full_lines::count_full;
-use crate::read::take_line::{MOST_CHANGES, begin};
 
 /// Between two entries, or in one: among its saved lines, or behind its save line.
 #[derive(Clone, Copy)]
@@ -27,90 +21,6 @@ pub struct Tally {
     pub count: u32,
     pub told: Option<u64>,
     pub place: Place,
-}
-
-/// Where a line leads that begins an entry.
-#[inline]
-fn start(number: u32, told: Option<u64>, line: &[u8]) -> Option<Place>
-    requires { number ≤ 65535 }
-    ensures { (es : List Entry) → suc (length es) ≡ number → told ≡ told_by es → IfSome result (StaysIn es Resting line.now) }
-{
-    if let Some(len) = begin(Version::First, number, told, line) {
-        return Some(Place::Saving {
-            version: Version::First,
-            len,
-        });
-    }
-    let len = begin(Version::Second, number, told, line)?;
-    Some(Place::Saving {
-        version: Version::Second,
-        len,
-    })
-}
-
-/// Where a line leads among the saved lines of an entry.
-#[inline]
-fn save(number: u32, version: Version, len: u64, line: &[u8]) -> Option<Place>
-    ensures { (es : List Entry) (s : Record) → suc (length es) ≡ number → s.len ≡ len → IfSome result (StaysIn es (Keeping version s) line.now) }
-{
-    if is_save(number, line) {
-        return Some(Place::Ending { version });
-    }
-    let _ = saved_in(len, line)?;
-    Some(Place::Saving { version, len })
-}
-
-/// The length that an end line tells, if any. With `only_second` a line that tells none isn't taken.
-#[inline]
-fn told_in(only_second: bool, version: Version, number: u32, line: &[u8]) -> Option<Option<u64>>
-    ensures found { IfSome result (λ told. Some told ≡ after_at version number line.now) }
-    ensures second { IsTrue only_second → IfSome result (λ told. IsTrue (is_some told)) }
-{
-    let told = after_in(version, number, line)?;
-    if !only_second {
-        return Some(told);
-    }
-    let after = told?;
-    Some(Some(after))
-}
-
-/// The tally after one more line, where the line is in place. With `only_second` an entry that tells no length isn't
-/// counted.
-#[inline]
-pub fn take_one(tally: Tally, line: &[u8], only_second: bool) -> Option<Tally>
-    ensures leads { (r : Reading) → tally_of r ≡ tally → IfSome result (LeadsTo only_second r line.now) }
-    ensures few { tally.count ≤ 65535 → IfSome result (λ t. t.count ≤ 65535) }
-{
-    if tally.count >= MOST_CHANGES {
-        return None;
-    }
-    let number = tally.count + 1;
-    match tally.place {
-        Place::Between => {
-            let place = start(number, tally.told, line)?;
-            Some(Tally {
-                count: tally.count,
-                told: tally.told,
-                place,
-            })
-        }
-        Place::Saving { version, len } => {
-            let place = save(number, version, len, line)?;
-            Some(Tally {
-                count: tally.count,
-                told: tally.told,
-                place,
-            })
-        }
-        Place::Ending { version } => {
-            let told = told_in(only_second, version, number, line)?;
-            Some(Tally {
-                count: number,
-                told,
-                place: Place::Between,
-            })
-        }
-    }
 }
 
 /// How many full saved lines a text begins with, where it stands among the saved lines of an entry. They leave the tally as it

@@ -4,9 +4,10 @@ ghost use Rattle.bx_entries.specs.inner.Lines.{IsFront, IsReadAlike, IsReadUpTo,
 ghost use Rattle.bx_entries.specs.Text.{Entry};
 
 use crate::format::newline::line_end;
+use crate::read::classify::MOST_CHANGES;
 use crate::read::runs::full_lines::ENDED;
 use crate::read::runs::gather::{Gathered, gather_last, trim_last};
-use crate::read::take_line::{MOST_CHANGES, take_line};
+use crate::read::take_line::take_line;
 use crate::{EntryRead, Front, StageRead};
 use bx_text::NoMemory;
 use std::alloc::{Allocator, Global};
@@ -119,9 +120,8 @@ pub fn read_lines<A: Allocator + Clone>(
         }
         let old = without_room(stage, has_room)?;
         let at = start + from as u64;
-        let after = at + i as u64 + 1;
         let (line, _) = rest_at(window, from).split_at(i);
-        let taken = take_line(alloc, front, &mut entries, old, at, after, line)?;
+        let taken = take_line(alloc, front, &mut entries, old, at, line)?;
         let Some(next) = taken else {
             return Ok(None);
         };

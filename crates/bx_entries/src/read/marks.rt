@@ -1,11 +1,12 @@
 //! Entries that are only marked: where the saved lines of each stand in a text, and what a log tells of it.
 ghost use Rattle.std.specs.Prelude.{◌≡◌, ◌+◌, ◌<◌, ◌^◌, ◌++◌, [], List, ℕ, length, IfOk, IfSome, OnOk};
 ghost use Rattle.bx_entries.specs.Text.{ended};
-ghost use Rattle.bx_entries.specs.inner.Marks.{IsMarked, IsMarkedIn, IsMarkedOn, ended_mark, saved_to};
+ghost use Rattle.bx_entries.specs.inner.Marks.{IsMarked, IsMarkedIn, IsMarkedOn, ended_mark};
 ghost use Rattle.bx_entries.specs.inner.Plain.{HasNoNewline};
 
+use crate::read::classify::{Event, MOST_CHANGES, classify};
 use crate::read::count::{Place, full_behind, next_end};
-use crate::read::rows::{Summed, nothing_summed, sum_full, sum_one};
+use crate::read::rows::{Summed, nothing_summed, sum_event, sum_full};
 use crate::read::runs::full_lines::ENDED;
 use bx_text::NoMemory;
 use std::alloc::Allocator;
@@ -47,41 +48,31 @@ pub fn nothing_marked() -> Marking
     }
 }
 
-/// Where saved lines end behind a line that leads to a place and ends at `after`.
-#[inline]
-fn saved_end(to: u64, place: Place, after: u64) -> u64
-    ensures { result ≡ saved_to to place after }
-{
-    match place {
-        Place::Saving { .. } => after,
-        Place::Between => to,
-        Place::Ending { .. } => to,
-    }
-}
-
 /// The marking after one more line, which ends at `after`, where the line is in place.
 #[inline]
 pub fn mark_one(now: Marking, line: &[u8], after: u64) -> Option<Marking>
     ensures { (text : List ℕ) (marks : List Mark) → IsMarked text now marks → HasNoNewline line.now → after ≡ length text + length line.now + 1
         → IfSome result (λ next. IsMarked (text ++ ended line.now) next (marks ++ ended_mark next.sums.tally.place next)) }
 {
-    let sums = sum_one(now.sums, line)?;
-    match now.sums.tally.place {
-        Place::Between => Some(Marking {
+    if now.sums.tally.count >= MOST_CHANGES {
+        return None;
+    }
+    let event = classify(now.sums.tally, line)?;
+    let sums = sum_event(now.sums, event)?;
+    let Marking { from, to, .. } = now;
+    match event {
+        Event::Begun { .. } => Some(Marking {
             sums,
             from: after,
             to: after,
         }),
-        Place::Saving { .. } => Some(Marking {
+        Event::Saved { .. } => Some(Marking {
             sums,
-            from: now.from,
-            to: saved_end(now.to, sums.tally.place, after),
+            from,
+            to: after,
         }),
-        Place::Ending { .. } => Some(Marking {
-            sums,
-            from: now.from,
-            to: now.to,
-        }),
+        Event::Complete { .. } => Some(Marking { sums, from, to }),
+        Event::Committed { .. } => Some(Marking { sums, from, to }),
     }
 }
 

@@ -1,11 +1,10 @@
 //! One more line of a journal's text that is read for a log: what an entry saves is summed, and not kept.
-ghost use Rattle.std.specs.Prelude.{◌≡◌, ◌*◌, IfSome};
-ghost use Rattle.bx_entries.specs.inner.Rows.{HasAdded, IsMore, SumsTo, summed_of};
+ghost use Rattle.std.specs.Prelude.{◌≡◌, ◌*◌, ◌≤◌, IfSome};
+ghost use Rattle.bx_entries.specs.inner.Rows.{IsMore, SumsTo, summed_behind, summed_of};
 ghost use Rattle.bx_entries.specs.Text.{Reading, start};
 
-use crate::Version;
-use crate::format::line::saved_in;
-use crate::read::count::{Place, Tally, take_one};
+use crate::read::classify::{Event, MOST_CHANGES, classify, count_event};
+use crate::read::count::Tally;
 use crate::read::window::no_entries;
 
 /// A tally, and of the newest entry, finished or not, the length that it begins with and how many bytes its saved lines
@@ -28,27 +27,26 @@ pub fn nothing_summed() -> Summed
     }
 }
 
-/// The length that an entry begins with, where a text stands among its saved lines.
+/// The sums behind a line.
 #[inline]
-fn len_at(place: Place) -> Option<u64>
-    ensures { IfSome result (λ len. (v : Version) × (place ≡ Place.Saving v len)) }
+pub fn sum_event(now: Summed, event: Event) -> Option<Summed>
+    requires { now.tally.count ≤ 65535 }
+    ensures { IfSome result (λ s. s ≡ summed_behind now event) }
 {
-    match place {
-        Place::Saving { len, .. } => Some(len),
-        Place::Between => None,
-        Place::Ending { .. } => None,
-    }
-}
-
-/// How many bytes a line gives among the saved lines of an entry, where it leads to a place.
-#[inline]
-fn added(len: u64, to: Place, line: &[u8]) -> Option<u64>
-    ensures { IfSome result (HasAdded len to line.now) }
-{
-    match to {
-        Place::Saving { .. } => Some(saved_in(len, line)?.count as u64),
-        Place::Between => None,
-        Place::Ending { .. } => Some(0),
+    let tally = count_event(now.tally, event);
+    let Summed { len, saved, .. } = now;
+    match event {
+        Event::Begun { len, .. } => Some(Summed {
+            tally,
+            len,
+            saved: 0,
+        }),
+        Event::Saved { line } => {
+            let saved = saved.checked_add(line.count as u64)?;
+            Some(Summed { tally, len, saved })
+        }
+        Event::Complete { .. } => Some(Summed { tally, len, saved }),
+        Event::Committed { .. } => Some(Summed { tally, len, saved }),
     }
 }
 
@@ -57,24 +55,11 @@ fn added(len: u64, to: Place, line: &[u8]) -> Option<u64>
 pub fn sum_one(now: Summed, line: &[u8]) -> Option<Summed>
     ensures { (r : Reading) → summed_of r ≡ now → IfSome result (SumsTo r line.now) }
 {
-    let tally = take_one(now.tally, line, false)?;
-    match now.tally.place {
-        Place::Between => {
-            let len = len_at(tally.place)?;
-            let saved = 0;
-            Some(Summed { tally, len, saved })
-        }
-        Place::Saving { len, .. } => {
-            let more = added(len, tally.place, line)?;
-            let saved = now.saved.checked_add(more)?;
-            Some(Summed { tally, len, saved })
-        }
-        Place::Ending { .. } => Some(Summed {
-            tally,
-            len: now.len,
-            saved: now.saved,
-        }),
+    if now.tally.count >= MOST_CHANGES {
+        return None;
     }
+    let event = classify(now.tally, line)?;
+    sum_event(now, event)
 }
 
 /// The sums after this many full saved lines more, each of 16 bytes.

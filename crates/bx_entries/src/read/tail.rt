@@ -12,8 +12,8 @@ ghost use Rattle.bx_entries.specs.Kept.{Kept as Record};
 
 use crate::format::version::width_of;
 use crate::format::words::{end_head, number, push_number, save_text, start_head};
+use crate::read::classify::MOST_CHANGES;
 use crate::read::count::{Place, Tally};
-use crate::read::take_line::MOST_CHANGES;
 use crate::{StageRead, Version};
 use bx_image::MAX_LEN;
 use std::alloc::Allocator;

@@ -60,7 +60,7 @@ pub fn read_behind<A: Allocator + Clone>(
     while let Some(i) = line_end(rest_of(&text)) {
         let after = at + i as u64 + 1;
         let (now, _) = rest_of(&text).split_at(i);
-        let Ok(taken) = take_line(alloc, front, &mut entries, stage, at, after, now) else {
+        let Ok(taken) = take_line(alloc, front, &mut entries, stage, at, now) else {
             return Err(EntryFault::NoMemory);
         };
         let Some(next) = taken else {

@@ -1,9 +1,11 @@
 //! A journal's text that is counted a window at a time: no line of it is kept.
-ghost use Rattle.std.specs.Prelude.{◌≡◌, ◌+◌, ◌<◌, ◌≤◌, ◌++◌, ◌∷◌, [], Bool, List, ℕ, length, take, drop, IfSome};
+ghost use Rattle.std.specs.Prelude.{◌≡◌, ◌+◌, ◌<◌, ◌≤◌, ◌++◌, ◌∷◌, [], Bool, List, ℕ, length, take, drop, IfSome, IsTrue};
+ghost use Rattle.bx_entries.specs.Text.{Reading};
 ghost use Rattle.bx_entries.specs.inner.Plain.{HasNoNewline};
-ghost use Rattle.bx_entries.specs.inner.Tally.{IsTallied, IsPassed, IsCountedAll};
+ghost use Rattle.bx_entries.specs.inner.Tally.{IsTallied, IsPassed, IsCountedAll, LeadsTo, Tells, tally_of};
 
-use crate::read::count::{Place, Tally, full_behind, next_end, take_one};
+use crate::read::classify::{Event, MOST_CHANGES, classify, count_event};
+use crate::read::count::{Place, Tally, full_behind, next_end};
 use crate::read::runs::full_lines::ENDED;
 
 /// Where the whole lines of a window lead, how many they are, and how many bytes they have.
@@ -44,6 +46,36 @@ fn end_below(limit: u32, tally: Tally, text: &[u8]) -> Option<usize>
     next_end(tally.place, text)
 }
 
+/// Whether a line isn't the end of an entry that tells no length.
+#[inline]
+fn tells(event: Event) -> bool
+    ensures { IsTrue result → Tells event }
+{
+    match event {
+        Event::Committed { after } => after.is_some(),
+        Event::Begun { .. } => true,
+        Event::Saved { .. } => true,
+        Event::Complete { .. } => true,
+    }
+}
+
+/// The tally after one more line, where the line is in place. With `only_second` an entry that tells no length isn't
+/// counted.
+#[inline]
+fn count_one(tally: Tally, line: &[u8], only_second: bool) -> Option<Tally>
+    ensures leads { (r : Reading) → tally_of r ≡ tally → IfSome result (LeadsTo only_second r line.now) }
+    ensures few { tally.count ≤ 65535 → IfSome result (λ t. t.count ≤ 65535) }
+{
+    if tally.count >= MOST_CHANGES {
+        return None;
+    }
+    let event = classify(tally, line)?;
+    if only_second && !tells(event) {
+        return None;
+    }
+    Some(count_event(tally, event))
+}
+
 /// Counts the whole lines at the start of a window, where each is in place: all of them, or those up to the end of the
 /// entry whose number is the limit. It answers none where one isn't in place, and with `only_second` also where an entry
 /// tells no length.
@@ -59,7 +91,7 @@ pub fn count_lines(tally: Tally, window: &[u8], only_second: bool, limit: u32) -
     let mut taken: usize = 0;
     let mut rest = window;
     while let Some(i) = end_below(limit, now, rest) {
-        now = take_one(now, &rest[..i], only_second)?;
+        now = count_one(now, &rest[..i], only_second)?;
         let (_, behind) = rest.split_at(i + 1);
         let full = full_behind(now.place, behind);
         let (_, left) = behind.split_at(ENDED * full);

@@ -28,14 +28,6 @@ loop-i-init g c =
 line_within : (from i : ℕ) (window rest : List ℕ) → rest ≡ drop from window → i < length rest → from + i + 1 ≤ length window
 line_within from i window rest is below = omega (arith, ap length is, length-drop from window)
 
-pub overflow_add-after : goal.overflow_add-after
-overflow_add-after g c =
-    omega (arith, line_within c.loop-i.from c.in-Some.i c.loop-i.window _ c.rest_at.ensures c.in-Some.ensures.found.0, c.loop-i.invariant.same, c.requires)
-
-pub overflow_add-after-in-Some : goal.overflow_add-after-in-Some
-overflow_add-after-in-Some g c =
-    omega (arith, line_within c.loop-i.from c.in-Some.i c.loop-i.window _ c.rest_at.ensures c.in-Some.ensures.found.0, c.loop-i.invariant.same, c.requires)
-
 pub go_on_in-requires-in-Some : goal.go_on_in-requires-in-Some
 go_on_in-requires-in-Some g c = record { within = line_within c.loop-i.from c.in-Some.i c.loop-i.window _ c.rest_at.ensures c.in-Some.ensures.found.0 }
 
@@ -64,10 +56,10 @@ loop-i-preserved g c =
     let go : (text : List ℕ) (older : List Entry) → IsReadUpTo text older c.args.front r → IsReadAt (text ++ window) older new c.in_ok-gone.gone.stage (r.at + (from + i + 1 + 68 * count)) = λ text older u.
     let whole : List ℕ = text ++ window in
     let read : IsReadAt whole older es c.in_ok-old.old at = c.in_ok-old.ensures whole older es at (inv.read text older u) in
-    let keeps : KeepsMarks whole older new (at + i + 1) (Some c.in-Some-taken.next) = subst (KeepsMarks whole older new (at + i + 1)) c.in-Some-taken.is (c.in_ok-taken.ensures.marked whole older u.count read.marked read.mark (omega arith)) in
+    let keeps : KeepsMarks whole older new (at + i + 1) (Some c.in-Some-taken.next) = subst (KeepsMarks whole older new (at + i + 1)) c.in-Some-taken.is ((c.in_ok-taken.ensures older u.count u.told).marked whole (at + i + 1) read.marked read.mark (omega (arith, ap length line, length-take i rest, f.0))) in
     let one = read_one whole rest older es new c.in_ok-old.old c.in-Some-taken.next at i read (sym left ∙ left_of_whole text window r.at from u.long) found
     (subst (Leads (reading_onto older es c.in_ok-old.old) (take i rest) (entries_onto older new)) c.in-Some-taken.is
-    (subst (λ l. Leads (reading_onto older es c.in_ok-old.old) l (entries_onto older new) c.in_ok-taken.taken) line (c.in_ok-taken.ensures.leads older u.count u.told))) keeps in
+    (subst (λ l. Leads (reading_onto older es c.in_ok-old.old) l (entries_onto older new) c.in_ok-taken.taken) line (c.in_ok-taken.ensures older u.count u.told).leads)) keeps in
     let to : IsReadAt whole older new c.in-Some-taken.next (r.at + (from + i + 1)) = subst (IsReadAt whole older new c.in-Some-taken.next) place one in
     subst (IsReadAt whole older new c.in_ok-gone.gone.stage) end (now.read whole older new (r.at + (from + i + 1)) to (behind ∙ left_of_whole text window r.at (from + i + 1) u.long)) in
     let over : drop (from + i + 1 + 68 * count) c.loop-i.window ≡ drop (from + i + 1 + 68 * count) window =

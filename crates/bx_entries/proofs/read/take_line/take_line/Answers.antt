@@ -1,37 +1,37 @@
-use Rattle.std.proofs.Common.{◌≡◌, suc, length, sym, subst, arith, ◌+◌}
-use Rattle.std.specs.Prelude.{IfOk}
-use Rattle.bx_entries.specs.inner.Mark.{IsMark}
-use Rattle.bx_entries.specs.Parsed.{told_by}
-use Rattle.bx_entries.specs.inner.Parsed.{entries_onto, reading_onto, IsMarked, Leads}
-use Rattle.bx_entries.proofs.ReadLemmas.{length-onto}
+use Rattle.std.proofs.Common.{◌≡◌, None, subst}
+use Rattle.bx_entries.specs.declared.read.classify.Event.TheVariants.{Begun, Saved, Complete, Committed}
+use Rattle.bx_entries.specs.Text.{next_at}
+use Rattle.bx_entries.specs.inner.Event.{LeadsAs}
+use Rattle.bx_entries.specs.inner.Parsed.{entries_onto, stage_of}
+use Rattle.bx_entries.proofs.ReadLemmas.{takes_begun, takes_saved, takes_complete, takes_committed}
 use Rattle.bx_entries.proofs.read.take_line.take_line.Goals as goal
 
-pub returns-in-Between-clause-leads : goal.returns-in-Between-clause-leads
-returns-in-Between-clause-leads g c older count told =
-    let es = c.args.entries.now.items in
-    let counted : suc (length (entries_onto older es)) ≡ c.args.front.count + c.len.result + 1 = omega (arith, length-onto older es, count) in
-    let tells : c.told_behind-told.result ≡ told_by (entries_onto older es) = subst (λ fs. c.told_behind-told.result ≡ told_by (entries_onto older fs)) c.deref.ensures.value (c.told_behind-told.ensures older told) in
-    subst (λ s. IfOk c.take_start.result (Leads (reading_onto older es s) c.args.line.now (entries_onto older es))) (sym c.in-Between.is)
-    (c.take_start.ensures.leads (entries_onto older es) counted tells)
+pub returns-in_default : goal.returns-in_default
+returns-in_default g c older count told = record {
+  leads = subst (λ fs. next_at (entries_onto older fs) (stage_of c.args.stage) c.args.line.now ≡ None) c.deref.ensures.value (c.in_default.ensures older count told);
+  marked = λ text after marked mark is. tt;
+}
 
-pub returns-in-Between-clause-marked : goal.returns-in-Between-clause-marked
-returns-in-Between-clause-marked g c text older count marked mark le =
-    let es = c.args.entries.now.items in
-    let counted : suc (length older + length es) ≡ c.args.front.count + c.len.result + 1 = omega (arith, count) in
-    c.take_start.ensures.marked text older es c.args.after (subst (λ s. IsMarked text older es s c.args.at) c.in-Between.is marked) counted
-    (subst (λ s. IsMark text c.args.at (reading_onto older es s)) c.in-Between.is mark) le
+pub returns-in_ok-runs-in-Begun : goal.returns-in_ok-runs-in-Begun
+returns-in_ok-runs-in-Begun g c older count told =
+    takes_begun older c.args.entries.now.items c.args.stage c.args.at c.args.line.now c.in-Begun.version c.in-Begun.len c.in_ok-runs-in-Begun.runs c.in_ok-runs-in-Begun.ensures
+    (subst (LeadsAs (entries_onto older c.args.entries.now.items) (stage_of c.args.stage) c.args.line.now) c.in-Begun.is
+    (subst (λ fs. LeadsAs (entries_onto older fs) (stage_of c.args.stage) c.args.line.now c.in-Some.event) c.deref.ensures.value (c.in-Some.ensures older count told)))
 
-pub returns-in-Saving-clause-leads : goal.returns-in-Saving-clause-leads
-returns-in-Saving-clause-leads g c older count told =
-    let es = c.args.entries.now.items in
-    let counted : suc (length (entries_onto older es)) ≡ c.args.front.count + c.len.result + 1 = omega (arith, length-onto older es, count) in
-    subst (λ s. IfOk c.take_saved.result (Leads (reading_onto older es s) c.args.line.now (entries_onto older es))) (sym c.in-Saving.is)
-    (c.take_saved.ensures.leads (entries_onto older es) counted)
+pub returns-in_ok-with_line-in-Saved : goal.returns-in_ok-with_line-in-Saved
+returns-in_ok-with_line-in-Saved g c older count told =
+    takes_saved older c.args.entries.now.items c.args.stage c.args.at c.args.line.now c.in-Saved.line c.in_ok-with_line-in-Saved.field-0 c.in_ok-with_line-in-Saved.ensures
+    (subst (LeadsAs (entries_onto older c.args.entries.now.items) (stage_of c.args.stage) c.args.line.now) c.in-Saved.is
+    (subst (λ fs. LeadsAs (entries_onto older fs) (stage_of c.args.stage) c.args.line.now c.in-Some.event) c.deref.ensures.value (c.in-Some.ensures older count told)))
 
-pub returns-in-Saving-clause-marked : goal.returns-in-Saving-clause-marked
-returns-in-Saving-clause-marked g c text older count marked mark le =
-    c.take_saved.ensures.marked text older c.args.entries.now.items c.args.at (subst (λ s. IsMarked text older c.args.entries.now.items s c.args.at) c.in-Saving.is marked) le
+pub returns-in-Complete : goal.returns-in-Complete
+returns-in-Complete g c older count told =
+    takes_complete older c.args.entries.now.items c.args.stage c.args.at c.args.line.now c.in-Complete.version c.completed.result c.completed.ensures
+    (subst (LeadsAs (entries_onto older c.args.entries.now.items) (stage_of c.args.stage) c.args.line.now) c.in-Complete.is
+    (subst (λ fs. LeadsAs (entries_onto older fs) (stage_of c.args.stage) c.args.line.now c.in-Some.event) c.deref.ensures.value (c.in-Some.ensures older count told)))
 
-pub returns-then-branch-clause-marked : goal.returns-then-branch-clause-marked
-returns-then-branch-clause-marked g c text older count marked mark le is =
-    c.in_ok-take_end-in-Ending.ensures.marked text older c.args.at c.args.after (subst (λ s. IsMarked text older c.args.entries.now.items s c.args.at) c.in-Ending.is marked) le c.if-branch.true
+pub returns-in_ok-finish-in-Committed : goal.returns-in_ok-finish-in-Committed
+returns-in_ok-finish-in-Committed g c older count told =
+    takes_committed older c.args.entries.now.items c.args.stage c.args.at c.args.line.now c.in-Committed.after c.finish.new.entries.items c.in_ok-finish-in-Committed.ensures
+    (subst (LeadsAs (entries_onto older c.args.entries.now.items) (stage_of c.args.stage) c.args.line.now) c.in-Committed.is
+    (subst (λ fs. LeadsAs (entries_onto older fs) (stage_of c.args.stage) c.args.line.now c.in-Some.event) c.deref.ensures.value (c.in-Some.ensures older count told)))

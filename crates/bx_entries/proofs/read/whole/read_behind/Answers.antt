@@ -1,4 +1,4 @@
-use Rattle.std.proofs.Common.{◌≡◌, ℕ, suc, ◌+◌, ◌*◌, ◌<◌, ◌≤◌, List, length, take, drop, Some, ap, sym, ◌∙◌, subst, arith, true, false, length-drop}
+use Rattle.std.proofs.Common.{◌≡◌, ℕ, suc, ◌+◌, ◌*◌, ◌<◌, ◌≤◌, List, length, take, drop, Some, ap, sym, ◌∙◌, subst, arith, true, false, length-drop, length-take}
 use Rattle.bx_entries.specs.Text.{Entry}
 use Rattle.bx_entries.specs.inner.Journal.{IsBehind}
 use Rattle.bx_entries.specs.inner.Plain.{HasNoNewline}
@@ -59,7 +59,7 @@ returns-in_default-taken-clause-fault g c text older b =
     let line : c.split_at.result.0.now ≡ take c.in-Some.i rest = c.split_at.ensures.front ∙ ap (take c.in-Some.i) (c.rest_of-in-Some.ensures ∙ sym c.rest_of.ensures) in
     read_stops text rest older es c.take_line.new.entries.items c.loop-i.stage c.loop-i.at c.loop-i.line c.in-Some.i (c.loop-i.invariant.read text older b) (c.rest_of.ensures ∙ c.loop-i.invariant.left text b.rest) found
     (subst (Leads (reading_onto older es c.loop-i.stage) (take c.in-Some.i rest) (entries_onto older c.take_line.new.entries.items)) c.in_default-taken.is
-    (subst (λ l. Leads (reading_onto older es c.loop-i.stage) l (entries_onto older c.take_line.new.entries.items) c.in-Ok.taken) line (c.in-Ok.ensures.leads older b.count b.told)))
+    (subst (λ l. Leads (reading_onto older es c.loop-i.stage) l (entries_onto older c.take_line.new.entries.items) c.in-Ok.taken) line (c.in-Ok.ensures older b.count b.told).leads))
 
 pub loop-i-smaller : goal.loop-i-smaller
 loop-i-smaller g c = omega (
@@ -88,10 +88,10 @@ loop-i-preserved g c =
     let go : (text : List ℕ) (older : List Entry) → IsBehind text older c.args.front c.args.bytes.items
     → IsReadTo text older new c.in-Ok-go_on.gone.stage (at + i + 1 + 68 * c.in-Ok-go_on.gone.count) (c.loop-i.line + 1 + c.in-Ok-go_on.gone.count) = λ text older b.
     let read : IsReadTo text older es c.loop-i.stage at c.loop-i.line = c.loop-i.invariant.read text older b in
-    let keeps : KeepsMarks text older new (at + i + 1) (Some c.in-Some-taken.next) = subst (KeepsMarks text older new (at + i + 1)) c.in-Some-taken.is (c.in-Ok.ensures.marked text older b.count read.marked read.mark (omega arith)) in
+    let keeps : KeepsMarks text older new (at + i + 1) (Some c.in-Some-taken.next) = subst (KeepsMarks text older new (at + i + 1)) c.in-Some-taken.is ((c.in-Ok.ensures older b.count b.told).marked text (at + i + 1) read.marked read.mark (omega (arith, ap length line, length-take i rest, f.0))) in
     let one = read_on text rest older es new c.loop-i.stage c.in-Some-taken.next at c.loop-i.line i read (c.rest_of.ensures ∙ c.loop-i.invariant.left text b.rest) found
     (subst (Leads (reading_onto older es c.loop-i.stage) (take i rest) (entries_onto older new)) c.in-Some-taken.is
-    (subst (λ l. Leads (reading_onto older es c.loop-i.stage) l (entries_onto older new) c.in-Ok.taken) line (c.in-Ok.ensures.leads older b.count b.told))) keeps in
+    (subst (λ l. Leads (reading_onto older es c.loop-i.stage) l (entries_onto older new) c.in-Ok.taken) line (c.in-Ok.ensures older b.count b.told).leads)) keeps in
     c.in-Ok-go_on.ensures.read text older new (at + i + 1) (c.loop-i.line + 1) one (behind text b.rest) in
     let b = c.requires.2 in
     let few = marked_few c.requires.0 c.requires.1 new c.in-Ok-go_on.gone.stage (at + i + 1 + 68 * c.in-Ok-go_on.gone.count) (go c.requires.0 c.requires.1 b).marked in
