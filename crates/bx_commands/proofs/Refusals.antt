@@ -1,6 +1,8 @@
 -- What refused commands leave.
 use Rattle.std.proofs.Common.{◌≡◌, ◌↔◌, ◌∙◌, ◌⊎◌, inl, inr, ℕ, List, Option, None, Some, refl, ap, subst}
 use Rattle.bx_dd.specs.declared.counts.Counts.{Counts}
+use Rattle.bx_image.specs.declared.device.Device.{Ghosts as DeviceViews}
+use Rattle.bx_store.specs.declared.store.TextStore.{Ghosts as StoreViews}
 use Rattle.bx_journal.specs.Calls.{AfterFault}
 use Rattle.bx_journal.specs.Power.{NothingNew}
 use Rattle.bx_journal.specs.Session.{IsRedoSame, IsSame}
@@ -143,15 +145,14 @@ redo_same_on text first now next before after = record {
 }
 
 -- nothing is found that wasn't to be found before
-module _ {D T : Type 0} (honest : D → Type 0) (text_honest : T → Type 0) (survives : D → List ℕ → Type 0) (text_survives : T → List ℕ → Type 0) where
-  pub nothing_new_here : (s : SessionView D T) → NothingNew honest text_honest survives text_survives s s
-  nothing_new_here s = record { device_before = λ h c there. there; text_before = λ h c there. there; other_before = λ h c there. there }
+module _ {D T : Type 0} (d : DeviceViews D) (t : StoreViews T) where
+  pub nothing_new_here : (s : SessionView D T) → NothingNew d t s s
+  nothing_new_here s = record { device_before = λ h c there. there; store_before = λ h c there. there; redo_before = λ h c there. there }
 
-  pub nothing_new_on : (first now next : SessionView D T) → (honest now.device ↔ honest first.device) → (text_honest now.store ↔ text_honest first.store)
-      → (text_honest now.redo_text ↔ text_honest first.redo_text) → NothingNew honest text_honest survives text_survives first now
-      → NothingNew honest text_honest survives text_survives now next → NothingNew honest text_honest survives text_survives first next
+  pub nothing_new_on : (first now next : SessionView D T) → (d.honest now.device ↔ d.honest first.device) → (t.honest now.store ↔ t.honest first.store)
+      → (t.honest now.redo_text ↔ t.honest first.redo_text) → NothingNew d t first now → NothingNew d t now next → NothingNew d t first next
   nothing_new_on first now next device store redo before after = record {
     device_before = λ h c there. before.device_before h c (after.device_before (device.1 h) c there);
-    text_before = λ h c there. before.text_before h c (after.text_before (store.1 h) c there);
-    other_before = λ h c there. before.other_before h c (after.other_before (redo.1 h) c there);
+    store_before = λ h c there. before.store_before h c (after.store_before (store.1 h) c there);
+    redo_before = λ h c there. before.redo_before h c (after.redo_before (redo.1 h) c there);
   }

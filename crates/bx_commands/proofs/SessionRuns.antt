@@ -4,6 +4,8 @@ use Rattle.std.specs.Prelude.{count_by}
 use Rattle.std.proofs.lemmas.List.{append_assoc, append-nil, drop_more, drop-set-lt, take_all, drop_all, take_more_set}
 use Rattle.std.proofs.lemmas.List.Elements.{All-cons, All-nil}
 use Rattle.std.proofs.lemmas.List.Sums.{sum_by-cons}
+use Rattle.bx_image.specs.declared.device.Device.{Ghosts as DeviceViews}
+use Rattle.bx_store.specs.declared.store.TextStore.{Ghosts as StoreViews}
 use Rattle.bx_journal.specs.Power.{Found, NothingNew, Survive}
 use Rattle.bx_journal.specs.Session.{IsRedoSame, IsUnfailed}
 use Rattle.bx_journal.specs.SessionView.{SessionView}
@@ -74,8 +76,8 @@ module _ {S C : Type 0} (Step : S → C → C → Reply → S → Type 0) where
   run_induction P none more old new (c ∷ list) (d ∷ left) [] run = absurd run
 
 -- the three devices are honest
-abbrev AreHonest : {D T : Type 0} → (D → Type 0) → (T → Type 0) → SessionView D T → Type 0
-AreHonest device text s = device s.device × text s.store × text s.redo_text
+abbrev AreHonest : {D T : Type 0} → DeviceViews D → StoreViews T → SessionView D T → Type 0
+AreHonest d t s = d.honest s.device × t.honest s.store × t.honest s.redo_text
 
 -- P holds of the first element
 all_head : {X : Type 0} (P : X → Type 0) (x : X) (xs : List X) → All P (x ∷ xs) → P x
@@ -99,19 +101,19 @@ none_failed (p ∷ replies) none =
     let all = sym (sum_by-cons weight p replies) ∙ none in
     All-cons Unfailed p replies (no_weight p (omega arith)) (none_failed replies (omega arith))
 
-module _ {D T : Type 0} (fd : D → ℕ) (ft : T → ℕ) where
-  pub unfailed_of : (old new : SessionView D T) (replies : List Reply) → CountsBy fd ft old new (count_by is_failure replies)
-      → IsUnfailed fd ft old new → All Unfailed replies
+module _ {D T : Type 0} (d : DeviceViews D) (t : StoreViews T) where
+  pub unfailed_of : (old new : SessionView D T) (replies : List Reply) → CountsBy d t old new (count_by is_failure replies)
+      → IsUnfailed d.failures t.failures old new → All Unfailed replies
   unfailed_of old new replies told same =
-      let rise = told.rise in let d = same.0 in let t = same.1 in let u = same.2 in
+      let rise = told.rise in let device = same.0 in let store = same.1 in let redo = same.2 in
       none_failed replies (omega arith)
 
   -- the counts of some commands, and of one more
-  pub counts_none : (s : SessionView D T) → CountsOn fd ft s s 0
+  pub counts_none : (s : SessionView D T) → CountsOn d t s s 0
   counts_none s = (0, omega arith, record { device_least = omega arith; store_least = omega arith; redo_least = omega arith; rise = omega arith })
 
-  pub counts_more : (first now next : SessionView D T) (i : ℕ) (reply : Reply) → CountsOn fd ft first now i → CountsBy fd ft now next (weight reply)
-      → CountsOn fd ft first next (i + 1)
+  pub counts_more : (first now next : SessionView D T) (i : ℕ) (reply : Reply) → CountsOn d t first now i → CountsBy d t now next (weight reply)
+      → CountsOn d t first next (i + 1)
   counts_more first now next i reply (failed, few, on) by =
       let small = bit (is_failure reply) in (
         failed + weight reply,
@@ -128,29 +130,28 @@ module _ {D T : Type 0} (fd : D → ℕ) (ft : T → ℕ) where
       bit true = omega arith
       bit false = omega arith
 
-  pub counts_all : (first now : SessionView D T) (i n : ℕ) → i ≤ n → CountsOn fd ft first now i → CountsOn fd ft first now n
+  pub counts_all : (first now : SessionView D T) (i n : ℕ) → i ≤ n → CountsOn d t first now i → CountsOn d t first now n
   counts_all first now i n within (failed, few, on) = (failed, omega arith, on)
 
-module _ {D T : Type 0} (hd : D → Type 0) (ht : T → Type 0) where
+module _ {D T : Type 0} (d : DeviceViews D) (t : StoreViews T) where
   -- what is found behind commands that were all refused was to be found before them
-  abbrev Refuses : (D → List ℕ → Type 0) → (T → List ℕ → Type 0) → SessionView D T → List Reply → SessionView D T → Type 0
-  Refuses sd st old replies new = All IsWholeRefusal replies → NothingNew hd ht sd st old new
+  abbrev Refuses : SessionView D T → List Reply → SessionView D T → Type 0
+  Refuses old replies new = All IsWholeRefusal replies → NothingNew d t old new
 
-  holds_honest : (image : D → List ℕ) (text : T → List ℕ) (s : SessionView D T) (standing : Standing) → HoldsAt hd ht image text s standing → AreHonest hd ht s
-  holds_honest image text s (Standing.Up images) h = (h.0, h.1, h.2)
-  holds_honest image text s (Standing.Down images) h = (h.0, h.1, h.2)
+  holds_honest : (s : SessionView D T) (standing : Standing) → HoldsAt d t s standing → AreHonest d t s
+  holds_honest s (Standing.Up images) h = (h.0, h.1, h.2)
+  holds_honest s (Standing.Down images) h = (h.0, h.1, h.2)
 
-  is_at : (image : D → List ℕ) (text : T → List ℕ) (sd : D → List ℕ → Type 0) (st : T → List ℕ → Type 0) (s : SessionView D T) (standing : Standing)
-      → HoldsAt hd ht image text s standing → IsAt hd ht image text sd st s standing
-  is_at image text sd st s (Standing.Up images) h = h
-  is_at image text sd st s (Standing.Down images) h = h.3.0
+  is_at : (s : SessionView D T) (standing : Standing) → HoldsAt d t s standing → IsAt d t s standing
+  is_at s (Standing.Up images) h = h
+  is_at s (Standing.Down images) h = h.3.0
 
-module _ {D T R A : Type 0} (hd : D → Type 0) (ht : T → Type 0) (image : D → List ℕ) (text : T → List ℕ) (sd : D → List ℕ → Type 0) (st : T → List ℕ → Type 0) (fd : D → ℕ) (ft : T → ℕ) (remaining : R → Option (List ℕ)) where
+module _ {D T R A : Type 0} (d : DeviceViews D) (t : StoreViews T) (remaining : R → Option (List ℕ)) where
   -- whatever is left of it, a command obeys its step
-  obeys_command : (old new : SessionView D T) (c left : Command R A) (reply : Reply) → SessionStep (Obeys hd ht image text sd st fd ft) Tells remaining old c left reply new
-      → Obeys hd ht image text sd st fd ft old new reply (λ before. CommandStep remaining before c)
+  obeys_command : (old new : SessionView D T) (c left : Command R A) (reply : Reply) → SessionStep (Obeys d t) Tells remaining old c left reply new
+      → Obeys d t old new reply (λ before. CommandStep remaining before c)
   obeys_command old new (Dd operands input) (Dd words rest) reply step =
-      obeys_next hd ht image text sd st fd ft (λ before after dd. (remaining rest, (step.2.0, (step.2.1, dd)))) step.2.2
+      obeys_next d t (λ before after dd. (remaining rest, (step.2.0, (step.2.1, dd)))) step.2.2
   obeys_command old new (Dd operands input) (Revert text_ offset) reply step = step.2
   obeys_command old new (Dd operands input) (RevertPlain text_ at_) reply step = step.2
   obeys_command old new (Dd operands input) (Undo k) reply step = step.2
@@ -161,16 +162,16 @@ module _ {D T R A : Type 0} (hd : D → Type 0) (ht : T → Type 0) (image : D �
   obeys_command old new (Redo j) left reply step = step.2
 
   abbrev Step : SessionView D T → Command R A → Command R A → Reply → SessionView D T → Type 0
-  Step old c left reply new = SessionStep (Obeys hd ht image text sd st fd ft) Tells remaining old c left reply new
+  Step old c left reply new = SessionStep (Obeys d t) Tells remaining old c left reply new
 
   abbrev Runs : SessionView D T → List (Command R A) → List (Command R A) → List Reply → SessionView D T → Type 0
   Runs old list left replies new = SessionRun Step old list left replies new
 
   -- from where the session stands
   pub run_of : (old new : SessionView D T) (list left : List (Command R A)) (replies : List Reply) → Runs old list left replies new
-      → Leads (HoldsAt hd ht image text) (λ start. CommandRun remaining start list replies) old new
+      → Leads (HoldsAt d t) (λ start. CommandRun remaining start list replies) old new
   run_of = run_induction Step
-      (λ old list replies new. Leads (HoldsAt hd ht image text) (λ start. CommandRun remaining start list replies) old new)
+      (λ old list replies new. Leads (HoldsAt d t) (λ start. CommandRun remaining start list replies) old new)
       (λ s start h. (start, h, refl))
       (λ old now new c left list p replies step later start h.
       let made = (obeys_command old now c left p step).step start h in
@@ -179,9 +180,9 @@ module _ {D T R A : Type 0} (hd : D → Type 0) (ht : T → Type 0) (image : D �
 
   -- from the images that honest devices stand for, where no reply tells of a failure
   pub stacks_of : (old new : SessionView D T) (list left : List (Command R A)) (replies : List Reply) → Runs old list left replies new
-      → AreHonest hd ht old → All Unfailed replies → Leads (Shows image text) (λ start. StackRun remaining start list replies) old new
+      → AreHonest d t old → All Unfailed replies → Leads (Shows d.image t.text) (λ start. StackRun remaining start list replies) old new
   stacks_of = run_induction Step
-      (λ old list replies new. AreHonest hd ht old → All Unfailed replies → Leads (Shows image text) (λ start. StackRun remaining start list replies) old new)
+      (λ old list replies new. AreHonest d t old → All Unfailed replies → Leads (Shows d.image t.text) (λ start. StackRun remaining start list replies) old new)
       (λ s honest all start shows. (start, shows, refl))
       (λ old now new c left list p replies step later honest all start shows.
       let obeys = obeys_command old now c left p step in
@@ -190,14 +191,14 @@ module _ {D T R A : Type 0} (hd : D → Type 0) (ht : T → Type 0) (image : D �
       let rest = later (obeys.device_honesty.1 honest.0, obeys.store_honesty.1 honest.1, obeys.redo_honesty.1 honest.2) (all_tail Unfailed p replies all) made.0 made.1 in
       (rest.0, rest.1, (made.0, (made.2, unfailed), rest.2)))
 
-  pub counts_once : (old new : SessionView D T) (c left : Command R A) (reply : Reply) → SessionStep (Obeys hd ht image text sd st fd ft) Tells remaining old c left reply new
-      → CountsBy fd ft old new (weight reply)
+  pub counts_once : (old new : SessionView D T) (c left : Command R A) (reply : Reply) → SessionStep (Obeys d t) Tells remaining old c left reply new
+      → CountsBy d t old new (weight reply)
   counts_once old new c left reply step = (obeys_command old new c left reply step).counts
 
   -- as many replies tell of a failure as the counts rose by
   pub told_of : (old new : SessionView D T) (list left : List (Command R A)) (replies : List Reply) → Runs old list left replies new
-      → CountsBy fd ft old new (count_by is_failure replies)
-  told_of = run_induction Step (λ old list replies new. CountsBy fd ft old new (count_by is_failure replies))
+      → CountsBy d t old new (count_by is_failure replies)
+  told_of = run_induction Step (λ old list replies new. CountsBy d t old new (count_by is_failure replies))
       (λ s. record { device_least = omega arith; store_least = omega arith; redo_least = omega arith; rise = omega arith })
       (λ old now new c left list p replies step later.
       let once = (obeys_command old now c left p step).counts in
@@ -218,86 +219,86 @@ module _ {D T R A : Type 0} (hd : D → Type 0) (ht : T → Type 0) (image : D �
       later (all_tail IsOwnRefusal p replies all) ∙ (obeys_command old now c left p step).own (all_head IsOwnRefusal p replies all))
 
   pub same_of : (old new : SessionView D T) (list left : List (Command R A)) (replies : List Reply) → Runs old list left replies new
-      → All IsWholeRefusal replies → KeepsPair hd ht image text old new
-  same_of = run_induction Step (λ old list replies new. All IsWholeRefusal replies → KeepsPair hd ht image text old new)
-      (λ s all device store. same_here image text s)
+      → All IsWholeRefusal replies → KeepsPair d t old new
+  same_of = run_induction Step (λ old list replies new. All IsWholeRefusal replies → KeepsPair d t old new)
+      (λ s all device store. same_here d.image t.text s)
       (λ old now new c left list p replies step later all device store.
       let obeys = obeys_command old now c left p step in
-      same_on image text old now new (obeys.same (all_head IsWholeRefusal p replies all) device store)
+      same_on d.image t.text old now new (obeys.same (all_head IsWholeRefusal p replies all) device store)
       (later (all_tail IsWholeRefusal p replies all) (obeys.device_honesty.1 device) (obeys.store_honesty.1 store)))
 
   pub redo_same_of : (old new : SessionView D T) (list left : List (Command R A)) (replies : List Reply) → Runs old list left replies new
-      → ht old.redo_text → All IsWholeRefusal replies → IsRedoSame text old new
-  redo_same_of = run_induction Step (λ old list replies new. ht old.redo_text → All IsWholeRefusal replies → IsRedoSame text old new)
-      (λ s redo all. redo_same_here text s)
+      → t.honest old.redo_text → All IsWholeRefusal replies → IsRedoSame t.text old new
+  redo_same_of = run_induction Step (λ old list replies new. t.honest old.redo_text → All IsWholeRefusal replies → IsRedoSame t.text old new)
+      (λ s redo all. redo_same_here t.text s)
       (λ old now new c left list p replies step later redo all.
       let obeys = obeys_command old now c left p step in
-      redo_same_on text old now new (obeys.redo_same redo (all_head IsWholeRefusal p replies all))
+      redo_same_on t.text old now new (obeys.redo_same redo (all_head IsWholeRefusal p replies all))
       (later (obeys.redo_honesty.1 redo) (all_tail IsWholeRefusal p replies all)))
 
   abbrev Finds : SessionView D T → List (Command R A) → List Reply → SessionView D T → Type 0
-  Finds old list replies new = RunFinds hd ht image text sd st remaining old list replies new
+  Finds old list replies new = RunFinds d t remaining old list replies new
 
   abbrev Goes : SessionView D T → List (Command R A) → List Reply → SessionView D T → Type 0
-  Goes old list replies new = Leads (HoldsAt hd ht image text) (λ start. CommandRun remaining start list replies) old new
+  Goes old list replies new = Leads (HoldsAt d t) (λ start. CommandRun remaining start list replies) old new
 
   -- behind a refusal
   survives_refused : (old now new : SessionView D T) (c left : Command R A) (list : List (Command R A)) (p : Reply) (replies : List Reply) → Step old c left p now
       → IsWholeRefusal p → Finds now list replies new → Finds old (c ∷ list) (p ∷ replies) new
-  survives_refused old now new c left list p replies step whole later before h first x t r there text_there redo_there =
+  survives_refused old now new c left list p replies step whole later before h first x text redo there text_there redo_there =
       let obeys = obeys_command old now c left p step in
       let made = obeys.step before h in
       let stays : made.0 ≡ before = step_stays remaining before made.0 c p whole made.2 in
-      let Holds : Standing → Type 0 = λ s. HoldsAt hd ht image text now s in
+      let Holds : Standing → Type 0 = λ s. HoldsAt d t now s in
       let Steps : Standing → Type 0 = λ s. CommandStep remaining before c p s in
       let nothing = obeys.found_before whole in
-      let honest = holds_honest hd ht image text old before h in
+      let honest = holds_honest d t old before h in
       let found = later before (subst Holds stays made.1)
       (λ all y u s y_there u_there s_there.
-      first (All-cons IsWholeRefusal p replies whole all) y u s (nothing.device_before honest.0 y y_there) (nothing.text_before honest.1 u u_there) (nothing.other_before honest.2 s s_there))
-      x t r there text_there redo_there in
+      first (All-cons IsWholeRefusal p replies whole all) y u s (nothing.device_before honest.0 y y_there) (nothing.store_before honest.1 u u_there) (nothing.redo_before honest.2 s s_there))
+      x text redo there text_there redo_there in
       (found.0, (before, subst Steps stays made.2, found.1), found.2, found.3)
 
   -- refusals keep the end of a command that was made, or stopped
   ends_kept : (now new : SessionView D T) (place last : Standing) (list : List (Command R A)) (replies : List Reply) → All IsWholeRefusal replies → Goes now list replies new
-      → HoldsAt hd ht image text now place → IsAt hd ht image text sd st now last → CommandRun remaining last list replies last × IsAt hd ht image text sd st new last
+      → HoldsAt d t now place → IsAt d t now last → CommandRun remaining last list replies last × IsAt d t new last
   ends_kept now new place (Standing.Up images) list replies all goes holds is_at =
       let made = goes (Standing.Up images) is_at in
       let stays = run_stays remaining (Standing.Up images) made.0 list replies all made.2 in
       let Run : Standing → Type 0 = λ s. CommandRun remaining (Standing.Up images) list replies s in
-      let Holds : Standing → Type 0 = λ s. HoldsAt hd ht image text new s in
+      let Holds : Standing → Type 0 = λ s. HoldsAt d t new s in
       (subst Run stays made.2, subst Holds stays made.1)
   ends_kept now new (Standing.Up found) (Standing.Down images) list replies all goes holds is_at = absurd (true_is_not_false (sym is_at ∙ holds.3.0.whole))
   ends_kept now new (Standing.Down found) (Standing.Down images) list replies all goes holds is_at =
       let made = goes (Standing.Down found) holds in
       let down = run_down remaining found made.0 list replies made.2 in
-      let Holds : Standing → Type 0 = λ s. HoldsAt hd ht image text new s in
+      let Holds : Standing → Type 0 = λ s. HoldsAt d t new s in
       (down.1 images, (subst Holds down.0 made.1).3.0)
 
   -- behind a command that was made, or stopped
   survives_made : (old now new : SessionView D T) (c left : Command R A) (list : List (Command R A)) (p : Reply) (replies : List Reply) → Step old c left p now
-      → (IsWholeRefusal p → ⊥) → Goes now list replies new → Refuses hd ht sd st now replies new → Finds now list replies new → Finds old (c ∷ list) (p ∷ replies) new
-  survives_made old now new c left list p replies step stopped goes refuses later before h first x t r there text_there redo_there =
+      → (IsWholeRefusal p → ⊥) → Goes now list replies new → Refuses d t now replies new → Finds now list replies new → Finds old (c ∷ list) (p ∷ replies) new
+  survives_made old now new c left list p replies step stopped goes refuses later before h first x text redo there text_there redo_there =
       let obeys = obeys_command old now c left p step in
       let made = obeys.step before h in
-      elim (all_whole_or replies) as (λ _. (after : Standing) × CommandRun remaining before (c ∷ list) (p ∷ replies) after × Found t x r (images_of after) × IsAt hd ht image text sd st new after) [
+      elim (all_whole_or replies) as (λ _. (after : Standing) × CommandRun remaining before (c ∷ list) (p ∷ replies) after × Found text x redo (images_of after) × IsAt d t new after) [
         | inl all ↦
             let nothing = refuses all in
-            let honest = holds_honest hd ht image text now made.0 made.1 in
-            let found = obeys.finds stopped before h x t r (nothing.device_before honest.0 x there) (nothing.text_before honest.1 t text_there) (nothing.other_before honest.2 r redo_there) in
+            let honest = holds_honest d t now made.0 made.1 in
+            let found = obeys.finds stopped before h x text redo (nothing.device_before honest.0 x there) (nothing.store_before honest.1 text text_there) (nothing.redo_before honest.2 redo redo_there) in
             let kept = ends_kept now new made.0 found.0 list replies all goes made.1 found.3 in
             (found.0, (found.0, found.1, kept.0), found.2, kept.1)
         | inr some ↦
-            let found = later made.0 made.1 (λ all. absurd (some all)) x t r there text_there redo_there in
+            let found = later made.0 made.1 (λ all. absurd (some all)) x text redo there text_there redo_there in
             (found.0, (made.0, made.2, found.1), found.2, found.3)
       ]
 
   abbrev All3 : SessionView D T → List (Command R A) → List Reply → SessionView D T → Type 0
-  All3 old list replies new = Goes old list replies new × Refuses hd ht sd st old replies new × Finds old list replies new
+  All3 old list replies new = Goes old list replies new × Refuses d t old replies new × Finds old list replies new
 
   runs_survive : (old new : SessionView D T) (list left : List (Command R A)) (replies : List Reply) → Runs old list left replies new → All3 old list replies new
   runs_survive = run_induction Step All3
-      (λ s. ((λ start h. (start, h, refl)), (λ all. nothing_new_here hd ht sd st s), (λ start h first x t r there text_there redo_there. (start, refl, first (All-nil IsWholeRefusal) x t r there text_there redo_there, is_at hd ht image text sd st s start h))))
+      (λ s. ((λ start h. (start, h, refl)), (λ all. nothing_new_here d t s), (λ start h first x text redo there text_there redo_there. (start, refl, first (All-nil IsWholeRefusal) x text redo there text_there redo_there, is_at d t s start h))))
       (λ old now new c left list p replies step later.
       let obeys = obeys_command old now c left p step in (
         (λ start h.
@@ -305,7 +306,7 @@ module _ {D T R A : Type 0} (hd : D → Type 0) (ht : T → Type 0) (image : D �
             let rest = later.0 made.0 made.1 in
             (rest.0, rest.1, (made.0, made.2, rest.2))),
         (λ all.
-            nothing_new_on hd ht sd st old now new obeys.device_honesty obeys.store_honesty obeys.redo_honesty (obeys.found_before (all_head IsWholeRefusal p replies all))
+            nothing_new_on d t old now new obeys.device_honesty obeys.store_honesty obeys.redo_honesty (obeys.found_before (all_head IsWholeRefusal p replies all))
             (later.1 (all_tail IsWholeRefusal p replies all))),
         elim (whole_or p) as (λ _. Finds old (c ∷ list) (p ∷ replies) new) [
           | inl whole ↦ survives_refused old now new c left list p replies step whole later.2

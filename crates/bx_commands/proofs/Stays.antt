@@ -1,5 +1,7 @@
 -- A session whose devices, counts and flag are as they were stands where it stood.
 use Rattle.std.proofs.Common.{◌↔◌, ℕ, suc, List, sym, ◌∙◌, ap, subst}
+use Rattle.bx_image.specs.declared.device.Device.{Ghosts as DeviceViews}
+use Rattle.bx_store.specs.declared.store.TextStore.{Ghosts as StoreViews}
 use Rattle.bx_journal.specs.Images.{Images}
 use Rattle.bx_journal.specs.Phase.{IsAtRest}
 use Rattle.bx_journal.specs.Redo.{Finds, IsRedoOf}
@@ -59,11 +61,11 @@ module _ {D T : Type 0} (image : D → List ℕ) (text : T → List ℕ) where
   ready_shows s images ready =
       (record { stands = ready.0.rest.stands; count = ready.0.count; whole = ready.0.whole }, ready.1)
 
-pub holds_same : {D T : Type 0} (hd : D → Type 0) (ht : T → Type 0) (image : D → List ℕ) (text : T → List ℕ) (old new : SessionView D T) (standing : Standing)
-    → (hd new.device ↔ hd old.device) → (ht new.store ↔ ht old.store) → (ht new.redo_text ↔ ht old.redo_text)
-    → IsSame image text old new → IsRedoSame text old new
-    → HoldsAt hd ht image text old standing → HoldsAt hd ht image text new standing
-holds_same hd ht image text old new (Standing.Up images) device store redo same redo_same h =
-    (device.1 h.0, store.1 h.1, redo.1 h.2, (ready_same image text old new images.stack same h.3.0, undone_same image text old new images.undone same redo_same h.3.1))
-holds_same hd ht image text old new (Standing.Down images) device store redo same redo_same h =
-    (device.1 h.0, store.1 h.1, redo.1 h.2, (same.broken ∙ h.3.0, finds_same image text old new images same redo_same h.3.1))
+pub holds_same : {D T : Type 0} (d : DeviceViews D) (t : StoreViews T) (old new : SessionView D T) (standing : Standing)
+    → (d.honest new.device ↔ d.honest old.device) → (t.honest new.store ↔ t.honest old.store) → (t.honest new.redo_text ↔ t.honest old.redo_text)
+    → IsSame d.image t.text old new → IsRedoSame t.text old new
+    → HoldsAt d t old standing → HoldsAt d t new standing
+holds_same d t old new (Standing.Up images) device store redo same redo_same h =
+    (device.1 h.0, store.1 h.1, redo.1 h.2, (ready_same d.image t.text old new images.stack same h.3.0, undone_same d.image t.text old new images.undone same redo_same h.3.1))
+holds_same d t old new (Standing.Down images) device store redo same redo_same h =
+    (device.1 h.0, store.1 h.1, redo.1 h.2, (same.broken ∙ h.3.0, finds_same d.image t.text old new images same redo_same h.3.1))

@@ -1,6 +1,8 @@
 -- Runs in which no device fails.
 use Rattle.std.proofs.Common.{◌≡◌, inl, inr, ℕ, suc, Option, None, Some, Result, Ok, Err, List, [], ◌∷◌, refl, subst, arith, All}
 use Rattle.bx_image.specs.declared.change.Change.{Change}
+use Rattle.bx_image.specs.declared.device.Device.{Ghosts as DeviceViews}
+use Rattle.bx_store.specs.declared.store.TextStore.{Ghosts as StoreViews}
 use Rattle.bx_read.specs.declared.fault.ReadFault.{ReadFault}
 use Rattle.bx_journal.specs.declared.fault.SessionFault.{SessionFault}
 use Rattle.bx_journal.specs.declared.fault.SessionFault.TheVariants.{NoMemory, TooLarge, DeviceFailed, Damaged, TooFew, JournalFull, Interrupted, Broken, LengthDiffers, NothingToRedo, RedoDamaged}
@@ -116,12 +118,12 @@ unfailed_runs remaining start after (c ∷ list) (p ∷ replies) (now, step, res
     (later.0, later.1, (up.0, (subst Step up.1 step, unfailed), later.2))
 
 -- a session whose devices didn't fail stands where the images' run ends
-pub stands_at_top : {D T R A : Type 0} (remaining : R → Option (List ℕ)) (hd : D → Type 0) (ht : T → Type 0) (image : D → List ℕ) (text : T → List ℕ) (new : SessionView D T) (start : Images) (list : List (Command R A)) (replies : List Reply)
-    → ((after : Standing) × HoldsAt hd ht image text new after × CommandRun remaining (Standing.Up start) list replies after)
+pub stands_at_top : {D T R A : Type 0} (d : DeviceViews D) (t : StoreViews T) (remaining : R → Option (List ℕ)) (new : SessionView D T) (start : Images) (list : List (Command R A)) (replies : List Reply)
+    → ((after : Standing) × HoldsAt d t new after × CommandRun remaining (Standing.Up start) list replies after)
     → All Unfailed replies
-    → (top : Images) × RestsAt image text new top × StackRun remaining start list replies top
-stands_at_top remaining hd ht image text new start list replies run unfailed =
+    → (top : Images) × RestsAt d.image t.text new top × StackRun remaining start list replies top
+stands_at_top d t remaining new start list replies run unfailed =
     let ends = unfailed_runs remaining start run.0 list replies run.2 unfailed in
-    let Holds : Standing → Type 0 = λ s. HoldsAt hd ht image text new s in
+    let Holds : Standing → Type 0 = λ s. HoldsAt d t new s in
     let stands = (subst Holds ends.1 run.1).3 in
     (ends.0, stands, ends.2)

@@ -1,5 +1,7 @@
 -- What opening finds after commands and a loss of power.
 use Rattle.std.specs.Prelude.{◌≡◌, ◌⊎◌, ◌≤◌, ℕ, true, Option, List, [], ◌∷◌, All}
+use Rattle.bx_image.specs.declared.device.Device.{Ghosts as DeviceViews}
+use Rattle.bx_store.specs.declared.store.TextStore.{Ghosts as StoreViews}
 use Rattle.bx_journal.specs.Images.{Images, change_to, redo_of, undo_of}
 use Rattle.bx_journal.specs.Power.{Found, Survive}
 use Rattle.bx_journal.specs.SessionView.{SessionView}
@@ -19,23 +21,22 @@ images_of (Standing.Up images) = images
 images_of (Standing.Down images) = images
 
 -- Of sessions whose device has an image and may be found with others, and whose stores have a text and may be found with others.
-module _ {D T : Type 0} (honest : D → Type 0) (text_honest : T → Type 0) (image : D → List ℕ) (text : T → List ℕ)
-    (survives : D → List ℕ → Type 0) (text_survives : T → List ℕ → Type 0) where
+module _ {D T : Type 0} (d : DeviceViews D) (t : StoreViews T) where
   -- the session goes on and stands for these images, or it was stopped
   abbrev pub IsAt : SessionView D T → Standing → Type 0
-  IsAt s (Standing.Up images) = HoldsAt honest text_honest image text s (Standing.Up images)
+  IsAt s (Standing.Up images) = HoldsAt d t s (Standing.Up images)
   IsAt s (Standing.Down images) = s.is_broken ≡ true
 
   -- Whatever is found of the session's devices, opening finds the images of an end that is allowed. Where the session goes on, it stands for them.
   abbrev pub FindsEnd : SessionView D T → (Standing → Type 0) → Type 0
-  FindsEnd s Allowed = Survive image survives text text_survives s (λ new x redo.
+  FindsEnd s Allowed = Survive d.image d.survives t.text t.survives s (λ new x redo.
       (after : Standing) × Allowed after × Found new x redo (images_of after) × IsAt s after)
 
   -- Whatever is found after a list of commands is an end of a run with these replies. Where all of them were refused, and none
   -- was stopped in the middle of writing, that is so if before them nothing was found but the images for which the session stood.
   abbrev pub RunFinds : {R A : Type 0} → (R → Option (List ℕ)) → SessionView D T → List (Command R A) → List Reply → SessionView D T → Type 0
-  RunFinds remaining old list replies new = (before : Standing) → HoldsAt honest text_honest image text old before
-      → (All IsWholeRefusal replies → Survive image survives text text_survives old (λ new x redo. Found new x redo (images_of before)))
+  RunFinds remaining old list replies new = (before : Standing) → HoldsAt d t old before
+      → (All IsWholeRefusal replies → Survive d.image d.survives t.text t.survives old (λ new x redo. Found new x redo (images_of before)))
       → FindsEnd new (CommandRun remaining before list replies)
 
 -- what is found of a command that was stopped: nothing of it, its change, or i of the k that it takes back or makes again

@@ -1,5 +1,7 @@
 -- What a refused command leaves.
-use Rattle.std.specs.Prelude.{◌≢◌, ℕ, List}
+use Rattle.std.specs.Prelude.{◌≢◌}
+use Rattle.bx_image.specs.declared.device.Device.{Ghosts as DeviceViews}
+use Rattle.bx_store.specs.declared.store.TextStore.{Ghosts as StoreViews}
 use Rattle.bx_read.specs.declared.fault.ReadFault.TheVariants as read
 use Rattle.bx_dd.specs.declared.fault.DdFault.TheVariants as dd
 use Rattle.bx_journal.specs.declared.fault.SessionFault.TheVariants.{Interrupted}
@@ -21,5 +23,5 @@ IsWholeRefusal (Refused e) = e ≢ Session Interrupted
 IsWholeRefusal p = ⊥
 
 -- image, journal and count are as they were, where the two devices are honest
-abbrev pub KeepsPair : {D T : Type 0} → (D → Type 0) → (T → Type 0) → (D → List ℕ) → (T → List ℕ) → SessionView D T → SessionView D T → Type 0
-KeepsPair honest text_honest image text old new = honest old.device → text_honest old.store → IsSame image text old new
+abbrev pub KeepsPair : {D T : Type 0} → DeviceViews D → StoreViews T → SessionView D T → SessionView D T → Type 0
+KeepsPair d t old new = d.honest old.device → t.honest old.store → IsSame d.image t.text old new

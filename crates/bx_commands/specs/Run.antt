@@ -2,6 +2,8 @@
 use Rattle.std.specs.Prelude.{◌≡◌, ℕ, ◌⊎◌, Bool, true, false, Option, Result, Ok, Err, List, [], ◌∷◌}
 use Rattle.bx_dd.specs.declared.fault.DdFault.{DdFault}
 use Rattle.bx_image.specs.declared.change.Change.{Change}
+use Rattle.bx_image.specs.declared.device.Device.{Ghosts as DeviceViews}
+use Rattle.bx_store.specs.declared.store.TextStore.{Ghosts as StoreViews}
 use Rattle.bx_read.specs.declared.fault.ReadFault.{ReadFault}
 use Rattle.bx_read.specs.declared.fault.ReadFault.TheVariants.{NoMemory}
 use Rattle.bx_journal.specs.declared.fault.SessionFault.{SessionFault}
@@ -85,8 +87,8 @@ StackRun remaining before list replies after = Chain (StackStep remaining) befor
 
 -- From honest devices, none of whose calls fails: wherever the first session stands, by `Stands`, the replies are a run to images
 -- that the last one stands for
-abbrev pub Runs : {D T R A : Type 0} → (D → Type 0) → (T → Type 0) → (D → ℕ) → (T → ℕ) → (SessionView D T → Images → Type 0) → (R → Option (List ℕ))
+abbrev pub Runs : {D T R A : Type 0} → DeviceViews D → StoreViews T → (SessionView D T → Images → Type 0) → (R → Option (List ℕ))
     → SessionView D T → List (Command R A) → List Reply → SessionView D T → Type 0
-Runs honest text_honest failures text_failures Stands remaining old list replies new =
-    honest old.device → text_honest old.store → text_honest old.redo_text → IsUnfailed failures text_failures old new
+Runs d t Stands remaining old list replies new =
+    d.honest old.device → t.honest old.store → t.honest old.redo_text → IsUnfailed d.failures t.failures old new
     → Leads Stands (λ start. StackRun remaining start list replies) old new

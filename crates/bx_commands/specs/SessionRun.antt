@@ -1,6 +1,8 @@
 -- What a list of commands makes of a session, one reply at a time.
 use Rattle.std.specs.Prelude.{◌≡◌, ℕ, Option, Result, List, [], ◌∷◌}
 use Rattle.bx_dd.specs.declared.fault.DdFault.{DdFault}
+use Rattle.bx_image.specs.declared.device.Device.{Ghosts as DeviceViews}
+use Rattle.bx_store.specs.declared.store.TextStore.{Ghosts as StoreViews}
 use Rattle.bx_journal.specs.SessionView.{SessionView}
 use Rattle.bx_commands.specs.declared.changes.DdChange.{DdChange}
 use Rattle.bx_commands.specs.declared.command.Command.{Command}
@@ -36,8 +38,6 @@ SessionRun {S = S} Step old (c ∷ list) (d ∷ left) (p ∷ replies) new = (now
 SessionRun Step old list left replies new = ⊥
 
 -- each command of a list, in order, is obeyed, and its reply tells the counts, with what is then left of it
-abbrev pub AllObey : {D T R A : Type 0} → (D → Type 0) → (T → Type 0) → (D → List ℕ) → (T → List ℕ) → (D → List ℕ → Type 0) → (T → List ℕ → Type 0)
-    → (D → ℕ) → (T → ℕ) → (R → Option (List ℕ))
+abbrev pub AllObey : {D T R A : Type 0} → DeviceViews D → StoreViews T → (R → Option (List ℕ))
     → SessionView D T → List (Command R A) → List (Command R A) → List Reply → SessionView D T → Type 0
-AllObey honest text_honest image text survives text_survives failures text_failures remaining =
-    SessionRun (SessionStep (Obeys honest text_honest image text survives text_survives failures text_failures) Tells remaining)
+AllObey d t remaining = SessionRun (SessionStep (Obeys d t) Tells remaining)

@@ -2,7 +2,9 @@
 use Rattle.std.specs.Prelude.{◌≡◌, ◌⊎◌, ◌<◌, ◌≤◌, ℕ, ◌+◌, true, Result, Ok, Err, List, [], length}
 use Rattle.bx_image.specs.declared.change.Change.{Change}
 use Rattle.bx_image.specs.declared.change.TheConstants.{MAX_LEN}
+use Rattle.bx_image.specs.declared.device.Device.{Ghosts as DeviceViews}
 use Rattle.bx_image.specs.Change.{effect, Fits}
+use Rattle.bx_store.specs.declared.store.TextStore.{Ghosts as StoreViews}
 use Rattle.bx_journal.specs.Images.{Images, change_to}
 use Rattle.bx_journal.specs.SessionView.{SessionView}
 use Rattle.bx_journal.specs.declared.fault.SessionFault.{SessionFault}
@@ -25,10 +27,10 @@ abbrev pub RestsAt : {D T : Type 0} → (D → List ℕ) → (T → List ℕ) �
 RestsAt image text s images = IsReady image text s images.stack × HasUndone image text s images.undone
 
 -- The three devices are honest, and the session rests at the images, or it is broken and opening finds them
-abbrev pub HoldsAt : {D T : Type 0} → (D → Type 0) → (T → Type 0) → (D → List ℕ) → (T → List ℕ) → SessionView D T → Standing → Type 0
-HoldsAt honest text_honest image text s (Up images) = honest s.device × text_honest s.store × text_honest s.redo_text × RestsAt image text s images
-HoldsAt honest text_honest image text s (Down images) =
-    honest s.device × text_honest s.store × text_honest s.redo_text × ((s.is_broken ≡ true) × SessionFinds image text s images)
+abbrev pub HoldsAt : {D T : Type 0} → DeviceViews D → StoreViews T → SessionView D T → Standing → Type 0
+HoldsAt d t s (Up images) = d.honest s.device × t.honest s.store × t.honest s.redo_text × RestsAt d.image t.text s images
+HoldsAt d t s (Down images) =
+    d.honest s.device × t.honest s.store × t.honest s.redo_text × ((s.is_broken ≡ true) × SessionFinds d.image t.text s images)
 
 -- wherever the first session stands, the last one stands where the step leads from there
 abbrev pub Leads : {S X : Type 0} → (S → X → Type 0) → (X → X → Type 0) → S → S → Type 0
@@ -55,13 +57,13 @@ MovesUp Step moved k old (Err Interrupted) after = (i : ℕ) × (i ≤ k) × (af
 MovesUp Step moved k old (Err e) after = (after ≡ Up old) × Step old k (Err e) old
 
 -- how many calls of each of a session's devices failed is below a limit
-abbrev pub CountsBelow : {D T : Type 0} → ℕ → (D → ℕ) → (T → ℕ) → SessionView D T → Type 0
-CountsBelow limit failures text_failures s = (failures s.device < limit) × (text_failures s.store < limit) × (text_failures s.redo_text < limit)
+abbrev pub CountsBelow : {D T : Type 0} → DeviceViews D → StoreViews T → ℕ → SessionView D T → Type 0
+CountsBelow d t limit s = (d.failures s.device < limit) × (t.failures s.store < limit) × (t.failures s.redo_text < limit)
 
 -- No count of failed calls falls, and the three together rise by exactly this many
-pub record CountsBy {D T : Type 0} (failures : D → ℕ) (text_failures : T → ℕ) (old new : SessionView D T) (failed : ℕ) : Type 0 where
-  pub device_least : failures old.device ≤ failures new.device
-  pub store_least : text_failures old.store ≤ text_failures new.store
-  pub redo_least : text_failures old.redo_text ≤ text_failures new.redo_text
-  pub rise : failures new.device + text_failures new.store + text_failures new.redo_text
-      ≡ failures old.device + text_failures old.store + text_failures old.redo_text + failed
+pub record CountsBy {D T : Type 0} (d : DeviceViews D) (t : StoreViews T) (old new : SessionView D T) (failed : ℕ) : Type 0 where
+  pub device_least : d.failures old.device ≤ d.failures new.device
+  pub store_least : t.failures old.store ≤ t.failures new.store
+  pub redo_least : t.failures old.redo_text ≤ t.failures new.redo_text
+  pub rise : d.failures new.device + t.failures new.store + t.failures new.redo_text
+      ≡ d.failures old.device + t.failures old.store + t.failures old.redo_text + failed

@@ -21,9 +21,9 @@ fn open_clean<D: Device + Drop, T: TextStore + Drop, A: Allocator + Clone>(
     requires device_countable { D.failures device < u64.MAX }
     requires store_countable { T.failures store < u64.MAX }
     requires redo_countable { T.failures redo_text < u64.MAX }
-    ensures countable { IfSome result (CountsBelow u64.MAX D.failures T.failures) }
+    ensures countable { IfSome result (CountsBelow D.Device T.TextStore u64.MAX) }
     ensures opens { D.honest device → T.honest store → T.honest redo_text
-        → IfSome result (OpensAt D.honest T.honest D.image T.text device store redo_text) }
+        → IfSome result (OpensAt D.Device T.TextStore device store redo_text) }
 {
     let alloc = match alloc.clone() {
         Ok(alloc) => alloc,
@@ -45,9 +45,9 @@ fn opened_again<D: Device + Drop, T: TextStore + Drop, A: Allocator + Clone>(
     session: Session<D, T, A>,
     again: bool,
 ) -> Option<Session<D, T, A>>
-    requires countable { CountsBelow u64.MAX D.failures T.failures session }
-    ensures countable { IfSome result (CountsBelow u64.MAX D.failures T.failures) }
-    ensures same { MovesOn D.honest T.honest D.image T.text (λ i. i) session result }
+    requires countable { CountsBelow D.Device T.TextStore u64.MAX session }
+    ensures countable { IfSome result (CountsBelow D.Device T.TextStore u64.MAX) }
+    ensures same { MovesOn D.Device T.TextStore (λ i. i) session result }
 {
     if !again {
         return Some(session);
@@ -63,9 +63,9 @@ fn changed<D: Device + Drop, T: TextStore + Drop, A: Allocator + Clone>(
     session: Session<D, T, A>,
     change: &Change<A>,
 ) -> Option<Session<D, T, A>>
-    requires countable { CountsBelow u64.MAX D.failures T.failures session }
-    ensures countable { IfSome result (CountsBelow u64.MAX D.failures T.failures) }
-    ensures moves { MovesOn D.honest T.honest D.image T.text (change_of change.now) session result }
+    requires countable { CountsBelow D.Device T.TextStore u64.MAX session }
+    ensures countable { IfSome result (CountsBelow D.Device T.TextStore u64.MAX) }
+    ensures moves { MovesOn D.Device T.TextStore (change_of change.now) session result }
 {
     let mut session = session;
     match session.perform(change) {
@@ -78,9 +78,9 @@ fn changed<D: Device + Drop, T: TextStore + Drop, A: Allocator + Clone>(
 fn undone<D: Device + Drop, T: TextStore + Drop, A: Allocator + Clone>(
     session: Session<D, T, A>,
 ) -> Option<Session<D, T, A>>
-    requires countable { CountsBelow u64.MAX D.failures T.failures session }
-    ensures countable { IfSome result (CountsBelow u64.MAX D.failures T.failures) }
-    ensures moves { MovesOn D.honest T.honest D.image T.text (undo_of 1) session result }
+    requires countable { CountsBelow D.Device T.TextStore u64.MAX session }
+    ensures countable { IfSome result (CountsBelow D.Device T.TextStore u64.MAX) }
+    ensures moves { MovesOn D.Device T.TextStore (undo_of 1) session result }
 {
     let mut session = session;
     match session.undo(1) {
@@ -93,10 +93,10 @@ fn undone<D: Device + Drop, T: TextStore + Drop, A: Allocator + Clone>(
 fn redone<D: Device + Drop, T: TextStore + Drop, A: Allocator + Clone>(
     session: Session<D, T, A>,
 ) -> Option<Session<D, T, A>>
-    requires countable { CountsBelow u64.MAX D.failures T.failures session }
-    ensures countable { IfSome result (CountsBelow u64.MAX D.failures T.failures) }
-    ensures moves { MovesOn D.honest T.honest D.image T.text (redo_of 1) session result }
-    ensures some { (i : Images) → RestsIn D.honest T.honest D.image T.text session i → OnSome result (1 ≤ length i.undone) }
+    requires countable { CountsBelow D.Device T.TextStore u64.MAX session }
+    ensures countable { IfSome result (CountsBelow D.Device T.TextStore u64.MAX) }
+    ensures moves { MovesOn D.Device T.TextStore (redo_of 1) session result }
+    ensures some { (i : Images) → RestsIn D.Device T.TextStore session i → OnSome result (1 ≤ length i.undone) }
 {
     let mut session = session;
     match session.redo(1) {
@@ -117,9 +117,9 @@ fn changed_and_undone<D: Device + Drop, T: TextStore + Drop, A: Allocator + Clon
     requires device_countable { D.failures device < u64.MAX }
     requires store_countable { T.failures store < u64.MAX }
     requires redo_countable { T.failures redo_text < u64.MAX }
-    ensures countable { IfSome result (CountsBelow u64.MAX D.failures T.failures) }
+    ensures countable { IfSome result (CountsBelow D.Device T.TextStore u64.MAX) }
     ensures moves { D.honest device → T.honest store → T.honest redo_text
-        → IfSome result (UndoneFrom D.honest T.honest D.image T.text (D.image device) change.now) }
+        → IfSome result (UndoneFrom D.Device T.TextStore (D.image device) change.now) }
 {
     let session = open_clean(alloc, device, store, redo_text)?;
     let session = changed(session, change)?;

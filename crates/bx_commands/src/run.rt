@@ -29,9 +29,8 @@ fn run_change<D: Device, T: TextStore, A: Allocator + Clone>(
     change: &Change<A>,
     counts: Option<Counts>,
 ) -> Reply
-    requires countable { CountsBelow u64.MAX D.failures T.failures session.old }
-    ensures obeys { Obeys D.honest T.honest D.image T.text D.survives T.survives D.failures T.failures
-        session.old session.new result (λ s. ChangeStep s change.now counts) }
+    requires countable { CountsBelow D.Device T.TextStore u64.MAX session.old }
+    ensures obeys { Obeys D.Device T.TextStore session.old session.new result (λ s. ChangeStep s change.now counts) }
     ensures tells { ChangeTells session.old result session.new }
 {
     match session.perform(change) {
@@ -55,9 +54,8 @@ fn run_undo<D: Device, T: TextStore, A: Allocator + Clone>(
     session: &mut Session<D, T, A>,
     k: u32,
 ) -> Reply
-    requires countable { CountsBelow u64.MAX D.failures T.failures session.old }
-    ensures obeys { Obeys D.honest T.honest D.image T.text D.survives T.survives D.failures T.failures
-        session.old session.new result (λ s. UndoesStep s k) }
+    requires countable { CountsBelow D.Device T.TextStore u64.MAX session.old }
+    ensures obeys { Obeys D.Device T.TextStore session.old session.new result (λ s. UndoesStep s k) }
     ensures tells { UndoTells k session.old result session.new }
 {
     match session.undo(k) {
@@ -71,9 +69,8 @@ fn run_redo<D: Device, T: TextStore, A: Allocator + Clone>(
     session: &mut Session<D, T, A>,
     j: u32,
 ) -> Reply
-    requires countable { CountsBelow u64.MAX D.failures T.failures session.old }
-    ensures obeys { Obeys D.honest T.honest D.image T.text D.survives T.survives D.failures T.failures
-        session.old session.new result (λ s. RedoesStep s j) }
+    requires countable { CountsBelow D.Device T.TextStore u64.MAX session.old }
+    ensures obeys { Obeys D.Device T.TextStore session.old session.new result (λ s. RedoesStep s j) }
     ensures tells { RedoTells j session.old result session.new }
 {
     match session.redo(j) {
@@ -87,9 +84,8 @@ pub fn change_if_read<D: Device, T: TextStore, A: Allocator + Clone>(
     session: &mut Session<D, T, A>,
     read: Result<Change<A>, ReadFault>,
 ) -> Reply
-    requires countable { CountsBelow u64.MAX D.failures T.failures session.old }
-    ensures obeys { Obeys D.honest T.honest D.image T.text D.survives T.survives D.failures T.failures
-        session.old session.new result (λ s. ReadStep s (λ c. c) read) }
+    requires countable { CountsBelow D.Device T.TextStore u64.MAX session.old }
+    ensures obeys { Obeys D.Device T.TextStore session.old session.new result (λ s. ReadStep s (λ c. c) read) }
     ensures tells { ChangeTells session.old result session.new }
 {
     match read {
@@ -103,9 +99,8 @@ fn run_dd<D: Device, T: TextStore, A: Allocator + Clone>(
     session: &mut Session<D, T, A>,
     made: Result<DdChange<A>, DdFault>,
 ) -> Reply
-    requires countable { CountsBelow u64.MAX D.failures T.failures session.old }
-    ensures obeys { Obeys D.honest T.honest D.image T.text D.survives T.survives D.failures T.failures
-        session.old session.new result (λ s. DdStep s made) }
+    requires countable { CountsBelow D.Device T.TextStore u64.MAX session.old }
+    ensures obeys { Obeys D.Device T.TextStore session.old session.new result (λ s. DdStep s made) }
     ensures tells { ChangeTells session.old result session.new }
 {
     match made {
@@ -121,10 +116,9 @@ fn revert_dump<D: Device, T: TextStore, A: Allocator + Clone>(
     text: &mut Bytes<A>,
     offset: u64,
 ) -> Reply
-    requires countable { CountsBelow u64.MAX D.failures T.failures session.old }
+    requires countable { CountsBelow D.Device T.TextStore u64.MAX session.old }
     requires near { offset ≤ 2 ^ 62 }
-    ensures obeys { Obeys D.honest T.honest D.image T.text D.survives T.survives D.failures T.failures
-        session.old session.new result (λ s. DumpStep A s text.old offset) }
+    ensures obeys { Obeys D.Device T.TextStore session.old session.new result (λ s. DumpStep A s text.old offset) }
     ensures left { text.new ≡ [] }
     ensures tells { ChangeTells session.old result session.new }
 {
@@ -140,9 +134,8 @@ fn revert_plain<D: Device, T: TextStore, A: Allocator + Clone>(
     text: &mut Bytes<A>,
     at: u64,
 ) -> Reply
-    requires countable { CountsBelow u64.MAX D.failures T.failures session.old }
-    ensures obeys { Obeys D.honest T.honest D.image T.text D.survives T.survives D.failures T.failures
-        session.old session.new result (λ s. PlainStep A s text.old at) }
+    requires countable { CountsBelow D.Device T.TextStore u64.MAX session.old }
+    ensures obeys { Obeys D.Device T.TextStore session.old session.new result (λ s. PlainStep A s text.old at) }
     ensures left { text.new ≡ [] }
     ensures tells { ChangeTells session.old result session.new }
 {
@@ -174,10 +167,9 @@ pub fn run_one<D: Device, T: TextStore, R: Read, A: Allocator + Clone>(
     session: &mut Session<D, T, A>,
     command: &mut Command<R, A>,
 ) -> Reply
-    requires countable { CountsBelow u64.MAX D.failures T.failures session.old }
+    requires countable { CountsBelow D.Device T.TextStore u64.MAX session.old }
     requires near { IsNear command.old }
-    ensures runs { SessionStep (Obeys D.honest T.honest D.image T.text D.survives T.survives D.failures T.failures) Tells R.remaining
-        session.old command.old command.new result session.new }
+    ensures runs { SessionStep (Obeys D.Device T.TextStore) Tells R.remaining session.old command.old command.new result session.new }
 {
     match command {
         Command::Revert { text, offset } => revert_dump(alloc, session, text, *offset),
@@ -205,43 +197,41 @@ pub fn run_all<D: Device, T: TextStore, R: Read, A: Allocator + Clone>(
 
     // Where the devices are honest and none fails, the replies and the final devices are a run of the machine, from the whole
     // images that the first devices stand for to those that the final ones stand for.
-    ensures headline { IfOk result (λ p. Runs D.honest T.honest D.failures T.failures (Shows D.image T.text) R.remaining session.old list.old p.items session.new) }
+    ensures headline { IfOk result (λ p. Runs D.Device T.TextStore (Shows D.image T.text) R.remaining session.old list.old p.items session.new) }
 
     // From a sound journal it leaves a sound one.
-    ensures sound { IfOk result (λ p. Runs D.honest T.honest D.failures T.failures (RestsAt D.image T.text) R.remaining session.old list.old p.items session.new) }
+    ensures sound { IfOk result (λ p. Runs D.Device T.TextStore (RestsAt D.image T.text) R.remaining session.old list.old p.items session.new) }
 
     // Whatever devices fail: up to the first failure after a write it is a run in which a device may refuse a command, and
     // then each reply is the command's own fault or says that the session is broken.
-    ensures run { IfOk result (λ p. Leads (HoldsAt D.honest T.honest D.image T.text) (λ s. CommandRun R.remaining s list.old p.items) session.old session.new) }
+    ensures run { IfOk result (λ p. Leads (HoldsAt D.Device T.TextStore) (λ s. CommandRun R.remaining s list.old p.items) session.old session.new) }
 
     // Whatever moment the power was lost at, opening finds what a run with these replies ends in; where the session goes on, that
     // is where it stands. Where all commands are refused, what is found is what was to be found before them.
-    ensures survives { IfOk result (λ p. RunFinds D.honest T.honest D.image T.text D.survives T.survives R.remaining session.old list.old p.items session.new) }
+    ensures survives { IfOk result (λ p. RunFinds D.Device T.TextStore R.remaining session.old list.old p.items session.new) }
 
     // Each reply, in any list: a command that is refused for a fault of its own leaves the session as it was, and one that
     // is refused, but by no interruption, leaves image, journal and redo text, byte for byte. What another makes of the
     // session is its step, and whatever the devices are, its numbers are the session's counts. Of dd's input as much is read
     // as its operands read, and nothing where they have a fault. The text of a revert is left empty, whatever became of it.
-    ensures each { IfOk result (λ p. AllObey D.honest T.honest D.image T.text D.survives T.survives D.failures T.failures R.remaining
-        session.old list.old list.new p.items session.new) }
+    ensures each { IfOk result (λ p. AllObey D.Device T.TextStore R.remaining session.old list.old list.new p.items session.new) }
 
     // A device's failure raises its count, and as many replies tell of one as the three counts rose by.
-    ensures told { IfOk result (λ replies. CountsBy D.failures T.failures session.old session.new (count_by is_failure replies.items)) }
+    ensures told { IfOk result (λ replies. CountsBy D.Device T.TextStore session.old session.new (count_by is_failure replies.items)) }
     ensures unfailed { IsUnfailed D.failures T.failures session.old session.new → IfOk result (λ replies. All Unfailed replies.items) }
 
     // No count of failures falls, and the three together rise by no more than one for each command.
-    ensures counts { (failed : ℕ) × (failed ≤ length list.old) × CountsBy D.failures T.failures session.old session.new failed }
+    ensures counts { (failed : ℕ) × (failed ≤ length list.old) × CountsBy D.Device T.TextStore session.old session.new failed }
 
     // So a list whose commands are all refused for faults of their own leaves the session. One whose commands are all
     // refused, but by no interruption, leaves image and text, byte for byte, and the redo text with the count of what is undone.
     ensures own { IfOk result (λ replies. All IsOwnRefusal replies.items → session.new ≡ session.old) }
-    ensures same { IfOk result (λ p. All IsWholeRefusal p.items → KeepsPair D.honest T.honest D.image T.text session.old session.new) }
+    ensures same { IfOk result (λ p. All IsWholeRefusal p.items → KeepsPair D.Device T.TextStore session.old session.new) }
     ensures redo_same { T.honest session.old.redo_text
         → IfOk result (λ replies. All IsWholeRefusal replies.items → IsRedoSame T.text session.old session.new) }
 
     // Where memory for the replies is refused, no command ran.
-    ensures refused { OnErr result (session.new ≡ session.old) }
-    ensures unread { OnErr result (list.new ≡ list.old) }
+    ensures refused { OnErr result ((session.new ≡ session.old) × (list.new ≡ list.old)) }
 {
     let mut replies = Vec::with_capacity(alloc.clone().map_err(|_| NoMemory)?, list.len()).map_err(
         |_| NoMemory,

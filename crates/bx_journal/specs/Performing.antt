@@ -99,7 +99,7 @@ module _ {D T : Type 0} (image : D → List ℕ) (text : T → List ℕ) where
 
 -- Whatever the redo text gives, a redo of j keeps the old stack: it stands with j images on top, behind an interruption with some, and another fault
 -- leaves all as it was
-pub record KeepsBelow {D T : Type 0} (d : DeviceViews D) (t : StoreViews T) (j : ℕ) (old new : SessionView D T) (result : Result ℕ SessionFault) : Type 0 where
+pub record KeepsOldStack {D T : Type 0} (d : DeviceViews D) (t : StoreViews T) (j : ℕ) (old new : SessionView D T) (result : Result ℕ SessionFault) : Type 0 where
   pub stands : d.honest old.device → t.honest old.store → StandsOnTop d.image t.text j old new result
   pub ready : d.honest old.device → t.honest old.store → StaysOnTop d.image t.text j old new result
   pub fault : d.honest old.device → t.honest old.store → StopsRedo d.image t.text j old new result

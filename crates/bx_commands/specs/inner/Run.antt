@@ -2,6 +2,8 @@
 use Rattle.std.specs.Prelude.{◌≡◌, ◌≤◌, ℕ, Option, None, Some, Result, List}
 use Rattle.bx_dd.specs.declared.counts.Counts.{Counts}
 use Rattle.bx_image.specs.declared.change.Change.{Change}
+use Rattle.bx_image.specs.declared.device.Device.{Ghosts as DeviceViews}
+use Rattle.bx_store.specs.declared.store.TextStore.{Ghosts as StoreViews}
 use Rattle.bx_journal.specs.Images.{Images, redo_of, undo_of}
 use Rattle.bx_journal.specs.Machine.{RedoStep, UndoStep}
 use Rattle.bx_journal.specs.SessionView.{SessionView}
@@ -54,5 +56,5 @@ abbrev pub PlainStep : (A : Type 0) → Standing → List ℕ → ℕ → Reply 
 PlainStep A before text at reply after = TextStep before (plain_change {A = A} at) (plain_answer text) reply after
 
 -- No count of failed calls falls, and the three together rise by no more than this many
-abbrev pub CountsOn : {D T : Type 0} → (D → ℕ) → (T → ℕ) → SessionView D T → SessionView D T → ℕ → Type 0
-CountsOn failures text_failures old new calls = (failed : ℕ) × (failed ≤ calls) × CountsBy failures text_failures old new failed
+abbrev pub CountsOn : {D T : Type 0} → DeviceViews D → StoreViews T → SessionView D T → SessionView D T → ℕ → Type 0
+CountsOn d t old new calls = (failed : ℕ) × (failed ≤ calls) × CountsBy d t old new failed

@@ -57,7 +57,7 @@ impl<D: Device, T: TextStore, A: Allocator + Clone> Session<D, T, A> {
     ghost use Rattle.bx_journal.specs.Calls.{AfterFault};
     ghost use Rattle.bx_journal.specs.Power.{NothingNew, StepsSurvive};
     ghost use Rattle.bx_journal.specs.Session.{FailsSafely};
-    ghost use Rattle.bx_journal.specs.Performing.{FindsSome, GrowsByTaken, KeepsBelow, RedoesImages, StaysRedone};
+    ghost use Rattle.bx_journal.specs.Performing.{FindsSome, GrowsByTaken, KeepsOldStack, RedoesImages, StaysRedone};
     ghost use Rattle.bx_journal.specs.Faults.{FaultsOfRedo};
     ghost use Rattle.bx_journal.specs.Undoing.{LeavesFront};
 
@@ -84,7 +84,7 @@ impl<D: Device, T: TextStore, A: Allocator + Clone> Session<D, T, A> {
             × (self.new.undone + j ≡ self.old.undone) × (self.new.is_broken ≡ false)) }
 
         // Whatever the redo text gives, the old stack still stands, with j images on top, behind an interruption with some.
-        ensures stands { KeepsBelow D.Device T.TextStore j self.old self.new result }
+        ensures stands { KeepsOldStack D.Device T.TextStore j self.old self.new result }
 
         // The redo text is then that of the other entries, and the journal goes on with what each of the j took of the image.
         ensures text { T.honest self.old.redo_text → LeavesFront (T.text self.old.redo_text) j (T.text self.new.redo_text) result }

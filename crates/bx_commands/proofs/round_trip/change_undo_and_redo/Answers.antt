@@ -10,7 +10,7 @@ returns-clause-image g c d t u =
     let undone = undo_of 1 (change_of c.args.change.now from.0) in
     let again = c.in_ok-session-2.ensures.same undone from.2 in
     ap g.D.Device.image c.close.ensures.device
-    ∙ redone_image g.D.Device.honest g.T.TextStore.honest g.D.Device.image g.T.TextStore.text (g.D.Device.image c.args.device) c.args.change.now
+    ∙ redone_image g.D.Device g.T.TextStore (g.D.Device.image c.args.device) c.args.change.now
     from.0 c.in_ok-session-3.session from.1 (c.in_ok-session-3.ensures.some undone again) (c.in_ok-session-3.ensures.moves undone again)
 
 pub returns-clause-faithful : goal.returns-clause-faithful

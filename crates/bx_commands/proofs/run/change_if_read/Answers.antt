@@ -8,7 +8,6 @@ returns-in-Ok g c = record { obeys = rw c.in-Ok.is c.run_change.ensures.obeys; t
 
 pub returns-in-Err : goal.returns-in-Err
 returns-in-Err g c = record {
-  obeys = rw c.in-Err.is (read_refused g.D.Device.honest g.T.TextStore.honest g.D.Device.image g.T.TextStore.text g.D.Device.survives g.T.TextStore.survives g.D.Device.failures g.T.TextStore.failures
-      (λ (change : Change g.row.A.Denot). change) c.args.session.now c.in-Err.read_fault);
+  obeys = rw c.in-Err.is (read_refused g.D.Device g.T.TextStore (λ (change : Change g.row.A.Denot). change) c.args.session.now c.in-Err.read_fault);
   tells = (refl, refl);
 }

@@ -8,7 +8,7 @@ pub returns : goal.returns
 returns g c =
     let change = c.change_of_plain-change in
     record {
-      obeys = obeys_next g.D.Device.honest g.T.TextStore.honest g.D.Device.image g.T.TextStore.text g.D.Device.survives g.T.TextStore.survives g.D.Device.failures g.T.TextStore.failures
+      obeys = obeys_next g.D.Device g.T.TextStore
           (λ before after. read_step (plain_change c.args.at) (plain_answer c.args.text.now) change.result before after c.change_if_read.result
           (rw c.as_slice.ensures at change.ensures.change) (rw c.as_slice.ensures at change.ensures.fault))
           c.change_if_read.ensures.obeys;

@@ -10,9 +10,9 @@ use Rattle.bx_commands.proofs.run.run_all.Given as goal
 
 abbrev pub invariant-loop-command : goal.invariant-loop-command
 invariant-loop-command g l = record {
-  leads : LeadsTo (SessionStep (Obeys g.D.Device.honest g.T.TextStore.honest g.D.Device.image g.T.TextStore.text g.D.Device.survives g.T.TextStore.survives g.D.Device.failures g.T.TextStore.failures) Tells g.R.Read.remaining)
+  leads : LeadsTo (SessionStep (Obeys g.D.Device g.T.TextStore) Tells g.R.Read.remaining)
       l.fn.session l.fn.list (take l.command-index l.list) l.replies.items l.session (drop l.command-index l.list);
-  counted : CountsOn g.D.Device.failures g.T.TextStore.failures l.fn.session l.session l.command-index;
+  counted : CountsOn g.D.Device g.T.TextStore l.fn.session l.session l.command-index;
   ahead : AllAhead IsNear l.command-index l.list;
   replied : vec_len l.replies ≡ l.command-index;
   room : length l.list ≤ vec_capacity l.replies;

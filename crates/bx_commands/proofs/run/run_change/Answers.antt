@@ -6,7 +6,7 @@ pub returns-in-Ok : goal.returns-in-Ok
 returns-in-Ok g c =
     let e = c.in-Ok.ensures in
     record {
-      obeys = perform_obeys g.D.Device.honest g.T.TextStore.honest g.D.Device.image g.T.TextStore.text g.D.Device.survives g.T.TextStore.survives g.D.Device.failures g.T.TextStore.failures
+      obeys = perform_obeys g.D.Device g.T.TextStore
           c.args.session.now c.perform.new.self c.args.change.now c.args.counts c.in-Ok.number c.made_reply.result c.made_reply.ensures
           e.safe e.accepted e.sound e.undone e.survives;
       tells = change_tells c.args.session.now c.perform.new.self c.args.counts c.in-Ok.number c.made_reply.result c.made_reply.ensures (e.number.0, e.number.1, e.number.2);
@@ -16,8 +16,7 @@ pub returns-in-Err : goal.returns-in-Err
 returns-in-Err g c =
     let e = c.in-Err.ensures in
     record {
-      obeys = unperformed_obeys g.D.Device.honest g.T.TextStore.honest g.D.Device.image g.T.TextStore.text g.D.Device.survives g.T.TextStore.survives g.D.Device.failures g.T.TextStore.failures
-          c.args.session.now c.perform.new.self c.args.change.now c.args.counts c.in-Err.fault
+      obeys = unperformed_obeys g.D.Device g.T.TextStore c.args.session.now c.perform.new.self c.args.change.now c.args.counts c.in-Err.fault
           e.safe e.full e.large e.fits e.fitted e.kind e.finds e.survives e.found_before;
       tells = refused_change_tells c.args.session.now c.perform.new.self c.in-Err.fault e.kind e.full (e.safe.unmoved.0, e.safe.unmoved.1);
     }

@@ -6,8 +6,7 @@ pub returns-in-Ok : goal.returns-in-Ok
 returns-in-Ok g c =
     let e = c.in-Ok.ensures in
     record {
-      obeys = redo_obeys g.D.Device.honest g.T.TextStore.honest g.D.Device.image g.T.TextStore.text g.D.Device.survives g.T.TextStore.survives g.D.Device.failures g.T.TextStore.failures
-          c.args.session.now c.redo.new.self c.args.j c.in-Ok.changes
+      obeys = redo_obeys g.D.Device g.T.TextStore c.args.session.now c.redo.new.self c.args.j c.in-Ok.changes
           e.safe e.accepted e.sound e.survives;
       tells = (e.number.0, e.number.1, e.number.2);
     }
@@ -16,8 +15,7 @@ pub returns-in-Err : goal.returns-in-Err
 returns-in-Err g c =
     let e = c.in-Err.ensures in
     record {
-      obeys = unredone_obeys g.D.Device.honest g.T.TextStore.honest g.D.Device.image g.T.TextStore.text g.D.Device.survives g.T.TextStore.survives g.D.Device.failures g.T.TextStore.failures
-          c.args.session.now c.redo.new.self c.args.j c.in-Err.fault
+      obeys = unredone_obeys g.D.Device g.T.TextStore c.args.session.now c.redo.new.self c.args.j c.in-Err.fault
           e.safe e.nothing e.kind e.undamaged e.finds e.survives e.found_before;
       tells = refused_redo_tells c.args.session.now c.redo.new.self c.args.j c.in-Err.fault e.kind e.nothing (e.safe.unmoved.0, e.safe.unmoved.1);
     }

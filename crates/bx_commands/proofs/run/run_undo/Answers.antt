@@ -6,8 +6,7 @@ pub returns-in-Ok : goal.returns-in-Ok
 returns-in-Ok g c =
     let e = c.in-Ok.ensures in
     record {
-      obeys = undo_obeys g.D.Device.honest g.T.TextStore.honest g.D.Device.image g.T.TextStore.text g.D.Device.survives g.T.TextStore.survives g.D.Device.failures g.T.TextStore.failures
-          c.args.session.now c.undo.new.self c.args.k c.in-Ok.left
+      obeys = undo_obeys g.D.Device g.T.TextStore c.args.session.now c.undo.new.self c.args.k c.in-Ok.left
           e.safe e.accepted e.sound e.undone e.survives;
       tells = (e.left.0, e.left.1, e.few_undone);
     }
@@ -16,8 +15,7 @@ pub returns-in-Err : goal.returns-in-Err
 returns-in-Err g c =
     let e = c.in-Err.ensures in
     record {
-      obeys = kept_obeys g.D.Device.honest g.T.TextStore.honest g.D.Device.image g.T.TextStore.text g.D.Device.survives g.T.TextStore.survives g.D.Device.failures g.T.TextStore.failures
-          c.args.session.now c.undo.new.self c.args.k c.in-Err.fault
+      obeys = kept_obeys g.D.Device g.T.TextStore c.args.session.now c.undo.new.self c.args.k c.in-Err.fault
           e.safe e.few e.kind e.undamaged e.finds e.survives e.found_before;
       tells = refused_undo_tells c.args.session.now c.undo.new.self c.args.k c.in-Err.fault e.kind e.few (e.safe.unmoved.0, e.safe.unmoved.1);
     }
