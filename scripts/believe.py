@@ -55,6 +55,7 @@ def parts_of(text):
         if bare.startswith("module _ "):
             comment, opened, within = [], [bare], True
             continue
+        within = within and (not bare or bare.startswith("  "))
         if within:
             bare = bare.removeprefix("  ")
         if bare.startswith("--"):

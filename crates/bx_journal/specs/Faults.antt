@@ -11,7 +11,7 @@ use Rattle.bx_journal.specs.SessionView.{SessionView}
 use Rattle.bx_journal.specs.Standing.{PerformFault}
 use Rattle.bx_journal.specs.Undoing.{HasCount, IsOutOfStep, RedoFault, UndoFault}
 
--- Of a change: a full journal is told exactly where it is full, a change that fits is never too large, and the other faults come of one that fits
+-- Of a change: `JournalFull` comes exactly where the journal is full, a change that fits is never too large, and the other faults come of one that fits
 pub record FaultsOfChange {D T A V : Type 0} (d : DeviceViews D) (c : Change A) (old : SessionView D T) (result : Result V SessionFault) : Type 0 where
   pub kind : IfErr result PerformFault
   pub full : IsErrOf result JournalFull ↔ ((old.is_broken ≡ false) × (65535 ≤ old.count))
