@@ -15,12 +15,9 @@ use Rattle.bx_journal.specs.declared.read.entries.FinishedRead.{FinishedRead}
 use Rattle.bx_journal.specs.declared.fault.SessionFault.{SessionFault}
 use Rattle.bx_journal.specs.declared.fault.SessionFault.TheVariants.{NoMemory, DeviceFailed}
 use Rattle.bx_journal.specs.Undoing.{AgainFault}
-use Rattle.bx_journal.specs.inner.Undoing.{IsReadFrom, IsReadLast, IsReadOn, IsReadBehind, IsLastFrom}
+use Rattle.bx_journal.specs.inner.Undoing.{IsReadFrom, IsReadLast, IsReadBehind, IsLastFrom}
 use Rattle.bx_journal.specs.inner.Restoring.{AllShorter}
 use Rattle.bx_journal.specs.inner.Windows.{HasShortLines, IsFrontCounted, KeepsShort}
-use Rattle.bx_journal.proofs.WalkLemmas.{shorter_append, window_shorter}
-use Rattle.bx_entries.proofs.Splits.{split-append}
-use Rattle.bx_entries.proofs.TallyLemmas.{take_sum}
 
 -- what was counted is a front
 pub front_is : (honest : Type 0) (stored : List ℕ) (f : Front) → (c : IsFrontCounted honest stored false f) → IsFront c.front c.counted.counted.entries f
@@ -37,39 +34,6 @@ front_is honest stored f c =
       count = counted.counted;
       told = counted.told_is;
       few = c.few;
-    }
-
--- nothing was read yet behind what was counted
-pub none_behind : {A : Type 0} → (honest : Type 0) (stored : List ℕ) (f : Front) (r : LinesRead A) → (c : IsFrontCounted honest stored false f) → r.at ≡ f.at
-    → IsReadUpTo c.front c.counted.counted.entries f r → IsReadBehind honest stored f r
-none_behind honest stored f r c place read = record {
-  text = c.front;
-  older = c.counted.counted.entries;
-  is = λ h. c.is h ∙ ap (λ n. take n stored) (sym place);
-  read = read;
-}
-
--- a window of a store that is the same as before
-pub read_on_from : {A : Type 0} → (honest now : Type 0) (stored text : List ℕ) (f : Front) (len : ℕ) (old new : LinesRead A) → (honest → now) → (honest → text ≡ stored)
-    → IsReadOn now text f len old new → IsReadOn honest stored f len old new
-read_on_from honest now stored text f len old new still same on = record {
-  bytes = on.bytes;
-  is = λ h. on.is (still h) ∙ ap (λ l. take (new.at - old.at) (drop old.at l)) (same h);
-  leads = on.leads;
-  some = on.some;
-  within = on.within;
-}
-
--- a window more
-pub behind_on : {A : Type 0} → (honest : Type 0) (stored : List ℕ) (f : Front) (len : ℕ) (old new : LinesRead A) → IsReadBehind honest stored f old → IsReadOn honest stored f len old new
-    → IsReadBehind honest stored f new
-behind_on honest stored f len old new b on =
-    let place : old.at + (new.at - old.at) ≡ new.at = omega (arith, on.some) in
-    record {
-      text = b.text ++ on.bytes;
-      older = b.older;
-      is = λ h. ap (λ l. l ++ on.bytes) (b.is h) ∙ ap (λ l. take old.at stored ++ l) (on.is h) ∙ sym (take_sum old.at (new.at - old.at) stored) ∙ ap (λ n. take n stored) place;
-      read = on.leads b.text b.older b.read;
     }
 
 -- all of a store's text was read
@@ -131,20 +95,6 @@ few_of_all honest stored count k (Err e) few f = tt
 pub again_fault : (honest : Type 0) (text : List ℕ) (count : ℕ) (e : SessionFault) → (e ≡ NoMemory) ⊎ (e ≡ DeviceFailed) → AgainFault honest text count e
 again_fault honest text count e (inl is) = subst (AgainFault honest text count) (sym is) tt
 again_fault honest text count e (inr is) = subst (AgainFault honest text count) (sym is) tt
-
--- with the lines of a window no line up to the place behind them is as long as it was before, or as the windows are
-pub short_on : {A : Type 0} → (honest : Type 0) (stored : List ℕ) (f : Front) (len size from : ℕ) (old new : LinesRead A) → IsReadBehind honest stored f old → IsReadOn honest stored f len old new
-    → new.at ≤ old.at + size → KeepsShort honest stored size from old.at → KeepsShort honest stored size from new.at
-short_on honest stored f len size from old new b on fits keeps longest le first h =
-    let a : List ℕ = take old.at stored in
-    let place : old.at + (new.at - old.at) ≡ new.at = omega (arith, on.some) in
-    let is : a ++ on.bytes ≡ take new.at stored = ap (λ l. a ++ l) (on.is h) ∙ sym (take_sum old.at (new.at - old.at) stored) ∙ ap (λ n. take n stored) place in
-    let all : take old.at b.text ≡ a = take_all old.at b.text (omega (arith, b.read.long)) ∙ b.is h in
-    let whole : (split a).rest ≡ [] = ap (λ t. (split t).rest) (sym all) ∙ b.read.read.mark.whole in
-    let few : length on.bytes ≤ longest = omega (arith, ap length (on.is h), length-take (new.at - old.at) (drop old.at stored), fits, le) in
-    subst (λ t. AllShorter longest (split t).lines) is
-    (subst (AllShorter longest) (sym (ap (λ s. s.lines) (split-append a on.bytes whole)))
-    (shorter_append longest (split a).lines (split on.bytes).lines (keeps longest le first h) (window_shorter on.bytes longest few)))
 
 -- what was read up to the end is all of the text
 pub short_all : (honest : Type 0) (stored : List ℕ) (size from to len longest : ℕ) → KeepsShort honest stored size from to → size ≤ longest → HasShortLines honest (take from stored) longest

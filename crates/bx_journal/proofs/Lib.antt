@@ -55,6 +55,7 @@ pub mod OpenedLemmas
 pub mod LeftLemmas
 pub mod WindowLemmas
 pub mod WalkLemmas
+pub mod ScanLemmas
 pub mod ZeroLemmas
 pub mod ShownTail
 pub mod ListLemmas

@@ -1,5 +1,5 @@
--- The rows of a text that is read in windows: a line more, and a window more.
-use Rattle.std.proofs.Common.{◌≡◌, ℕ, zero, suc, ◌+◌, ◌*◌, ◌≤◌, List, [], ◌∷◌, ◌++◌, take, drop, refl, ap, sym, ◌∙◌, subst, inl, inr, append_assoc, append-nil, arith, Result, Ok, Some}
+-- The rows of a text that is read in windows: a line more.
+use Rattle.std.proofs.Common.{◌≡◌, ℕ, zero, suc, ◌+◌, ◌*◌, ◌≤◌, List, [], ◌∷◌, ◌++◌, length, take, drop, refl, ap, sym, ◌∙◌, subst, inl, inr, append_assoc, append-nil, arith, Result, Ok, Some}
 use Rattle.std.specs.Prelude.{Vec}
 use Rattle.std.proofs.lemmas.Result.{IfOk-weaker}
 use Rattle.bx_entries.specs.declared.format.version.Version.{Version}
@@ -15,13 +15,16 @@ use Rattle.bx_entries.proofs.FullLemmas.{full_first, full_sums}
 use Rattle.bx_entries.proofs.Inverse.{next_between, next_saving, next_ending}
 use Rattle.bx_entries.proofs.Runs.{after_lines-append}
 use Rattle.bx_entries.proofs.Splits.{split-append, split-ended}
-use Rattle.bx_entries.proofs.TallyLemmas.{IsFirstLine, last, line_taken, take_sum}
+use Rattle.bx_entries.proofs.TallyLemmas.{HasForm, IsFirstLine, has_form, last, line_taken, take_sum}
 use Rattle.bx_journal.specs.Calls.{rows_of}
 use Rattle.bx_journal.specs.declared.answers.LogRow.{LogRow}
 use Rattle.bx_journal.specs.declared.fault.SessionFault.{SessionFault}
-use Rattle.bx_journal.specs.declared.session.log.windows.Listed.{Listed}
+use Rattle.bx_journal.specs.declared.read.windows.Reached.{Reached}
+use Rattle.bx_journal.specs.declared.session.log.windows.RowScan.{RowScan}
 use Rattle.bx_journal.specs.inner.Devices.{LooksAt}
-use Rattle.bx_journal.specs.inner.Rows.{AreListedTo, AreRowsOf, FindsRows, IsListed, IsListedAt, ended_row}
+use Rattle.bx_journal.specs.inner.Rows.{AreRowsOf, FindsRows, IsListed, ended_row}
+use Rattle.bx_journal.specs.inner.Windows.{IsReached}
+use Rattle.bx_journal.proofs.ScanLemmas.{reached_all}
 use Rattle.bx_journal.proofs.WindowLemmas.{again_behind, looks_before}
 
 -- a line adds a row where it ends an entry
@@ -124,25 +127,20 @@ listed_full front window rest s u rows taken count left so more h =
 pub listed_same : (front window : List ℕ) (s : Summed) (rows : List LogRow) → IsListed front s rows → IsListed (front ++ take 0 window) s rows
 listed_same front window s rows h = subst (λ l. IsListed l s rows) (sym (append-nil front)) h
 
--- a window of a store that is the same as before
-pub listed_from : (honest now : Type 0) (stored text : List ℕ) (at len : ℕ) (from : Summed) (old new : List LogRow) (l : Listed) → (honest → now) → (honest → text ≡ stored) → IsListedAt now text at len from old new l
-    → IsListedAt honest stored at len from old new l
-listed_from honest now stored text at len from old new l still same listed = record {
-  bytes = listed.bytes;
-  is = λ h. listed.is (still h) ∙ ap (λ t. take l.taken (drop at t)) (same h);
-  leads = listed.leads;
-  some = listed.some;
-  within = listed.within;
-}
-
--- a window more
-pub listed_to : (honest : Type 0) (stored : List ℕ) (at len : ℕ) (from : Summed) (old new : List LogRow) (l : Listed) → AreListedTo honest stored at from old → IsListedAt honest stored at len from old new l
-    → AreListedTo honest stored (at + l.taken) l.sums new
-listed_to honest stored at len from old new l to listed = record {
-  front = to.front ++ listed.bytes;
-  is = λ h. ap (λ t. t ++ listed.bytes) (to.is h) ∙ ap (λ t. take at stored ++ t) (listed.is h) ∙ sym (take_sum at l.taken stored);
-  listed = listed.leads to.front to.listed;
-}
+-- the rows of a text that stands between two entries at its end
+pub listed_all : {A : Type 0} → (H now : Type 0) (stored text : List ℕ) (size len count : ℕ) (r : Reached (RowScan A)) → (H → now) → (H → text ≡ stored) → (H → len ≡ length stored) → r.at ≡ len
+    → IsReached now text (λ s t. IsListed t s.sums s.rows.items) size 0 len r → r.scan.sums.tally.place ≡ BetweenPlace → r.scan.sums.tally.count ≡ count → AreRowsOf H stored r.scan.rows.items count
+listed_all H now stored text size len count r still same long all reached place many =
+    let h = reached.led.leads in
+    let between : h.reading.stage ≡ Between = subst (HasForm h.reading.stage) place (has_form h.reading.stage r.scan.sums.tally.place (ap (λ (s : Summed). s.tally.place) h.is)) in
+    record {
+      text = reached.led.text;
+      is = reached_all H now stored text (λ s t. IsListed t s.sums s.rows.items) len r.at r.scan still same long all reached.led;
+      entries = h.reading.entries;
+      finished = record { reads = record { lines = h.reads ∙ ap (λ s. Some (record { entries = h.reading.entries; stage = s })) between; rest = inl h.whole }; whole = h.whole };
+      counted = ap (λ (s : Summed). s.tally.count) h.is ∙ many;
+      rows_are = h.rows_are;
+    }
 
 -- the rows of a text behind a call that only looked at it
 pub rows_behind : {T A V : Type 0} {honest : T → Type 0} {text : T → List ℕ} {failures : T → ℕ} {count : ℕ} {v : V} {old now new : T} → LooksAt honest text failures (Ok v) old now → (r : Result (Vec LogRow A) SessionFault)

@@ -1,5 +1,5 @@
--- The marks of a text that is read in windows: a window more.
-use Rattle.std.proofs.Common.{◌≡◌, ℕ, ◌+◌, ◌≤◌, List, [], ◌∷◌, ◌++◌, length, length-append, map, take, drop, refl, ap, sym, ◌∙◌, subst, inl, arith, append-nil, Some, Result, Ok}
+-- The marks of a text that is read in windows.
+use Rattle.std.proofs.Common.{◌≡◌, ℕ, ◌≤◌, List, [], ◌++◌, length, map, take, ap, sym, ◌∙◌, subst, inl, arith, append-nil, Some, Result, Ok}
 use Rattle.std.specs.Prelude.{Vec}
 use Rattle.std.proofs.lemmas.List.{take_all}
 use Rattle.std.proofs.lemmas.Result.{IfErr-weaker, IfOk-weaker}
@@ -11,48 +11,29 @@ use Rattle.bx_journal.specs.inner.Recovery.{FindFault}
 use Rattle.bx_journal.proofs.WindowLemmas.{looks_before}
 use Rattle.bx_entries.specs.declared.read.count.Place.TheVariants.{Between as BetweenPlace}
 use Rattle.bx_entries.specs.declared.read.marks.Mark.{Mark}
-use Rattle.bx_entries.specs.declared.read.marks.Marking.{Marking}
-use Rattle.bx_entries.specs.declared.read.marks.MarkedLines.{MarkedLines}
 use Rattle.bx_entries.specs.declared.read.rows.Summed.{Summed}
 use Rattle.bx_entries.specs.Spelled.{EntryLines, IsSpelled, entry_in, lines_of}
 use Rattle.bx_entries.specs.Text.{Between, IsDamagedAt, Reading, Stage, split, start, after_lines}
 use Rattle.bx_entries.specs.inner.Marks.{GoOnWith, IsMarked, marks_of}
-use Rattle.bx_entries.proofs.TallyLemmas.{HasForm, has_form, take_sum}
-use Rattle.bx_journal.specs.inner.Showing.{AreAllMarks, AreMarksOf, FindsMarks, IsMarkedAt, IsMarkedUpTo}
-
--- a window of a store that is the same as before
-pub marked_from : (honest now : Type 0) (stored text : List ℕ) (at len : ℕ) (from : Marking) (old new : List Mark) (l : MarkedLines) → (honest → now) → (honest → text ≡ stored) → IsMarkedAt now text at len from old new l
-    → IsMarkedAt honest stored at len from old new l
-marked_from honest now stored text at len from old new l still same marked = record {
-  bytes = marked.bytes;
-  is = λ h. marked.is (still h) ∙ ap (λ t. take l.taken (drop at t)) (same h);
-  long = marked.long;
-  leads = marked.leads;
-  some = marked.some;
-  within = marked.within;
-}
-
--- a window more
-pub marked_to : (honest : Type 0) (stored : List ℕ) (at len : ℕ) (from : Marking) (old new : List Mark) (l : MarkedLines) → IsMarkedUpTo honest stored at from old → IsMarkedAt honest stored at len from old new l
-    → IsMarkedUpTo honest stored (at + l.taken) l.marking new
-marked_to honest stored at len from old new l to marked = record {
-  front = to.front ++ marked.bytes;
-  is = λ h. ap (λ t. t ++ marked.bytes) (to.is h) ∙ ap (λ t. take at stored ++ t) (marked.is h) ∙ sym (take_sum at l.taken stored);
-  long = omega (arith, length-append to.front marked.bytes, to.long, marked.long);
-  marked = marked.leads to.front to.long to.marked;
-}
+use Rattle.bx_entries.proofs.TallyLemmas.{HasForm, has_form}
+use Rattle.bx_journal.specs.declared.look.marks.MarkScan.{MarkScan}
+use Rattle.bx_journal.specs.declared.read.windows.Reached.{Reached}
+use Rattle.bx_journal.specs.inner.Showing.{AreAllMarks, AreMarksOf, FindsMarks}
+use Rattle.bx_journal.specs.inner.Windows.{IsReached}
 
 -- a text that stands between two entries is finished entries alone
-pub marked_all : (honest : Type 0) (stored : List ℕ) (len : ℕ) (m : Marking) (marks : List Mark) → IsMarkedUpTo honest stored len m marks → m.sums.tally.place ≡ BetweenPlace → AreMarksOf honest stored len marks
-marked_all honest stored len m marks to place =
-    let h = to.marked in
+pub marked_all : {A : Type 0} → (honest : Type 0) (stored : List ℕ) (size len : ℕ) (r : Reached (MarkScan A)) → IsReached honest stored (λ s text. IsMarked text s.marking s.marks.items) size 0 len r → r.at ≡ len
+    → r.scan.marking.sums.tally.place ≡ BetweenPlace → AreMarksOf honest stored len r.scan.marks.items
+marked_all honest stored size len r reached all place =
+    let h = reached.led.leads in
+    let m = r.scan.marking in
     let between : h.reading.stage ≡ Between = subst (HasForm h.reading.stage) place (has_form h.reading.stage m.sums.tally.place (ap (λ (s : Summed). s.tally.place) h.is)) in
     let none : h.behind ≡ [] = subst (λ s. GoOnWith h.entries s h.behind m.from m.to) between h.goes_on in
-    let lines : after_lines start (split to.front).lines ≡ Some (record { entries = map entry_in h.entries; stage = Between }) =
+    let lines : after_lines start (split reached.led.text).lines ≡ Some (record { entries = map entry_in h.entries; stage = Between }) =
     h.reads ∙ ap (λ s. Some (record { entries = h.reading.entries; stage = s })) between ∙ ap (λ es. Some (record { entries = es; stage = Between })) (sym h.are) in
     record {
-      front = to.front;
-      is = to.is;
+      front = reached.led.text;
+      is = λ h. reached.led.is h ∙ ap (λ n. take n stored) all;
       entries = h.entries;
       spelled = record {
         finished = record { reads = record { lines = lines; rest = inl h.whole }; whole = h.whole };

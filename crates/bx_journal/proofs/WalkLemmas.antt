@@ -9,7 +9,7 @@ use Rattle.bx_entries.specs.declared.read.window.Passed.{Passed}
 use Rattle.bx_entries.specs.declared.format.version.Version.{Version}
 use Rattle.bx_entries.specs.declared.read.count.Place.TheVariants.{Between as BetweenPlace, Saving as SavingPlace, Ending as EndingPlace}
 use Rattle.bx_entries.specs.Parsed.{told_by}
-use Rattle.bx_entries.specs.inner.Tally.{IsTallied, place_of, tally_of}
+use Rattle.bx_entries.specs.inner.Tally.{IsPassed, IsTallied, place_of, tally_of}
 use Rattle.bx_entries.proofs.Runs.{after_lines-append}
 use Rattle.bx_entries.proofs.Splits.{split-append, split-plain}
 use Rattle.bx_entries.proofs.Foreign.{joined_lines, no_way_back}
@@ -21,7 +21,7 @@ use Rattle.bx_journal.specs.declared.read.count.Walk.{Walk}
 use Rattle.bx_journal.specs.inner.Recovery.{HasMark, HasTorn}
 use Rattle.std.proofs.lemmas.List.{take-append-drop}
 use Rattle.bx_journal.specs.inner.Restoring.{AllShorter, StandsAt}
-use Rattle.bx_journal.specs.inner.Windows.{IsFrontCounted, IsPassed, IsWalkedTo}
+use Rattle.bx_journal.specs.inner.Windows.{IsFrontCounted, IsWalkedTo}
 use Rattle.bx_entries.proofs.TallyLemmas.{has_form, take_sum}
 use Rattle.bx_journal.proofs.RestoreLemmas.{lines_more, same_reading}
 use Rattle.bx_journal.proofs.StandLemmas.{joined_shorter, saving_of}
@@ -57,36 +57,6 @@ pub window_shorter : (bytes : List ℕ) (most : ℕ) → length bytes ≤ most �
 window_shorter bytes most le =
     joined_shorter most (split bytes).lines (omega (arith, le, ap length (joined_rest bytes), length-append (joined (split bytes).lines) (split bytes).rest))
 
--- nothing was walked
-pub walked_none : (honest : Type 0) (stored : List ℕ) (only : Bool) (size len : ℕ) (t : Tally) → IsTallied only [] t 0 → t.count ≡ 0
-    → IsWalkedTo honest stored only size len (record { tally = t; at = 0; lines = 0 })
-unfolding split
-walked_none honest stored only size len t none zero_ = record {
-  counted = record { front = []; is = λ h. refl; long = refl; tallied = none };
-  below = omega arith;
-  lines = omega arith;
-  few = omega (arith, zero_);
-  short = tt;
-}
-
--- a window more
-pub walked_on : (honest : Type 0) (stored : List ℕ) (only : Bool) (size len at lines : ℕ) (t : Tally) (p : Passed) → IsWalkedTo honest stored only size len (record { tally = t; at = at; lines = lines })
-    → IsPassed honest stored only at len t p → p.taken ≤ size → IsWalkedTo honest stored only size len (record { tally = p.tally; at = at + p.taken; lines = lines + p.lines })
-walked_on honest stored only size len at lines t p to passed fits =
-    record {
-      counted = record {
-        front = to.counted.front ++ passed.bytes;
-        long = omega (arith, length-append to.counted.front passed.bytes, to.counted.long, passed.long);
-        is = λ h. ap (λ l. l ++ passed.bytes) (to.counted.is h) ∙ ap (λ l. take at stored ++ l) (passed.is h) ∙ sym (take_sum at p.taken stored);
-        tallied = passed.leads to.counted.front lines to.counted.tallied;
-      };
-      below = passed.within;
-      lines = omega (arith, to.lines, passed.lines);
-      few = passed.few to.few;
-      short = subst (AllShorter size) (sym (ap (λ s. s.lines) (split-append to.counted.front passed.bytes to.counted.tallied.whole)))
-          (shorter_append size (split to.counted.front).lines (split passed.bytes).lines to.short (window_shorter passed.bytes size (omega (arith, passed.long, fits))));
-    }
-
 -- the lines between two places
 pub lines_between : (text : List ℕ) (p q : Reading) (n m : ℕ) → IsMark text n p → IsMark text m q → n ≤ m → after_lines p (split (take (m - n) (drop n text))).lines ≡ Some q
 lines_between text p q n m first next le =
@@ -101,9 +71,10 @@ saving_form : (stage : Stage) (w : Version) (len : ℕ) → place_of stage ≡ S
 saving_form stage w len is = has_form stage (SavingPlace w len) is
 
 -- the first line of an entry records the length of its record
-pub len_of : (text : List ℕ) (from at : ℕ) (r : Reading) (v w : Version) (s : Kept) (len : ℕ) (t : Tally) (p : Passed) → IsMark text from (record { entries = r.entries; stage = Between }) → IsMark text at r
-    → tally_of r ≡ t → r.stage ≡ Ending v s → IsPassed (Unit {0}) text false from at (record { count = t.count; told = t.told; place = BetweenPlace }) p → p.tally.place ≡ SavingPlace w len → len ≡ s.len
-len_of text from at r v w s len t p first last is stage passed place =
+pub len_of : (text window : List ℕ) (from at : ℕ) (r : Reading) (v w : Version) (s : Kept) (len : ℕ) (t : Tally) (p : Passed) → IsMark text from (record { entries = r.entries; stage = Between }) → IsMark text at r
+    → tally_of r ≡ t → r.stage ≡ Ending v s → take p.taken window ≡ take p.taken (drop from text) → from + p.taken ≤ at
+    → ((front : List ℕ) (n : ℕ) → IsTallied false front (record { count = t.count; told = t.told; place = BetweenPlace }) n → IsPassed false front n window p) → p.tally.place ≡ SavingPlace w len → len ≡ s.len
+len_of text window from at r v w s len t p first last is stage bytes within leads place =
     let front : List ℕ = take from text in
     let count : length r.entries ≡ t.count = ap (λ (u : Tally). u.count) is in
     let told : told_by r.entries ≡ t.told = ap (λ (u : Tally). u.told) is in
@@ -115,16 +86,16 @@ len_of text from at r v w s len t p first last is stage passed place =
       is = ap (λ n. record { count = n; told = told_by r.entries; place = BetweenPlace }) count ∙ ap (λ m. record { count = t.count; told = m; place = BetweenPlace }) told;
       tell = λ only. absurd (let f : false ≡ true = only in cc);
     } in
-    let next = passed.leads front (length (split front).lines) here in
+    let next = leads front (length (split front).lines) here in
     let q : Reading = next.reading in
-    let text_is : front ++ passed.bytes ≡ take (from + p.taken) text = ap (λ u. front ++ u) (passed.is tt) ∙ sym (take_sum from p.taken text) in
+    let text_is : front ++ take p.taken window ≡ take (from + p.taken) text = ap (λ u. front ++ u) bytes ∙ sym (take_sum from p.taken text) in
     let mark : IsMark text (from + p.taken) q = record {
-      within = omega (arith, passed.within, last.within);
+      within = omega (arith, within, last.within);
       lines = subst (λ u. after_lines start (split u).lines ≡ Some q) text_is next.reads;
       whole = subst (λ u. (split u).rest ≡ []) text_is next.whole;
     } in
     let up = lines_between text (record { entries = r.entries; stage = Between }) q from (from + p.taken) first mark (omega arith) in
-    let on = lines_between text q r (from + p.taken) at mark last passed.within in
+    let on = lines_between text q r (from + p.taken) at mark last within in
     let least = lines_more _ (record { entries = r.entries; stage = Between }) q up in
     let most = lines_more _ q r on in
     let same : q.entries ≡ r.entries = entries_same _ q r on (omega (arith, least, most)) in
@@ -134,9 +105,6 @@ len_of text from at r v w s len t p first last is stage passed place =
     (subst (λ st. after_lines (record { entries = r.entries; stage = st }) (split (take (at - (from + p.taken)) (drop (from + p.taken) text))).lines ≡ Some r) k.1
     (subst (λ es. after_lines (record { entries = es; stage = q.stage }) (split (take (at - (from + p.taken)) (drop (from + p.taken) text))).lines ≡ Some r) same on)) in
     sym k.2 ∙ (saving_of r.entries w v k.0 s _ led).len
-
-pub passed_surely : (H : Type 0) (text : List ℕ) (only : Bool) (at len : ℕ) (t : Tally) (p : Passed) → H → IsPassed H text only at len t p → IsPassed (Unit {0}) text only at len t p
-passed_surely H text only at len t p h passed = record { bytes = passed.bytes; is = λ u. passed.is h; long = passed.long; leads = passed.leads; within = passed.within; lines = passed.lines; few = passed.few }
 
 whole_between : (text : List ℕ) (p q : Reading) (n m : ℕ) → IsMark text n p → IsMark text m q → n ≤ m → (split (take (m - n) (drop n text))).rest ≡ []
 whole_between text p q n m first next le =
@@ -170,9 +138,9 @@ pub torn_found : (text : List ℕ) (size len : ℕ) (w : Walk) (f : Front) (mark
     → ((r : Reading) → IsMark text f.at (record { entries = r.entries; stage = Between }) → IsMark text w.at r → tally_of r ≡ w.tally → AllShorter size (split (take w.at text)).lines → HasMark text r.stage mark)
     → HasTorn text (record { count = f.count; told = f.told; begins = f.at; mark = mark })
 torn_found text size len w f mark walked front long count le rest find =
-    let t = walked.counted.tallied in
+    let t = walked.led.leads in
     let r : Reading = t.reading in
-    let is : walked.counted.front ≡ take w.at text = walked.counted.is tt in
+    let is : walked.led.text ≡ take w.at text = walked.led.is tt in
     let last : IsMark text w.at r = record {
       within = omega (arith, walked.below, long);
       lines = subst (λ u. after_lines start (split u).lines ≡ Some r) is t.reads;
@@ -204,7 +172,7 @@ torn_found text size len w f mark walked front long count le rest find =
         count = c.counted ∙ ap length same;
         told = c.told_is ∙ ap told_by same;
         few = front.few;
-        mark = find r first last t.is (subst (λ u. AllShorter size (split u).lines) is walked.short);
+        mark = find r first last t.is (walked.short tt);
       };
     }
 
@@ -224,24 +192,18 @@ mark_ending text r t w m is place stands =
     let form : (s : Kept) × (r.stage ≡ Ending w s) = has_form r.stage (EndingPlace w) (ap (λ (u : Tally). u.place) is ∙ place) in
     subst (λ stage. HasMark text stage (Some m)) (sym form.1) (stands form.0 form.1)
 
-pub walked_surely : (H : Type 0) (text : List ℕ) (only : Bool) (size len : ℕ) (w : Walk) → H → IsWalkedTo H text only size len w → IsWalkedTo (Unit {0}) text only size len w
-walked_surely H text only size len w h walked = record {
-  counted = record { front = walked.counted.front; is = λ u. walked.counted.is h; long = walked.counted.long; tallied = walked.counted.tallied };
-  below = walked.below;
-  lines = walked.lines;
-  few = walked.few;
-  short = walked.short;
-}
-
-pub front_surely : (H : Type 0) (stored text : List ℕ) (only : Bool) (f : Front) → H → stored ≡ text → IsFrontCounted H stored only f → IsFrontCounted (Unit {0}) text only f
-front_surely H stored text only f h same c = record { front = c.front; is = λ u. c.is h ∙ ap (take f.at) same; long = c.long; counted = c.counted; lines = c.lines; few = c.few }
-
 -- what was walked along of a store is so of it later
 pub walked_after : (H now : Type 0) (stored text : List ℕ) (only : Bool) (size more len : ℕ) (w : Walk) → (now → H) → (H → text ≡ stored) → more ≡ size → IsWalkedTo H stored only size len w → IsWalkedTo now text only more len w
 walked_after H now stored text only size more len w back same long walked = record {
-  counted = record { front = walked.counted.front; is = λ n. walked.counted.is (back n) ∙ ap (take w.at) (sym (same (back n))); long = walked.counted.long; tallied = walked.counted.tallied };
+  led = record { text = walked.led.text; is = λ n. walked.led.is (back n) ∙ ap (take w.at) (sym (same (back n))); long = walked.led.long; leads = walked.led.leads };
   below = walked.below;
   lines = walked.lines;
   few = walked.few;
-  short = subst (λ k. AllShorter k (split walked.counted.front).lines) (sym long) walked.short;
+  short = λ n. subst (λ k. AllShorter k (split (take w.at text)).lines) (sym long) (subst (λ t. AllShorter size (split (take w.at t)).lines) (sym (same (back n))) (walked.short (back n)));
 }
+
+pub walked_surely : (H : Type 0) (text : List ℕ) (only : Bool) (size len : ℕ) (w : Walk) → H → IsWalkedTo H text only size len w → IsWalkedTo (Unit {0}) text only size len w
+walked_surely H text only size len w h walked = walked_after H (Unit {0}) text text only size size len w (λ u. h) (λ h. refl) refl walked
+
+pub front_surely : (H : Type 0) (stored text : List ℕ) (only : Bool) (f : Front) → H → stored ≡ text → IsFrontCounted H stored only f → IsFrontCounted (Unit {0}) text only f
+front_surely H stored text only f h same c = record { front = c.front; is = λ u. c.is h ∙ ap (take f.at) same; long = c.long; counted = c.counted; lines = c.lines; few = c.few }

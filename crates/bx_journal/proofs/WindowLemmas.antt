@@ -1,15 +1,12 @@
--- Counting in windows: a window more.
+-- Counting in windows.
 use Rattle.std.proofs.Common.{◌≡◌, ℕ, ◌+◌, ◌-◌, ◌≤◌, Bool, List, ◌++◌, length, take, drop, ap, sym, ◌∙◌, subst, arith, length-append, length-take, Option, None, Some, Result, Ok}
 use Rattle.bx_entries.specs.Shown.{shown}
-use Rattle.bx_entries.proofs.TallyLemmas.{take_less, take_sum}
+use Rattle.bx_entries.proofs.TallyLemmas.{take_less}
 use Rattle.std.specs.Prelude.{IfErr, IfSome, OnOk}
-use Rattle.bx_entries.specs.inner.Tally.{IsTallied, IsPassed as IsPassedIn}
 use Rattle.std.proofs.lemmas.List.{take_all}
 use Rattle.std.proofs.lemmas.Result.{IfErr-weaker, IfOk-weaker}
 use Rattle.bx_entries.specs.Text.{IsDamagedAt}
-use Rattle.bx_entries.specs.declared.read.count.Tally.{Tally}
 use Rattle.bx_entries.specs.declared.read.types.Front.{Front}
-use Rattle.bx_entries.specs.declared.read.window.Passed.{Passed}
 use Rattle.bx_journal.specs.declared.read.journal.Found.{Found}
 use Rattle.bx_journal.specs.declared.read.journal.Found.TheVariants.{Finished, Unfinished}
 use Rattle.bx_journal.specs.declared.fault.SessionFault.{SessionFault}
@@ -17,51 +14,13 @@ use Rattle.bx_journal.specs.declared.fault.SessionFault.TheVariants.{NoMemory, T
 use Rattle.bx_journal.specs.Undoing.{AgainFault, IsOutOfStep}
 use Rattle.bx_journal.specs.inner.Devices.{FaultCounts, LooksAt}
 use Rattle.bx_journal.specs.inner.Recovery.{FindFault, FindsText, IsFoundIn, IsTornIn}
-use Rattle.bx_journal.specs.inner.Windows.{IsPassed, IsCountedTo, IsFrontCounted, IsAllCounted}
+use Rattle.bx_journal.specs.inner.Windows.{IsFrontCounted, IsAllCounted}
 
 -- a front of a window that was filled
 pub front_of : (n m : ℕ) (window from : List ℕ) → n ≤ length window → window ≡ take m from → take n window ≡ take n from
 front_of n m window from less is =
     let more : n + (m - n) ≡ m = omega (arith, less, ap length is, length-take m from) in
     ap (take n) is ∙ ap (λ k. take n (take k from)) (sym more) ∙ take_less n (m - n) from
-
--- what is counted of a window that was read
-pub passed_some : (honest : Type 0) (stored : List ℕ) (only : Bool) (at len size : ℕ) (t : Tally) (window : List ℕ) (found : Option Passed) → (honest → window ≡ take size (drop at stored))
-    → IfSome found (λ p. p.taken ≤ length window) → ((front : List ℕ) (n : ℕ) → IsTallied only front t n → IfSome found (IsPassedIn only front n window))
-    → IfSome found (λ p. p.lines ≤ p.taken) → (t.count ≤ 65535 → IfSome found (λ p. p.tally.count ≤ 65535)) → at + length window ≤ len → IfSome found (IsPassed honest stored only at len t)
-passed_some honest stored only at len size t window None is within leads lines few le = tt
-passed_some honest stored only at len size t window (Some p) is within leads lines few le = record {
-  bytes = take p.taken window;
-  is = λ h. front_of p.taken size window (drop at stored) within (is h);
-  long = omega (arith, length-take p.taken window, within);
-  leads = leads;
-  within = omega (arith, within, le);
-  lines = lines;
-  few = few;
-}
-
--- a window of a store that is the same as before
-pub passed_from : (honest now : Type 0) (stored text : List ℕ) (only : Bool) (at len : ℕ) (t : Tally) (p : Passed) → (honest → now) → (honest → text ≡ stored) → IsPassed now text only at len t p
-    → IsPassed honest stored only at len t p
-passed_from honest now stored text only at len t p still same passed = record {
-  bytes = passed.bytes;
-  is = λ h. passed.is (still h) ∙ ap (λ l. take p.taken (drop at l)) (same h);
-  long = passed.long;
-  leads = passed.leads;
-  within = passed.within;
-  lines = passed.lines;
-  few = passed.few;
-}
-
--- a window more
-pub counted_on : (honest : Type 0) (stored : List ℕ) (only : Bool) (at len lines : ℕ) (t : Tally) (p : Passed) → IsCountedTo honest stored only at t lines → IsPassed honest stored only at len t p
-    → IsCountedTo honest stored only (at + p.taken) p.tally (lines + p.lines)
-counted_on honest stored only at len lines t p to passed = record {
-  front = to.front ++ passed.bytes;
-  long = omega (arith, length-append to.front passed.bytes, to.long, passed.long);
-  is = λ h. ap (λ l. l ++ passed.bytes) (to.is h) ∙ ap (λ l. take at stored ++ l) (passed.is h) ∙ sym (take_sum at p.taken stored);
-  tallied = passed.leads to.front lines to.tallied;
-}
 
 -- what was counted of a store is so of it later
 pub front_after : (H now : Type 0) (stored text : List ℕ) (only : Bool) (f : Front) → (now → H) → (H → text ≡ stored) → IsFrontCounted H stored only f → IsFrontCounted now text only f

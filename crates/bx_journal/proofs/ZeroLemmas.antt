@@ -140,11 +140,11 @@ has_front text n (Ending v s) None below h = absurd h
 -- a walk along the lines of a text, as one of its front
 pub walked_front : (text : List ℕ) (size n : ℕ) (w : Walk) → IsWalkedTo (Unit {0}) text false size n w → IsWalkedTo (Unit {0}) (take n text) false size n w
 walked_front text size n w walked = record {
-  counted = record { front = walked.counted.front; is = λ u. walked.counted.is u ∙ sym (take-take w.at n text walked.below); long = walked.counted.long; tallied = walked.counted.tallied };
+  led = record { text = walked.led.text; is = λ u. walked.led.is u ∙ sym (take-take w.at n text walked.below); long = walked.led.long; leads = walked.led.leads };
   below = walked.below;
   lines = walked.lines;
   few = walked.few;
-  short = walked.short;
+  short = λ u. subst (λ t. AllShorter size (split t).lines) (sym (take-take w.at n text walked.below)) (walked.short u);
 }
 
 pub counted_front : (text : List ℕ) (n : ℕ) (f : Front) → f.at ≤ n → IsFrontCounted (Unit {0}) text false f → IsFrontCounted (Unit {0}) (take n text) false f

@@ -6,3 +6,4 @@ pub(crate) mod mark;
 pub(crate) mod shown;
 pub(crate) mod torn;
 pub(crate) mod whole;
+pub(crate) mod windows;

@@ -1,5 +1,5 @@
 -- What proofs alone need: the rows of a log, from a text that is read in windows.
-use Rattle.std.specs.Prelude.{◌≡◌, ◌<◌, ◌≤◌, ◌+◌, ℕ, Some, List, [], ◌∷◌, ◌++◌, length, take, drop, Vec, Result, IfOk, IfErr}
+use Rattle.std.specs.Prelude.{◌≡◌, ◌≤◌, ℕ, Some, List, [], ◌∷◌, ◌++◌, length, take, Vec, Result, IfOk, IfErr}
 use Rattle.bx_entries.specs.declared.read.count.Place.{Place}
 use Rattle.bx_entries.specs.declared.read.count.Place.TheVariants.{Between as BetweenPlace, Saving as SavingPlace, Ending as EndingPlace}
 use Rattle.bx_entries.specs.declared.read.rows.Summed.{Summed}
@@ -31,26 +31,6 @@ pub record IsListed (text : List ℕ) (s : Summed) (rows : List LogRow) : Type 0
 pub record IsListedIn (window : List ℕ) (from : Summed) (old new : List LogRow) (l : Listed) : Type 0 where
   pub leads : (front : List ℕ) → IsListed front from old → IsListed (front ++ take l.taken window) l.sums new
   pub within : l.taken ≤ length window
-
--- whole lines at a place, before `len`, lead from sums and rows to others; they are the store's, where that is honest
-pub record IsListedAt (honest : Type 0) (stored : List ℕ) (at len : ℕ) (from : Summed) (old new : List LogRow) (l : Listed) : Type 0 where
-  pub bytes : List ℕ
-  pub is : honest → bytes ≡ take l.taken (drop at stored)
-  pub leads : (front : List ℕ) → IsListed front from old → IsListed (front ++ bytes) l.sums new
-  pub some : 0 < l.taken
-  pub within : at + l.taken ≤ len
-
--- the text up to a place leads to these sums and rows: the store's, where that is honest
-pub record AreListedTo (honest : Type 0) (stored : List ℕ) (at : ℕ) (s : Summed) (rows : List LogRow) : Type 0 where
-  pub front : List ℕ
-  pub is : honest → front ≡ take at stored
-  pub listed : IsListed front s rows
-
--- all of a text does: the store's, where that is honest
-pub record AreListed (honest : Type 0) (stored : List ℕ) (s : Summed) (rows : List LogRow) : Type 0 where
-  pub text : List ℕ
-  pub is : honest → stored ≡ text
-  pub listed : IsListed text s rows
 
 -- the rows of this many finished entries alone: the store's, where that is honest
 pub record AreRowsOf (honest : Type 0) (stored : List ℕ) (rows : List LogRow) (count : ℕ) : Type 0 where

@@ -2,13 +2,11 @@
 use Rattle.std.specs.Prelude.{◌≡◌, ◌↔◌, ◌<◌, ◌≤◌, ◌+◌, ◌-◌, ◌==◌, ℕ, suc, Vec, Option, Result, IfOk, IfErr, OnOk, List, [], ◌∷◌, ◌++◌, length, take, drop, if◌then◌else◌, codes, decimal}
 use Rattle.std.specs.Io.KnownBytes.{Appends}
 use Rattle.bx_entries.specs.declared.read.marks.Mark.{Mark}
-use Rattle.bx_entries.specs.declared.read.marks.Marking.{Marking}
-use Rattle.bx_entries.specs.declared.read.marks.MarkedLines.{MarkedLines}
 use Rattle.bx_entries.specs.Ranges.{ranges_text}
 use Rattle.bx_entries.specs.Shown.{shown}
 use Rattle.bx_entries.specs.Spelled.{EntryLines, IsSpelled, runs_behind}
 use Rattle.bx_entries.specs.Text.{split}
-use Rattle.bx_entries.specs.inner.Marks.{IsMarked, marks_of}
+use Rattle.bx_entries.specs.inner.Marks.{marks_of}
 use Rattle.bx_entries.specs.inner.Ranges.{AreRanged, RangesOn}
 use Rattle.bx_journal.specs.declared.fault.SessionFault.{SessionFault}
 use Rattle.bx_journal.specs.inner.Devices.{LooksAt}
@@ -18,22 +16,6 @@ use Rattle.bx_journal.specs.declared.look.ranges.Done.{Done}
 use Rattle.bx_journal.specs.declared.look.ShowFault.{ShowFault}
 use Rattle.bx_journal.specs.declared.look.ShowFault.TheVariants.{Text, Io}
 use Rattle.bx_journal.specs.Fault.{DeviceFault}
-
--- whole lines at a place, before `len`, lead from a marking and marks to others; they are the store's, where that is honest
-pub record IsMarkedAt (honest : Type 0) (stored : List ℕ) (at len : ℕ) (from : Marking) (old new : List Mark) (l : MarkedLines) : Type 0 where
-  pub bytes : List ℕ
-  pub is : honest → bytes ≡ take l.taken (drop at stored)
-  pub long : length bytes ≡ l.taken
-  pub leads : (front : List ℕ) → length front ≡ at → IsMarked front from old → IsMarked (front ++ bytes) l.marking new
-  pub some : 0 < l.taken
-  pub within : at + l.taken ≤ len
-
--- the text up to a place leads to this marking and these marks: the store's, where that is honest
-pub record IsMarkedUpTo (honest : Type 0) (stored : List ℕ) (at : ℕ) (m : Marking) (marks : List Mark) : Type 0 where
-  pub front : List ℕ
-  pub is : honest → front ≡ take at stored
-  pub long : length front ≡ at
-  pub marked : IsMarked front m marks
 
 -- the first bytes of a text are finished entries alone, with these marks: of the store's, where that is honest
 pub record AreMarksOf (honest : Type 0) (stored : List ℕ) (len : ℕ) (marks : List Mark) : Type 0 where

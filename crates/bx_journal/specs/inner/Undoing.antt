@@ -1,5 +1,7 @@
 -- What proofs alone need: what undoing starts from and leaves.
 use Rattle.std.specs.Prelude.{◌≡◌, ◌≤◌, ◌<◌, ◌+◌, ◌-◌, ◌^◌, ℕ, List, [], ◌++◌, length, take, drop, Option, Result, IfOk, IfErr, IfSome, OnOk}
+use Rattle.std.proofs.Common.{subst, sym}
+use Rattle.std.proofs.Math.Seq.{take-length}
 use Rattle.bx_image.specs.Power.{NoMore}
 use Rattle.bx_journal.specs.declared.fault.SessionFault.{SessionFault}
 use Rattle.bx_journal.specs.declared.fault.SessionFault.TheVariants.{RedoDamaged}
@@ -7,7 +9,7 @@ use Rattle.bx_journal.specs.Fault.{DeviceFault}
 use Rattle.bx_entries.specs.declared.read.types.EntryRead.{EntryRead}
 use Rattle.bx_entries.specs.declared.read.lines.LinesRead.{LinesRead}
 use Rattle.bx_entries.specs.declared.read.types.Front.{Front}
-use Rattle.bx_entries.specs.Text.{Between, Entry}
+use Rattle.bx_entries.specs.Text.{Between, Entry, split}
 use Rattle.bx_entries.specs.inner.Lines.{IsReadUpTo}
 use Rattle.bx_entries.specs.inner.Mark.{IsMark}
 use Rattle.bx_entries.specs.inner.Parsed.{AllKept, AreMarked, entries_of, entries_onto}
@@ -52,13 +54,9 @@ FindsLast read first len count found =
 abbrev pub HasRoomFor : {A V E : Type 0} → ℕ → List (EntryRead A) → ℕ → Result V E → Type 0
 HasRoomFor room es k result = (text : List ℕ) (count : ℕ) → IsReadLast text es count → OnOk result (AllKept room (drop (length es - k) es))
 
--- what was read of a text in windows leads on, behind the next whole lines before `len`: the store's, where that is honest
-pub record IsReadOn {A : Type 0} (honest : Type 0) (stored : List ℕ) (front : Front) (len : ℕ) (old new : LinesRead A) : Type 0 where
-  pub bytes : List ℕ
-  pub is : honest → bytes ≡ take (new.at - old.at) (drop old.at stored)
-  pub leads : (text : List ℕ) (older : List Entry) → IsReadUpTo text older front old → IsReadUpTo (text ++ bytes) older front new
-  pub some : old.at < new.at
-  pub within : new.at ≤ len
+-- what was read behind older entries is whole lines
+pub read_whole : {A : Type 0} → (text : List ℕ) (older : List Entry) (front : Front) (r : LinesRead A) → IsReadUpTo text older front r → (split text).rest ≡ []
+read_whole text older front r read = subst (λ t. (split t).rest ≡ []) (take-length text) (subst (λ n. (split (take n text)).rest ≡ []) (sym read.long) read.read.mark.whole)
 
 -- a text was read so far behind a front of it: the store's, where that is honest
 pub record IsReadBehind {A : Type 0} (honest : Type 0) (stored : List ℕ) (front : Front) (r : LinesRead A) : Type 0 where

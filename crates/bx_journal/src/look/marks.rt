@@ -1,75 +1,48 @@
-//! The marks of a text's entries, from a text that is read in windows: one window is in memory at a time.
-ghost use Rattle.std.specs.Prelude.{◌≡◌, ◌<◌, ◌≤◌, [], length, true, IfOk, IfErr, IfSome};
+//! The marks of a text's entries, from a text that is read in windows.
+ghost use Rattle.std.specs.Prelude.{◌≡◌, ◌<◌, ◌≤◌, length, true, IfOk, IfErr, IfSome};
+ghost use Rattle.bx_entries.specs.inner.Marks.{IsMarked};
 ghost use Rattle.bx_journal.specs.inner.Devices.{LooksAt};
 ghost use Rattle.bx_journal.specs.inner.Fault.{LacksOrFails};
-ghost use Rattle.bx_journal.specs.inner.Showing.{AreAllMarks, AreMarksOf, FindsMarks, IsMarkedAt, IsMarkedUpTo};
+ghost use Rattle.bx_journal.specs.inner.Showing.{AreAllMarks, AreMarksOf, FindsMarks};
 
 use crate::SessionFault;
 use crate::read::journal::read_text;
-use bx_entries::{Mark, MarkedLines, Marking, Place, mark_lines, nothing_marked};
+use crate::read::windows::{Scan, Taken, WINDOW, scan_windows};
+use bx_entries::{Mark, Marking, Place, mark_lines, nothing_marked};
 use bx_store::TextStore;
-use std::alloc::Allocator;
+use bx_text::NoMemory;
+use std::alloc::{Allocator, Global};
 
-/// This many bytes of a text are read at a time.
-pub const WINDOW: u64 = 262_144;
-
-/// Marks the whole lines of the window at a place, in a text of `len` bytes. It answers none where no line ends in it, or one
-/// isn't in place.
-fn mark_window<T: TextStore, A: Allocator>(
-    store: &mut T,
-    window: &mut [u8],
-    at: u64,
-    len: u64,
-    marks: &mut Vec<Mark, A>,
-    from: Marking,
-) -> Result<Option<MarkedLines>, SessionFault>
-    requires countable { T.failures store.old < u64.MAX }
-    requires within { T.honest store.old → len ≤ length (T.text store.old) }
-    requires below { at ≤ len }
-    ensures marked { IfOk result (λ found. IfSome found
-        (IsMarkedAt (T.honest store.old) (T.text store.old) at len from marks.old.items marks.new.items)) }
-    ensures fault { IfErr result LacksOrFails }
-    ensures looks { LooksAt T.honest T.text T.failures result store.old store.new }
-{
-    let more = (window.len() as u64).min(len - at) as usize;
-    let (now, _) = window.split_at_mut(more);
-    store.read_at(at, now)?;
-    let found = mark_lines(marks, from, at, now)?;
-    let Some(lines) = found else {
-        return Ok(None);
-    };
-    if lines.taken == 0 {
-        return Ok(None);
-    }
-    Ok(Some(lines))
+/// The marks of a text's lines so far, and where they lead.
+#[derive(Drop)]
+pub struct MarkScan<A: Allocator = Global> {
+    pub marks: Vec<Mark, A>,
+    pub marking: Marking,
 }
 
-/// Marks the first `len` bytes of a text, a window at a time. What is left of a window's last line is read again with the
-/// next one. It answers none where a line isn't in place, and where one is longer than the window.
-fn mark_windows<T: TextStore, A: Allocator>(
-    store: &mut T,
-    window: &mut [u8],
-    len: u64,
-    marks: &mut Vec<Mark, A>,
-) -> Result<Option<Marking>, SessionFault>
-    requires countable { T.failures store.old < u64.MAX }
-    requires long { T.honest store.old → len ≤ length (T.text store.old) }
-    requires empty { marks.old.items ≡ [] }
-    ensures marked { IfOk result (λ found. IfSome found (λ m. IsMarkedUpTo (T.honest store.old) (T.text store.old) len m marks.new.items)) }
-    ensures fault { IfErr result LacksOrFails }
-    ensures looks { LooksAt T.honest T.text T.failures result store.old store.new }
-{
-    let mut at: u64 = 0;
-    let mut marking = nothing_marked();
-    while at < len {
-        let found = mark_window(store, window, at, len, marks, marking)?;
-        let Some(lines) = found else {
+impl<A: Allocator> Scan for MarkScan<A> {
+    ghost Leads = { λ first now text. IsMarked text now.marking now.marks.items };
+
+    fn take_lines(
+        self,
+        at: u64,
+        _left: u64,
+        window: &mut [u8],
+    ) -> Result<Option<Taken<MarkScan<A>>>, NoMemory> {
+        let MarkScan { mut marks, marking } = self;
+        let Some(lines) = mark_lines(&mut marks, marking, at, window)? else {
             return Ok(None);
         };
-        at += lines.taken as u64;
-        marking = lines.marking;
+        Ok(Some(Taken {
+            scan: MarkScan {
+                marks,
+                marking: lines.marking,
+            },
+            taken: lines.taken,
+        }))
     }
-    Ok(Some(marking))
+
+    ghost whole = { λ first now text h. h.whole };
 }
 
 /// Whether a text stands between two entries.
@@ -98,15 +71,21 @@ pub fn marks_to<T: TextStore, A: Allocator + Clone>(
 {
     let size = WINDOW.min(len) as usize;
     let mut window = vec![in alloc.clone()?; 0u8; size]?;
-    let mut marks = Vec::new(alloc.clone()?);
-    let found = mark_windows(store, window.as_mut_slice(), len, &mut marks)?;
-    let Some(marking) = found else {
+    let scan = MarkScan {
+        marks: Vec::new(alloc.clone()?),
+        marking: nothing_marked(),
+    };
+    let found = scan_windows(store, window.as_mut_slice(), scan, 0, len)??;
+    let Some(end) = found else {
         return Ok(None);
     };
-    if !is_between(marking) {
+    if end.at < len {
         return Ok(None);
     }
-    Ok(Some(marks))
+    if !is_between(end.scan.marking) {
+        return Ok(None);
+    }
+    Ok(Some(end.scan.marks))
 }
 
 /// The marks of the entries of a text, in as much memory beside them for any length. It answers none where they can't be had

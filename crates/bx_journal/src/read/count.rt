@@ -1,21 +1,18 @@
-//! A text that is counted in windows: one window is in memory at a time, however long the text is.
+//! A text that is counted in windows.
 ghost use Rattle.std.specs.Prelude.{◌≡◌, ◌<◌, ◌≤◌, length, take, min, is_err, IfOk, IfErr, IfSome};
 ghost use Rattle.bx_image.specs.Device.{GoesOn};
 ghost use Rattle.bx_image.specs.Power.{NoMore};
 ghost use Rattle.bx_journal.specs.inner.Devices.{LooksAt};
 ghost use Rattle.bx_journal.specs.inner.Fault.{LacksOrFails};
-ghost use Rattle.bx_journal.specs.inner.Windows.{HasShortLines, IsAllCounted, IsFrontCounted, IsPassed, IsWalkedTo};
+ghost use Rattle.bx_journal.specs.inner.Windows.{HasShortLines, IsAllCounted, IsCountedBy, IsFrontCounted, IsWalkedTo};
 
 use crate::SessionFault;
-use bx_entries::{
-    Counted, Front, MOST_CHANGES, Passed, Tally, count_lines, counted_by, no_entries,
-};
+use crate::read::windows::{Scan, Taken, WINDOW, scan_windows};
+use bx_entries::{Counted, Front, MOST_CHANGES, Tally, count_lines, counted_by, no_entries};
 use bx_image::DeviceFailed;
 use bx_store::TextStore;
+use bx_text::NoMemory;
 use std::alloc::Allocator;
-
-/// This many bytes of a text are read at a time.
-pub const WINDOW: u64 = 262_144;
 
 /// More entries than a text can have.
 pub const ALL: u32 = MOST_CHANGES + 1;
@@ -35,31 +32,43 @@ pub struct Walk {
     pub lines: u64,
 }
 
-/// Counts the whole lines of the window at a place, in a text of `len` bytes: those up to the end of the entry whose
-/// number is the limit. It answers none where one isn't counted.
-pub fn pass_window<T: TextStore>(
-    store: &mut T,
-    window: &mut [u8],
-    at: u64,
-    len: u64,
-    tally: Tally,
-    only_second: bool,
-    limit: u32,
-) -> Result<Option<Passed>, DeviceFailed>
-    requires countable { T.failures store.old < u64.MAX }
-    requires within { T.honest store.old → len ≤ length (T.text store.old) }
-    requires below { at ≤ len }
-    ensures passed { IfOk result (λ found. IfSome found (IsPassed (T.honest store.old) (T.text store.old) only_second at len tally)) }
-    ensures size { IfOk result (λ found. IfSome found (λ p. p.taken ≤ length window.old)) }
-    ensures window { length window.new ≡ length window.old }
-    ensures text { T.honest store.old → T.text store.new ≡ T.text store.old }
-    ensures survives { T.honest store.old → NoMore (T.survives store.old) (T.survives store.new) }
-    ensures goes_on { GoesOn T.honest T.room T.failures (is_err result) store.old store.new }
-{
-    let more = (window.len() as u64).min(len - at) as usize;
-    let (now, _) = window.split_at_mut(more);
-    store.read_at(at, now)?;
-    Ok(count_lines(tally, now, only_second, limit))
+/// The lines of a text, counted up to the end of the entry whose number is the limit.
+#[derive(Clone, Copy)]
+pub struct CountScan {
+    pub tally: Tally,
+    pub lines: u64,
+    pub only_second: bool,
+    pub limit: u32,
+}
+
+impl Scan for CountScan {
+    ghost Leads = { IsCountedBy };
+
+    fn is_done(&self) -> bool {
+        self.tally.count >= self.limit
+    }
+
+    fn take_lines(
+        self,
+        _at: u64,
+        _left: u64,
+        window: &mut [u8],
+    ) -> Result<Option<Taken<CountScan>>, NoMemory> {
+        let Some(passed) = count_lines(self.tally, window, self.only_second, self.limit) else {
+            return Ok(None);
+        };
+        Ok(Some(Taken {
+            scan: CountScan {
+                tally: passed.tally,
+                lines: self.lines + passed.lines,
+                only_second: self.only_second,
+                limit: self.limit,
+            },
+            taken: passed.taken,
+        }))
+    }
+
+    ghost whole = { λ first now text h. h.tallied.whole };
 }
 
 /// Walks along the lines of a text's first `len` bytes, a window at a time: up to the end of the entry whose number is the limit, or as far as
@@ -80,22 +89,24 @@ pub fn walk_windows<T: TextStore>(
     ensures survives { T.honest store.old → NoMore (T.survives store.old) (T.survives store.new) }
     ensures goes_on { GoesOn T.honest T.room T.failures (is_err result) store.old store.new }
 {
-    let mut at: u64 = 0;
-    let mut lines: u64 = 0;
-    let mut tally = no_entries();
-    while at < len && tally.count < limit {
-        let found = pass_window(store, window, at, len, tally, only_second, limit)?;
-        let Some(passed) = found else {
-            return Ok(None);
-        };
-        if passed.taken == 0 {
-            return Ok(Some(Walk { tally, at, lines }));
-        }
-        at += passed.taken as u64;
-        lines += passed.lines;
-        tally = passed.tally;
-    }
-    Ok(Some(Walk { tally, at, lines }))
+    let scan = CountScan {
+        tally: no_entries(),
+        lines: 0,
+        only_second,
+        limit,
+    };
+    let scanned = scan_windows(store, window, scan, 0, len)?;
+    let Ok(found) = scanned else {
+        return Ok(None);
+    };
+    let Some(end) = found else {
+        return Ok(None);
+    };
+    Ok(Some(Walk {
+        tally: end.scan.tally,
+        at: end.at,
+        lines: end.scan.lines,
+    }))
 }
 
 /// Counts the first entries in a text's first `len` bytes, a window at a time: as many as the limit says, or all. It answers none where the

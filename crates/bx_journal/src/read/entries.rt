@@ -1,19 +1,23 @@
 //! The journal of an open session, read once more: all of it, or its last entries alone.
-ghost use Rattle.std.specs.Prelude.{◌≡◌, ◌+◌, ◌<◌, ◌≤◌, List, ℕ, false, length, take, min, IfOk, IfErr, IfSome, IfNone};
+ghost use Rattle.std.specs.Prelude.{◌≡◌, ◌<◌, ◌≤◌, List, ℕ, false, length, take, min, IfOk, IfErr, IfSome, IfNone};
 ghost use Rattle.bx_image.specs.Power.{NoMore};
+ghost use Rattle.bx_entries.specs.Text.{Entry};
 ghost use Rattle.bx_entries.specs.inner.Journal.{HasRead};
+ghost use Rattle.bx_entries.specs.inner.Lines.{IsReadUpTo};
 ghost use Rattle.bx_journal.specs.inner.Devices.{LooksAt};
 ghost use Rattle.bx_journal.specs.Undoing.{AgainFault, HasCount};
 ghost use Rattle.bx_journal.specs.inner.Fault.{LacksOrFails};
-ghost use Rattle.bx_journal.specs.inner.Undoing.{FindsLast, IsLastFrom, IsReadAgain, IsReadBehind, IsReadFrom, IsReadOn, LooksForLast};
+ghost use Rattle.bx_journal.specs.inner.Undoing.{FindsLast, IsLastFrom, IsReadAgain, IsReadBehind, IsReadFrom, LooksForLast, read_whole};
 ghost use Rattle.bx_journal.specs.inner.Windows.{HasShortLines, IsFrontCounted, KeepsShort};
 
 use crate::SessionFault;
 use crate::fault::of_text;
-use crate::read::count::{WINDOW, count_front};
+use crate::read::count::count_front;
 use crate::read::whole::read_journal;
+use crate::read::windows::{Scan, Taken, WINDOW, scan_windows};
 use bx_entries::{EntryRead, Front, JournalRead, LinesRead, StageRead, nothing_read, read_lines};
 use bx_store::TextStore;
+use bx_text::NoMemory;
 use std::alloc::{Allocator, Global};
 
 /// How many bytes a text of finished entries alone has, and those entries, or the last of them. No line of the text is longer than
@@ -84,39 +88,39 @@ pub fn read_again<T: TextStore, A: Allocator + Clone>(
     }
 }
 
-/// Reads the whole lines of the window at the place where reading stands, in a text of `len` bytes. It answers none where no
-/// line ends in it, or one is out of place.
-fn read_window<T: TextStore, A: Allocator + Clone>(
-    alloc: &A,
-    store: &mut T,
-    window: &mut [u8],
-    front: Front,
-    read: LinesRead<A>,
-    len: u64,
-) -> Result<Option<LinesRead<A>>, SessionFault>
-    requires countable { T.failures store.old < u64.MAX }
-    requires within { T.honest store.old → len ≤ length (T.text store.old) }
-    requires below { read.at ≤ len }
-    ensures read { IfOk result (λ found. IfSome found (IsReadOn (T.honest store.old) (T.text store.old) front len read)) }
-    ensures size { IfOk result (λ found. IfSome found (λ next. next.at ≤ read.at + length window.old)) }
-    ensures window { length window.new ≡ length window.old }
-    ensures fault { IfErr result LacksOrFails }
-    ensures looks { LooksAt T.honest T.text T.failures result store.old store.new }
-    ensures survives { T.honest store.old → NoMore (T.survives store.old) (T.survives store.new) }
-{
-    let at = read.at;
-    let more = (window.len() as u64).min(len - at) as usize;
-    let (now, _) = window.split_at_mut(more);
-    store.read_at(at, now)?;
-    let left = len - at - more as u64;
-    let found = read_lines(alloc, front, read, left, now)?;
-    let Some(next) = found else {
-        return Ok(None);
-    };
-    if next.at == at {
-        return Ok(None);
+/// What is read behind a front.
+#[derive(Drop)]
+pub struct EntryScan<'a, A: Allocator = Global> {
+    pub alloc: &'a A,
+    pub front: Front,
+    pub read: LinesRead<A>,
+}
+
+impl<'a, A: Allocator + Clone> Scan for EntryScan<'a, A> {
+    ghost Leads = { λ first now text. (older : List Entry) × IsReadUpTo text older first.front now.read × (now.front ≡ first.front) };
+
+    fn take_lines(
+        self,
+        at: u64,
+        left: u64,
+        window: &mut [u8],
+    ) -> Result<Option<Taken<EntryScan<'a, A>>>, NoMemory> {
+        let EntryScan { alloc, front, read } = self;
+        let Some(next) = read_lines(alloc, front, read, left, window)? else {
+            return Ok(None);
+        };
+        let taken = (next.at - at) as usize;
+        Ok(Some(Taken {
+            scan: EntryScan {
+                alloc,
+                front,
+                read: next,
+            },
+            taken,
+        }))
     }
-    Ok(Some(next))
+
+    ghost whole = { λ first now text h. read_whole text h.0 first.front now.read h.1 };
 }
 
 /// Reads what stands behind a front in a text of `len` bytes, a window at a time. What is left of a window's last line is
@@ -139,15 +143,16 @@ fn read_windows<T: TextStore, A: Allocator + Clone>(
     ensures looks { LooksAt T.honest T.text T.failures result store.old store.new }
     ensures survives { T.honest store.old → NoMore (T.survives store.old) (T.survives store.new) }
 {
-    let mut read = nothing_read(alloc, front)?;
-    while read.at < len {
-        let found = read_window(alloc, store, window, front, read, len)?;
-        let Some(next) = found else {
-            return Ok(None);
-        };
-        read = next;
+    let read = nothing_read(alloc, front)?;
+    let scan = EntryScan { alloc, front, read };
+    let found = scan_windows(store, window, scan, front.at, len)??;
+    let Some(end) = found else {
+        return Ok(None);
+    };
+    if end.at < len {
+        return Ok(None);
     }
-    Ok(Some(read))
+    Ok(Some(end.scan.read))
 }
 
 /// What was read behind a front of this many entries, in a text of this many bytes, where that is all of its entries, and at

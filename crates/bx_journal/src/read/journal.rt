@@ -6,10 +6,11 @@ ghost use Rattle.bx_entries.specs.inner.Tally.{IsCounted};
 
 use crate::SessionFault;
 use crate::fault::of_text;
-use crate::read::count::{ALL, WINDOW, walk_windows};
+use crate::read::count::{ALL, walk_windows};
 use crate::read::mark::{Mark, start_size};
 use crate::read::torn::{find_faded, find_torn};
 use crate::read::whole::read_journal;
+use crate::read::windows::WINDOW;
 use bx_entries::{Counted, JournalRead, StageRead, counted_by, shown_len, told_length};
 use bx_image::DeviceFailed;
 use bx_store::TextStore;

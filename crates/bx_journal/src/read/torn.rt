@@ -12,11 +12,11 @@ ghost use Rattle.bx_journal.specs.inner.Recovery.{HasMark, IsTornFront, IsUnfini
 ghost use Rattle.bx_journal.specs.inner.Restoring.{AllShorter, StandsAt};
 ghost use Rattle.bx_journal.specs.inner.Windows.{IsWalkedTo, rest_to};
 
-use crate::read::count::{ALL, Walk, count_windows, pass_window, walk_windows};
+use crate::read::count::{ALL, Walk, count_windows, walk_windows};
 use crate::read::journal::Torn;
 use crate::read::mark::{Mark, start_size};
 use crate::read::shown::{shown_in, zero_from};
-use bx_entries::{Place, Tally, Version, next_end, rest_may_follow};
+use bx_entries::{Place, Tally, Version, count_lines, next_end, rest_may_follow};
 use bx_image::DeviceFailed;
 use bx_store::TextStore;
 
@@ -69,15 +69,15 @@ fn find_len<T: TextStore>(
     ensures survives { T.honest store.old → NoMore (T.survives store.old) (T.survives store.new) }
     ensures goes_on { GoesOn T.honest T.room T.failures (is_err result) store.old store.new }
 {
-    let first = window.len().min(LONGEST_START);
+    let first = (window.len().min(LONGEST_START) as u64).min(walk.at - begins) as usize;
     let (line, _) = window.split_at_mut(first);
+    store.read_at(begins, line)?;
     let tally = Tally {
         count: walk.tally.count,
         told: walk.tally.told,
         place: Place::Between,
     };
-    let found = pass_window(store, line, begins, walk.at, tally, false, ALL)?;
-    let Some(passed) = found else {
+    let Some(passed) = count_lines(tally, line, false, ALL) else {
         return Ok(None);
     };
     match passed.tally.place {

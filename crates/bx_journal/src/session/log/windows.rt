@@ -1,17 +1,15 @@
-//! The rows of a log, from a text that is read in windows: one window is in memory at a time, however long the text is.
-ghost use Rattle.std.specs.Prelude.{◌≡◌, ◌<◌, ◌≤◌, ◌++◌, [], length, true, OnOk, IfOk, IfErr, IfSome};
+//! The rows of a log, from a text that is read in windows.
+ghost use Rattle.std.specs.Prelude.{◌≡◌, ◌<◌, ◌++◌, true, OnOk, IfOk, IfErr, IfSome};
 ghost use Rattle.bx_journal.specs.inner.Devices.{LooksAt};
 ghost use Rattle.bx_journal.specs.inner.Fault.{LacksOrFails};
-ghost use Rattle.bx_journal.specs.inner.Rows.{AreListed, AreRowsOf, IsListedAt, IsListedIn, ended_row};
+ghost use Rattle.bx_journal.specs.inner.Rows.{AreRowsOf, IsListed, IsListedIn, ended_row};
 
+use crate::read::windows::{Scan, Taken, WINDOW, scan_windows};
 use crate::{LogRow, SessionFault};
 use bx_entries::{ENDED, Place, Summed, full_behind, next_end, nothing_summed, sum_full, sum_one};
 use bx_store::TextStore;
 use bx_text::NoMemory;
-use std::alloc::Allocator;
-
-/// This many bytes of a text are read at a time.
-const WINDOW: u64 = 262_144;
+use std::alloc::{Allocator, Global};
 
 /// Where the whole lines of a window lead, and how many bytes they have.
 #[derive(Clone, Copy)]
@@ -70,63 +68,36 @@ fn list_lines<A: Allocator>(
     Ok(Some(Listed { sums, taken }))
 }
 
-/// Adds the rows of the whole lines of the window at a place, in a text of `len` bytes. It answers none where no line ends
-/// in it, or one isn't in place.
-fn list_window<T: TextStore, A: Allocator>(
-    store: &mut T,
-    window: &mut [u8],
-    at: u64,
-    len: u64,
-    rows: &mut Vec<LogRow, A>,
-    sums: Summed,
-) -> Result<Option<Listed>, SessionFault>
-    requires countable { T.failures store.old < u64.MAX }
-    requires within { T.honest store.old → len ≤ length (T.text store.old) }
-    requires below { at ≤ len }
-    ensures listed { IfOk result (λ found. IfSome found
-        (IsListedAt (T.honest store.old) (T.text store.old) at len sums rows.old.items rows.new.items)) }
-    ensures fault { IfErr result LacksOrFails }
-    ensures looks { LooksAt T.honest T.text T.failures result store.old store.new }
-{
-    let more = (window.len() as u64).min(len - at) as usize;
-    let (now, _) = window.split_at_mut(more);
-    store.read_at(at, now)?;
-    let found = list_lines(rows, sums, now)?;
-    let Some(listed) = found else {
-        return Ok(None);
-    };
-    if listed.taken == 0 {
-        return Ok(None);
-    }
-    Ok(Some(listed))
+/// The rows of a text's lines so far, and what is summed of them.
+#[derive(Drop)]
+pub struct RowScan<A: Allocator = Global> {
+    pub rows: Vec<LogRow, A>,
+    pub sums: Summed,
 }
 
-/// The rows of a text of `len` bytes, and what is summed at its end. What is left of a window's last line is read again
-/// with the next one. It answers none where a line isn't in place, and where one is longer than the window.
-fn list_windows<T: TextStore, A: Allocator>(
-    store: &mut T,
-    window: &mut [u8],
-    len: u64,
-    rows: &mut Vec<LogRow, A>,
-) -> Result<Option<Summed>, SessionFault>
-    requires countable { T.failures store.old < u64.MAX }
-    requires long { T.honest store.old → len ≡ length (T.text store.old) }
-    requires empty { rows.old.items ≡ [] }
-    ensures listed { IfOk result (λ found. IfSome found (λ sums. AreListed (T.honest store.old) (T.text store.old) sums rows.new.items)) }
-    ensures fault { IfErr result LacksOrFails }
-    ensures looks { LooksAt T.honest T.text T.failures result store.old store.new }
-{
-    let mut at: u64 = 0;
-    let mut sums = nothing_summed();
-    while at < len {
-        let found = list_window(store, window, at, len, rows, sums)?;
-        let Some(listed) = found else {
+impl<A: Allocator> Scan for RowScan<A> {
+    ghost Leads = { λ first now text. IsListed text now.sums now.rows.items };
+
+    fn take_lines(
+        self,
+        _at: u64,
+        _left: u64,
+        window: &mut [u8],
+    ) -> Result<Option<Taken<RowScan<A>>>, NoMemory> {
+        let RowScan { mut rows, sums } = self;
+        let Some(listed) = list_lines(&mut rows, sums, window)? else {
             return Ok(None);
         };
-        at += listed.taken as u64;
-        sums = listed.sums;
+        Ok(Some(Taken {
+            scan: RowScan {
+                rows,
+                sums: listed.sums,
+            },
+            taken: listed.taken,
+        }))
     }
-    Ok(Some(sums))
+
+    ghost whole = { λ first now text h. h.whole };
 }
 
 /// Whether these are the sums of this many entries, and none is unfinished.
@@ -155,13 +126,19 @@ pub fn rows_in_windows<T: TextStore, A: Allocator + Clone>(
     let len = store.len()?;
     let size = WINDOW.min(len) as usize;
     let mut window = vec![in alloc.clone()?; 0u8; size]?;
-    let mut rows = Vec::new(alloc.clone()?);
-    let found = list_windows(store, window.as_mut_slice(), len, &mut rows)?;
-    let Some(sums) = found else {
+    let scan = RowScan {
+        rows: Vec::new(alloc.clone()?),
+        sums: nothing_summed(),
+    };
+    let found = scan_windows(store, window.as_mut_slice(), scan, 0, len)??;
+    let Some(end) = found else {
         return Ok(None);
     };
-    if !are_all(sums, count) {
+    if end.at < len {
         return Ok(None);
     }
-    Ok(Some(rows))
+    if !are_all(end.scan.sums, count) {
+        return Ok(None);
+    }
+    Ok(Some(end.scan.rows))
 }

@@ -1,7 +1,5 @@
 use Rattle.std.proofs.Common.{length, subst}
 use Rattle.std.specs.Prelude.{IfSome}
-use Rattle.bx_entries.specs.Text.{split}
-use Rattle.bx_journal.specs.inner.Restoring.{AllShorter}
 use Rattle.bx_journal.specs.inner.Windows.{IsWalkedTo}
 use Rattle.bx_journal.proofs.read.count.count_windows.Goals as goal
 
@@ -10,10 +8,10 @@ returns-clause-counted g c =
     let walked = subst (λ o. IfSome o (IsWalkedTo (g.T.TextStore.honest c.args.store.now) (g.T.TextStore.text c.args.store.now) c.args.only_second (length c.args.window.now) c.args.len)) c.in-Some.is c.in_ok-found.ensures.walked in
     let now = c.in-Some-counted_by.ensures in
     record {
-      front = walked.counted.front;
-      is = walked.counted.is;
-      long = walked.counted.long;
-      counted = now.counted c.args.only_second walked.counted.front c.in-Some.walk.lines walked.counted.tallied;
+      front = walked.led.text;
+      is = walked.led.is;
+      long = walked.led.long;
+      counted = now.counted c.args.only_second walked.led.text c.in-Some.walk.lines walked.led.leads;
       lines = walked.lines;
       few = now.few walked.few;
     }
@@ -24,5 +22,4 @@ returns-clause-within g c =
 
 pub returns-clause-short : goal.returns-clause-short
 returns-clause-short g c =
-    let walked = subst (λ o. IfSome o (IsWalkedTo (g.T.TextStore.honest c.args.store.now) (g.T.TextStore.text c.args.store.now) c.args.only_second (length c.args.window.now) c.args.len)) c.in-Some.is c.in_ok-found.ensures.walked in
-    λ h. subst (λ t. AllShorter (length c.args.window.now) (split t).lines) (walked.counted.is h) walked.short
+    (subst (λ o. IfSome o (IsWalkedTo (g.T.TextStore.honest c.args.store.now) (g.T.TextStore.text c.args.store.now) c.args.only_second (length c.args.window.now) c.args.len)) c.in-Some.is c.in_ok-found.ensures.walked).short

@@ -1,38 +1,8 @@
-use Rattle.std.proofs.Common.{◌≡◌, ◌∙◌, ◌≤◌, List, ℕ, [], length, refl, subst, arith}
-use Rattle.std.specs.Prelude.{IfSome}
-use Rattle.bx_image.proofs.Devices.{GoesOn_refl}
-use Rattle.bx_image.proofs.Survivors.{NoMore_then}
-use Rattle.bx_journal.specs.inner.Windows.{IsPassed}
-use Rattle.bx_journal.proofs.WalkLemmas.{walked_none, walked_on}
-use Rattle.bx_journal.proofs.WindowLemmas.{passed_from}
+use Rattle.std.proofs.Common.{length}
+use Rattle.bx_journal.proofs.ScanLemmas.{reached_of, walked_of}
 use Rattle.bx_journal.proofs.read.count.walk_windows.Goals as goal
 
-pub loop-at-init : goal.loop-at-init
-loop-at-init g c = record {
-  walked = walked_none (g.T.TextStore.honest c.args.store.now) (g.T.TextStore.text c.args.store.now) c.args.only_second (length c.args.window.now) c.args.len _ (c.no_entries-tally.ensures.tallied c.args.only_second) c.no_entries-tally.ensures.count;
-  window = refl;
-  text = λ h. refl;
-  survives = λ h y there. there;
-  goes_on = GoesOn_refl _ _ _ _;
-}
-
-pub loop-at-preserved : goal.loop-at-preserved
-loop-at-preserved g c =
-    let inv = c.loop-at.invariant in
-    let now = c.in_ok-found.ensures in
-    let stored : List ℕ = g.T.TextStore.text c.args.store.now in
-    let text : List ℕ = g.T.TextStore.text c.loop-at.store in
-    let there = subst (λ o. IfSome o (IsPassed (g.T.TextStore.honest c.loop-at.store) text c.args.only_second c.loop-at.at c.args.len c.loop-at.tally)) c.in-Some.is now.passed in
-    let size = subst (λ o. IfSome o (λ p. p.taken ≤ length c.loop-at.window)) c.in-Some.is now.size in
-    let passed = passed_from (g.T.TextStore.honest c.args.store.now) (g.T.TextStore.honest c.loop-at.store) stored text c.args.only_second c.loop-at.at c.args.len c.loop-at.tally c.in-Some.passed inv.goes_on.honesty.1 inv.text there in
-    record {
-      walked = walked_on (g.T.TextStore.honest c.args.store.now) stored c.args.only_second (length c.args.window.now) c.args.len c.loop-at.at c.loop-at.lines c.loop-at.tally c.in-Some.passed inv.walked passed (omega (arith, size, inv.window));
-      window = now.window ∙ inv.window;
-      text = λ h. now.text (inv.goes_on.honesty.1 h) ∙ inv.text h;
-      survives = λ h. NoMore_then _ _ _ (inv.survives h) (now.survives (inv.goes_on.honesty.1 h));
-      goes_on = record {
-        honesty = ((λ h. inv.goes_on.honesty.0 (now.goes_on.honesty.0 h)), λ h. now.goes_on.honesty.1 (inv.goes_on.honesty.1 h));
-        no_less_room = omega (arith, inv.goes_on.no_less_room, now.goes_on.no_less_room);
-        counted = now.goes_on.counted ∙ inv.goes_on.counted;
-      };
-    }
+pub returns-clause-walked : goal.returns-clause-walked
+returns-clause-walked g c =
+    walked_of (g.T.TextStore.honest c.args.store.now) (g.T.TextStore.text c.args.store.now) (record { tally = c.no_entries.result; lines = 0; only_second = c.args.only_second; limit = c.args.limit }) (length c.args.window.now) c.args.len
+    c.in-Some.end (reached_of _ c.in_ok-scanned.scanned c.in-Ok.found c.in-Some.end c.in-Ok.is c.in-Some.is c.in_ok-scanned.ensures.reached)

@@ -13,9 +13,9 @@ returns-in-Some-counted_by-clause-found g c =
     let walk = c.in-Some.walk in
     let walked = subst (λ o. IfSome o (IsWalkedTo (T.honest c.args.store.now) text false (length c.args.window.now) c.args.len)) c.in-Some.is c.in_ok-walked.ensures.walked in
     record {
-      text = walked.counted.front;
-      is = λ h. sym (walked.counted.is h ∙ take_all walk.at text (omega (arith, c.requires.long h, c.if-walk-len.true)));
-      counted = (c.in-Some-counted_by.ensures.counted false walked.counted.front walk.lines walked.counted.tallied).counted;
+      text = walked.led.text;
+      is = λ h. sym (walked.led.is h ∙ take_all walk.at text (omega (arith, c.requires.long h, c.if-walk-len.true)));
+      counted = (c.in-Some-counted_by.ensures.counted false walked.led.text walk.lines walked.led.leads).counted;
       few = c.in-Some-counted_by.ensures.few walked.few;
     }
 
