@@ -5,18 +5,18 @@ pub returns-in-Clean-clause-opens : goal.returns-in-Clean-clause-opens
 returns-in-Clean-clause-opens g c d t u =
     let e = c.in-Ok-open.ensures in
     let same = e.clean d t c.in-Clean.is in
-    let accepted = e.accepted t in
-    let undone = e.undone d t u in (
+    let accepted = e.text.accepted t in
+    let undone = e.redo.undone d t u in (
       same.1,
       same.0,
-      e.clean_redo u c.in-Clean.is,
+      e.redo.clean_redo u c.in-Clean.is,
       (
         record { stack = recovered accepted.0 (g.D.Device.image c.args.device); undone = undone.0 },
         record {
-          device = e.device_honesty.1 d;
-          store = e.store_honesty.1 t;
-          redo_text = e.redo_honesty.1 u;
-          shows = (e.standing d t accepted.0 accepted.1, undone.1);
+          device = e.devices.device_honesty.1 d;
+          store = e.devices.store_honesty.1 t;
+          redo_text = e.devices.redo_honesty.1 u;
+          shows = (e.found.standing d t accepted.0 accepted.1, undone.1);
         },
       ),
     )

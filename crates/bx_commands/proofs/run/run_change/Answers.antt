@@ -17,6 +17,6 @@ returns-in-Err g c =
     let e = c.in-Err.ensures in
     record {
       obeys = unperformed_obeys g.D.Device g.T.TextStore c.args.session.now c.perform.new.self c.args.change.now c.args.counts c.in-Err.fault
-          e.safe e.full e.large e.fits e.fitted e.kind e.finds e.survives e.found_before;
-      tells = refused_change_tells c.args.session.now c.perform.new.self c.in-Err.fault e.kind e.full (e.safe.unmoved.0, e.safe.unmoved.1);
+          e.safe e.faults.full e.faults.large e.faults.fits e.faults.fitted e.faults.kind e.finds e.survives e.found_before;
+      tells = refused_change_tells c.args.session.now c.perform.new.self c.in-Err.fault e.faults.kind e.faults.full (e.safe.unmoved.0, e.safe.unmoved.1);
     }

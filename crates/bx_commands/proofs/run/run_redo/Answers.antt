@@ -16,6 +16,6 @@ returns-in-Err g c =
     let e = c.in-Err.ensures in
     record {
       obeys = unredone_obeys g.D.Device g.T.TextStore c.args.session.now c.redo.new.self c.args.j c.in-Err.fault
-          e.safe e.nothing e.kind e.undamaged e.finds e.survives e.found_before;
-      tells = refused_redo_tells c.args.session.now c.redo.new.self c.args.j c.in-Err.fault e.kind e.nothing (e.safe.unmoved.0, e.safe.unmoved.1);
+          e.safe e.faults.nothing e.faults.kind e.faults.undamaged e.finds e.survives e.found_before;
+      tells = refused_redo_tells c.args.session.now c.redo.new.self c.args.j c.in-Err.fault e.faults.kind e.faults.nothing (e.safe.unmoved.0, e.safe.unmoved.1);
     }

@@ -8,7 +8,7 @@ returns-in-Ok g c =
     record {
       obeys = undo_obeys g.D.Device g.T.TextStore c.args.session.now c.undo.new.self c.args.k c.in-Ok.left
           e.safe e.accepted e.sound e.undone e.survives;
-      tells = (e.left.0, e.left.1, e.few_undone);
+      tells = (e.left.0, e.left.1, e.left.3);
     }
 
 pub returns-in-Err : goal.returns-in-Err
@@ -16,6 +16,6 @@ returns-in-Err g c =
     let e = c.in-Err.ensures in
     record {
       obeys = kept_obeys g.D.Device g.T.TextStore c.args.session.now c.undo.new.self c.args.k c.in-Err.fault
-          e.safe e.few e.kind e.undamaged e.finds e.survives e.found_before;
-      tells = refused_undo_tells c.args.session.now c.undo.new.self c.args.k c.in-Err.fault e.kind e.few (e.safe.unmoved.0, e.safe.unmoved.1);
+          e.safe e.faults.few e.faults.kind e.faults.undamaged e.finds e.survives e.found_before;
+      tells = refused_undo_tells c.args.session.now c.undo.new.self c.args.k c.in-Err.fault e.faults.kind e.faults.few (e.safe.unmoved.0, e.safe.unmoved.1);
     }

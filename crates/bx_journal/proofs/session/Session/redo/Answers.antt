@@ -1,4 +1,6 @@
-use Rattle.std.proofs.Common.{rules, ◌≡◌, ◌+◌, ℕ, length, length-append, refl, ap, sym, ◌∙◌, subst, arith}
+use Rattle.std.proofs.Common.{rules, ◌≡◌, ◌+◌, ℕ, length, length-append, refl, ap, sym, ◌∙◌, subst, arith, Err}
+use Rattle.std.specs.Prelude.{IfErr}
+use Rattle.bx_journal.specs.Fault.{DeviceFault}
 use Rattle.std.proofs.lemmas.Grind.{common_steps}
 use Rattle.bx_journal.specs.declared.fault.SessionFault.TheVariants.{RedoDamaged}
 use Rattle.bx_entries.specs.Text.{IsPrefix}
@@ -14,7 +16,7 @@ use Rattle.bx_journal.specs.inner.Devices.{HaveStayed}
 use Rattle.bx_image.proofs.Survivors.{NoMore_then}
 use Rattle.bx_journal.proofs.DeviceLemmas.{one_more}
 use Rattle.bx_journal.specs.Power.{FoundBefore}
-use Rattle.bx_journal.proofs.SafeLemmas.{accepts, any_fault, interrupts, refuses}
+use Rattle.bx_journal.proofs.SafeLemmas.{accepts, any_fault, device_after, interrupts, refuses}
 use Rattle.bx_journal.proofs.LookedLemmas.{left_since, none_failed, pair_step, redo_looked_at, read_since, rest_step, standing_step}
 use Rattle.bx_journal.specs.Images.{redo_of}
 use Rattle.bx_journal.proofs.TouchedLemmas.{begun_same}
@@ -84,6 +86,20 @@ returns-in-Ok-clause-stands g c =
           let on = rw c.in_ok-again.ensures.ready.count at (pair_step (λ t x. IsAtRest t x stack) before (λ d t rest. c.in-Ok.ensures.rests d t stack rest many) dh th ready.rest) in
           (on.0, on.1, record { rest = on.2; count = omega (arith, length-append on.0 stack, on.1, ready.count, c.in-Ok.ensures.number, c.in_ok-again.ensures.ready.count); whole = ready.whole }));
       fault = λ dh th stack ready. tt;
+    }
+
+pub returns-in_err-again-clause-stands : goal.returns-in_err-again-clause-stands
+returns-in_err-again-clause-stands g c =
+    let found = err_from_is_err_and c.from_residual-in_err-again.result c.from_residual-in_err-again.ensures.1 in
+    let is : c.from_residual-in_err-again.result ≡ Err c.in_err-again.field-0.0 = grind (arith, common_steps, found.1, found.2) in
+    let same = stayed g (goal.at.returns-in_err-again-clause-stands g c).After-prepare_redo in
+    record {
+      stands = search rules;
+      ready = search rules;
+      fault =
+          rw (← c.self.view_is) (λ dh th stack ready.
+          device_after c.from_residual-in_err-again.result (subst (λ r. IfErr r DeviceFault) (sym is) c.in_err-again.ensures.kind)
+          (record { image_same = same.image_same dh; text_same = same.text_same th; count = refl; broken = refl }));
     }
 
 pub returns-clause-stands : goal.returns-clause-stands
