@@ -1,5 +1,5 @@
 -- The marks of a text that is read in windows.
-use Rattle.std.proofs.Common.{◌≡◌, ℕ, ◌≤◌, List, [], ◌++◌, length, map, take, ap, sym, ◌∙◌, subst, inl, arith, append-nil, Some, Result, Ok}
+use Rattle.std.proofs.Common.{◌≡◌, ℕ, List, [], ◌++◌, length, map, take, ap, sym, ◌∙◌, subst, inl, arith, append-nil, Some, Result, Ok}
 use Rattle.std.specs.Prelude.{Vec}
 use Rattle.std.proofs.lemmas.List.{take_all}
 use Rattle.std.proofs.lemmas.Result.{IfErr-weaker, IfOk-weaker}
@@ -12,9 +12,9 @@ use Rattle.bx_journal.proofs.WindowLemmas.{looks_before}
 use Rattle.bx_entries.specs.declared.read.count.Place.TheVariants.{Between as BetweenPlace}
 use Rattle.bx_entries.specs.declared.read.marks.Mark.{Mark}
 use Rattle.bx_entries.specs.declared.read.rows.Summed.{Summed}
-use Rattle.bx_entries.specs.Spelled.{EntryLines, IsSpelled, entry_in, lines_of}
-use Rattle.bx_entries.specs.Text.{Between, IsDamagedAt, Reading, Stage, split, start, after_lines}
-use Rattle.bx_entries.specs.inner.Marks.{GoOnWith, IsMarked, marks_of}
+use Rattle.bx_entries.specs.Spelled.{entry_in, lines_of}
+use Rattle.bx_entries.specs.Text.{Between, IsDamagedAt, split, start, after_lines}
+use Rattle.bx_entries.specs.inner.Marks.{GoOnWith, IsMarked}
 use Rattle.bx_entries.proofs.TallyLemmas.{HasForm, has_form}
 use Rattle.bx_journal.specs.declared.look.marks.MarkScan.{MarkScan}
 use Rattle.bx_journal.specs.declared.read.windows.Reached.{Reached}

@@ -32,19 +32,19 @@ any_fault (Err (NothingToRedo have)) s = s
 any_fault (Err (RedoDamaged line)) s = s
 
 -- behind a fault of a device before the first write all is as it was, whatever an interruption leaves
-pub device_after : {V X S : Type 0} (r : Result V SessionFault) → IfErr r DeviceFault → S → IfErr r (λ e. AfterFault e X S)
-device_after (Ok v) f s = tt
-device_after (Err NoMemory) f s = s
-device_after (Err TooLarge) f s = absurd f
-device_after (Err DeviceFailed) f s = s
-device_after (Err (Damaged line)) f s = absurd f
-device_after (Err (TooFew have)) f s = absurd f
-device_after (Err JournalFull) f s = absurd f
-device_after (Err Interrupted) f s = absurd f
-device_after (Err Broken) f s = absurd f
-device_after (Err (LengthDiffers n)) f s = absurd f
-device_after (Err (NothingToRedo have)) f s = absurd f
-device_after (Err (RedoDamaged line)) f s = absurd f
+pub device_after : {V S : Type 0} (X : Type 0) (r : Result V SessionFault) → IfErr r DeviceFault → S → IfErr r (λ e. AfterFault e X S)
+device_after X (Ok v) f s = tt
+device_after X (Err NoMemory) f s = s
+device_after X (Err TooLarge) f s = absurd f
+device_after X (Err DeviceFailed) f s = s
+device_after X (Err (Damaged line)) f s = absurd f
+device_after X (Err (TooFew have)) f s = absurd f
+device_after X (Err JournalFull) f s = absurd f
+device_after X (Err Interrupted) f s = absurd f
+device_after X (Err Broken) f s = absurd f
+device_after X (Err (LengthDiffers n)) f s = absurd f
+device_after X (Err (NothingToRedo have)) f s = absurd f
+device_after X (Err (RedoDamaged line)) f s = absurd f
 
 module _ {D T : Type 0} {d : DeviceViews D} {t : StoreViews T} where
   pub accepts : {V R E : Type 0} {v : V} {r : R} {old new : SessionView D T} → old.is_broken ≡ false

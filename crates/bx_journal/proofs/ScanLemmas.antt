@@ -6,7 +6,6 @@ use Rattle.bx_entries.specs.Text.{split}
 use Rattle.bx_entries.proofs.Splits.{split-append}
 use Rattle.bx_entries.proofs.TallyLemmas.{take_sum}
 use Rattle.bx_journal.specs.declared.read.count.CountScan.{CountScan}
-use Rattle.bx_journal.specs.declared.read.count.Walk.{Walk}
 use Rattle.bx_journal.specs.declared.read.windows.Reached.{Reached}
 use Rattle.bx_journal.specs.inner.Restoring.{AllShorter}
 use Rattle.bx_journal.specs.inner.Windows.{IsCountedBy, IsLedTo, IsReached, IsWalkedTo}

@@ -1,5 +1,5 @@
 -- What proofs alone need: what undoing starts from and leaves.
-use Rattle.std.specs.Prelude.{◌≡◌, ◌≤◌, ◌<◌, ◌+◌, ◌-◌, ◌^◌, ℕ, List, [], ◌++◌, length, take, drop, Option, Result, IfOk, IfErr, IfSome, OnOk}
+use Rattle.std.specs.Prelude.{◌≡◌, ◌≤◌, ◌<◌, ◌+◌, ◌-◌, ◌^◌, ℕ, List, [], length, take, drop, Option, Result, IfOk, IfErr, IfSome, OnOk}
 use Rattle.std.proofs.Common.{subst, sym}
 use Rattle.std.proofs.Math.Seq.{take-length}
 use Rattle.bx_image.specs.Power.{NoMore}

@@ -1,4 +1,4 @@
-use Rattle.std.proofs.Common.{false, ◌+◌, ◌≤◌, ◌++◌, drop, length, subst, arith}
+use Rattle.std.proofs.Common.{false, ◌≤◌, drop, length, subst, arith}
 use Rattle.std.specs.Prelude.{IfSome}
 use Rattle.bx_entries.specs.inner.Tally.{IsPassed}
 use Rattle.bx_journal.proofs.WalkLemmas.{len_of}

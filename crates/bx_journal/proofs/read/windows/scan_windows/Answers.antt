@@ -1,4 +1,4 @@
-use Rattle.std.proofs.Common.{◌≡◌, ◌≤◌, ◌∙◌, ◌++◌, ℕ, List, length, take, drop, ap, refl, subst, arith}
+use Rattle.std.proofs.Common.{◌≤◌, ◌∙◌, ◌++◌, ℕ, List, length, take, drop, ap, refl, subst, arith}
 use Rattle.std.specs.Prelude.{IfSome}
 use Rattle.bx_image.proofs.Devices.{GoesOn_refl, GoesOn_then}
 use Rattle.bx_image.proofs.Survivors.{NoMore_then}

@@ -98,7 +98,7 @@ returns-in_err-again-clause-stands g c =
       ready = search rules;
       fault =
           rw (← c.self.view_is) (λ dh th stack ready.
-          device_after c.from_residual-in_err-again.result (subst (λ r. IfErr r DeviceFault) (sym is) c.in_err-again.ensures.kind)
+          device_after _ c.from_residual-in_err-again.result (subst (λ r. IfErr r DeviceFault) (sym is) c.in_err-again.ensures.kind)
           (record { image_same = same.image_same dh; text_same = same.text_same th; count = refl; broken = refl }));
     }
 
