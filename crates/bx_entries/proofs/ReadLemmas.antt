@@ -81,10 +81,10 @@ module _ {A : Type 0} (older : List Entry) (es : List (EntryRead A)) (stage : St
   takes_begun v len runs none to = record {
     leads = to.leads ∙ ap Some to.is.1 ∙ ap (λ (rs : List (Piece A)). Some (record { entries = entries_onto older es; stage = Saving v (record { len = len; runs = map run_of rs }) })) (sym none);
     marked = λ text after marked mark is next. (
-        between text stage to.is.0 marked,
-        subst (λ s. IsMark text at (record { entries = entries_onto older es; stage = s })) to.is.0 mark,
-        omega (arith, is),
-        omega (arith, to.is.2, length-onto older es),
+      between text stage to.is.0 marked,
+      subst (λ s. IsMark text at (record { entries = entries_onto older es; stage = s })) to.is.0 mark,
+      omega (arith, is),
+      omega (arith, to.is.2, length-onto older es),
     );
   }
 

@@ -1,21 +1,18 @@
 -- Counting entries: what a line does, and the loop over lines.
-use Rattle.std.proofs.Common.{◌≡◌, ℕ, Bool, zero, suc, ◌+◌, ◌<◌, List, [], ◌∷◌, ◌++◌, length, take, drop, refl, ap, sym, ◌∙◌, subst, inl, arith, append_assoc, append-nil, length-append, length-take, Option, Some, None}
-use Rattle.std.specs.Prelude.{IsTrue}
+use Rattle.std.proofs.Common.{◌≡◌, ℕ, Bool, zero, suc, ◌+◌, ◌<◌, List, [], ◌∷◌, ◌++◌, length, take, drop, refl, ap, sym, ◌∙◌, subst, inl, arith, append_assoc, append-nil, length-append, length-take, Some, None}
 use Rattle.bx_entries.specs.declared.read.classify.Event.{Event}
 use Rattle.bx_entries.specs.declared.read.classify.Event.TheVariants.{Begun, Saved, Complete, Committed}
 use Rattle.bx_entries.specs.declared.read.count.Place.{Place}
 use Rattle.bx_entries.specs.declared.read.count.Place.TheVariants.{Between as BetweenPlace, Saving as SavingPlace, Ending as EndingPlace}
 use Rattle.bx_entries.specs.declared.read.count.Tally.{Tally}
 use Rattle.bx_entries.specs.Kept.{Kept}
-use Rattle.bx_entries.specs.Text.{Entry, Stage, Between, Saving, Ending, Reading, Split, ended, split, start, after_lines}
-use Rattle.bx_entries.specs.Finished.{AllTell}
-use Rattle.bx_entries.specs.inner.Event.{IsEvent, LeadsAs, tally_behind}
+use Rattle.bx_entries.specs.Text.{Stage, Between, Saving, Ending, Reading, Split, ended, split, start, after_lines}
+use Rattle.bx_entries.specs.inner.Event.{IsEvent, tally_behind}
 use Rattle.bx_entries.specs.inner.Text.{next}
-use Rattle.bx_entries.specs.Parsed.{told_by}
 use Rattle.bx_entries.specs.inner.Plain.{HasNoNewline}
 use Rattle.std.proofs.lemmas.List.{take-append-drop, drop-take}
 use Rattle.std.proofs.Math.Seq.{drop-append_seam}
-use Rattle.bx_entries.specs.inner.Tally.{place_of, tally_of, LeadsTo, Tells, IsTallied, IsCountedAll}
+use Rattle.bx_entries.specs.inner.Tally.{place_of, tally_of, LeadsTo, IsTallied, IsCountedAll}
 use Rattle.bx_entries.proofs.Runs.{after_lines-append}
 use Rattle.bx_entries.proofs.Splits.{split-append, split-ended}
 
@@ -41,21 +38,6 @@ event_counts r q line (Complete v) is = ap tally_of is.2
 event_counts r q line (Committed after) is =
     let more : suc (length r.entries) ≡ length r.entries + 1 = omega arith in
     ap tally_of is.3 ∙ ap (λ n. record { count = n; told = after; place = BetweenPlace }) more
-
-all_tell : (r q : Reading) (line : List ℕ) (e : Event) → IsEvent r.entries r.stage line q e → Tells e → AllTell r.entries → AllTell q.entries
-all_tell r q line (Begun v len) is tells all = subst (λ (p : Reading). AllTell p.entries) (sym is.1) all
-all_tell r q line (Saved l) is tells all = subst (λ (p : Reading). AllTell p.entries) (sym is.3) all
-all_tell r q line (Complete v) is tells all = subst (λ (p : Reading). AllTell p.entries) (sym is.2) all
-all_tell r q line (Committed after) is tells all = subst (λ (p : Reading). AllTell p.entries) (sym is.3) (tells, all)
-
--- one more line leads from a tally to the next
-pub leads_to : (only_second : Bool) (r : Reading) (t : Tally) (line : List ℕ) (e : Event) → tally_of r ≡ t → (IsTrue only_second → Tells e) → LeadsAs r.entries r.stage line e → LeadsTo only_second r line (tally_behind t e)
-leads_to only_second r t line e is tells to = record {
-  reading = to.reading;
-  leads = to.leads;
-  is = event_counts r to.reading line e to.is ∙ ap (λ u. tally_behind u e) is;
-  tell = λ only. all_tell r to.reading line e to.is (tells only);
-}
 
 pub take_less : (n m : ℕ) (xs : List ℕ) → take n (take (n + m) xs) ≡ take n xs
 take_less zero m xs = refl

@@ -1,5 +1,5 @@
 //! What one line of a journal's text is, at its place.
-ghost use Rattle.std.specs.Prelude.{◌≡◌, ◌+◌, ◌≤◌, List, length, suc, IfSome};
+ghost use Rattle.std.specs.Prelude.{◌≡◌, ◌≤◌, List, length, suc};
 ghost use Rattle.bx_entries.specs.Kept.{Kept as Record};
 ghost use Rattle.bx_entries.specs.Parsed.{told_by};
 ghost use Rattle.bx_entries.specs.Text.{Between as Resting, Saving as Keeping, Entry, Reading};

@@ -1,6 +1,5 @@
-use Rattle.std.proofs.Common.{◌≡◌, ◌+◌, length, ap, sym, ◌∙◌, arith}
 use Rattle.bx_entries.specs.inner.Parsed.{entries_onto, stage_of}
-use Rattle.bx_entries.proofs.ReadLemmas.{length-onto, tally_read}
+use Rattle.bx_entries.proofs.ReadLemmas.{tally_read}
 use Rattle.bx_entries.proofs.read.take_line.event_at.Goals as goal
 
 pub returns : goal.returns

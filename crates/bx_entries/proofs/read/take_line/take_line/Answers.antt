@@ -1,5 +1,4 @@
 use Rattle.std.proofs.Common.{◌≡◌, None, subst}
-use Rattle.bx_entries.specs.declared.read.classify.Event.TheVariants.{Begun, Saved, Complete, Committed}
 use Rattle.bx_entries.specs.Text.{next_at}
 use Rattle.bx_entries.specs.inner.Event.{LeadsAs}
 use Rattle.bx_entries.specs.inner.Parsed.{entries_onto, stage_of}
