@@ -22,6 +22,7 @@ use crate::SessionFault;
 use crate::fault::of_redo;
 use crate::look::entries::put_rows;
 use crate::look::marks::all_marks;
+use crate::look::put::begin_writing;
 use crate::look::step::{Steps, Way, put_steps};
 use crate::look::unfinished::{Marked, front_marks, put_torn};
 use crate::read::journal::Torn;
@@ -180,13 +181,13 @@ fn put_found<D: Device, T: TextStore, A: Allocator + Clone, W: Write>(
     ensures text { T.honest store.old → T.text store.new ≡ T.text store.old }
 {
     let before = put_torn(alloc, found.torn, out)?;
+    let mut writing = begin_writing(alloc, before)?;
     put_steps(
-        alloc,
         device,
         store,
+        &mut writing,
         found.marks.as_slice(),
         steps,
-        before,
         out,
     )
 }

@@ -3,6 +3,7 @@ use Rattle.std.specs.Prelude.{◌≡◌, ◌≤◌, ◌<◌, ◌+◌, ◌-◌, �
 use Rattle.std.proofs.Common.{subst, sym}
 use Rattle.std.proofs.Math.Seq.{take-length}
 use Rattle.bx_image.specs.Power.{NoMore}
+use Rattle.bx_store.specs.declared.store.TextStore.{Ghosts as StoreViews}
 use Rattle.bx_journal.specs.declared.fault.SessionFault.{SessionFault}
 use Rattle.bx_journal.specs.declared.fault.SessionFault.TheVariants.{RedoDamaged}
 use Rattle.bx_journal.specs.Fault.{DeviceFault}
@@ -73,14 +74,13 @@ pub record IsLastFrom {A : Type 0} (honest : Type 0) (stored : List ℕ) (len : 
   pub read : IsReadLast text es count
 
 -- A call that looks for the last k entries, at least, of this many finished entries alone: it answers them, or none, and its fault isn't the text's
-pub record LooksForLast {T A : Type 0} (honest : T → Type 0) (text : T → List ℕ) (survives : T → List ℕ → Type 0) (failures : T → ℕ) (count k : ℕ)
-    (result : Result (Option (FinishedRead A)) SessionFault) (old new : T) : Type 0 where
-  pub read : IfOk result (λ found. IfSome found (λ o. IsLastFrom (honest old) (text old) o.len o.entries.items count))
+pub record LooksForLast {T A : Type 0} (t : StoreViews T) (count k : ℕ) (result : Result (Option (FinishedRead A)) SessionFault) (old new : T) : Type 0 where
+  pub read : IfOk result (λ found. IfSome found (λ o. IsLastFrom (t.honest old) (t.text old) o.len o.entries.items count))
   pub few : IfOk result (λ found. IfSome found (λ o. k ≤ length o.entries.items))
-  pub short : IfOk result (λ found. IfSome found (λ o. HasShortLines (honest old) (text old) o.longest))
+  pub short : IfOk result (λ found. IfSome found (λ o. HasShortLines (t.honest old) (t.text old) o.longest))
   pub fault : IfErr result LacksOrFails
-  pub looks : LooksAt honest text failures result old new
-  pub found_before : honest old → NoMore (survives old) (survives new)
+  pub looks : LooksAt t.honest t.text t.failures result old new
+  pub found_before : t.honest old → NoMore (t.survives old) (t.survives new)
 
 -- the text of a store, where that is honest, is some older entries and these alone, with the places of these
 pub record AreReadFrom {A : Type 0} (honest : Type 0) (stored : List ℕ) (es : List (EntryRead A)) : Type 0 where

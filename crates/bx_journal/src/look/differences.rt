@@ -9,7 +9,7 @@ ghost use Rattle.bx_journal.specs.inner.Showing.{PutFault, Stays, lines_at};
 use crate::SessionFault;
 use crate::look::ShowFault;
 use crate::look::cache::{Cached, keep};
-use crate::look::put::put;
+use crate::look::put::{Writing, put};
 use bx_entries::{Mark, line_end, row_of, saved_in};
 use bx_image::Device;
 use bx_store::TextStore;
@@ -22,12 +22,18 @@ const GATHERED: usize = 1 << 20;
 /// This many bytes of the image are read at a time.
 const PAGE: usize = 4096;
 
-/// Where reading stands in the text, how many bytes were written, and what is kept of the image.
+/// Where reading stands in the text, and what is kept of the image.
 #[derive(Clone, Copy)]
 pub struct Compared {
     pub at: u64,
-    pub written: u64,
     pub cached: Cached,
+}
+
+/// The comparison of an entry: its mark, and what is done of its lines.
+#[derive(Clone, Copy)]
+struct Comparison {
+    mark: Mark,
+    done: Compared,
 }
 
 /// How many bytes of a window were taken, and what is kept of the image.
@@ -154,37 +160,36 @@ fn put_window<D: Device, T: TextStore, A: Allocator, W: Write>(
     device: &mut D,
     page: &mut [u8],
     store: &mut T,
-    window: &mut [u8],
-    mark: Mark,
-    done: Compared,
-    text: &mut Vec<u8, A>,
+    writing: &mut Writing<A>,
+    now: Comparison,
     out: &mut W,
 ) -> Result<Compared, ShowFault>
     requires countable { D.failures device.old < u64.MAX }
     requires also_countable { T.failures store.old < u64.MAX }
-    requires cache { IsCache (D.honest device.old) (D.image device.old) page.old done.cached }
-    requires within { T.honest store.old → mark.to ≤ length (T.text store.old) }
-    requires at { done.at ≤ mark.to }
+    requires cache { IsCache (D.honest device.old) (D.image device.old) page.old now.done.cached }
+    requires within { T.honest store.old → now.mark.to ≤ length (T.text store.old) }
+    requires at { now.done.at ≤ now.mark.to }
     ensures put { D.honest device.old → T.honest store.old → IfOk result (λ next. AreCompared (T.text store.old) (D.image device.old)
-        mark.len done.at next.at (W.contents out.old) (W.contents out.new)) }
-    ensures on { IfOk result (HasGoneOn mark.to done) }
+        now.mark.len now.done.at next.at (W.contents out.old) (W.contents out.new)) }
+    ensures on { IfOk result (HasGoneOn now.mark.to now.done) }
     ensures cache { IfOk result (λ next. IsCache (D.honest device.old) (D.image device.old) page.new next.cached) }
     ensures kind { IfErr result PutFault }
     ensures image { Stays D.honest D.image D.failures result device.old device.new }
     ensures text { Stays T.honest T.text T.failures result store.old store.new }
 {
-    let more = (window.len() as u64).min(mark.to - done.at) as usize;
-    let (now, _) = window.split_at_mut(more);
-    store.read_at(done.at, now)?;
+    let window = writing.window.as_mut_slice();
+    let more = (window.len() as u64).min(now.mark.to - now.done.at) as usize;
+    let (part, _) = window.split_at_mut(more);
+    store.read_at(now.done.at, part)?;
+    let text = &mut writing.gathered;
     text.clear();
-    let lines = push_lines(device, done.cached, page, mark.len, now, text)?;
+    let lines = push_lines(device, now.done.cached, page, now.mark.len, part, text)?;
     if lines.taken == 0 {
         return Err(ShowFault::Text(SessionFault::NoMemory));
     }
-    let written = put(out, done.written, text.as_slice())?;
+    writing.written = put(out, writing.written, text.as_slice())?;
     Ok(Compared {
-        at: done.at + lines.taken as u64,
-        written,
+        at: now.done.at + lines.taken as u64,
         cached: lines.cached,
     })
 }
@@ -194,32 +199,34 @@ fn put_windows<D: Device, T: TextStore, A: Allocator, W: Write>(
     device: &mut D,
     page: &mut [u8],
     store: &mut T,
-    window: &mut [u8],
-    mark: Mark,
-    from: Compared,
-    text: &mut Vec<u8, A>,
+    writing: &mut Writing<A>,
+    from: Comparison,
     out: &mut W,
-) -> Result<u64, ShowFault>
+) -> Result<(), ShowFault>
     requires countable { D.failures device.old < u64.MAX }
     requires also_countable { T.failures store.old < u64.MAX }
-    requires cache { IsCache (D.honest device.old) (D.image device.old) page.old from.cached }
-    requires within { T.honest store.old → mark.to ≤ length (T.text store.old) }
-    requires at { from.at ≤ mark.to }
+    requires cache { IsCache (D.honest device.old) (D.image device.old) page.old from.done.cached }
+    requires within { T.honest store.old → from.mark.to ≤ length (T.text store.old) }
+    requires at { from.done.at ≤ from.mark.to }
     ensures put { D.honest device.old → T.honest store.old → OnOk result (AreCompared (T.text store.old) (D.image device.old)
-        mark.len from.at mark.to (W.contents out.old) (W.contents out.new)) }
+        from.mark.len from.done.at from.mark.to (W.contents out.old) (W.contents out.new)) }
     ensures kind { IfErr result PutFault }
     ensures image { Stays D.honest D.image D.failures result device.old device.new }
     ensures text { Stays T.honest T.text T.failures result store.old store.new }
 {
-    let mut done = from;
-    while done.at < mark.to {
-        done = put_window(device, page, store, window, mark, done, text, out)?;
+    let mut done = from.done;
+    while done.at < from.mark.to {
+        let now = Comparison {
+            mark: from.mark,
+            done,
+        };
+        done = put_window(device, page, store, writing, now, out)?;
     }
-    Ok(done.written)
+    Ok(())
 }
 
 /// Writes the saved lines of an entry, each behind a `+`, and before it a line of what the image has at its addresses, behind a
-/// `-`. Behind this many bytes that were written, it answers how many that are together.
+/// `-`.
 ///
 /// A line of the image is in xxd's default form. It is shorter where the image ends within it, and left out where the image
 /// ends before it.
@@ -227,14 +234,12 @@ fn put_windows<D: Device, T: TextStore, A: Allocator, W: Write>(
 /// # Errors
 /// `NoMemory`, also where a line is longer than the window, `DeviceFailed`, and `WriteFailed` with how many bytes were written.
 pub fn put_differences<D: Device, T: TextStore, A: Allocator + Clone, W: Write>(
-    alloc: &A,
     device: &mut D,
     store: &mut T,
-    window: &mut [u8],
+    writing: &mut Writing<A>,
     mark: Mark,
-    written: u64,
     out: &mut W,
-) -> Result<u64, ShowFault>
+) -> Result<(), ShowFault>
     requires countable { D.failures device.old < u64.MAX }
     requires also_countable { T.failures store.old < u64.MAX }
     requires within { T.honest store.old → mark.to ≤ length (T.text store.old) }
@@ -245,26 +250,16 @@ pub fn put_differences<D: Device, T: TextStore, A: Allocator + Clone, W: Write>(
     ensures image { Stays D.honest D.image D.failures result device.old device.new }
     ensures text { Stays T.honest T.text T.failures result store.old store.new }
 {
-    let mut page = vec![in alloc.clone()?; 0u8; PAGE]?;
-    let mut text = Vec::new(alloc.clone()?);
+    let mut page = vec![in writing.alloc.clone()?; 0u8; PAGE]?;
     let len = device.len()?;
-    let from = Compared {
+    let done = Compared {
         at: mark.from,
-        written,
         cached: Cached {
             len,
             at: 0,
             count: 0,
         },
     };
-    put_windows(
-        device,
-        page.as_mut_slice(),
-        store,
-        window,
-        mark,
-        from,
-        &mut text,
-        out,
-    )
+    let from = Comparison { mark, done };
+    put_windows(device, page.as_mut_slice(), store, writing, from, out)
 }

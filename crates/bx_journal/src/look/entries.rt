@@ -61,25 +61,32 @@ fn put_places<T: TextStore, A: Allocator + Clone, W: Write>(
     put_ranges(alloc, store, window, mark, written, out)
 }
 
+/// A change of a text: its number, and the mark of its entry.
+#[derive(Clone, Copy)]
+struct Change {
+    number: u64,
+    mark: Mark,
+}
+
 /// Writes the row of a change.
 fn put_row<T: TextStore, A: Allocator + Clone, W: Write>(
     alloc: &A,
     store: &mut T,
     window: &mut [u8],
-    number: u64,
-    mark: Mark,
+    change: Change,
     written: u64,
     out: &mut W,
 ) -> Result<u64, ShowFault>
     requires countable { T.failures store.old < u64.MAX }
-    requires within { T.honest store.old → mark.to ≤ length (T.text store.old) }
-    requires order { mark.from ≤ mark.to }
-    ensures row { T.honest store.old → OnOk result (Appends (W.contents out.old) (W.contents out.new) (mark_row (T.text store.old) number mark)) }
+    requires within { T.honest store.old → change.mark.to ≤ length (T.text store.old) }
+    requires order { change.mark.from ≤ change.mark.to }
+    ensures row { T.honest store.old → OnOk result
+        (Appends (W.contents out.old) (W.contents out.new) (mark_row (T.text store.old) change.number change.mark)) }
     ensures kind { IfErr result PutFault }
     ensures stays { Stays T.honest T.text T.failures result store.old store.new }
 {
-    let front = put_front(alloc, number, mark, written, out)?;
-    let places = put_places(alloc, store, window, mark, front, out)?;
+    let front = put_front(alloc, change.number, change.mark, written, out)?;
+    let places = put_places(alloc, store, window, change.mark, front, out)?;
     put(out, places, b"\n")
 }
 
@@ -105,8 +112,10 @@ pub fn put_rows<T: TextStore, A: Allocator + Clone, W: Write>(
             alloc,
             store,
             window.as_mut_slice(),
-            number,
-            *mark,
+            Change {
+                number,
+                mark: *mark,
+            },
             written,
             out,
         )?;

@@ -6,9 +6,9 @@ ghost use Rattle.bx_journal.specs.inner.Steps.{amount_text, changed_end, heading
 ghost use Rattle.bx_journal.specs.Steps.{keeps_length};
 
 use crate::look::ShowFault;
-use crate::look::put::put;
+use crate::look::put::{Writing, put};
 use crate::look::ranges::put_ranges;
-use crate::look::step::Way;
+use crate::look::step::{Step, Way};
 use bx_entries::Mark;
 use bx_store::TextStore;
 use std::alloc::{AllocError, Allocator};
@@ -145,23 +145,31 @@ fn put_end<A: Allocator + Clone, W: Write>(
 
 /// Writes the heading of the step over a change.
 pub fn put_heading<T: TextStore, A: Allocator + Clone, W: Write>(
-    alloc: &A,
     store: &mut T,
-    window: &mut [u8],
-    way: Way,
-    number: u64,
-    mark: Mark,
-    written: u64,
+    writing: &mut Writing<A>,
+    step: Step,
     out: &mut W,
-) -> Result<u64, ShowFault>
+) -> Result<(), ShowFault>
     requires countable { T.failures store.old < u64.MAX }
-    requires within { T.honest store.old → mark.to ≤ length (T.text store.old) }
-    requires order { mark.from ≤ mark.to }
-    ensures heading { T.honest store.old → OnOk result (Appends (W.contents out.old) (W.contents out.new) (heading_at (T.text store.old) way number mark)) }
+    requires within { T.honest store.old → step.mark.to ≤ length (T.text store.old) }
+    requires order { step.mark.from ≤ step.mark.to }
+    ensures heading { T.honest store.old → OnOk result
+        (Appends (W.contents out.old) (W.contents out.new) (heading_at (T.text store.old) step.steps.way step.number step.mark)) }
     ensures kind { IfErr result PutFault }
     ensures stays { Stays T.honest T.text T.failures result store.old store.new }
 {
-    let start = put_start(alloc, way, number, mark.saved, written, out)?;
-    let places = put_where(alloc, store, window, mark, start, out)?;
-    put_end(alloc, mark, places, out)
+    let alloc = &writing.alloc;
+    let way = step.steps.way;
+    let window = writing.window.as_mut_slice();
+    let start = put_start(
+        alloc,
+        way,
+        step.number,
+        step.mark.saved,
+        writing.written,
+        out,
+    )?;
+    let places = put_where(alloc, store, window, step.mark, start, out)?;
+    writing.written = put_end(alloc, step.mark, places, out)?;
+    Ok(())
 }

@@ -6,9 +6,10 @@ ghost use Rattle.bx_journal.specs.inner.Steps.{IsCopied};
 
 use crate::SessionFault;
 use crate::look::ShowFault;
-use crate::look::put::put;
+use crate::look::put::{Writing, put};
 use bx_entries::Mark;
 use bx_store::TextStore;
+use std::alloc::Allocator;
 use std::io::Write;
 
 /// Where reading stands in the text, and how many bytes were written.
@@ -47,14 +48,13 @@ fn put_window<T: TextStore, W: Write>(
     })
 }
 
-/// Writes the saved lines of an entry. Behind this many bytes that were written, it answers how many that are together.
-pub fn put_lines<T: TextStore, W: Write>(
+/// Writes the saved lines of an entry.
+pub fn put_lines<T: TextStore, A: Allocator, W: Write>(
     store: &mut T,
-    window: &mut [u8],
+    writing: &mut Writing<A>,
     mark: Mark,
-    written: u64,
     out: &mut W,
-) -> Result<u64, ShowFault>
+) -> Result<(), ShowFault>
     requires countable { T.failures store.old < u64.MAX }
     requires within { T.honest store.old → mark.to ≤ length (T.text store.old) }
     requires order { mark.from ≤ mark.to }
@@ -64,10 +64,11 @@ pub fn put_lines<T: TextStore, W: Write>(
 {
     let mut done = Copied {
         at: mark.from,
-        written,
+        written: writing.written,
     };
     while done.at < mark.to {
-        done = put_window(store, window, mark, done, out)?;
+        done = put_window(store, writing.window.as_mut_slice(), mark, done, out)?;
     }
-    Ok(done.written)
+    writing.written = done.written;
+    Ok(())
 }

@@ -9,8 +9,7 @@ use crate::look::ShowFault;
 use crate::look::differences::put_differences;
 use crate::look::heading::put_heading;
 use crate::look::lines::put_lines;
-use crate::look::put::put;
-use crate::read::windows::WINDOW;
+use crate::look::put::{Writing, put};
 use bx_entries::Mark;
 use bx_image::Device;
 use bx_store::TextStore;
@@ -36,6 +35,14 @@ pub struct Steps {
     pub compares: bool,
 }
 
+/// One of the steps: over the change of this number, whose entry has this mark.
+#[derive(Clone, Copy)]
+pub struct Step {
+    pub steps: Steps,
+    pub number: u64,
+    pub mark: Mark,
+}
+
 /// The number of the change that the step behind `i` others is over, where a text has this many entries.
 fn step_number(steps: Steps, entries: usize, i: u32) -> u64
     requires { i ≤ entries }
@@ -49,75 +56,59 @@ fn step_number(steps: Steps, entries: usize, i: u32) -> u64
 
 /// Writes the saved lines of an entry, as they stand or beside what the image has there.
 fn put_saved<D: Device, T: TextStore, A: Allocator + Clone, W: Write>(
-    alloc: &A,
     device: &mut D,
     store: &mut T,
-    window: &mut [u8],
-    compares: bool,
-    mark: Mark,
-    written: u64,
+    writing: &mut Writing<A>,
+    step: Step,
     out: &mut W,
-) -> Result<u64, ShowFault>
+) -> Result<(), ShowFault>
     requires countable { D.failures device.old < u64.MAX }
     requires also_countable { T.failures store.old < u64.MAX }
-    requires within { T.honest store.old → mark.to ≤ length (T.text store.old) }
-    requires order { mark.from ≤ mark.to }
-    ensures put { T.honest store.old → (IsTrue compares → D.honest device.old) → OnOk result
-        (Appends (W.contents out.old) (W.contents out.new) (saved_at compares (D.image device.old) (T.text store.old) mark)) }
+    requires within { T.honest store.old → step.mark.to ≤ length (T.text store.old) }
+    requires order { step.mark.from ≤ step.mark.to }
+    ensures put { T.honest store.old → (IsTrue step.steps.compares → D.honest device.old) → OnOk result
+        (Appends (W.contents out.old) (W.contents out.new) (saved_at step.steps.compares (D.image device.old) (T.text store.old) step.mark)) }
     ensures kind { IfErr result PutFault }
     ensures image { Stays D.honest D.image D.failures result device.old device.new }
     ensures stays { Stays T.honest T.text T.failures result store.old store.new }
 {
-    match compares {
-        true => put_differences(alloc, device, store, window, mark, written, out),
-        false => put_lines(store, window, mark, written, out),
+    match step.steps.compares {
+        true => put_differences(device, store, writing, step.mark, out),
+        false => put_lines(store, writing, step.mark, out),
     }
 }
 
 /// Writes the step over the change of a mark.
 fn put_step<D: Device, T: TextStore, A: Allocator + Clone, W: Write>(
-    alloc: &A,
     device: &mut D,
     store: &mut T,
-    window: &mut [u8],
-    steps: Steps,
-    number: u64,
-    mark: Mark,
-    written: u64,
+    writing: &mut Writing<A>,
+    step: Step,
     out: &mut W,
-) -> Result<u64, ShowFault>
+) -> Result<(), ShowFault>
     requires countable { D.failures device.old < u64.MAX }
     requires also_countable { T.failures store.old < u64.MAX }
-    requires within { T.honest store.old → mark.to ≤ length (T.text store.old) }
-    requires order { mark.from ≤ mark.to }
-    ensures step { T.honest store.old → (IsTrue steps.compares → D.honest device.old) → OnOk result
-        (Appends (W.contents out.old) (W.contents out.new) (mark_step steps (D.image device.old) (T.text store.old) number mark)) }
+    requires within { T.honest store.old → step.mark.to ≤ length (T.text store.old) }
+    requires order { step.mark.from ≤ step.mark.to }
+    ensures step { T.honest store.old → (IsTrue step.steps.compares → D.honest device.old) → OnOk result
+        (Appends (W.contents out.old) (W.contents out.new) (mark_step step.steps (D.image device.old) (T.text store.old) step.number step.mark)) }
     ensures kind { IfErr result PutFault }
     ensures image { Stays D.honest D.image D.failures result device.old device.new }
     ensures stays { Stays T.honest T.text T.failures result store.old store.new }
 {
-    let heading = put_heading(alloc, store, window, steps.way, number, mark, written, out)?;
-    let lines = put_saved(
-        alloc,
-        device,
-        store,
-        window,
-        steps.compares,
-        mark,
-        heading,
-        out,
-    )?;
-    put(out, lines, b"\n")
+    put_heading(store, writing, step, out)?;
+    put_saved(device, store, writing, step, out)?;
+    writing.written = put(out, writing.written, b"\n")?;
+    Ok(())
 }
 
 /// Writes the steps over the changes of the newest marks, as many as are asked for, the newest first.
 pub fn put_steps<D: Device, T: TextStore, A: Allocator + Clone, W: Write>(
-    alloc: &A,
     device: &mut D,
     store: &mut T,
+    writing: &mut Writing<A>,
     marks: &[Mark],
     steps: Steps,
-    before: u64,
     out: &mut W,
 ) -> Result<(), ShowFault>
     requires countable { D.failures device.old < u64.MAX }
@@ -130,22 +121,15 @@ pub fn put_steps<D: Device, T: TextStore, A: Allocator + Clone, W: Write>(
     ensures image { D.honest device.old → D.image device.new ≡ D.image device.old }
     ensures text { T.honest store.old → T.text store.new ≡ T.text store.old }
 {
-    let mut window = vec![in alloc.clone()?; 0u8; WINDOW as usize]?;
-    let mut written = before;
     for i in 0..steps.count {
         let mark = &marks[marks.len() - 1 - i as usize];
         let number = step_number(steps, marks.len(), i);
-        written = put_step(
-            alloc,
-            device,
-            store,
-            window.as_mut_slice(),
+        let step = Step {
             steps,
             number,
-            *mark,
-            written,
-            out,
-        )?;
+            mark: *mark,
+        };
+        put_step(device, store, writing, step, out)?;
     }
     Ok(())
 }

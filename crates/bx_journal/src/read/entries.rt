@@ -206,7 +206,7 @@ fn read_from<T: TextStore, A: Allocator + Clone>(
     requires long { T.honest store.old → len ≡ length (T.text store.old) }
     requires front { IsFrontCounted (T.honest store.old) (T.text store.old) false front }
     requires short { HasShortLines (T.honest store.old) (take front.at (T.text store.old)) (min WINDOW len) }
-    ensures { LooksForLast T.honest T.text T.survives T.failures count k result store.old store.new }
+    ensures { LooksForLast T.TextStore count k result store.old store.new }
 {
     let longest = WINDOW.min(len);
     let size = longest.min(len - front.at) as usize;
@@ -228,7 +228,7 @@ fn find_last<T: TextStore, A: Allocator + Clone>(
 ) -> Result<Option<FinishedRead<A>>, SessionFault>
     requires countable { T.failures store.old < u64.MAX }
     requires few { k ≤ count }
-    ensures { LooksForLast T.honest T.text T.survives T.failures count k result store.old store.new }
+    ensures { LooksForLast T.TextStore count k result store.old store.new }
 {
     let len = store.len()?;
     let found = count_front(alloc, store, len, false, count - k)?;

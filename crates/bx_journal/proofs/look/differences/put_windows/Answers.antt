@@ -5,7 +5,7 @@ use Rattle.bx_journal.proofs.look.differences.put_windows.Goals as goal
 
 pub loop-done-init : goal.loop-done-init
 loop-done-init g c = record {
-  compared = λ h k. compared_none (g.T.TextStore.text c.args.store.now) (g.D.Device.image c.args.device.now) c.args.mark.len c.args.from.at (g.W.Write.contents c.args.out.now);
+  compared = λ h k. compared_none (g.T.TextStore.text c.args.store.now) (g.D.Device.image c.args.device.now) c.args.from.mark.len c.args.from.done.at (g.W.Write.contents c.args.out.now);
   cache = c.requires.cache;
   behind = omega arith;
   within = c.requires.at;
@@ -36,10 +36,10 @@ loop-done-preserved g c =
     let w1 = g.W.Write.contents c.loop-done.out in
     let w2 = g.W.Write.contents c.put_window.new.out in
     record {
-      compared = λ h k. compared_more (g.T.TextStore.text c.args.store.now) (g.D.Device.image c.args.device.now) c.args.mark.len c.args.from.at c.loop-done.done.at c.in_ok-done.done.at w0 w1 w2
+      compared = λ h k. compared_more (g.T.TextStore.text c.args.store.now) (g.D.Device.image c.args.device.now) c.args.from.mark.len c.args.from.done.at c.loop-done.done.at c.in_ok-done.done.at w0 w1 w2
           inv.behind (omega (arith, now.on.0)) (inv.compared h k)
           (compared_from (g.T.TextStore.text c.args.store.now) (g.T.TextStore.text c.loop-done.store) (g.D.Device.image c.args.device.now) (g.D.Device.image c.loop-done.device)
-          c.args.mark.len c.loop-done.done.at c.in_ok-done.done.at w1 w2 (inv.text k) (inv.image h) (now.put (inv.device_honesty.1 h) (inv.honesty.1 k)));
+          c.args.from.mark.len c.loop-done.done.at c.in_ok-done.done.at w1 w2 (inv.text k) (inv.image h) (now.put (inv.device_honesty.1 h) (inv.honesty.1 k)));
       cache = cache_again (g.D.Device.honest c.loop-done.device) (g.D.Device.honest c.args.device.now) (g.D.Device.image c.loop-done.device) (g.D.Device.image c.args.device.now) c.put_window.new.page
           c.in_ok-done.done.cached inv.device_honesty.1 (λ h. sym (inv.image h)) now.cache;
       behind = omega (arith, inv.behind, now.on.0);
@@ -55,6 +55,6 @@ loop-done-preserved g c =
 pub returns-clause-put : goal.returns-clause-put
 returns-clause-put g c h k =
     let inv = c.loop-done.invariant in
-    let all : c.loop-done.done.at ≡ c.args.mark.to = omega (arith, inv.within) in
-    subst (λ n. AreCompared (g.T.TextStore.text c.args.store.now) (g.D.Device.image c.args.device.now) c.args.mark.len c.args.from.at n (g.W.Write.contents c.args.out.now)
+    let all : c.loop-done.done.at ≡ c.args.from.mark.to = omega (arith, inv.within) in
+    subst (λ n. AreCompared (g.T.TextStore.text c.args.store.now) (g.D.Device.image c.args.device.now) c.args.from.mark.len c.args.from.done.at n (g.W.Write.contents c.args.out.now)
     (g.W.Write.contents c.loop-done.out)) all (inv.compared h k)

@@ -7,10 +7,10 @@ use Rattle.bx_journal.proofs.look.differences.put_windows.Given as goal
 abbrev pub invariant-loop-done : goal.invariant-loop-done
 invariant-loop-done g l = record {
   compared : g.D.Device.honest l.fn.device → g.T.TextStore.honest l.fn.store → AreCompared (g.T.TextStore.text l.fn.store) (g.D.Device.image l.fn.device)
-      l.mark.len l.fn.from.at l.done.at (g.W.Write.contents l.fn.out) (g.W.Write.contents l.out);
+      l.from.mark.len l.fn.from.done.at l.done.at (g.W.Write.contents l.fn.out) (g.W.Write.contents l.out);
   cache : IsCache (g.D.Device.honest l.fn.device) (g.D.Device.image l.fn.device) l.page l.done.cached;
-  behind : l.fn.from.at ≤ l.done.at;
-  within : l.done.at ≤ l.mark.to;
+  behind : l.fn.from.done.at ≤ l.done.at;
+  within : l.done.at ≤ l.from.mark.to;
   image : g.D.Device.honest l.fn.device → g.D.Device.image l.device ≡ g.D.Device.image l.fn.device;
   device_honesty : g.D.Device.honest l.device ↔ g.D.Device.honest l.fn.device;
   device_failures : g.D.Device.failures l.device ≡ g.D.Device.failures l.fn.device;
@@ -20,4 +20,4 @@ invariant-loop-done g l = record {
 }
 
 abbrev pub decreases-loop-done : goal.decreases-loop-done
-decreases-loop-done g l = l.mark.to - l.done.at
+decreases-loop-done g l = l.from.mark.to - l.done.at

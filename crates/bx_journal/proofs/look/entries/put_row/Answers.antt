@@ -5,5 +5,5 @@ pub returns-clause-row : goal.returns-clause-row
 returns-clause-row g c h =
     ok_weaker c.put.result
     (row_written (g.W.Write.contents c.args.out.now) (g.W.Write.contents c.put_front.new.out) (g.W.Write.contents c.put_places.new.out) (g.W.Write.contents c.put.new.out)
-    (g.T.TextStore.text c.args.store.now) c.args.number c.args.mark c.in_ok-front.ensures.front (c.in_ok-places.ensures.put h))
+    (g.T.TextStore.text c.args.store.now) c.args.change.number c.args.change.mark c.in_ok-front.ensures.front (c.in_ok-places.ensures.put h))
     c.put.ensures.put

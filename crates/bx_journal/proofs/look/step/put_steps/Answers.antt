@@ -29,7 +29,7 @@ loop-i-init g c = record {
 pub loop-i-preserved : goal.loop-i-preserved
 loop-i-preserved g c =
     let inv = c.loop-i.invariant in
-    let now = c.in_ok-written.ensures in
+    let now = c.in_ok-put_step.ensures in
     record {
       steps = λ h hd. steps_put (g.W.Write.contents c.args.out.now) (g.W.Write.contents c.loop-i.out) (g.W.Write.contents c.put_step.new.out) c.args.steps (g.D.Device.image c.args.device.now) (g.D.Device.image c.loop-i.device)
           (g.T.TextStore.text c.args.store.now) (g.T.TextStore.text c.loop-i.store) (first_number c.args.steps.way c.args.steps.changes (length c.args.marks.now)) c.loop-i.i c.step_number-number.result c.args.marks.now none
@@ -51,13 +51,13 @@ put_step-requires-clause-within g c =
 pub put_step-requires-clause-order : goal.put_step-requires-clause-order
 put_step-requires-clause-order g c = (All-get_or (LiesWithin c.requires.lie.0) c.args.marks.now (length c.args.marks.now - 1 - c.loop-i.i) none (omega (arith, c.requires.enough)) c.requires.lie.2).0
 
-pub returns-in_err-written-clause-text : goal.returns-in_err-written-clause-text
-returns-in_err-written-clause-text g c h =
+pub returns-in_err-put_step-clause-text : goal.returns-in_err-put_step-clause-text
+returns-in_err-put_step-clause-text g c h =
     let inv = c.loop-i.invariant in
     c.put_step.ensures.stays.same (inv.honesty.1 h) ∙ inv.text h
 
-pub returns-in_err-written-clause-image : goal.returns-in_err-written-clause-image
-returns-in_err-written-clause-image g c h =
+pub returns-in_err-put_step-clause-image : goal.returns-in_err-put_step-clause-image
+returns-in_err-put_step-clause-image g c h =
     let inv = c.loop-i.invariant in
     c.put_step.ensures.image.same (inv.device_honesty.1 h) ∙ inv.image h
 
