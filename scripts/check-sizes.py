@@ -20,6 +20,9 @@ LIMITS = {"parameters": 8, "arguments": 6, "ensures": 12}
 TESTS = {"bx_layer_tests", "bx_tests", "bx_cases", "bx_case_files", "bx_scripts", "bx_ration", "bx_examples"}
 # what stays above its limit, as "KIND CRATE: NAME (FILE)": `docs/DECISIONS.md` says why
 ALLOWED = {
+    "ensures bx_text: Meter::fill (src/stream.rt)": 14,
+    "ensures bx_text: Source::fill (src/stream.rt)": 14,
+    "ensures bx_text: Source::rest (src/stream.rt)": 13,
 }
 HEAD = re.compile(r"( *)(?:(?:pub|abbrev|unfoldable|opaque|data|record) +)+(?!mod )([^\s(){}:]+)")
 FUNCTION = re.compile(r" *(pub(?:\([a-z]+\))? )?(?:const |unsafe )*fn (\w+)")

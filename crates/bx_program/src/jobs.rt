@@ -151,7 +151,7 @@ where
     Ok(None)
 }
 
-/// An undo or a redo.
+/// An undo or a redo, and how many changes then stand.
 fn take_steps<'a, R, W: Write>(
     rt: &R,
     job: &'a Job,
@@ -161,7 +161,7 @@ fn take_steps<'a, R, W: Write>(
 where
     R: Files<File = File> + Eprint + AllocGlobal,
 {
-    match job {
+    let reply = match job {
         Job::Undo {
             count,
             image,
@@ -169,7 +169,7 @@ where
             access,
         } => {
             let undo = Command::Undo { k: *count };
-            step(rt, undo, image, texts, *access, out, remarks)
+            step(rt, undo, image, texts, *access, remarks)?
         }
         Job::Redo {
             count,
@@ -178,7 +178,13 @@ where
             access,
         } => {
             let redo = Command::Redo { j: *count };
-            step(rt, redo, image, texts, *access, out, remarks)
+            step(rt, redo, image, texts, *access, remarks)?
+        }
+        _ => return Ok(()),
+    };
+    match reply {
+        Reply::Undone { left: standing } | Reply::Redone { changes: standing } => {
+            Ok(show_number(out, standing)?)
         }
         _ => Ok(()),
     }
@@ -280,28 +286,22 @@ fn change_of<'a, I: Read + Drop>(
     }
 }
 
-/// Takes changes back or makes undone ones again, and shows how many then stand.
-fn step<'a, R, W: Write>(
+/// Takes changes back or makes undone ones again.
+fn step<'a, R>(
     rt: &R,
     asked: Command,
     image: &'a Name,
     texts: &'a Texts,
     access: Access,
-    out: &mut W,
     remarks: &mut Remarks,
-) -> Result<(), Stopped<'a>>
+) -> Result<Reply, Stopped<'a>>
 where
     R: Files<File = File> + Eprint + AllocGlobal,
     requires { IsNear asked }
 {
     let session = open_session(rt, image, texts, false, access)?;
     remarks.look_at_times(rt, image, texts);
-    match finish(rt, session, asked, image, texts)? {
-        Reply::Undone { left: standing } | Reply::Redone { changes: standing } => {
-            Ok(show_number(out, standing)?)
-        }
-        _ => Ok(()),
-    }
+    finish(rt, session, asked, image, texts)
 }
 
 /// Shows the changes that stand.
