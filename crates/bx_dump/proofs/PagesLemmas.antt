@@ -15,7 +15,7 @@ use Rattle.bx_dump.specs.inner.Dumped.{IsDumpFault, KeepsUp}
 use Rattle.bx_dump.proofs.DumpLemmas.{cause_longer, keeps_read, keeps_along, keeps_whole}
 use Rattle.bx_dump.specs.Dumped.{IsDumpStop}
 use Rattle.bx_dump.specs.Pages.{Dump, WritesAll, WritesFrontOf, part_of}
-use Rattle.bx_dump.specs.inner.Pages.{WritesPart, WritesFrontBut, capped, IsEndOf, WritesRest, IsLast}
+use Rattle.bx_dump.specs.inner.Pages.{WritesPart, WritesFrontBut, capped, IsEndOf, WritesRest, IsLast, streams}
 
 -- why a read stopped is why a dump did
 dump_cause : (fault : IoFault) (wanted n written size : ℕ) → IsReadCause fault wanted (2 ^ 40) n → IsDumpFault fault n written size
@@ -61,7 +61,7 @@ capped_all (Some most) xs within = take_all most xs within
 -- the reader stopped
 pub rest_read_stop : (text : List ℕ → List ℕ) (limit : Option ℕ) (before : ℕ) (r0 r1 r2 w0 w1 : Option (List ℕ)) (input : List ℕ) (from taken less : ℕ) (fault : IoFault) →
     from + length input ≡ taken → taken ≤ 2 ^ 40 → IfSome limit (λ most. length input + less ≤ most) → ((more : List ℕ) → (rest : List ℕ) × (text (input ++ more) ≡ text input ++ rest)) →
-    Consumes r0 r1 input → Appends w0 w1 (text input) → StopsAfter r1 r2 less (2 ^ 40 - taken) fault → WritesFrontBut 0 (λ xs. text (capped limit xs)) 0 limit from before r0 r2 w0 w1 fault
+    Consumes r0 r1 input → Appends w0 w1 (text input) → StopsAfter r1 r2 less (2 ^ 40 - taken) fault → WritesFrontBut 0 (λ xs. text (capped limit xs)) 0 limit from before (streams r0 r2 w0 w1) fault
 rest_read_stop text limit before r0 r1 r2 w0 w1 input from taken less fault len few within goes reads writes stop =
     let cut = capped_more limit input stop.0 (within_along limit (length input + less) (length input) (omega arith) within) in
     let more = goes cut.0 in
@@ -84,7 +84,7 @@ rest_read_stop text limit before r0 r1 r2 w0 w1 input from taken less fault len 
 pub rest_write_stop : (text : List ℕ → List ℕ) (limit : Option ℕ) (from before : ℕ) (r0 r1 w0 w1 w2 : Option (List ℕ)) (front last page : List ℕ) (written : ℕ) (fault : IoFault) →
     Consumes r0 r1 (front ++ last) → from + length (front ++ last) ≤ 2 ^ 40 → length last ≤ 2 ^ 14 → IfSome limit (λ most. length (front ++ last) ≤ most) → Appends w0 w1 (text front) →
     length (text front) ≡ written → text (front ++ last) ≡ text front ++ page → WritesFront (before + written) w1 w2 page fault →
-    WritesFrontBut 0 (λ xs. text (capped limit xs)) 0 limit from before r0 r1 w0 w2 fault
+    WritesFrontBut 0 (λ xs. text (capped limit xs)) 0 limit from before (streams r0 r1 w0 w2) fault
 rest_write_stop text limit from before r0 r1 w0 w1 w2 front last page written (WriteFailed n) reads few block within writes len is stop =
     let input = front ++ last in
     let old = text front in
@@ -152,7 +152,7 @@ end_short skip n (Some most) r less p = (omega arith, inl p)
 
 -- all was skipped, and the rest dumped
 pub part_whole : (text : List ℕ → List ℕ) (skip : ℕ) (limit : Option ℕ) (r0 r1 r2 w0 w1 : Option (List ℕ)) (read written : ℕ) → Skips true skip (2 ^ 40) r0 r1 →
-    WritesRest text skip limit r1 r2 w0 w1 read written → WritesPart (λ xs. text (part_of skip limit xs)) skip limit r0 r2 w0 w1 read written
+    WritesRest text skip limit (streams r1 r2 w0 w1) read written → WritesPart (λ xs. text (part_of skip limit xs)) skip limit (streams r0 r2 w0 w1) read written
 part_whole text skip limit r0 r1 r2 w0 w1 read written front rest =
     let len = front.whole refl in
     let within : IfSome limit (λ most. read ≤ most) = last_within limit read r2 rest.ends in
@@ -170,7 +170,7 @@ part_whole text skip limit r0 r1 r2 w0 w1 read written front rest =
 
 -- the input ended among the bytes to skip
 pub part_short : (text : List ℕ → List ℕ) (skip : ℕ) (limit : Option ℕ) (r0 r1 w : Option (List ℕ)) → text [] ≡ [] → Skips false skip (2 ^ 40) r0 r1 →
-    WritesPart (λ xs. text (part_of skip limit xs)) skip limit r0 r1 w w 0 0
+    WritesPart (λ xs. text (part_of skip limit xs)) skip limit (streams r0 r1 w w) 0 0
 part_short text skip limit r0 r1 w empty front =
     let short = front.short refl in
     let none : part_of skip limit front.input ≡ [] = part_none skip limit front.input (omega (arith, short.0)) in record {
@@ -185,7 +185,7 @@ part_short text skip limit r0 r1 w empty front =
 
 -- a fault among the bytes to skip
 pub front_skip : (slack : ℕ) (text : List ℕ → List ℕ) (skip : ℕ) (limit : Option ℕ) (before : ℕ) (r0 r1 w : Option (List ℕ)) (fault : IoFault) → StopsAfter r0 r1 skip (2 ^ 40) fault →
-    WritesFrontBut slack text skip limit 0 before r0 r1 w w fault
+    WritesFrontBut slack text skip limit 0 before (streams r0 r1 w w) fault
 front_skip slack text skip limit before r0 r1 w fault stop =
     let none : take 0 (text stop.0) ≡ [] = refl in
     let zero_more : 0 + length stop.0 ≡ length stop.0 = omega arith in record {
@@ -219,8 +219,8 @@ keeps_behind slack text skip limit skipped input written SkipPastEnd len p = tt
 
 -- a fault after them
 pub front_behind : (slack : ℕ) (text : List ℕ → List ℕ) (skip : ℕ) (limit : Option ℕ) (before : ℕ) (r0 r1 r2 w0 w1 : Option (List ℕ)) (fault : IoFault) → Skips true skip (2 ^ 40) r0 r1 →
-    WritesFrontBut slack (λ xs. text (capped limit xs)) 0 limit skip before r1 r2 w0 w1 fault →
-    WritesFrontBut slack (λ xs. text (part_of skip limit xs)) skip limit 0 before r0 r2 w0 w1 fault
+    WritesFrontBut slack (λ xs. text (capped limit xs)) 0 limit skip before (streams r1 r2 w0 w1) fault →
+    WritesFrontBut slack (λ xs. text (part_of skip limit xs)) skip limit 0 before (streams r0 r2 w0 w1) fault
 front_behind slack text skip limit before r0 r1 r2 w0 w1 fault front rest =
     let len = front.whole refl in
     let same : text (part_of skip limit (front.input ++ rest.input)) ≡ text (capped limit rest.input) = ap text (part_behind skip limit front.input rest.input len) in
@@ -237,7 +237,7 @@ front_behind slack text skip limit before r0 r1 r2 w0 w1 fault front rest =
 
 -- where two texts are the same, so are the dumps
 pub part_along : (text other : List ℕ → List ℕ) (skip : ℕ) (limit : Option ℕ) (r0 r1 w0 w1 : Option (List ℕ)) (read written : ℕ) → ((xs : List ℕ) → text xs ≡ other xs) →
-    WritesPart text skip limit r0 r1 w0 w1 read written → WritesPart other skip limit r0 r1 w0 w1 read written
+    WritesPart text skip limit (streams r0 r1 w0 w1) read written → WritesPart other skip limit (streams r0 r1 w0 w1) read written
 part_along text other skip limit r0 r1 w0 w1 read written same d =
     let e : other d.input ≡ text d.input = sym (same d.input) in record {
       input = d.input;
@@ -250,7 +250,7 @@ part_along text other skip limit r0 r1 w0 w1 read written same d =
     }
 
 pub front_along : (slack wide : ℕ) (text other : List ℕ → List ℕ) (skip : ℕ) (limit : Option ℕ) (from before : ℕ) (r0 r1 w0 w1 : Option (List ℕ)) (fault : IoFault) → ((xs : List ℕ) → text xs ≡ other xs) →
-    slack ≤ wide → WritesFrontBut slack text skip limit from before r0 r1 w0 w1 fault → WritesFrontBut wide other skip limit from before r0 r1 w0 w1 fault
+    slack ≤ wide → WritesFrontBut slack text skip limit from before (streams r0 r1 w0 w1) fault → WritesFrontBut wide other skip limit from before (streams r0 r1 w0 w1) fault
 front_along slack wide text other skip limit from before r0 r1 w0 w1 fault same wider d =
     let e : other d.input ≡ text d.input = sym (same d.input) in record {
       input = d.input;
@@ -265,8 +265,8 @@ front_along slack wide text other skip limit from before r0 r1 w0 w1 fault same 
 
 -- A text behind the dump: `last` where this many bytes were dumped.
 module _ (text other : List ℕ → List ℕ) (skip : ℕ) (limit : Option ℕ) (r0 r1 w0 w1 w2 : Option (List ℕ)) (read written : ℕ) (last : List ℕ)
-    (is : (xs : List ℕ) → length (part_of skip limit xs) ≡ read → other xs ≡ text xs ++ last) (d : WritesPart text skip limit r0 r1 w0 w1 read written) where
-  pub part_then : Appends w1 w2 last → WritesPart other skip limit r0 r1 w0 w2 read (written + length last)
+    (is : (xs : List ℕ) → length (part_of skip limit xs) ≡ read → other xs ≡ text xs ++ last) (d : WritesPart text skip limit (streams r0 r1 w0 w1) read written) where
+  pub part_then : Appends w1 w2 last → WritesPart other skip limit (streams r0 r1 w0 w2) read (written + length last)
   part_then writes =
       let e = is d.input d.dumped in record {
         input = d.input;
@@ -279,7 +279,7 @@ module _ (text other : List ℕ → List ℕ) (skip : ℕ) (limit : Option ℕ) 
       }
 
   pub stop_then : (slack before : ℕ) (fault : IoFault) → length last ≤ length (other []) + slack → WritesFront (before + written) w1 w2 last fault →
-      WritesFrontBut slack other skip limit 0 before r0 r1 w0 w2 fault
+      WritesFrontBut slack other skip limit 0 before (streams r0 r1 w0 w2) fault
   stop_then slack before (WriteFailed n) short stop =
       let e = is d.input d.dumped in
       let front : take (written + stop.0) (other d.input) ≡ text d.input ++ take stop.0 last =
@@ -300,8 +300,8 @@ module _ (text other : List ℕ → List ℕ) (skip : ℕ) (limit : Option ℕ) 
 
 -- a front of a text is one of a longer text
 pub front_then : (slack wide : ℕ) (text other : List ℕ → List ℕ) (skip : ℕ) (limit : Option ℕ) (from before : ℕ) (r0 r1 w0 w1 : Option (List ℕ)) (fault : IoFault) → ((xs : List ℕ) → (rest : List ℕ) × (other xs ≡ text xs ++ rest)) →
-    ((xs : List ℕ) → length (other xs) + length (text []) + slack ≤ length (text xs) + length (other []) + wide) → WritesFrontBut slack text skip limit from before r0 r1 w0 w1 fault →
-    WritesFrontBut wide other skip limit from before r0 r1 w0 w1 fault
+    ((xs : List ℕ) → length (other xs) + length (text []) + slack ≤ length (text xs) + length (other []) + wide) → WritesFrontBut slack text skip limit from before (streams r0 r1 w0 w1) fault →
+    WritesFrontBut wide other skip limit from before (streams r0 r1 w0 w1) fault
 front_then slack wide text other skip limit from before r0 r1 w0 w1 fault is short d =
     let more = is d.input in
     let front : take d.written (other d.input) ≡ take d.written (text d.input) = ap (take d.written) more.1 ∙ take-append-le d.written (text d.input) more.0 d.within in record {
@@ -318,7 +318,7 @@ front_then slack wide text other skip limit from before r0 r1 w0 w1 fault is sho
 
 -- a text in front of the dump
 pub part_after : (text : List ℕ → List ℕ) (skip : ℕ) (limit : Option ℕ) (r0 r1 w0 w1 w2 : Option (List ℕ)) (read written : ℕ) (head : List ℕ) → Appends w0 w1 head →
-    WritesPart text skip limit r0 r1 w1 w2 read written → WritesPart (λ xs. head ++ text xs) skip limit r0 r1 w0 w2 read (length head + written)
+    WritesPart text skip limit (streams r0 r1 w1 w2) read written → WritesPart (λ xs. head ++ text xs) skip limit (streams r0 r1 w0 w2) read (length head + written)
 part_after text skip limit r0 r1 w0 w1 w2 read written head writes d = record {
   input = d.input;
   consumed = d.consumed;
@@ -330,7 +330,7 @@ part_after text skip limit r0 r1 w0 w1 w2 read written head writes d = record {
 }
 
 pub front_after : (slack : ℕ) (text : List ℕ → List ℕ) (skip : ℕ) (limit : Option ℕ) (r0 r1 w0 w1 w2 : Option (List ℕ)) (from before all : ℕ) (head : List ℕ) (fault : IoFault) → all ≡ before + length head → Appends w0 w1 head →
-    WritesFrontBut slack text skip limit from all r0 r1 w1 w2 fault → WritesFrontBut slack (λ xs. head ++ text xs) skip limit from before r0 r1 w0 w2 fault
+    WritesFrontBut slack text skip limit from all (streams r0 r1 w1 w2) fault → WritesFrontBut slack (λ xs. head ++ text xs) skip limit from before (streams r0 r1 w0 w2) fault
 front_after slack text skip limit r0 r1 w0 w1 w2 from before all head fault is writes d =
     let front : take (length head + d.written) (head ++ text d.input) ≡ head ++ take d.written (text d.input) = take-append-add head (text d.input) d.written in
     let count : all + d.written ≡ before + (length head + d.written) = omega arith in
@@ -348,7 +348,7 @@ front_after slack text skip limit r0 r1 w0 w1 w2 from before all head fault is w
 
 -- the text in front was not written whole
 pub front_head : (slack : ℕ) (text : List ℕ → List ℕ) (skip : ℕ) (limit : Option ℕ) (r w0 w1 : Option (List ℕ)) (before : ℕ) (head : List ℕ) (fault : IoFault) → WritesFront before w0 w1 head fault →
-    WritesFrontBut slack (λ xs. head ++ text xs) skip limit 0 before r r w0 w1 fault
+    WritesFrontBut slack (λ xs. head ++ text xs) skip limit 0 before (streams r r w0 w1) fault
 front_head slack text skip limit r w0 w1 before head (WriteFailed n) stop =
     let front : take stop.0 (head ++ text []) ≡ take stop.0 head = take-append-le stop.0 head (text []) (omega (arith, stop.2)) in record {
       input = [];
@@ -367,7 +367,7 @@ front_head slack text skip limit r w0 w1 before head SkipPastEnd stop = absurd s
 
 -- a whole text was written
 pub all_of : (d : Dump) (r0 r1 w0 w1 : Option (List ℕ)) (read written : ℕ) →
-    WritesPart (λ xs. d.text (part_of d.skip d.limit xs)) d.skip d.limit r0 r1 w0 w1 read written → WritesAll d r0 r1 w0 w1 read
+    WritesPart (λ xs. d.text (part_of d.skip d.limit xs)) d.skip d.limit (streams r0 r1 w0 w1) read written → WritesAll d r0 r1 w0 w1 read
 all_of d r0 r1 w0 w1 read written p = record {
   input = p.input;
   consumed = p.consumed;
@@ -387,7 +387,7 @@ stop_of text input written SkipPastEnd cause ahead = absurd cause
 
 -- a front of one was
 pub front_of : (d : Dump) (r0 r1 w0 w1 : Option (List ℕ)) (fault : IoFault) →
-    WritesFrontBut (2 ^ 7) (λ xs. d.text (part_of d.skip d.limit xs)) d.skip d.limit 0 0 r0 r1 w0 w1 fault → WritesFrontOf d r0 r1 w0 w1 fault
+    WritesFrontBut (2 ^ 7) (λ xs. d.text (part_of d.skip d.limit xs)) d.skip d.limit 0 0 (streams r0 r1 w0 w1) fault → WritesFrontOf d r0 r1 w0 w1 fault
 front_of d r0 r1 w0 w1 fault p = record {
   input = p.input;
   written = p.written;

@@ -8,7 +8,7 @@ use Rattle.bx_text.proofs.RangeLemmas.{flat_map_along}
 use Rattle.std.specs.Prelude.{Option, None}
 use Rattle.std.proofs.lemmas.List.{take-append-le}
 use Rattle.bx_text.specs.declared.fault.IoFault.{IoFault}
-use Rattle.bx_dump.specs.inner.Pages.{WritesFrontBut}
+use Rattle.bx_dump.specs.inner.Pages.{WritesFrontBut, streams}
 use Rattle.bx_dump.specs.inner.Dumped.{DumpsFrontBut}
 use Rattle.bx_dump.proofs.DumpLemmas.{cause_longer, keeps_along, front_whole}
 use Rattle.bx_dump.proofs.ScanLemmas.{both}
@@ -173,7 +173,7 @@ end_few least run = go (nat_le least (length run)) refl
 
 -- a front of what is known is a front of the whole
 pub front_known : (least : ℕ) (o : Address) (r0 r1 w0 w1 : Option (List ℕ)) (fault : IoFault) → 0 < least →
-    DumpsFrontBut 0 (scan_text least o 0 []) r0 r1 w0 w1 fault → WritesFrontBut (2 ^ 7) (strings_text least o) 0 None 0 0 r0 r1 w0 w1 fault
+    DumpsFrontBut 0 (scan_text least o 0 []) r0 r1 w0 w1 fault → WritesFrontBut (2 ^ 7) (strings_text least o) 0 None 0 0 (streams r0 r1 w0 w1) fault
 front_known least o r0 r1 w0 w1 fault some d =
     let text = scan_text least o 0 [] d.0 in
     let tail = end_text least (scan_run [] d.0) in

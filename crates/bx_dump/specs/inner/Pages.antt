@@ -1,11 +1,25 @@
 -- What proofs alone need: what a dump of a part of an input reads and writes.
-use Rattle.std.specs.Prelude.{◌≡◌, ℕ, ◌+◌, ◌^◌, ◌≤◌, ◌⊎◌, List, length, take, Option, None, Some, IfSome, Result, IfOk, IfErr, MatchOption}
+use Rattle.std.specs.Prelude.{◌≡◌, ℕ, ◌+◌, ◌^◌, ◌≤◌, ◌⊎◌, List, length, take, Option, None, Some, IfSome, MatchOption}
 use Rattle.std.specs.Option.{option_map_or}
 use Rattle.std.specs.Io.KnownBytes.{Appends, Consumes, IsAtEnd}
 use Rattle.bx_text.specs.declared.fault.IoFault.{IoFault}
 use Rattle.bx_dump.specs.Pages.{part_of}
 use Rattle.bx_dump.specs.inner.Dumped.{IsDumpFault, KeepsUp}
 use Rattle.bx_dump.specs.declared.driver.pages.Part.{Part}
+
+-- What a call read and wrote: what was left of the input before and after it, and what was written.
+pub record Streams : Type 0 where
+  pub old_input : Option (List ℕ)
+  pub new_input : Option (List ℕ)
+  pub old_output : Option (List ℕ)
+  pub new_output : Option (List ℕ)
+
+-- these four, and those of a reader and a writer
+abbrev pub streams : Option (List ℕ) → Option (List ℕ) → Option (List ℕ) → Option (List ℕ) → Streams
+streams r0 r1 w0 w1 = record { old_input = r0; new_input = r1; old_output = w0; new_output = w1 }
+
+abbrev pub streams_of : {R W : Type 0} → (R → Option (List ℕ)) → R → R → (W → Option (List ℕ)) → W → W → Streams
+streams_of remaining r0 r1 contents w0 w1 = streams (remaining r0) (remaining r1) (contents w0) (contents w1)
 
 -- at most this many of the bytes
 abbrev pub capped : Option ℕ → List ℕ → List ℕ
@@ -16,25 +30,24 @@ abbrev pub IsEndOf : ℕ → Option ℕ → ℕ → Option (List ℕ) → Type 0
 IsEndOf skip limit n from = MatchOption limit (IsAtEnd from) (λ most. (n ≤ skip + most) × (IsAtEnd from ⊎ (n ≡ skip + most)))
 
 -- The input was read as far as its part needs, and its whole text was written.
-pub record WritesPart (text : List ℕ → List ℕ) (skip : ℕ) (limit : Option ℕ) (r0 r1 w0 w1 : Option (List ℕ)) (read written : ℕ) : Type 0 where
+pub record WritesPart (text : List ℕ → List ℕ) (skip : ℕ) (limit : Option ℕ) (io : Streams) (read written : ℕ) : Type 0 where
   pub input : List ℕ
-  pub consumed : Consumes r0 r1 input
-  pub ends : IsEndOf skip limit (length input) r1
+  pub consumed : Consumes io.old_input io.new_input input
+  pub ends : IsEndOf skip limit (length input) io.new_input
   pub few : length input ≤ 2 ^ 40
   pub dumped : length (part_of skip limit input) ≡ read
-  pub appended : Appends w0 w1 (text input)
+  pub appended : Appends io.old_output io.new_output (text input)
   pub long : length (text input) ≡ written
 
 -- Some input was read after `from` bytes, no more of it than skip and limit ask for, and a front of its text was written
 -- after `before` bytes, which the fault counts too; reading is no more than a block ahead.
-pub record WritesFrontBut (slack : ℕ) (text : List ℕ → List ℕ) (skip : ℕ) (limit : Option ℕ) (from before : ℕ) (r0 r1 w0 w1 : Option (List ℕ))
-    (fault : IoFault) : Type 0 where
+pub record WritesFrontBut (slack : ℕ) (text : List ℕ → List ℕ) (skip : ℕ) (limit : Option ℕ) (from before : ℕ) (io : Streams) (fault : IoFault) : Type 0 where
   pub input : List ℕ
   pub written : ℕ
-  pub consumed : Consumes r0 r1 input
+  pub consumed : Consumes io.old_input io.new_input input
   pub asked : IfSome limit (λ most. length input ≤ skip + most)
   pub within : written ≤ length (text input)
-  pub appended : Appends w0 w1 (take written (text input))
+  pub appended : Appends io.old_output io.new_output (take written (text input))
   pub cause : IsDumpFault fault (from + length input) (before + written) (before + length (text input))
   pub ahead : KeepsUp slack text input written fault
 
@@ -44,40 +57,27 @@ IsLast None n from = IsAtEnd from
 IsLast (Some most) n from = (n ≤ most) × (IsAtEnd from ⊎ (n ≡ most))
 
 -- The same of what comes after `from` bytes that are skipped, with the text of the part alone.
-pub record WritesRest (text : List ℕ → List ℕ) (from : ℕ) (limit : Option ℕ) (r0 r1 w0 w1 : Option (List ℕ)) (read written : ℕ) : Type 0 where
+pub record WritesRest (text : List ℕ → List ℕ) (from : ℕ) (limit : Option ℕ) (io : Streams) (read written : ℕ) : Type 0 where
   pub input : List ℕ
-  pub consumed : Consumes r0 r1 input
-  pub ends : IsLast limit read r1
+  pub consumed : Consumes io.old_input io.new_input input
+  pub ends : IsLast limit read io.new_input
   pub few : from + length input ≤ 2 ^ 40
   pub dumped : length input ≡ read
-  pub appended : Appends w0 w1 (text input)
+  pub appended : Appends io.old_output io.new_output (text input)
   pub long : length (text input) ≡ written
 
 -- the text of what comes next was written, behind `from` bytes that were taken
-abbrev pub WritesNext : (List ℕ → List ℕ) → ℕ → Option ℕ → Option (List ℕ) → Option (List ℕ) → Option (List ℕ) → Option (List ℕ) → Part → Type 0
-WritesNext text from limit r0 r1 w0 w1 part = WritesRest text from limit r0 r1 w0 w1 part.read part.written
+abbrev pub WritesNext : (List ℕ → List ℕ) → ℕ → Option ℕ → Streams → Part → Type 0
+WritesNext text from limit io part = WritesRest text from limit io part.read part.written
 
 -- a front of it was written, after `before` bytes of other texts
-abbrev pub StopsNext : (List ℕ → List ℕ) → ℕ → Option ℕ → ℕ → Option (List ℕ) → Option (List ℕ) → Option (List ℕ) → Option (List ℕ) → IoFault → Type 0
-StopsNext text from limit before r0 r1 w0 w1 fault = WritesFrontBut 0 (λ input. text (capped limit input)) 0 limit from before r0 r1 w0 w1 fault
-
--- the same of what was answered
-abbrev pub WritesOn : (List ℕ → List ℕ) → ℕ → Option ℕ → Option (List ℕ) → Option (List ℕ) → Option (List ℕ) → Option (List ℕ) → Result Part IoFault → Type 0
-WritesOn text from limit r0 r1 w0 w1 outcome = IfOk outcome (WritesNext text from limit r0 r1 w0 w1)
-
-abbrev pub StopsOn : (List ℕ → List ℕ) → ℕ → Option ℕ → ℕ → Option (List ℕ) → Option (List ℕ) → Option (List ℕ) → Option (List ℕ) → Result Part IoFault → Type 0
-StopsOn text from limit before r0 r1 w0 w1 outcome = IfErr outcome (StopsNext text from limit before r0 r1 w0 w1)
+abbrev pub StopsNext : (List ℕ → List ℕ) → ℕ → Option ℕ → ℕ → Streams → IoFault → Type 0
+StopsNext text from limit before io fault = WritesFrontBut 0 (λ input. text (capped limit input)) 0 limit from before io fault
 
 -- the text of the part was written
-abbrev pub WritesTextOf : (List ℕ → List ℕ) → ℕ → Option ℕ → Option (List ℕ) → Option (List ℕ) → Option (List ℕ) → Option (List ℕ) → Part → Type 0
-WritesTextOf text skip limit r0 r1 w0 w1 part = WritesPart (λ input. text (part_of skip limit input)) skip limit r0 r1 w0 w1 part.read part.written
+abbrev pub WritesTextOf : (List ℕ → List ℕ) → ℕ → Option ℕ → Streams → Part → Type 0
+WritesTextOf text skip limit io part = WritesPart (λ input. text (part_of skip limit input)) skip limit io part.read part.written
 
 -- a front of it was written, after `before` bytes of other texts
-abbrev pub StopsTextOf : ℕ → (List ℕ → List ℕ) → ℕ → Option ℕ → ℕ → Option (List ℕ) → Option (List ℕ) → Option (List ℕ) → Option (List ℕ) → IoFault → Type 0
-StopsTextOf slack text skip limit before r0 r1 w0 w1 fault =
-    WritesFrontBut slack (λ input. text (part_of skip limit input)) skip limit 0 before r0 r1 w0 w1 fault
-
--- the same of what was answered
-abbrev pub StopsPart : (List ℕ → List ℕ) → ℕ → Option ℕ → ℕ → Option (List ℕ) → Option (List ℕ) → Option (List ℕ) → Option (List ℕ) → Result Part IoFault
-    → Type 0
-StopsPart text skip limit before r0 r1 w0 w1 outcome = IfErr outcome (StopsTextOf 0 text skip limit before r0 r1 w0 w1)
+abbrev pub StopsTextOf : ℕ → (List ℕ → List ℕ) → ℕ → Option ℕ → ℕ → Streams → IoFault → Type 0
+StopsTextOf slack text skip limit before io fault = WritesFrontBut slack (λ input. text (part_of skip limit input)) skip limit 0 before io fault

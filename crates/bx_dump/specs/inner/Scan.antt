@@ -1,7 +1,6 @@
 -- The text of strings as far as it is known behind each byte. `run` is what stands printable right before place `at`.
-use Rattle.std.specs.Prelude.{◌≡◌, ◌<◌, ◌≤◌, ℕ, ◌+◌, ◌-◌, ◌^◌, ◌==◌, Bool, true, false, ◌&&◌, nat_le, nat_lt, if◌then◌else◌, List, [], ◌∷◌, ◌++◌, length, take, slice_index, codes, Option}
+use Rattle.std.specs.Prelude.{◌≡◌, ◌<◌, ◌≤◌, ℕ, ◌+◌, ◌-◌, ◌==◌, Bool, true, false, ◌&&◌, nat_le, nat_lt, if◌then◌else◌, List, [], ◌∷◌, ◌++◌, length, take, slice_index, codes}
 use Rattle.std.specs.Int.{w64, trailing_zeros}
-use Rattle.std.specs.Io.KnownBytes.{Appends, Consumes, IsAtEnd}
 use Rattle.bx_dump.specs.declared.od.options.Address.{Address}
 use Rattle.bx_dump.specs.declared.od.options.Address.TheVariants.{Octal, Decimal, Hexadecimal, Without}
 use Rattle.bx_text.specs.Ascii.{is_printable}
@@ -75,14 +74,3 @@ cost_of Octal = 26
 cost_of Decimal = 26
 cost_of Hexadecimal = 26
 cost_of Without = 2
-
--- All the input was read, what is known of it was written, and the run that it ends in is kept.
-pub record ScansAll (least : ℕ) (offsets : Address) (count : ℕ) (kept : List ℕ) (r0 r1 w0 w1 : Option (List ℕ)) (read written : ℕ) : Type 0 where
-  pub input : List ℕ
-  pub long : length input ≡ read
-  pub few : read ≤ 2 ^ 40
-  pub consumed : Consumes r0 r1 input
-  pub ended : IsAtEnd r1
-  pub appended : Appends w0 w1 (scan_text least offsets 0 [] input)
-  pub size : length (scan_text least offsets 0 [] input) ≡ written
-  pub run : IsKept least count kept (scan_run [] input)

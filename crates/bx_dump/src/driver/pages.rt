@@ -1,6 +1,6 @@
 //! Dumps of inputs, a page of text at a time.
-ghost use Rattle.std.specs.Prelude.{◌≡◌, ℕ, ◌+◌, ◌-◌, ◌^◌, ◌<◌, ◌≤◌, true, List, [], ◌++◌, length, take, Option, IfOk, IfSome, Some};
-ghost use Rattle.bx_dump.specs.inner.Pages.{StopsOn, StopsPart, WritesOn, WritesTextOf};
+ghost use Rattle.std.specs.Prelude.{◌≡◌, ℕ, ◌+◌, ◌-◌, ◌^◌, ◌<◌, ◌≤◌, true, List, [], ◌++◌, length, take, Option, IfErr, IfOk, IfSome, Some};
+ghost use Rattle.bx_dump.specs.inner.Pages.{StopsNext, StopsTextOf, WritesNext, WritesTextOf, streams_of};
 
 use bx_text::{IoFault, Meter, State, emit_after};
 use std::io::{Read, Write};
@@ -77,21 +77,19 @@ pub fn dump_pages<R: Read, W: Write, P: Pages>(
     pages: &mut P,
     limit: Option<u64>,
     before: u64,
-    block: &mut [u8],
-    page: &mut [u8],
 ) -> Result<Part, IoFault>
     requires open { meter.old.state ≡ State.Open }
     requires limit { meter.old.limit ≡ 2 ^ 40 }
     requires before { before ≤ 2 ^ 63 }
-    requires block { length block.old ≡ BLOCK }
-    requires page { length page.old ≡ PAGE }
     requires seen { P.Seen pages.old [] }
     requires empty { P.written pages.old [] ≡ [] }
-    ensures ok { WritesOn (P.written pages.old) meter.old.taken limit (R.remaining r.old) (R.remaining r.new) (W.contents w.old) (W.contents w.new) result }
-    ensures err { StopsOn (P.written pages.old) meter.old.taken limit before (R.remaining r.old) (R.remaining r.new) (W.contents w.old) (W.contents w.new) result }
+    ensures ok { IfOk result (WritesNext (P.written pages.old) meter.old.taken limit (streams_of R.remaining r.old r.new W.contents w.old w.new)) }
+    ensures err { IfErr result (StopsNext (P.written pages.old) meter.old.taken limit before (streams_of R.remaining r.old r.new W.contents w.old w.new)) }
     ensures few { IfOk result (λ part. part.written ≤ 2 ^ 60) }
     ensures count { IfOk result (λ part. part.read ≤ 2 ^ 40) }
 {
+    let mut block = [0; BLOCK];
+    let mut page = [0; PAGE];
     let size = pages.block_len();
     let mut part = Part {
         read: 0,
@@ -104,7 +102,7 @@ pub fn dump_pages<R: Read, W: Write, P: Pages>(
             Ok(n) => n,
             Err(fault) => return Err(fault),
         };
-        let used = pages.put(page, part.read, &block[..n]);
+        let used = pages.put(&mut page, part.read, &block[..n]);
         if let Err(fault) = emit_after(w, before + part.written, &page[..used]) {
             return Err(fault);
         }
@@ -128,9 +126,8 @@ pub fn dump_part<R: Read, W: Write, P: Pages>(
     requires before { before ≤ 2 ^ 63 }
     requires seen { P.Seen pages.old [] }
     requires empty { P.written pages.old [] ≡ [] }
-    ensures ok { IfOk result (
-        WritesTextOf (P.written pages.old) from limit (R.remaining r.old) (R.remaining r.new) (W.contents w.old) (W.contents w.new)) }
-    ensures err { StopsPart (P.written pages.old) from limit before (R.remaining r.old) (R.remaining r.new) (W.contents w.old) (W.contents w.new) result }
+    ensures ok { IfOk result (WritesTextOf (P.written pages.old) from limit (streams_of R.remaining r.old r.new W.contents w.old w.new)) }
+    ensures err { IfErr result (StopsTextOf 0 (P.written pages.old) from limit before (streams_of R.remaining r.old r.new W.contents w.old w.new)) }
     ensures few { IfOk result (λ part. part.written ≤ 2 ^ 60) }
     ensures count { IfOk result (λ part. part.read ≤ 2 ^ 40) }
 {
@@ -146,14 +143,5 @@ pub fn dump_part<R: Read, W: Write, P: Pages>(
         }
         Err(fault) => return Err(fault),
     }
-    dump_pages(
-        &mut meter,
-        r,
-        w,
-        pages,
-        limit,
-        before,
-        &mut block,
-        &mut [0; PAGE],
-    )
+    dump_pages(&mut meter, r, w, pages, limit, before)
 }

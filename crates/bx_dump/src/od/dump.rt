@@ -2,11 +2,12 @@
 ghost use Rattle.std.specs.Prelude.{◌≡◌, ◌⊎◌, ℕ, ◌+◌, ◌^◌, ◌<◌, ◌≤◌, true, length, Err, IfOk, IfErr, OnOk, OnErr};
 ghost use Rattle.bx_text.specs.Stream.{Skips};
 ghost use Rattle.bx_dump.specs.OdDump.{Reaches, StopsOd, od_of};
+ghost use Rattle.bx_dump.specs.inner.Pages.{streams_of};
 ghost use Rattle.bx_dump.specs.inner.OdDump.{StopsOdLines, StopsShort, WritesOdLines};
 ghost use Rattle.bx_dump.specs.Pages.{WritesAll};
 
 use crate::driver::folded::FoldedPages;
-use crate::driver::pages::{BLOCK, LIMIT, PAGE, Part, dump_pages};
+use crate::driver::pages::{BLOCK, LIMIT, Part, dump_pages};
 use crate::od::lines::{OdLines, end_line};
 use crate::od::options::OdOptions;
 use bx_text::{IoFault, Meter, State, emit_after};
@@ -36,13 +37,11 @@ fn dump_lines<R: Read, W: Write>(
     r: &mut R,
     w: &mut W,
     o: &OdOptions,
-    block: &mut [u8],
 ) -> Result<Part, IoFault>
     requires open { meter.old.state ≡ State.Open }
     requires limit { meter.old.limit ≡ 2 ^ 40 }
-    requires block { length block.old ≡ BLOCK }
-    ensures ok { IfOk result (WritesOdLines o.now meter.old.taken (R.remaining r.old) (R.remaining r.new) (W.contents w.old) (W.contents w.new)) }
-    ensures err { IfErr result (StopsOdLines o.now meter.old.taken (R.remaining r.old) (R.remaining r.new) (W.contents w.old) (W.contents w.new)) }
+    ensures ok { IfOk result (WritesOdLines o.now meter.old.taken (streams_of R.remaining r.old r.new W.contents w.old w.new)) }
+    ensures err { IfErr result (StopsOdLines o.now meter.old.taken (streams_of R.remaining r.old r.new W.contents w.old w.new)) }
     ensures few { IfOk result (λ part. part.written ≤ 2 ^ 60) }
     ensures count { IfOk result (λ part. part.read ≤ 2 ^ 40) }
 {
@@ -51,7 +50,7 @@ fn dump_lines<R: Read, W: Write>(
         kind: o.kind,
     };
     let mut pages = FoldedPages::new(lines, o.all, o.first + o.skip);
-    dump_pages(meter, r, w, &mut pages, o.limit, 0, block, &mut [0; PAGE])
+    dump_pages(meter, r, w, &mut pages, o.limit, 0)
 }
 
 /// Writes od's text of the bytes from place `skip` on, at most `limit` of them, and answers how many they are.
@@ -73,7 +72,7 @@ pub fn od<R: Read, W: Write>(r: &mut R, w: &mut W, o: &OdOptions) -> Result<u64,
     if let Err(fault) = reach(&mut meter, r, o.skip, &mut block) {
         return Err(fault);
     }
-    let lines = match dump_lines(&mut meter, r, w, o, &mut block) {
+    let lines = match dump_lines(&mut meter, r, w, o) {
         Ok(lines) => lines,
         Err(fault) => return Err(fault),
     };

@@ -79,33 +79,34 @@ impl Columns {
     }
 }
 
-/// Puts a full line, for an address of 8 digits.
-#[inline(always)]
-fn put_fixed(
-    form: &Columns,
-    line: &mut [u8],
-    at: u32,
-    bytes: &[u8],
-    cells: &[u8],
+/// The numbers of a form, each written out where its lines are put, so that the loop is made for them: the bytes and the digits of a
+/// line, the characters between address and text, the digits of a group, and how many groups are whole.
+#[derive(Clone, Copy)]
+struct Sizes {
+    cols: usize,
+    wide: usize,
     field: usize,
     piece: usize,
     count: usize,
-)
+}
+
+/// Puts a full line, for an address of 8 digits.
+#[inline(always)]
+fn put_fixed(form: &Columns, line: &mut [u8], at: u32, bytes: &[u8], cells: &[u8], sizes: Sizes)
     requires full { length bytes.now ≡ form.now.cols }
     requires cells { cells.now ≡ flat_map (cell_of form.now.digits) bytes.now }
-    requires field { field ≡ form.now.field }
-    requires piece { piece ≡ cell_width form.now.digits * form.now.group }
-    requires count { count ≡ form.now.whole }
-    requires long { length line.old ≡ field + length bytes.now + 12 }
+    requires field { sizes.field ≡ form.now.field }
+    requires piece { sizes.piece ≡ cell_width form.now.digits * form.now.group }
+    requires count { sizes.count ≡ form.now.whole }
+    requires long { length line.old ≡ sizes.field + length bytes.now + 12 }
     ensures { line.new ≡ columns_line form.now.digits form.now.cols form.now.group at bytes.now }
 {
     let (address, body) = line.split_at_mut(8);
     put_address(address, at);
-    put_body(body, bytes, cells, field, piece, count);
+    put_body(body, bytes, cells, sizes.field, sizes.piece, sizes.count);
 }
 
-/// Puts all full lines, for addresses of 8 digits. The numbers are those of the form, each written out at the call, so that
-/// the loop is made for them.
+/// Puts all full lines, for addresses of 8 digits.
 #[inline(always)]
 fn put_full(
     form: &Columns,
@@ -113,18 +114,14 @@ fn put_full(
     at: u32,
     bytes: &[u8],
     cells: &[u8],
-    cols: usize,
-    wide: usize,
-    field: usize,
-    piece: usize,
-    count: usize,
+    sizes: Sizes,
 ) -> Put
-    requires cols { cols ≡ form.now.cols }
-    requires wide { wide ≡ cell_width form.now.digits * form.now.cols }
-    requires field { field ≡ form.now.field }
-    requires piece { piece ≡ cell_width form.now.digits * form.now.group }
-    requires count { count ≡ form.now.whole }
-    requires room { (field + cols + 26) * ((length bytes.now + cols - 1) / cols) ≤ length text.old }
+    requires cols { sizes.cols ≡ form.now.cols }
+    requires wide { sizes.wide ≡ cell_width form.now.digits * form.now.cols }
+    requires field { sizes.field ≡ form.now.field }
+    requires piece { sizes.piece ≡ cell_width form.now.digits * form.now.group }
+    requires count { sizes.count ≡ form.now.whole }
+    requires room { (sizes.field + sizes.cols + 26) * ((length bytes.now + sizes.cols - 1) / sizes.cols) ≤ length text.old }
     requires address { at + length bytes.now < 2 ^ 32 }
     requires cells { cells.now ≡ flat_map (cell_of form.now.digits) bytes.now }
     requires long { length cells.now ≡ cell_width form.now.digits * length bytes.now }
@@ -132,8 +129,10 @@ fn put_full(
     ensures most { result.used ≤ (form.now.field + form.now.cols + 26) * result.lines }
     ensures text { take result.used text.new ≡ lines_of form.now.digits form.now.cols form.now.group at bytes.now result.lines }
 {
+    let cols = sizes.cols;
+    let wide = sizes.wide;
     let lines = bytes.len() / cols;
-    let size = field + cols + 12;
+    let size = sizes.field + cols + 12;
     for k in 0..lines {
         put_fixed(
             form,
@@ -141,9 +140,7 @@ fn put_full(
             at + (cols * k) as u32,
             &bytes[cols * k..cols * k + cols],
             &cells[wide * k..wide * k + wide],
-            field,
-            piece,
-            count,
+            sizes,
         );
     }
     Put {
@@ -244,8 +241,26 @@ impl LineForm for Columns {
         }
         let at = at as u32;
         match (self.digits.width(), self.cols, self.group) {
-            (2, 16, 2) => put_full(self, text, at, bytes, cells, 16, 32, 40, 4, 8),
-            (2, 32, 4) => put_full(self, text, at, bytes, cells, 32, 64, 72, 8, 8),
+            (2, 16, 2) => {
+                let sizes = Sizes {
+                    cols: 16,
+                    wide: 32,
+                    field: 40,
+                    piece: 4,
+                    count: 8,
+                };
+                put_full(self, text, at, bytes, cells, sizes)
+            }
+            (2, 32, 4) => {
+                let sizes = Sizes {
+                    cols: 32,
+                    wide: 64,
+                    field: 72,
+                    piece: 8,
+                    count: 8,
+                };
+                put_full(self, text, at, bytes, cells, sizes)
+            }
             _ => Put { lines: 0, used: 0 },
         }
     }

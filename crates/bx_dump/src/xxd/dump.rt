@@ -2,6 +2,7 @@
 ghost use Rattle.std.specs.Prelude.{◌≡◌, ◌+◌, ◌^◌, ◌<◌, ◌≤◌, length, IfOk, IfErr};
 ghost use Rattle.bx_dump.specs.Pages.{WritesAll, WritesFrontOf};
 ghost use Rattle.bx_dump.specs.Styles.{group_of, include_items, xxd_of, IsCountable};
+ghost use Rattle.bx_dump.specs.inner.Pages.{streams_of};
 ghost use Rattle.bx_dump.specs.inner.Styles.{columns_text, named_text, plain_text};
 ghost use Rattle.bx_dump.specs.inner.XxdDump.{StopsFront, StopsItems, StopsLines, StopsStyle, WritesLines, WritesStyle, WritesText};
 
@@ -25,9 +26,8 @@ pub fn dump_lines<R: Read, W: Write, F: LineForm + Drop>(
 ) -> Result<Part, IoFault>
     requires start { start ≤ 2 ^ 63 }
     requires before { before ≤ 2 ^ 63 }
-    ensures ok { IfOk result (
-        WritesLines (F.line form) (F.cols form) start o.now (R.remaining r.old) (R.remaining r.new) (W.contents w.old) (W.contents w.new)) }
-    ensures err { StopsLines (F.line form) (F.cols form) start o.now before (R.remaining r.old) (R.remaining r.new) (W.contents w.old) (W.contents w.new) result }
+    ensures ok { IfOk result (WritesLines (F.line form) (F.cols form) start o.now (streams_of R.remaining r.old r.new W.contents w.old w.new)) }
+    ensures err { StopsLines (F.line form) (F.cols form) start o.now before (streams_of R.remaining r.old r.new W.contents w.old w.new) result }
     ensures few { IfOk result (λ part. part.written ≤ 2 ^ 60) }
 {
     let mut lines = Lines::new(form, start);
@@ -54,8 +54,8 @@ fn dump_columns<R: Read, W: Write>(
     digits: Digits,
     o: &XxdOptions,
 ) -> Result<Part, IoFault>
-    ensures ok { IfOk result (WritesText (columns_text digits o.now) o.now (R.remaining r.old) (R.remaining r.new) (W.contents w.old) (W.contents w.new)) }
-    ensures err { IfErr result (StopsFront (columns_text digits o.now) o.now (R.remaining r.old) (R.remaining r.new) (W.contents w.old) (W.contents w.new)) }
+    ensures ok { IfOk result (WritesText (columns_text digits o.now) o.now (streams_of R.remaining r.old r.new W.contents w.old w.new)) }
+    ensures err { IfErr result (StopsFront (columns_text digits o.now) o.now (streams_of R.remaining r.old r.new W.contents w.old w.new)) }
 {
     let group = group_len(o);
     let form = Columns::new(digits, o.cols as usize, group);
@@ -64,8 +64,8 @@ fn dump_columns<R: Read, W: Write>(
 
 /// Writes lines of plain digits.
 fn dump_plain<R: Read, W: Write>(r: &mut R, w: &mut W, o: &XxdOptions) -> Result<Part, IoFault>
-    ensures ok { IfOk result (WritesText (plain_text o.now) o.now (R.remaining r.old) (R.remaining r.new) (W.contents w.old) (W.contents w.new)) }
-    ensures err { IfErr result (StopsFront (plain_text o.now) o.now (R.remaining r.old) (R.remaining r.new) (W.contents w.old) (W.contents w.new)) }
+    ensures ok { IfOk result (WritesText (plain_text o.now) o.now (streams_of R.remaining r.old r.new W.contents w.old w.new)) }
+    ensures err { IfErr result (StopsFront (plain_text o.now) o.now (streams_of R.remaining r.old r.new W.contents w.old w.new)) }
 {
     dump_lines(r, w, Plain::new(o.cols as usize, o.upper), 0, o, 0)
 }
@@ -78,8 +78,8 @@ fn dump_items<R: Read, W: Write>(
     before: u64,
 ) -> Result<Part, IoFault>
     requires before { before ≤ 2 ^ 62 + 64 }
-    ensures ok { IfOk result (WritesText (include_items o.now.cols) o.now (R.remaining r.old) (R.remaining r.new) (W.contents w.old) (W.contents w.new)) }
-    ensures err { StopsItems o.now before (R.remaining r.old) (R.remaining r.new) (W.contents w.old) (W.contents w.new) result }
+    ensures ok { IfOk result (WritesText (include_items o.now.cols) o.now (streams_of R.remaining r.old r.new W.contents w.old w.new)) }
+    ensures err { StopsItems o.now before (streams_of R.remaining r.old r.new W.contents w.old w.new) result }
     ensures few { IfOk result (λ part. part.written ≤ 2 ^ 60 + 1) }
 {
     let lines = match dump_lines(r, w, Items::new(o.cols as usize), 0, o, before) {
@@ -106,10 +106,8 @@ fn dump_named<R: Read, W: Write>(
     name: &[u8],
 ) -> Result<Part, IoFault>
     requires name { length name.now ≤ 2 ^ 62 }
-    ensures ok { IfOk result (
-        WritesText (named_text name.now o.now.cols) o.now (R.remaining r.old) (R.remaining r.new) (W.contents w.old) (W.contents w.new)) }
-    ensures err { IfErr result (
-        StopsFront (named_text name.now o.now.cols) o.now (R.remaining r.old) (R.remaining r.new) (W.contents w.old) (W.contents w.new)) }
+    ensures ok { IfOk result (WritesText (named_text name.now o.now.cols) o.now (streams_of R.remaining r.old r.new W.contents w.old w.new)) }
+    ensures err { IfErr result (StopsFront (named_text name.now o.now.cols) o.now (streams_of R.remaining r.old r.new W.contents w.old w.new)) }
 {
     let before = match emit_head(w, name) {
         Ok(before) => before,
@@ -136,8 +134,8 @@ fn dump_include<R: Read, W: Write>(
     name: Option<&str>,
 ) -> Result<Part, IoFault>
     requires name { IsCountable (XxdStyle.Include name) }
-    ensures ok { IfOk result (WritesStyle (XxdStyle.Include name.entry) o.now (R.remaining r.old) (R.remaining r.new) (W.contents w.old) (W.contents w.new)) }
-    ensures err { IfErr result (StopsStyle (XxdStyle.Include name.entry) o.now (R.remaining r.old) (R.remaining r.new) (W.contents w.old) (W.contents w.new)) }
+    ensures ok { IfOk result (WritesStyle (XxdStyle.Include name.entry) o.now (streams_of R.remaining r.old r.new W.contents w.old w.new)) }
+    ensures err { IfErr result (StopsStyle (XxdStyle.Include name.entry) o.now (streams_of R.remaining r.old r.new W.contents w.old w.new)) }
 {
     match name {
         None => dump_items(r, w, o, 0),
@@ -153,8 +151,8 @@ fn dump_styled<R: Read, W: Write>(
     o: &XxdOptions,
 ) -> Result<Part, IoFault>
     requires name { IsCountable style }
-    ensures ok { IfOk result (WritesStyle style.entry o.now (R.remaining r.old) (R.remaining r.new) (W.contents w.old) (W.contents w.new)) }
-    ensures err { IfErr result (StopsStyle style.entry o.now (R.remaining r.old) (R.remaining r.new) (W.contents w.old) (W.contents w.new)) }
+    ensures ok { IfOk result (WritesStyle style.entry o.now (streams_of R.remaining r.old r.new W.contents w.old w.new)) }
+    ensures err { IfErr result (StopsStyle style.entry o.now (streams_of R.remaining r.old r.new W.contents w.old w.new)) }
 {
     match style {
         XxdStyle::Normal => dump_columns(r, w, Digits::Hexadecimal { upper: o.upper }, o),

@@ -29,34 +29,34 @@ line_fits n cols field k room pos below fits =
 pub loop-k-init : goal.loop-k-init
 loop-k-init c =
     let p = c.args.form.now in
-    let none : (c.args.field + c.args.cols + 12) * 0 ≡ 0 = omega arith in
+    let none : (c.args.sizes.field + c.args.sizes.cols + 12) * 0 ≡ 0 = omega arith in
     ap (λ n. take n c.args.text.now) none ∙ lines_zero (columns_line p.digits p.cols p.group) p.cols c.args.at c.args.bytes.now p.some
 
 pub overflow_mul-size : goal.overflow_mul-size
 overflow_mul-size c =
-    omega (arith, line_fits (length c.args.bytes.now) c.args.cols c.args.field c.loop-k.k (length c.args.text.now) (omega (arith, c.args.form.now.some, c.requires.cols)) c.loop-k-test.true c.requires.room)
+    omega (arith, line_fits (length c.args.bytes.now) c.args.sizes.cols c.args.sizes.field c.loop-k.k (length c.args.text.now) (omega (arith, c.args.form.now.some, c.requires.cols)) c.loop-k-test.true c.requires.room)
 
 pub overflow_mul-size-in-loop-k : goal.overflow_mul-size-in-loop-k
 overflow_mul-size-in-loop-k c = overflow_mul-size c
 
 pub overflow_add-size-in-loop-k : goal.overflow_add-size-in-loop-k
 overflow_add-size-in-loop-k c =
-    omega (arith, line_fits (length c.args.bytes.now) c.args.cols c.args.field c.loop-k.k (length c.args.text.now) (omega (arith, c.args.form.now.some, c.requires.cols)) c.loop-k-test.true c.requires.room)
+    omega (arith, line_fits (length c.args.bytes.now) c.args.sizes.cols c.args.sizes.field c.loop-k.k (length c.args.text.now) (omega (arith, c.args.form.now.some, c.requires.cols)) c.loop-k-test.true c.requires.room)
 
 pub slice_bounds-put_fixed-end : goal.slice_bounds-put_fixed-end
 slice_bounds-put_fixed-end c =
-    let fits = line_fits (length c.args.bytes.now) c.args.cols c.args.field c.loop-k.k (length c.args.text.now) (omega (arith, c.args.form.now.some, c.requires.cols)) c.loop-k-test.true c.requires.room in
-    let here : (c.args.field + c.args.cols + 12) * c.loop-k.k + (c.args.field + c.args.cols + 12) ≤ length c.loop-k.text = omega (arith, c.loop-k.auto.text) in
+    let fits = line_fits (length c.args.bytes.now) c.args.sizes.cols c.args.sizes.field c.loop-k.k (length c.args.text.now) (omega (arith, c.args.form.now.some, c.requires.cols)) c.loop-k-test.true c.requires.room in
+    let here : (c.args.sizes.field + c.args.sizes.cols + 12) * c.loop-k.k + (c.args.sizes.field + c.args.sizes.cols + 12) ≤ length c.loop-k.text = omega (arith, c.loop-k.auto.text) in
     here
 
 pub overflow_mul-cols : goal.overflow_mul-cols
-overflow_mul-cols c = omega (arith, within_bytes (length c.args.bytes.now) c.args.cols c.loop-k.k c.loop-k-test.true)
+overflow_mul-cols c = omega (arith, within_bytes (length c.args.bytes.now) c.args.sizes.cols c.loop-k.k c.loop-k-test.true)
 
 pub overflow_cast-cols : goal.overflow_cast-cols
-overflow_cast-cols c = omega (arith, within_bytes (length c.args.bytes.now) c.args.cols c.loop-k.k c.loop-k-test.true, c.requires.address)
+overflow_cast-cols c = omega (arith, within_bytes (length c.args.bytes.now) c.args.sizes.cols c.loop-k.k c.loop-k-test.true, c.requires.address)
 
 pub overflow_add-at : goal.overflow_add-at
-overflow_add-at c = omega (arith, within_bytes (length c.args.bytes.now) c.args.cols c.loop-k.k c.loop-k-test.true, c.requires.address)
+overflow_add-at c = omega (arith, within_bytes (length c.args.bytes.now) c.args.sizes.cols c.loop-k.k c.loop-k-test.true, c.requires.address)
 
 pub overflow_mul-cols-in-loop-k : goal.overflow_mul-cols-in-loop-k
 overflow_mul-cols-in-loop-k c = overflow_mul-cols c
@@ -66,11 +66,11 @@ overflow_mul-cols-in-loop-k-2 c = overflow_mul-cols c
 
 pub slice_bounds-put_fixed-end-in-loop-k : goal.slice_bounds-put_fixed-end-in-loop-k
 slice_bounds-put_fixed-end-in-loop-k c =
-    let inside : c.args.cols * c.loop-k.k + c.args.cols ≤ length c.args.bytes.now = within_bytes (length c.args.bytes.now) c.args.cols c.loop-k.k c.loop-k-test.true in
+    let inside : c.args.sizes.cols * c.loop-k.k + c.args.sizes.cols ≤ length c.args.bytes.now = within_bytes (length c.args.bytes.now) c.args.sizes.cols c.loop-k.k c.loop-k-test.true in
     inside
 
 pub overflow_add-cols : goal.overflow_add-cols
-overflow_add-cols c = omega (arith, within_bytes (length c.args.bytes.now) c.args.cols c.loop-k.k c.loop-k-test.true)
+overflow_add-cols c = omega (arith, within_bytes (length c.args.bytes.now) c.args.sizes.cols c.loop-k.k c.loop-k-test.true)
 
 -- where its digits stand
 digits_fit : (n cols k w wide room : ℕ) → wide ≡ w * cols → k < n / cols → room ≡ w * n → wide * k + wide ≤ room
@@ -82,7 +82,7 @@ digits_fit n cols k w wide room is below all =
 pub overflow_mul-wide : goal.overflow_mul-wide
 overflow_mul-wide c =
     let w = cell_width c.args.form.now.digits in
-    let fits = digits_fit (length c.args.bytes.now) c.args.cols c.loop-k.k w c.args.wide (length c.args.cells.now) (c.requires.wide ∙ ap (λ m. w * m) (sym c.requires.cols)) c.loop-k-test.true c.requires.long in
+    let fits = digits_fit (length c.args.bytes.now) c.args.sizes.cols c.loop-k.k w c.args.sizes.wide (length c.args.cells.now) (c.requires.wide ∙ ap (λ m. w * m) (sym c.requires.cols)) c.loop-k-test.true c.requires.long in
     omega (arith, fits)
 
 pub overflow_mul-wide-in-loop-k : goal.overflow_mul-wide-in-loop-k
@@ -91,40 +91,40 @@ overflow_mul-wide-in-loop-k c = overflow_mul-wide c
 pub overflow_add-wide : goal.overflow_add-wide
 overflow_add-wide c =
     let w = cell_width c.args.form.now.digits in
-    let fits = digits_fit (length c.args.bytes.now) c.args.cols c.loop-k.k w c.args.wide (length c.args.cells.now) (c.requires.wide ∙ ap (λ m. w * m) (sym c.requires.cols)) c.loop-k-test.true c.requires.long in
+    let fits = digits_fit (length c.args.bytes.now) c.args.sizes.cols c.loop-k.k w c.args.sizes.wide (length c.args.cells.now) (c.requires.wide ∙ ap (λ m. w * m) (sym c.requires.cols)) c.loop-k-test.true c.requires.long in
     omega (arith, fits)
 
 pub slice_bounds-put_fixed-end-in-loop-k-2 : goal.slice_bounds-put_fixed-end-in-loop-k-2
 slice_bounds-put_fixed-end-in-loop-k-2 c =
     let w = cell_width c.args.form.now.digits in
-    digits_fit (length c.args.bytes.now) c.args.cols c.loop-k.k w c.args.wide (length c.args.cells.now) (c.requires.wide ∙ ap (λ m. w * m) (sym c.requires.cols)) c.loop-k-test.true c.requires.long
+    digits_fit (length c.args.bytes.now) c.args.sizes.cols c.loop-k.k w c.args.sizes.wide (length c.args.cells.now) (c.requires.wide ∙ ap (λ m. w * m) (sym c.requires.cols)) c.loop-k-test.true c.requires.long
 
 pub put_fixed-requires-clause-cells : goal.put_fixed-requires-clause-cells
 put_fixed-requires-clause-cells c =
     let p = c.args.form.now in
     let w = cell_width p.digits in
-    let cols = c.args.cols in
+    let cols = c.args.sizes.cols in
     let k = c.loop-k.k in
-    let wide : c.args.wide ≡ w * cols = c.requires.wide ∙ ap (λ m. w * m) (sym c.requires.cols) in
-    let place : c.args.wide * k ≡ w * (cols * k) = ap (λ m. m * k) wide ∙ omega arith in
-    let one : c.args.wide * k + c.args.wide - c.args.wide * k ≡ c.args.wide = omega arith in
+    let wide : c.args.sizes.wide ≡ w * cols = c.requires.wide ∙ ap (λ m. w * m) (sym c.requires.cols) in
+    let place : c.args.sizes.wide * k ≡ w * (cols * k) = ap (λ m. m * k) wide ∙ omega arith in
+    let one : c.args.sizes.wide * k + c.args.sizes.wide - c.args.sizes.wide * k ≡ c.args.sizes.wide = omega arith in
     let two : cols * k + cols - cols * k ≡ cols = omega arith in
-    let many : c.args.wide * k + c.args.wide - c.args.wide * k ≡ w * (cols * k + cols - cols * k) = one ∙ wide ∙ ap (λ m. w * m) (sym two) in
-    ap (λ t. take (c.args.wide * k + c.args.wide - c.args.wide * k) (drop (c.args.wide * k) t)) c.requires.cells
-    ∙ ap (λ m. take (c.args.wide * k + c.args.wide - c.args.wide * k) (drop m (flat_map (cell_of p.digits) c.args.bytes.now))) place
-    ∙ cells_part (cell_of p.digits) w (digits_even p.digits) (cols * k) (cols * k + cols - cols * k) (c.args.wide * k + c.args.wide - c.args.wide * k) c.args.bytes.now many
+    let many : c.args.sizes.wide * k + c.args.sizes.wide - c.args.sizes.wide * k ≡ w * (cols * k + cols - cols * k) = one ∙ wide ∙ ap (λ m. w * m) (sym two) in
+    ap (λ t. take (c.args.sizes.wide * k + c.args.sizes.wide - c.args.sizes.wide * k) (drop (c.args.sizes.wide * k) t)) c.requires.cells
+    ∙ ap (λ m. take (c.args.sizes.wide * k + c.args.sizes.wide - c.args.sizes.wide * k) (drop m (flat_map (cell_of p.digits) c.args.bytes.now))) place
+    ∙ cells_part (cell_of p.digits) w (digits_even p.digits) (cols * k) (cols * k + cols - cols * k) (c.args.sizes.wide * k + c.args.sizes.wide - c.args.sizes.wide * k) c.args.bytes.now many
 
 pub loop-k-preserved : goal.loop-k-preserved
 loop-k-preserved c =
     let p = c.args.form.now in
     let line = columns_line p.digits p.cols p.group in
-    let cols = c.args.cols in
+    let cols = c.args.sizes.cols in
     let n = length c.args.bytes.now in
     let k = c.loop-k.k in
-    let size = c.args.field + cols + 12 in
+    let size = c.args.sizes.field + cols + 12 in
     let a = size * k in
     let above : 0 < cols = omega (arith, p.some, c.requires.cols) in
-    let fits = line_fits n cols c.args.field k (length c.args.text.now) above c.loop-k-test.true c.requires.room in
+    let fits = line_fits n cols c.args.sizes.field k (length c.args.text.now) above c.loop-k-test.true c.requires.room in
     let room : a + size ≤ length c.loop-k.text = omega (arith, c.loop-k.auto.text) in
     let same : a + size - a ≡ size = omega arith in
     let len : length c.put_fixed.new.line ≡ size =
@@ -139,12 +139,12 @@ loop-k-preserved c =
 
 pub returns-clause-most : goal.returns-clause-most
 returns-clause-most c =
-    let lines = length c.args.bytes.now / c.args.cols in
-    let less : c.args.field + c.args.cols + 12 ≤ c.args.form.now.field + c.args.form.now.cols + 26 = omega (arith, c.requires.field, c.requires.cols) in
-    omega (arith, mul-le-mul_left {m = c.args.field + c.args.cols + 12} {n = c.args.form.now.field + c.args.form.now.cols + 26} lines less)
+    let lines = length c.args.bytes.now / c.args.sizes.cols in
+    let less : c.args.sizes.field + c.args.sizes.cols + 12 ≤ c.args.form.now.field + c.args.form.now.cols + 26 = omega (arith, c.requires.field, c.requires.cols) in
+    omega (arith, mul-le-mul_left {m = c.args.sizes.field + c.args.sizes.cols + 12} {n = c.args.form.now.field + c.args.form.now.cols + 26} lines less)
 
 pub overflow_mul-result : goal.overflow_mul-result
 overflow_mul-result c =
-    let size = c.args.field + c.args.cols + 12 in
-    let fits = text_fits (length c.args.bytes.now) c.args.cols size (c.args.field + c.args.cols + 26) (length c.args.text.now) (omega (arith, c.args.form.now.some, c.requires.cols)) (omega arith) c.requires.room in
+    let size = c.args.sizes.field + c.args.sizes.cols + 12 in
+    let fits = text_fits (length c.args.bytes.now) c.args.sizes.cols size (c.args.sizes.field + c.args.sizes.cols + 26) (length c.args.text.now) (omega (arith, c.args.form.now.some, c.requires.cols)) (omega arith) c.requires.room in
     omega (arith, fits)
