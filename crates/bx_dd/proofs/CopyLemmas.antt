@@ -12,6 +12,7 @@ use Rattle.bx_text.specs.inner.Stream.{StopsAfter}
 use Rattle.bx_text.specs.Writing.{WritesFront}
 use Rattle.bx_text.specs.declared.fault.IoFault.{IoFault}
 use Rattle.bx_text.specs.declared.fault.IoFault.TheVariants.{NoMemory, ReadFailed, WriteFailed, InputTooLong, SkipPastEnd}
+use Rattle.bx_dd.specs.declared.convert.records.Tail.{Tail}
 use Rattle.bx_dd.specs.declared.counts.Counts.{Counts}
 use Rattle.bx_dd.specs.declared.operands.plan.Plan.{Plan}
 use Rattle.bx_dd.specs.Counting.{counts_of}
@@ -25,7 +26,7 @@ use Rattle.bx_dd.specs.Output.{converted, cut_records, joined, shaped}
 use Rattle.bx_dd.specs.inner.Output.{fitted, line_of}
 use Rattle.bx_dd.specs.inner.Standing.{HasSizes, last_of}
 use Rattle.bx_dd.specs.Streaming.{IsCopy, IsCopyAhead, IsCopyFault, StopsCopy}
-use Rattle.bx_dd.specs.inner.Streaming.{CopiesRest, Flows, Goes, Stage, StopsFlow, StopsPass, StopsStage, most_of, unit_of, written_by}
+use Rattle.bx_dd.specs.inner.Streaming.{CopiesRest, Flows, Goes, Output, Stage, StopsFlow, StopsPass, StopsStage, most_of, unit_of, written_by}
 use Rattle.bx_dd.proofs.ConvertLemmas.{joined_none}
 use Rattle.bx_dd.proofs.RecordsLemmas.{Stands_last, Stands_none, cut_nil, shaped_nil, take_nil}
 use Rattle.bx_dd.proofs.TransferLemmas.{asked_skip, drop_read}
@@ -89,17 +90,17 @@ read_ahead output input (WriteFailed m) wanted room n p = absurd p
 read_ahead output input SkipPastEnd wanted room n p = tt
 
 -- nothing was read
-pub stage_start : (form : Form) (s : Option (List ℕ)) (waits kept : List ℕ) (k : ℕ) → HasSizes form → waits ≡ [] → kept ≡ [] → k ≡ 0 → Stage form s s [] [] waits k kept false 0
-stage_start form s waits kept k sizes a b e = rw (a, b, e) (record {
+pub stage_start : (form : Form) (out : Output) → HasSizes form → out.waits ≡ [] → out.kept ≡ [] → out.written ≡ 0 → Stage form out.now [] [] out (record { over = false; cut = 0 })
+stage_start form out sizes a b e = record {
   done = [];
   parts = refl;
   whole = mod-eq_of_lt (unit_some form sizes.some_ibs);
-  flows = record { text = []; stands = rw (joined_none form sizes.some_ibs) (Stands_none form.shape form.cbs sizes.some_cbs); goes = Goes-nil s };
-})
+  flows = record { text = []; stands = rw (joined_none form sizes.some_ibs, b) (Stands_none form.shape form.cbs sizes.some_cbs); goes = rw (a, e) (Goes-nil out.now) };
+}
 
-module _ {form : Form} {s n : Option (List ℕ)} {input pending waits kept : List ℕ} {k count : ℕ} {was_cut : Bool} (stage : Stage form s n input pending waits k kept was_cut count) where
+module _ {form : Form} {s : Option (List ℕ)} {input pending : List ℕ} {out : Output} {tail : Tail} (stage : Stage form s input pending out tail) where
   -- bytes were read
-  pub stage_read : (chunk next : List ℕ) → next ≡ pending ++ chunk → Stage form s n (input ++ chunk) next waits k kept was_cut count
+  pub stage_read : (chunk next : List ℕ) → next ≡ pending ++ chunk → Stage form s (input ++ chunk) next out tail
   stage_read chunk next is = record {
     done = stage.done;
     parts = ap (λ l. l ++ chunk) stage.parts ∙ append_assoc stage.done pending chunk ∙ ap (λ l. stage.done ++ l) (sym is);
@@ -108,15 +109,16 @@ module _ {form : Form} {s n : Option (List ℕ)} {input pending waits kept : Lis
   }
 
   -- what was written of the units is no less than what they give, but for what waits and the end of a record
-  pub stage_near : HasSizes form → length waits ≤ 131072 → length kept ≤ form.cbs → length (converted form stage.done) ≤ k + 2 ^ 25
+  pub stage_near : HasSizes form → length out.waits ≤ 131072 → length out.kept ≤ form.cbs → length (converted form stage.done) ≤ out.written + 2 ^ 25
   stage_near sizes near room =
       let goes = stage.flows.goes in
-      let end = last_of form.shape form.cbs kept in
-      let last = Stands_last form.shape form.cbs (joined form stage.done) stage.flows.text kept was_cut count sizes.some_cbs stage.flows.stands in
-      omega (arith, ap length last.0, length-append stage.flows.text end, ap length goes.all, length-append goes.out waits, goes.count, last_few form.shape form.cbs kept room, sizes.few_cbs)
+      let end = last_of form.shape form.cbs out.kept in
+      let last = Stands_last form.shape form.cbs (joined form stage.done) stage.flows.text out.kept tail.over tail.cut sizes.some_cbs stage.flows.stands in
+      omega (arith, ap length last.0, length-append stage.flows.text end, ap length goes.all, length-append goes.out out.waits, goes.count, last_few form.shape form.cbs out.kept room, sizes.few_cbs)
 
   -- what waited went out
-  pub stage_sent : (m : Option (List ℕ)) (next : List ℕ) (j : ℕ) → Goes s m next j stage.flows.text → Stage form s m input pending next j kept was_cut count
+  pub stage_sent : (m : Option (List ℕ)) (next : List ℕ) (j : ℕ) → Goes s m next j stage.flows.text →
+      Stage form s input pending (record { now = m; waits = next; written = j; kept = out.kept }) tail
   stage_sent m next j goes = record {
     done = stage.done;
     parts = stage.parts;
@@ -131,7 +133,7 @@ module _ {form : Form} {s n : Option (List ℕ)} {input pending waits kept : Lis
 
   pub stage_front : (more : List ℕ) → HasSizes form → (rest : List ℕ) × (converted form (input ++ more) ≡ stage.flows.text ++ rest)
   stage_front more sizes =
-      let front = stands_front form.shape form.cbs (joined form stage.done) stage.flows.text kept was_cut count sizes.some_cbs stage.flows.stands (joined form (pending ++ more)) in
+      let front = stands_front form.shape form.cbs (joined form stage.done) stage.flows.text out.kept tail.over tail.cut sizes.some_cbs stage.flows.stands (joined form (pending ++ more)) in
       (front.0, ap (shaped form.shape form.cbs) (joined_all more sizes.some_ibs) ∙ front.1)
 
   -- a write of what waits failed
@@ -152,13 +154,13 @@ module _ {form : Form} {s n : Option (List ℕ)} {input pending waits kept : Lis
     joined_both = joined_units form stage.done units sizes.some_ibs stage.whole
 
     -- units were converted
-    pub stage_pass : (m : Option (List ℕ)) (put next held : List ℕ) (j more_cut : ℕ) (over : Bool) → put ≡ joined form units →
-        Flows form.shape form.cbs s m (joined form stage.done ++ put) next j held over more_cut → Stage form s m input rest next j held over more_cut
-    stage_pass m put next held j more_cut over same flows = record {
+    pub stage_pass : {next : Output} {after : Tail} (put : List ℕ) → put ≡ joined form units → Flows form.shape form.cbs s (joined form stage.done ++ put) next after →
+        Stage form s input rest next after
+    stage_pass {next} {after} put same flows = record {
       done = stage.done ++ units;
       parts = done_units;
       whole = both;
-      flows = subst (λ (z : List ℕ). Flows form.shape form.cbs s m z next j held over more_cut) (ap (λ l. joined form stage.done ++ l) same ∙ sym joined_both) flows;
+      flows = subst (λ (z : List ℕ). Flows form.shape form.cbs s z next after) (ap (λ l. joined form stage.done ++ l) same ∙ sym joined_both) flows;
     }
 
     pub stage_stops : (m : Option (List ℕ)) (put : List ℕ) (e : IoFault) → put ≡ joined form units → StopsFlow form.shape form.cbs s m (joined form stage.done ++ put) e → StopsStage form s m input e
@@ -185,15 +187,15 @@ read_sizes buf new input have want n fits is got =
     )
 
 -- a read failed
-pub read_stops : (form : Form) (r0 r1 r2 s n : Option (List ℕ)) (input pending waits kept : List ℕ) (k count most before wanted room : ℕ) (was_cut : Bool) (e : IoFault) → HasSizes form →
-    Stage form s n input pending waits k kept was_cut count → Consumes r0 r1 input → StopsAfter r1 r2 wanted room e → length input + wanted ≤ most → before + length input + room ≡ 2 ^ 40 →
-    StopsPass form most before r0 r2 s n e
-read_stops form r0 r1 r2 s n input pending waits kept k count most before wanted room was_cut e sizes stage reads stop few all =
+pub read_stops : (form : Form) (r0 r1 r2 s : Option (List ℕ)) (input pending : List ℕ) (put : Output) (tail : Tail) (most before wanted room : ℕ) (e : IoFault) → HasSizes form →
+    Stage form s input pending put tail → Consumes r0 r1 input → StopsAfter r1 r2 wanted room e → length input + wanted ≤ most → before + length input + room ≡ 2 ^ 40 →
+    StopsPass form most before r0 r2 s put.now e
+read_stops form r0 r1 r2 s input pending put tail most before wanted room e sizes stage reads stop few all =
     let front = stage_front stage stop.0 sizes in
     let goes = stage.flows.goes in
     let whole = input ++ stop.0 in
     let out = goes.out in
-    let is : converted form whole ≡ out ++ (waits ++ front.0) = front.1 ∙ ap (λ l. l ++ front.0) goes.all ∙ append_assoc out waits front.0 in
+    let is : converted form whole ≡ out ++ (put.waits ++ front.0) = front.1 ∙ ap (λ l. l ++ front.0) goes.all ∙ append_assoc out put.waits front.0 in
     let long : length whole ≡ length input + length stop.0 = length-append input stop.0 in
     let total : before + length whole ≡ before + length input + length stop.0 = omega (arith, long) in
     record {
@@ -201,7 +203,7 @@ read_stops form r0 r1 r2 s n input pending waits kept k count most before wanted
       written = length out;
       consumed = Consumes-trans r0 r1 r2 input stop.0 reads stop.1;
       within = omega (arith, long, few, read_within e wanted room (length stop.0) stop.2);
-      appended = let part : take (length out) (converted form whole) ≡ out = ap (take (length out)) is ∙ take-append-le (length out) out (waits ++ front.0) (omega arith) ∙ take_all (length out) out (omega arith) in rw part goes.went;
+      appended = let part : take (length out) (converted form whole) ≡ out = ap (take (length out)) is ∙ take-append-le (length out) out (put.waits ++ front.0) (omega arith) ∙ take_all (length out) out (omega arith) in rw part goes.went;
       cause = rw total (read_cause e wanted room (before + length input) (length stop.0) (length out) (length (converted form whole)) all stop.2);
       ahead = read_ahead (converted form) whole e wanted room (length stop.0) stop.2;
     }
@@ -224,13 +226,12 @@ write_stops form r0 r1 s n input most before InputTooLong reads within few ahead
 write_stops form r0 r1 s n input most before SkipPastEnd reads within few ahead stop = absurd stop
 
 -- the input ended
-module _ {form : Form} {s n : Option (List ℕ)} {input pending waits kept : List ℕ} {k count : ℕ} {was_cut : Bool} (stage : Stage form s n input pending waits k kept was_cut count) (sizes : HasSizes form) (put : List ℕ) (is : put ≡ joined form pending) where
+module _ {form : Form} {s : Option (List ℕ)} {input pending : List ℕ} {out : Output} {tail : Tail} (stage : Stage form s input pending out tail) (sizes : HasSizes form) (put : List ℕ) (is : put ≡ joined form pending) where
   joined_input : joined form stage.done ++ put ≡ joined form input
   joined_input = ap (λ l. joined form stage.done ++ l) is ∙ sym (ap (joined form) stage.parts ∙ joined_units form stage.done pending sizes.some_ibs stage.whole)
 
-  pub stage_end : {m : Option (List ℕ)} {next held : List ℕ} {j more_cut : ℕ} {over : Bool} → Flows form.shape form.cbs s m (joined form stage.done ++ put) next j held over more_cut →
-      Flows form.shape form.cbs s m (joined form input) next j held over more_cut
-  stage_end {m} {next} {held} {j} {more_cut} {over} flows = subst (λ (z : List ℕ). Flows form.shape form.cbs s m z next j held over more_cut) joined_input flows
+  pub stage_end : {next : Output} {after : Tail} → Flows form.shape form.cbs s (joined form stage.done ++ put) next after → Flows form.shape form.cbs s (joined form input) next after
+  stage_end {next} {after} flows = subst (λ (z : List ℕ). Flows form.shape form.cbs s z next after) joined_input flows
 
   pub stage_end_stops : (m : Option (List ℕ)) (e : IoFault) → StopsFlow form.shape form.cbs s m (joined form stage.done ++ put) e → WritesFront 0 s m (converted form input) e
   stage_end_stops m e stop =

@@ -15,7 +15,8 @@ use Rattle.bx_dd.specs.Output.{records, shaped, unfinished}
 use Rattle.bx_dd.specs.inner.Output.{fitted, line_of}
 use Rattle.bx_dd.specs.Standing.{Stands}
 use Rattle.bx_dd.specs.inner.Standing.{finished, rest_of, last_of}
-use Rattle.bx_dd.specs.inner.Streaming.{Flows, StopsFlow}
+use Rattle.bx_dd.specs.declared.convert.records.Tail.{Tail}
+use Rattle.bx_dd.specs.inner.Streaming.{Flows, Output, StopsFlow}
 use Rattle.bx_dd.proofs.RecordsLemmas.{Stands_flat, finished-all, finished-ended, fitted_short, held_piece, parts, piece_taken, records-after}
 use Rattle.bx_dd.proofs.StreamLemmas.{front_more}
 
@@ -74,8 +75,9 @@ pub front_rest : (z bytes x : List ℕ) (d : ℕ) → x ≡ z ++ take d bytes �
 front_rest z bytes x d is = ap (λ l. l ++ drop d bytes) is ∙ append_assoc z (take d bytes) (drop d bytes) ∙ ap (λ l. z ++ l) (take-append-drop d bytes)
 
 -- bytes that finish no record are kept, and nothing is put
-module _ {shape : Shape} {size written : ℕ} {start now : Option (List ℕ)} {z waits kept : List ℕ} {was_cut : Bool} {count : ℕ} (flows : Flows shape size start now z waits written kept was_cut count) where
-  pub held_on : (t held : List ℕ) (over : Bool) → Stands shape size (z ++ t) flows.text held over count → Flows shape size start now (z ++ t) waits written held over count
+module _ {shape : Shape} {size : ℕ} {start : Option (List ℕ)} {z : List ℕ} {out : Output} {tail : Tail} (flows : Flows shape size start z out tail) where
+  pub held_on : (t held : List ℕ) (over : Bool) → Stands shape size (z ++ t) flows.text held over tail.cut →
+      Flows shape size start (z ++ t) (record { now = out.now; waits = out.waits; written = out.written; kept = held }) (record { over = over; cut = tail.cut })
   held_on t held over stands = record { text = flows.text; stands = stands; goes = flows.goes }
 
 -- bytes as they are

@@ -213,15 +213,7 @@ fn put_ready<A: Allocator>(
     ensures next { Takes form out.old.items out.new.items held.old.items held.new.items tail ready.now result }
 {
     let mut page = Page::direct(alloc, out.len() as u64);
-    let next = match push_shaped(
-        &mut page,
-        out,
-        held,
-        tail,
-        ready,
-        form.shape,
-        form.cbs as usize,
-    ) {
+    let next = match push_shaped(&mut page, out, held, tail, ready, form) {
         Ok(next) => next,
         Err(_) => return Err(AllocError),
     };

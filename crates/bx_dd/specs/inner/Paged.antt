@@ -1,21 +1,23 @@
 -- What proofs alone need: the same by the page, the bytes kept, and where the records end.
-use Rattle.std.specs.Prelude.{◌≡◌, ℕ, ◌+◌, ◌≤◌, Bool, false, if◌then◌else◌, List, [], ◌∷◌, ◌++◌, length, take, Option, IfOk, IfErr, OnOk}
-use Rattle.std.specs.Io.KnownBytes.{Appends}
+use Rattle.std.specs.Prelude.{◌≡◌, ◌≢◌, ℕ, ◌+◌, ◌^◌, ◌≤◌, ◌⊎◌, if◌then◌else◌, List, [], ◌++◌, length, take, Vec, vec_capacity, Option, IfOk, IfErr, OnOk}
+use Rattle.std.specs.Io.KnownBytes.{Appends, Consumes, IsAtEnd}
 use Rattle.std.specs.declared.result.Result.{Result}
 use Rattle.bx_text.specs.declared.fault.IoFault.{IoFault}
 use Rattle.bx_text.specs.Writing.{WritesFront}
-use Rattle.bx_text.specs.declared.stream.Meter.{Meter}
 use Rattle.bx_dd.specs.declared.form.Form.{Form}
 use Rattle.bx_dd.specs.declared.form.Shape.{Shape}
-use Rattle.bx_dd.specs.declared.form.Shape.TheVariants.{Block}
+use Rattle.bx_dd.specs.declared.form.Shape.TheVariants.{Flat}
 use Rattle.bx_dd.specs.declared.convert.records.Tail.{Tail}
+use Rattle.bx_dd.specs.declared.stream.copy.Task.{Task}
 use Rattle.bx_dd.specs.declared.stream.copy.Turn.{Turn}
+use Rattle.bx_dd.specs.declared.stream.copy.Waiting.{Waiting}
 use Rattle.bx_dd.specs.declared.counts.Counts.{Counts}
 use Rattle.bx_dd.specs.declared.page.Page.{Page}
 use Rattle.bx_dd.specs.Counting.{counts_of}
 use Rattle.bx_dd.specs.Output.{converted, cut_records, joined}
 use Rattle.bx_dd.specs.Standing.{Stands}
-use Rattle.bx_dd.specs.inner.Streaming.{Goes, Flows, StopsFlow, Stage, StopsStage, Passes}
+use Rattle.bx_dd.specs.inner.Standing.{HasSizes}
+use Rattle.bx_dd.specs.inner.Streaming.{Flows, Goes, Output, Stage, StopsFlow, StopsStage, unit_of}
 
 -- of a text, a part went out and the rest waits in the page
 abbrev pub GoesBy : {A : Type 0} → Option (List ℕ) → Option (List ℕ) → Page A → List ℕ → Type 0
@@ -39,83 +41,72 @@ Flushes w0 w1 page0 page1 outcome = (start : Option (List ℕ)) (text : List ℕ
 abbrev pub StopsFlush : {A V : Type 0} → Option (List ℕ) → Option (List ℕ) → Page A → Result V IoFault → Type 0
 StopsFlush w0 w1 page0 outcome = (start : Option (List ℕ)) (text : List ℕ) → GoesBy start w0 page0 text → IfErr outcome (WritesFront 0 start w1 text)
 
--- converted bytes flow, with what is kept, and whether that was cut and how many were
-abbrev pub FlowsBy : {A : Type 0} → Shape → ℕ → Option (List ℕ) → Option (List ℕ) → List ℕ → Page A → List ℕ → Bool → ℕ → Type 0
-FlowsBy shape size start now bytes page kept over cut = Flows shape size start now bytes page.bytes.items page.written kept over cut
+-- an output by its writer's contents, its page, and what is kept
+abbrev pub output : {A B : Type 0} → Option (List ℕ) → Page A → Vec ℕ B → Output
+output now page held = record { now = now; waits = page.bytes.items; written = page.written; kept = held.items }
 
 -- More bytes flow behind whatever bytes do.
-abbrev pub Pushes : {A : Type 0} → Shape → ℕ → Option (List ℕ) → Option (List ℕ) → Page A → Page A →
-    List ℕ → List ℕ → Tail → List ℕ → Result Tail IoFault → Type 0
-Pushes shape size w0 w1 page0 page1 kept0 kept1 tail bytes outcome =
-    (z : List ℕ) (start : Option (List ℕ)) → FlowsBy shape size start w0 z page0 kept0 tail.over tail.cut →
-    IfOk outcome (λ t. FlowsBy shape size start w1 (z ++ bytes) page1 kept1 t.over t.cut)
+abbrev pub Pushes : Shape → ℕ → Output → Output → Tail → List ℕ → Result Tail IoFault → Type 0
+Pushes shape size out0 out1 tail bytes outcome =
+    (z : List ℕ) (start : Option (List ℕ)) → Flows shape size start z out0 tail → IfOk outcome (Flows shape size start (z ++ bytes) out1)
 
 -- A front of what is written of them and of whatever follows went out.
-abbrev pub StopsPush : {A V : Type 0} → Shape → ℕ → Option (List ℕ) → Option (List ℕ) → Page A →
-    List ℕ → Bool → ℕ → List ℕ → Result V IoFault → Type 0
-StopsPush shape size w0 w1 page0 kept0 over cut bytes outcome =
-    (z : List ℕ) (start : Option (List ℕ)) → FlowsBy shape size start w0 z page0 kept0 over cut →
-    IfErr outcome (StopsFlow shape size start w1 (z ++ bytes))
+abbrev pub StopsPush : {V : Type 0} → Shape → ℕ → Output → Option (List ℕ) → Tail → List ℕ → Result V IoFault → Type 0
+StopsPush shape size out0 now tail bytes outcome =
+    (z : List ℕ) (start : Option (List ℕ)) → Flows shape size start z out0 tail → IfErr outcome (StopsFlow shape size start now (z ++ bytes))
 
 -- More bytes flow behind whatever bytes do, and no more records are cut.
-abbrev pub PushesPieces : {A V E : Type 0} → Shape → ℕ → Option (List ℕ) → Option (List ℕ) → Page A → Page A →
-    List ℕ → List ℕ → List ℕ → Result V E → Type 0
-PushesPieces shape size w0 w1 page0 page1 kept0 kept1 bytes outcome =
-    (z : List ℕ) (over : Bool) (cut : ℕ) (start : Option (List ℕ)) → FlowsBy shape size start w0 z page0 kept0 over cut →
-    OnOk outcome (FlowsBy shape size start w1 (z ++ bytes) page1 kept1 over cut)
+abbrev pub PushesPieces : {V E : Type 0} → Shape → ℕ → Output → Output → List ℕ → Result V E → Type 0
+PushesPieces shape size out0 out1 bytes outcome = (tail : Tail) (z : List ℕ) (start : Option (List ℕ)) → Flows shape size start z out0 tail →
+    OnOk outcome (Flows shape size start (z ++ bytes) out1 tail)
 
 -- A front of what is written of them and of whatever follows went out.
-abbrev pub StopsPieces : {A V : Type 0} → Shape → ℕ → Option (List ℕ) → Option (List ℕ) → Page A →
-    List ℕ → List ℕ → Result V IoFault → Type 0
-StopsPieces shape size w0 w1 page0 kept0 bytes outcome =
-    (z : List ℕ) (over : Bool) (cut : ℕ) (start : Option (List ℕ)) → FlowsBy shape size start w0 z page0 kept0 over cut →
-    IfErr outcome (StopsFlow shape size start w1 (z ++ bytes))
+abbrev pub StopsPieces : {V : Type 0} → Shape → ℕ → Output → Option (List ℕ) → List ℕ → Result V IoFault → Type 0
+StopsPieces shape size out0 now bytes outcome = (tail : Tail) → StopsPush shape size out0 now tail bytes outcome
 
--- A newline ends the record that is kept.
-abbrev pub EndsRecord : {A E : Type 0} → ℕ → Option (List ℕ) → Option (List ℕ) → Page A → Page A →
-    List ℕ → List ℕ → Bool → ℕ → Result ℕ E → Type 0
-EndsRecord size w0 w1 page0 page1 kept0 kept1 over cut outcome =
-    (z : List ℕ) (start : Option (List ℕ)) → FlowsBy Block size start w0 z page0 kept0 over cut →
-    IfOk outcome (FlowsBy Block size start w1 (z ++ 10 ∷ []) page1 kept1 false)
+-- the output of a copy by its writer's contents and what waits
+abbrev pub output_of : {A : Type 0} → Option (List ℕ) → Waiting A → Output
+output_of now waiting = output now waiting.page waiting.held
 
--- of what was read, whole units flow, and the rest is pending
-abbrev pub StageBy : {A : Type 0} → Form → Option (List ℕ) → Option (List ℕ) → List ℕ → List ℕ → Page A → List ℕ → Tail → Type 0
-StageBy form start now input pending page kept tail = Stage form start now input pending page.bytes.items page.written kept tail.over tail.cut
+-- A copy may begin: a unit has room in the buffer, a record in what is kept, and nothing is kept or waits.
+pub record IsFresh {A : Type 0} (form : Form) (limit : ℕ) (buf : List ℕ) (waiting : Waiting A) : Type 0 where
+  pub sizes : HasSizes form
+  pub most : limit ≡ 2 ^ 40
+  pub inside : unit_of form ≤ length buf
+  pub few : length buf ≤ 2 ^ 24
+  pub none : (waiting.held.items ≡ []) × (waiting.page.bytes.items ≡ []) × (waiting.page.written ≡ 0)
+  pub room : form.shape ≢ Flat → form.cbs ≤ vec_capacity waiting.held
+
+-- The rest of an input was read, as much of it as the task asks for, and stands converted.
+pub record Passes (task : Task) (r0 r1 start : Option (List ℕ)) (buf : List ℕ) (out : Output) (turn : Turn) : Type 0 where
+  pub input : List ℕ
+  pub consumed : Consumes r0 r1 input
+  pub within : length input ≤ task.most
+  pub ends : (length input ≡ task.most) ⊎ IsAtEnd r1
+  pub read : turn.read ≡ length input
+  pub stage : Stage task.form start input (take turn.have buf) out turn.tail
 
 -- Whatever stood so, a front of all that is written of the input went out.
-abbrev pub StopsStageOf : {A V : Type 0} → Form → Option (List ℕ) → Option (List ℕ) → List ℕ →
-    Page A → List ℕ → Tail → Result V IoFault → Type 0
-StopsStageOf form w0 w1 pending page0 kept0 tail outcome =
-    (input : List ℕ) (start : Option (List ℕ)) → StageBy form start w0 input pending page0 kept0 tail → IfErr outcome (StopsStage form start w1 input)
-
--- the rest of an input was read and stands converted
-abbrev pub PassesBy : {A R W E : Type 0} → Form → ℕ → Meter → Meter → (R → Option (List ℕ)) → R → R →
-    (W → Option (List ℕ)) → W → W → List ℕ → Page A → List ℕ → Result Turn E → Type 0
-PassesBy form most before after remaining r0 r1 contents w0 w1 buf page kept outcome =
-    IfOk outcome (λ t. Passes form most before.taken after.taken (remaining r0) (remaining r1) (contents w0) (contents w1)
-    (take t.have buf) page.bytes.items page.written kept t.tail.over t.tail.cut)
+abbrev pub StopsStageOf : {V : Type 0} → Form → Output → Option (List ℕ) → List ℕ → Tail → Result V IoFault → Type 0
+StopsStageOf form out0 now pending tail outcome =
+    (input : List ℕ) (start : Option (List ℕ)) → Stage form start input pending out0 tail → IfErr outcome (StopsStage form start now input)
 
 -- More was read, whatever stood so: of all of it whole units flow, and the rest is pending.
-abbrev pub GoesOn : {A E : Type 0} → Form → Option (List ℕ) → Option (List ℕ) → List ℕ → List ℕ →
-    Page A → Page A → List ℕ → List ℕ → Tail → Result Turn E → Type 0
-GoesOn form w0 w1 pending buf page0 page1 kept0 kept1 tail outcome =
-    (input : List ℕ) (start : Option (List ℕ)) → StageBy form start w0 input pending page0 kept0 tail →
-    IfOk outcome (λ t. StageBy form start w1 input (take t.have buf) page1 kept1 t.tail)
+abbrev pub GoesOn : {E : Type 0} → Form → Output → Output → List ℕ → List ℕ → Tail → Result Turn E → Type 0
+GoesOn form out0 out1 pending buf tail outcome = (input : List ℕ) (start : Option (List ℕ)) → Stage form start input pending out0 tail →
+    IfOk outcome (λ t. Stage form start input (take t.have buf) out1 t.tail)
 
 -- All that is written of the input went out, whatever stood so, and is counted.
-abbrev pub Finishes : {A B E : Type 0} → Form → Option (List ℕ) → Option (List ℕ) → List ℕ →
-    Page A → Page B → List ℕ → Tail → Result Tail E → Type 0
-Finishes form w0 w1 pending page0 page1 kept0 tail outcome =
-    (input : List ℕ) (start : Option (List ℕ)) → StageBy form start w0 input pending page0 kept0 tail →
-    IfOk outcome (λ t. Appends start w1 (converted form input) × (page1.written ≡ length (converted form input))
+abbrev pub Finishes : {E : Type 0} → Form → Output → Output → List ℕ → Tail → Result Tail E → Type 0
+Finishes form out0 out1 pending tail outcome =
+    (input : List ℕ) (start : Option (List ℕ)) → Stage form start input pending out0 tail →
+    IfOk outcome (λ t. Appends start out1.now (converted form input) × (out1.written ≡ length (converted form input))
     × ((if t.over then t.cut + 1 else t.cut) ≡ cut_records form.shape form.cbs (joined form input)))
 
 -- A front of it went out.
-abbrev pub StopsFinish : {A V : Type 0} → Form → Option (List ℕ) → Option (List ℕ) → List ℕ →
-    Page A → List ℕ → Tail → Result V IoFault → Type 0
-StopsFinish form w0 w1 pending page0 kept0 tail outcome =
-    (input : List ℕ) (start : Option (List ℕ)) → StageBy form start w0 input pending page0 kept0 tail →
-    IfErr outcome (WritesFront 0 start w1 (converted form input))
+abbrev pub StopsFinish : {V : Type 0} → Form → Output → Option (List ℕ) → List ℕ → Tail → Result V IoFault → Type 0
+StopsFinish form out0 now pending tail outcome = (input : List ℕ) (start : Option (List ℕ)) → Stage form start input pending out0 tail →
+    IfErr outcome (WritesFront 0 start now (converted form input))
 
 -- These are the counts of whatever input is so long, gives so long an output, and has this many records cut.
 abbrev pub CountsAll : Form → ℕ → ℕ → Tail → Counts → Type 0

@@ -5,11 +5,10 @@ use Rattle.std.specs.Io.KnownBytes.{Appends, Consumes, IsAtEnd}
 use Rattle.bx_text.specs.declared.fault.IoFault.{IoFault}
 use Rattle.bx_text.specs.declared.fault.IoFault.TheVariants.{WriteFailed}
 use Rattle.bx_text.specs.Writing.{WritesFront}
+use Rattle.bx_dd.specs.declared.convert.records.Tail.{Tail}
 use Rattle.bx_dd.specs.declared.counts.Counts.{Counts}
 use Rattle.bx_dd.specs.declared.form.Form.{Form}
 use Rattle.bx_dd.specs.declared.form.Shape.{Shape}
-use Rattle.bx_dd.specs.declared.form.Shape.TheVariants.{Flat}
-use Rattle.bx_dd.specs.inner.Standing.{HasSizes}
 use Rattle.bx_dd.specs.Counting.{counts_of}
 use Rattle.bx_dd.specs.Output.{converted, joined, shaped}
 use Rattle.bx_dd.specs.Standing.{Stands}
@@ -34,12 +33,18 @@ pub record Goes (start now : Option (List ℕ)) (waits : List ℕ) (written : �
   pub all : text ≡ out ++ waits
   pub count : written ≡ length out
 
+-- Where an output stands: what its writer has, what waits and how much went out before it, and what is kept of the record that may go on.
+pub record Output : Type 0 where
+  pub now : Option (List ℕ)
+  pub waits : List ℕ
+  pub written : ℕ
+  pub kept : List ℕ
+
 -- Of converted bytes, what records that are finished give went out or waits, and the rest is kept.
-pub record Flows (shape : Shape) (size : ℕ) (start now : Option (List ℕ)) (bytes waits : List ℕ) (written : ℕ)
-    (kept : List ℕ) (was_cut : Bool) (count : ℕ) : Type 0 where
+pub record Flows (shape : Shape) (size : ℕ) (start : Option (List ℕ)) (bytes : List ℕ) (out : Output) (tail : Tail) : Type 0 where
   pub text : List ℕ
-  pub stands : Stands shape size bytes text kept was_cut count
-  pub goes : Goes start now waits written text
+  pub stands : Stands shape size bytes text out.kept tail.over tail.cut
+  pub goes : Goes start out.now out.waits out.written text
 
 -- whatever follows these converted bytes, a front of what is written of them all went out, as the fault says
 abbrev pub StopsFlow : Shape → ℕ → Option (List ℕ) → Option (List ℕ) → List ℕ → IoFault → Type 0
@@ -50,35 +55,15 @@ abbrev pub unit_of : Form → ℕ
 unit_of form = if form.swab || form.sync then form.ibs else 1
 
 -- Of what was read, whole units were converted and flow, and the rest is pending.
-pub record Stage (form : Form) (start now : Option (List ℕ)) (input pending waits : List ℕ) (written : ℕ)
-    (kept : List ℕ) (was_cut : Bool) (count : ℕ) : Type 0 where
+pub record Stage (form : Form) (start : Option (List ℕ)) (input pending : List ℕ) (out : Output) (tail : Tail) : Type 0 where
   pub done : List ℕ
   pub parts : input ≡ done ++ pending
   pub whole : length done % unit_of form ≡ 0
-  pub flows : Flows form.shape form.cbs start now (joined form done) waits written kept was_cut count
+  pub flows : Flows form.shape form.cbs start (joined form done) out tail
 
 -- whatever is read behind this input, a front of what is written of it all went out, as the fault says
 abbrev pub StopsStage : Form → Option (List ℕ) → Option (List ℕ) → List ℕ → IoFault → Type 0
 StopsStage form start now input fault = (more : List ℕ) → WritesFront 0 start now (converted form (input ++ more)) fault
-
--- A copy may begin: a unit has room in the buffer, a record in what is kept, and nothing is kept or waits.
-pub record IsFresh (form : Form) (limit : ℕ) (buf kept : List ℕ) (space : ℕ) (waits : List ℕ) (written : ℕ) : Type 0 where
-  pub sizes : HasSizes form
-  pub most : limit ≡ 2 ^ 40
-  pub inside : unit_of form ≤ length buf
-  pub few : length buf ≤ 2 ^ 24
-  pub none : (kept ≡ []) × (waits ≡ []) × (written ≡ 0)
-  pub room : form.shape ≢ Flat → form.cbs ≤ space
-
--- The rest of an input was read after this many bytes, at most this many of it, and stands converted.
-pub record Passes (form : Form) (most before after : ℕ) (r0 r1 start now : Option (List ℕ)) (pending waits : List ℕ)
-    (written : ℕ) (kept : List ℕ) (was_cut : Bool) (count : ℕ) : Type 0 where
-  pub input : List ℕ
-  pub consumed : Consumes r0 r1 input
-  pub within : length input ≤ most
-  pub ends : (length input ≡ most) ⊎ IsAtEnd r1
-  pub taken : after ≡ before + length input
-  pub stage : Stage form start now input pending waits written kept was_cut count
 
 -- The rest of an input was read after this many bytes, at most this many of it, and all that is made of it was written and counted.
 pub record CopiesRest (form : Form) (most before : ℕ) (r0 r1 w0 w1 : Option (List ℕ)) (counts : Counts) : Type 0 where

@@ -1,9 +1,9 @@
 //! Records of a stream.
-ghost use Rattle.std.specs.Prelude.{◌≡◌, ◌≢◌, ℕ, ◌+◌, ◌-◌, ◌^◌, ◌<◌, ◌≤◌, [], ◌∷◌, ◌++◌, length, take, vec_capacity, IfOk, OnOk, false};
+ghost use Rattle.std.specs.Prelude.{◌≡◌, ◌≢◌, ℕ, ◌+◌, ◌-◌, ◌^◌, ◌<◌, ◌≤◌, [], ◌∷◌, ◌++◌, length, take, vec_capacity, IfOk, OnOk};
 ghost use Rattle.bx_dd.specs.inner.Output.{fitted, line_of};
 ghost use Rattle.bx_dd.specs.inner.Standing.{HoldsText, last_of};
 ghost use Rattle.bx_dd.specs.inner.Streaming.{Grows};
-ghost use Rattle.bx_dd.specs.inner.Paged.{EndsRecord, Pushes, PushesPieces, Puts, StopsPieces, StopsPush, StopsPut};
+ghost use Rattle.bx_dd.specs.inner.Paged.{Pushes, PushesPieces, Puts, StopsPieces, StopsPush, StopsPut, output};
 ghost use Rattle.bx_dd.specs.declared.form.Shape.TheVariants.{Flat, Block, Unblock};
 
 use crate::form::{Form, Shape};
@@ -27,22 +27,22 @@ pub fn push_shaped<W: Write, A: Allocator, B: Allocator>(
     held: &mut Vec<u8, A>,
     tail: Tail,
     bytes: &[u8],
-    shape: Shape,
-    size: usize,
+    form: Form,
 ) -> Result<Tail, IoFault>
-    requires room { length held.old.items ≤ size }
-    requires space { shape ≢ Flat → size ≤ vec_capacity held.old }
-    requires some { shape ≢ Flat → 0 < size }
-    requires part { shape ≡ Unblock → length held.old.items < size }
+    requires room { length held.old.items ≤ form.cbs }
+    requires space { form.shape ≢ Flat → form.cbs ≤ vec_capacity held.old }
+    requires some { form.shape ≢ Flat → 0 < form.cbs }
+    requires part { form.shape ≡ Unblock → length held.old.items < form.cbs }
     requires few { tail.cut + length bytes.now < 2 ^ 64 }
-    ensures within { IfOk result (λ t. (length held.new.items ≤ size) × (t.cut ≤ tail.cut + length bytes.now)) }
-    ensures part { IfOk result (λ t. shape ≡ Unblock → length held.new.items < size) }
+    ensures within { IfOk result (λ t. (length held.new.items ≤ form.cbs) × (t.cut ≤ tail.cut + length bytes.now)) }
+    ensures part { IfOk result (λ t. form.shape ≡ Unblock → length held.new.items < form.cbs) }
     ensures space { vec_capacity held.old ≤ vec_capacity held.new }
-    ensures ok { Pushes shape size (W.contents w.old) (W.contents w.new) page.old page.new held.old.items held.new.items tail bytes.now result }
-    ensures err { StopsPush shape size (W.contents w.old) (W.contents w.new) page.old held.old.items tail.over tail.cut bytes.now result }
+    ensures ok { Pushes form.shape form.cbs (output (W.contents w.old) page.old held.old) (output (W.contents w.new) page.new held.new) tail bytes.now result }
+    ensures err { StopsPush form.shape form.cbs (output (W.contents w.old) page.old held.old) (W.contents w.new) tail bytes.now result }
     ensures grows { Grows page.old.written page.new.written result }
 {
-    match shape {
+    let size = form.cbs as usize;
+    match form.shape {
         Shape::Flat => match page.put(w, bytes) {
             Ok(()) => Ok(tail),
             Err(fault) => Err(fault),
@@ -70,29 +70,24 @@ fn push_text<W: Write, A: Allocator, B: Allocator>(
     requires few { tail.cut + length bytes.now < 2 ^ 64 }
     ensures within { IfOk result (λ t. (length held.new.items ≤ size) × (t.cut ≤ tail.cut + length bytes.now)) }
     ensures space { vec_capacity held.old ≤ vec_capacity held.new }
-    ensures ok { Pushes Block size (W.contents w.old) (W.contents w.new) page.old page.new held.old.items held.new.items tail bytes.now result }
-    ensures err { StopsPush Block size (W.contents w.old) (W.contents w.new) page.old held.old.items tail.over tail.cut bytes.now result }
+    ensures ok { Pushes Block size (output (W.contents w.old) page.old held.old) (output (W.contents w.new) page.new held.new) tail bytes.now result }
+    ensures err { StopsPush Block size (output (W.contents w.old) page.old held.old) (W.contents w.new) tail bytes.now result }
     ensures grows { Grows page.old.written page.new.written result }
 {
-    let mut over = tail.over;
-    let mut cut = tail.cut;
+    let mut now = tail;
     let mut done = 0;
     while done < bytes.len() {
         let (_, rest) = bytes.split_at(done);
         match memchr(b'\n', rest) {
             None => {
-                let over_now = hold(held, over, rest, size);
-                return Ok(Tail {
-                    over: over_now,
-                    cut,
-                });
+                let over = hold(held, now.over, rest, size);
+                return Ok(Tail { over, cut: now.cut });
             }
             Some(n) => {
-                let over_now = hold(held, over, &rest[..n], size);
-                match end_record(page, w, held, over_now, cut, size) {
+                let over = hold(held, now.over, &rest[..n], size);
+                match end_record(page, w, held, Tail { over, cut: now.cut }, size) {
                     Ok(ended) => {
-                        over = false;
-                        cut = ended;
+                        now = ended;
                         done += n + 1;
                     }
                     Err(fault) => return Err(fault),
@@ -100,7 +95,7 @@ fn push_text<W: Write, A: Allocator, B: Allocator>(
             }
         }
     }
-    Ok(Tail { over, cut })
+    Ok(now)
 }
 
 /// Keeps what fits of a record's next bytes, and tells whether the record was cut.
@@ -121,22 +116,21 @@ fn hold<A: Allocator>(held: &mut Vec<u8, A>, over: bool, text: &[u8], size: usiz
     }
 }
 
-/// A newline: the record is finished. Answers how many were cut.
+/// A newline: the record is finished, and counted where it was cut.
 fn end_record<W: Write, A: Allocator, B: Allocator>(
     page: &mut Page<B>,
     w: &mut W,
     held: &mut Vec<u8, A>,
-    over: bool,
-    cut: u64,
+    tail: Tail,
     size: usize,
-) -> Result<u64, IoFault>
+) -> Result<Tail, IoFault>
     requires room { length held.old.items ≤ size }
     requires some { 0 < size }
-    requires few { cut < 2 ^ 64 - 1 }
-    ensures within { IfOk result (λ n. (held.new.items ≡ []) × (n ≤ cut + 1)) }
+    requires few { tail.cut < 2 ^ 64 - 1 }
+    ensures within { IfOk result (λ t. (held.new.items ≡ []) × (t.cut ≤ tail.cut + 1)) }
     ensures space { vec_capacity held.old ≤ vec_capacity held.new }
-    ensures ok { EndsRecord size (W.contents w.old) (W.contents w.new) page.old page.new held.old.items held.new.items over cut result }
-    ensures err { StopsPush Block size (W.contents w.old) (W.contents w.new) page.old held.old.items over cut (10 ∷ []) result }
+    ensures ok { Pushes Block size (output (W.contents w.old) page.old held.old) (output (W.contents w.new) page.new held.new) tail (10 ∷ []) result }
+    ensures err { StopsPush Block size (output (W.contents w.old) page.old held.old) (W.contents w.new) tail (10 ∷ []) result }
     ensures grows { Grows page.old.written page.new.written result }
 {
     match push_fitted(page, w, held.as_slice(), size) {
@@ -144,7 +138,16 @@ fn end_record<W: Write, A: Allocator, B: Allocator>(
         Err(fault) => return Err(fault),
     }
     held.clear();
-    Ok(if over { cut + 1 } else { cut })
+    if tail.over {
+        return Ok(Tail {
+            over: false,
+            cut: tail.cut + 1,
+        });
+    }
+    Ok(Tail {
+        over: false,
+        cut: tail.cut,
+    })
 }
 
 /// Puts a record, filled up with spaces.
@@ -177,8 +180,8 @@ fn push_pieces<W: Write, A: Allocator, B: Allocator>(
     requires space { size ≤ vec_capacity held.old }
     ensures within { OnOk result (length held.new.items < size) }
     ensures space { vec_capacity held.old ≤ vec_capacity held.new }
-    ensures ok { PushesPieces Unblock size (W.contents w.old) (W.contents w.new) page.old page.new held.old.items held.new.items bytes.now result }
-    ensures err { StopsPieces Unblock size (W.contents w.old) (W.contents w.new) page.old held.old.items bytes.now result }
+    ensures ok { PushesPieces Unblock size (output (W.contents w.old) page.old held.old) (output (W.contents w.new) page.new held.new) bytes.now result }
+    ensures err { StopsPieces Unblock size (output (W.contents w.old) page.old held.old) (W.contents w.new) bytes.now result }
     ensures grows { Grows page.old.written page.new.written result }
 {
     let mut done = 0;
@@ -205,8 +208,8 @@ fn push_piece<W: Write, A: Allocator, B: Allocator>(
     requires fits { length held.old.items + length bytes.now ≤ size }
     ensures within { OnOk result (length held.new.items < size) }
     ensures space { vec_capacity held.old ≤ vec_capacity held.new }
-    ensures ok { PushesPieces Unblock size (W.contents w.old) (W.contents w.new) page.old page.new held.old.items held.new.items bytes.now result }
-    ensures err { StopsPieces Unblock size (W.contents w.old) (W.contents w.new) page.old held.old.items bytes.now result }
+    ensures ok { PushesPieces Unblock size (output (W.contents w.old) page.old held.old) (output (W.contents w.new) page.new held.new) bytes.now result }
+    ensures err { StopsPieces Unblock size (output (W.contents w.old) page.old held.old) (W.contents w.new) bytes.now result }
     ensures grows { Grows page.old.written page.new.written result }
 {
     keep(held, bytes);

@@ -4,8 +4,8 @@ ghost use Rattle.std.specs.Option.{ForSome};
 ghost use Rattle.bx_dd.specs.Plan.{form_of};
 ghost use Rattle.bx_dd.specs.inner.Standing.{HasSizes};
 ghost use Rattle.bx_dd.specs.Streaming.{IsCopy, StopsCopy};
-ghost use Rattle.bx_dd.specs.inner.Paged.{CountsAll, Finishes, Flushes, GoesOn, PassesBy, StopsFinish, StopsFlush, StopsStageOf};
-ghost use Rattle.bx_dd.specs.inner.Streaming.{CopiesRest, Grows, IsFresh, StopsPass, most_of, unit_of};
+ghost use Rattle.bx_dd.specs.inner.Paged.{CountsAll, Finishes, Flushes, GoesOn, IsFresh, Passes, StopsFinish, StopsFlush, StopsStageOf, output_of};
+ghost use Rattle.bx_dd.specs.inner.Streaming.{CopiesRest, Grows, StopsPass, most_of, unit_of};
 ghost use Rattle.bx_dd.specs.declared.form.Shape.TheVariants.{Flat, Unblock};
 
 use crate::convert::records::{Tail, push_rest, push_shaped};
@@ -26,15 +26,29 @@ const LIMIT: u64 = 1 << 40;
 #[derive(Drop)]
 struct Buffers<A: Allocator> {
     input: Vec<u8, A>,
+    waiting: Waiting<A>,
+}
+
+/// What waits: the bytes that are kept of a record that may go on, and the page.
+#[derive(Drop)]
+struct Waiting<A: Allocator> {
     held: Vec<u8, A>,
     page: Page<A>,
 }
 
-/// Where a copy stands: its records, and how many bytes wait in front of the input's buffer.
+/// What is copied: how many bytes at most, and how they are converted.
+#[derive(Clone, Copy)]
+struct Task {
+    most: u64,
+    form: Form,
+}
+
+/// Where a copy stands: its records, how many bytes wait in front of the input's buffer, and how many were read.
 #[derive(Clone, Copy)]
 struct Turn {
     tail: Tail,
     have: usize,
+    read: u64,
 }
 
 /// The input after the skipped blocks, converted and written as it is read.
@@ -61,9 +75,9 @@ fn take_memory<A: Allocator + Clone>(alloc: A, form: Form) -> Result<Buffers<A>,
     requires { HasSizes form }
     ensures input { IfOk result (λ b. unit_of form ≤ length b.input.items) }
     ensures few { IfOk result (λ b. length b.input.items ≤ 2 ^ 24) }
-    ensures held { IfOk result (λ b. b.held.items ≡ []) }
-    ensures space { IfOk result (λ b. form.shape ≢ Flat → form.cbs ≤ vec_capacity b.held) }
-    ensures page { IfOk result (λ b. (b.page.bytes.items ≡ []) × (b.page.written ≡ 0)) }
+    ensures held { IfOk result (λ b. b.waiting.held.items ≡ []) }
+    ensures space { IfOk result (λ b. form.shape ≢ Flat → form.cbs ≤ vec_capacity b.waiting.held) }
+    ensures page { IfOk result (λ b. (b.waiting.page.bytes.items ≡ []) × (b.waiting.page.written ≡ 0)) }
 {
     let unit = unit_len(form);
     let size = if unit < PAGE {
@@ -77,7 +91,10 @@ fn take_memory<A: Allocator + Clone>(alloc: A, form: Form) -> Result<Buffers<A>,
         bytes: Vec::with_capacity(alloc, PAGE)?,
         written: 0,
     };
-    Ok(Buffers { input, held, page })
+    Ok(Buffers {
+        input,
+        waiting: Waiting { held, page },
+    })
 }
 
 /// The copy, in this memory.
@@ -89,16 +106,15 @@ fn copy_with<R: Read, W: Write, A: Allocator, P: Allocator>(
 ) -> Result<Counts, IoFault>
     requires input { unit_of (form_of plan.now) ≤ length buffers.input.items }
     requires few { length buffers.input.items ≤ 2 ^ 24 }
-    requires held { buffers.held.items ≡ [] }
-    requires space { plan.now.shape ≢ Flat → plan.now.cbs ≤ vec_capacity buffers.held }
-    requires page { (buffers.page.bytes.items ≡ []) × (buffers.page.written ≡ 0) }
+    requires held { buffers.waiting.held.items ≡ [] }
+    requires space { plan.now.shape ≢ Flat → plan.now.cbs ≤ vec_capacity buffers.waiting.held }
+    requires page { (buffers.waiting.page.bytes.items ≡ []) × (buffers.waiting.page.written ≡ 0) }
     ensures ok { IfOk result (IsCopy plan.now (R.remaining r.old) (R.remaining r.new) (W.contents w.old) (W.contents w.new)) }
     ensures err { IfErr result (StopsCopy plan.now (R.remaining r.old) (R.remaining r.new) (W.contents w.old) (W.contents w.new)) }
 {
     let Buffers {
         mut input,
-        mut held,
-        mut page,
+        mut waiting,
     } = buffers;
     let form = plan.form();
     let buf = input.as_mut_slice();
@@ -109,7 +125,7 @@ fn copy_with<R: Read, W: Write, A: Allocator, P: Allocator>(
     };
     if all {
         let most = most_of(plan.count, plan.ibs);
-        return copy_rest(&mut meter, r, &mut page, w, &mut held, buf, most, form);
+        return copy_rest(&mut meter, r, &mut waiting, w, buf, Task { most, form });
     }
     let none = Tail {
         over: false,
@@ -131,28 +147,25 @@ fn most_of(count: Option<u64>, ibs: u64) -> u64
 }
 
 /// Copies the rest of an input, at most this many bytes of it.
-fn copy_rest<R: Read, W: Write, A: Allocator, B: Allocator>(
+fn copy_rest<R: Read, W: Write, A: Allocator>(
     meter: &mut Meter,
     r: &mut R,
-    page: &mut Page<B>,
+    waiting: &mut Waiting<A>,
     w: &mut W,
-    held: &mut Vec<u8, A>,
     buf: &mut [u8],
-    most: u64,
-    form: Form,
+    task: Task,
 ) -> Result<Counts, IoFault>
     requires open { meter.old.state ≡ State.Open }
-    requires fresh { IsFresh form meter.old.limit buf.old held.old.items (vec_capacity held.old) page.old.bytes.items page.old.written }
-    ensures ok { IfOk result (CopiesRest form most meter.old.taken (R.remaining r.old) (R.remaining r.new) (W.contents w.old) (W.contents w.new)) }
-    ensures err { IfErr result (StopsPass form most meter.old.taken (R.remaining r.old) (R.remaining r.new) (W.contents w.old) (W.contents w.new)) }
+    requires fresh { IsFresh task.form meter.old.limit buf.old waiting.old }
+    ensures ok { IfOk result (CopiesRest task.form task.most meter.old.taken (R.remaining r.old) (R.remaining r.new) (W.contents w.old) (W.contents w.new)) }
+    ensures err { IfErr result (StopsPass task.form task.most meter.old.taken (R.remaining r.old) (R.remaining r.new) (W.contents w.old) (W.contents w.new)) }
 {
-    let before = meter.taken();
-    let turn = match copy_units(meter, r, page, w, held, buf, most, form) {
+    let turn = match copy_units(meter, r, waiting, w, buf, task) {
         Ok(turn) => turn,
         Err(fault) => return Err(fault),
     };
-    match finish(page, w, held, turn, buf, form) {
-        Ok(tail) => Ok(counts(form, meter.taken() - before, page.written, tail)),
+    match finish(waiting, w, turn, buf, task.form) {
+        Ok(tail) => Ok(counts(task.form, turn.read, waiting.page.written, tail)),
         Err(fault) => Err(fault),
     }
 }
@@ -172,45 +185,45 @@ fn counts(form: Form, read: u64, written: u64, tail: Tail) -> Counts
     }
 }
 
-/// Converts the whole units in front of a buffer, and moves what is left to its front.
-fn pass<W: Write, A: Allocator, B: Allocator>(
-    page: &mut Page<B>,
+/// Converts the whole units in front of the input's buffer, and moves what is left to its front.
+fn pass<W: Write, A: Allocator>(
+    waiting: &mut Waiting<A>,
     w: &mut W,
-    held: &mut Vec<u8, A>,
-    tail: Tail,
+    turn: Turn,
     buf: &mut [u8],
-    got: usize,
     form: Form,
 ) -> Result<Turn, IoFault>
     requires sizes { HasSizes form }
-    requires inside { got ≤ length buf.old }
-    requires room { length held.old.items ≤ form.cbs }
-    requires space { form.shape ≢ Flat → form.cbs ≤ vec_capacity held.old }
-    requires part { form.shape ≡ Unblock → length held.old.items < form.cbs }
-    requires few { tail.cut + got < 2 ^ 64 }
-    ensures within { IfOk result (λ t. (length held.new.items ≤ form.cbs) × (t.tail.cut + t.have ≤ tail.cut + got) × (t.have < unit_of form)) }
-    ensures part { IfOk result (λ t. form.shape ≡ Unblock → length held.new.items < form.cbs) }
-    ensures space { vec_capacity held.old ≤ vec_capacity held.new }
-    ensures ok { GoesOn form (W.contents w.old) (W.contents w.new) (take got buf.old) buf.new page.old page.new held.old.items held.new.items tail result }
-    ensures err { StopsStageOf form (W.contents w.old) (W.contents w.new) (take got buf.old) page.old held.old.items tail result }
-    ensures grows { Grows page.old.written page.new.written result }
+    requires inside { turn.have ≤ length buf.old }
+    requires room { length waiting.old.held.items ≤ form.cbs }
+    requires space { form.shape ≢ Flat → form.cbs ≤ vec_capacity waiting.old.held }
+    requires part { form.shape ≡ Unblock → length waiting.old.held.items < form.cbs }
+    requires few { turn.tail.cut + turn.have < 2 ^ 64 }
+    ensures within { IfOk result (λ t. (length waiting.new.held.items ≤ form.cbs) × (t.tail.cut + t.have ≤ turn.tail.cut + turn.have) × (t.have < unit_of form)) }
+    ensures part { IfOk result (λ t. form.shape ≡ Unblock → length waiting.new.held.items < form.cbs) }
+    ensures space { vec_capacity waiting.old.held ≤ vec_capacity waiting.new.held }
+    ensures read { IfOk result (λ t. t.read ≡ turn.read) }
+    ensures ok { GoesOn form (output_of (W.contents w.old) waiting.old) (output_of (W.contents w.new) waiting.new) (take turn.have buf.old) buf.new turn.tail result }
+    ensures err { StopsStageOf form (output_of (W.contents w.old) waiting.old) (W.contents w.new) (take turn.have buf.old) turn.tail result }
+    ensures grows { Grows waiting.old.page.written waiting.new.page.written result }
 {
-    let whole = got - got % unit_len(form);
+    let whole = turn.have - turn.have % unit_len(form);
+    let rest = turn.have - whole;
     turn_units(&mut buf[..whole], form);
     match push_shaped(
-        page,
+        &mut waiting.page,
         w,
-        held,
-        tail,
+        &mut waiting.held,
+        turn.tail,
         &buf[..whole],
-        form.shape,
-        form.cbs as usize,
+        form,
     ) {
         Ok(tail) => {
-            move_front(buf, whole, got - whole);
+            move_front(buf, whole, rest);
             Ok(Turn {
                 tail,
-                have: got - whole,
+                have: rest,
+                read: turn.read,
             })
         }
         Err(fault) => Err(fault),
@@ -231,10 +244,9 @@ fn pause<W: Write, B: Allocator>(page: &mut Page<B>, w: &mut W, paused: bool) ->
 }
 
 /// Converts what the input's end left, and writes all that waits.
-fn finish<W: Write, A: Allocator, B: Allocator>(
-    page: &mut Page<B>,
+fn finish<W: Write, A: Allocator>(
+    waiting: &mut Waiting<A>,
     w: &mut W,
-    held: &mut Vec<u8, A>,
     turn: Turn,
     buf: &mut [u8],
     form: Form,
@@ -242,57 +254,55 @@ fn finish<W: Write, A: Allocator, B: Allocator>(
     requires sizes { HasSizes form }
     requires few { turn.have < unit_of form }
     requires inside { unit_of form ≤ length buf.old }
-    requires room { length held.old.items ≤ form.cbs }
-    requires space { form.shape ≢ Flat → form.cbs ≤ vec_capacity held.old }
-    requires part { form.shape ≡ Unblock → length held.old.items < form.cbs }
+    requires room { length waiting.old.held.items ≤ form.cbs }
+    requires space { form.shape ≢ Flat → form.cbs ≤ vec_capacity waiting.old.held }
+    requires part { form.shape ≡ Unblock → length waiting.old.held.items < form.cbs }
     requires cut { turn.tail.cut ≤ 2 ^ 41 }
     ensures cut { IfOk result (λ t. t.cut ≤ 2 ^ 42) }
-    ensures ok { Finishes form (W.contents w.old) (W.contents w.new) (take turn.have buf.old) page.old page.new held.old.items turn.tail result }
-    ensures err { StopsFinish form (W.contents w.old) (W.contents w.new) (take turn.have buf.old) page.old held.old.items turn.tail result }
-    ensures grows { Grows page.old.written page.new.written result }
+    ensures ok { Finishes form (output_of (W.contents w.old) waiting.old) (output_of (W.contents w.new) waiting.new) (take turn.have buf.old) turn.tail result }
+    ensures err { StopsFinish form (output_of (W.contents w.old) waiting.old) (W.contents w.new) (take turn.have buf.old) turn.tail result }
+    ensures grows { Grows waiting.old.page.written waiting.new.page.written result }
 {
     let n = turn_last(buf, turn.have, form);
     let tail = match push_shaped(
-        page,
+        &mut waiting.page,
         w,
-        held,
+        &mut waiting.held,
         turn.tail,
         &buf[..n],
-        form.shape,
-        form.cbs as usize,
+        form,
     ) {
         Ok(tail) => tail,
         Err(fault) => return Err(fault),
     };
-    match push_rest(page, w, held.as_slice(), form) {
+    match push_rest(&mut waiting.page, w, waiting.held.as_slice(), form) {
         Ok(()) => {}
         Err(fault) => return Err(fault),
     }
-    match page.flush(w) {
+    match waiting.page.flush(w) {
         Ok(()) => Ok(tail),
         Err(fault) => Err(fault),
     }
 }
 
 /// Reads at most this many bytes, and converts their whole units. Where fewer come than were asked for, what was converted goes out before more are.
-fn copy_units<R: Read, W: Write, A: Allocator, B: Allocator>(
+fn copy_units<R: Read, W: Write, A: Allocator>(
     meter: &mut Meter,
     r: &mut R,
-    page: &mut Page<B>,
+    waiting: &mut Waiting<A>,
     w: &mut W,
-    held: &mut Vec<u8, A>,
     buf: &mut [u8],
-    most: u64,
-    form: Form,
+    task: Task,
 ) -> Result<Turn, IoFault>
-    requires open { most ≢ 0 → meter.old.state ≡ State.Open }
-    requires fresh { IsFresh form meter.old.limit buf.old held.old.items (vec_capacity held.old) page.old.bytes.items page.old.written }
-    ensures within { IfOk result (λ t. (length held.new.items ≤ form.cbs) × (t.tail.cut ≤ 2 ^ 40) × (t.have < unit_of form)) }
-    ensures part { IfOk result (λ t. form.shape ≡ Unblock → length held.new.items < form.cbs) }
-    ensures space { vec_capacity held.old ≤ vec_capacity held.new }
+    requires open { task.most ≢ 0 → meter.old.state ≡ State.Open }
+    requires fresh { IsFresh task.form meter.old.limit buf.old waiting.old }
+    ensures within { IfOk result (λ t. (length waiting.new.held.items ≤ task.form.cbs) × (t.tail.cut ≤ 2 ^ 40) × (t.have < unit_of task.form)) }
+    ensures part { IfOk result (λ t. task.form.shape ≡ Unblock → length waiting.new.held.items < task.form.cbs) }
+    ensures space { vec_capacity waiting.old.held ≤ vec_capacity waiting.new.held }
     ensures limit { meter.new.limit ≡ 2 ^ 40 }
-    ensures ok { PassesBy form most meter.old meter.new R.remaining r.old r.new W.contents w.old w.new buf.new page.new held.new.items result }
-    ensures err { IfErr result (StopsPass form most meter.old.taken (R.remaining r.old) (R.remaining r.new) (W.contents w.old) (W.contents w.new)) }
+    ensures taken { IfOk result (λ t. meter.new.taken ≡ meter.old.taken + t.read) }
+    ensures ok { IfOk result (Passes task (R.remaining r.old) (R.remaining r.new) (W.contents w.old) buf.new (output_of (W.contents w.new) waiting.new)) }
+    ensures err { IfErr result (StopsPass task.form task.most meter.old.taken (R.remaining r.old) (R.remaining r.new) (W.contents w.old) (W.contents w.new)) }
 {
     let mut turn = Turn {
         tail: Tail {
@@ -300,10 +310,10 @@ fn copy_units<R: Read, W: Write, A: Allocator, B: Allocator>(
             cut: 0,
         },
         have: 0,
+        read: 0,
     };
-    let mut left = most;
-    while left > 0 {
-        let want = left.min((buf.len() - turn.have) as u64) as usize;
+    while turn.read < task.most {
+        let want = (task.most - turn.read).min((buf.len() - turn.have) as u64) as usize;
         let n = match meter.read(r, &mut buf[turn.have..turn.have + want]) {
             Ok(n) => n,
             Err(fault) => return Err(fault),
@@ -311,15 +321,19 @@ fn copy_units<R: Read, W: Write, A: Allocator, B: Allocator>(
         if n == 0 {
             return Ok(turn);
         }
-        turn = match pass(page, w, held, turn.tail, buf, turn.have + n, form) {
+        let next = Turn {
+            tail: turn.tail,
+            have: turn.have + n,
+            read: turn.read + n as u64,
+        };
+        turn = match pass(waiting, w, next, buf, task.form) {
             Ok(turn) => turn,
             Err(fault) => return Err(fault),
         };
-        match pause(page, w, n < want) {
+        match pause(&mut waiting.page, w, n < want) {
             Ok(()) => {}
             Err(fault) => return Err(fault),
         }
-        left -= n as u64;
     }
     Ok(turn)
 }

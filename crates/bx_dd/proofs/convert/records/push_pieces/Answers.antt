@@ -10,15 +10,15 @@ loop-done-preserved g c = record {
   room = c.in-Ok.ensures.within;
   space = omega (arith, c.in-Ok.ensures.space, c.loop-done.invariant.space);
   grows = omega (arith, c.in-Ok.ensures.grows, c.loop-done.invariant.grows);
-  so_far = λ z over cut start flows.
+  so_far = λ tail z start flows.
       rw (piece_taken z c.args.bytes.now c.loop-done.done c.min-n.result (c.loop-done.done + c.min-n.result - c.loop-done.done) (omega arith))
-      at (c.in-Ok.ensures.ok (z ++ take c.loop-done.done c.args.bytes.now) over cut start (c.loop-done.invariant.so_far z over cut start flows));
+      at (c.in-Ok.ensures.ok tail (z ++ take c.loop-done.done c.args.bytes.now) start (c.loop-done.invariant.so_far tail z start flows));
 }
 
 pub returns-in-Err-clause-err : goal.returns-in-Err-clause-err
-returns-in-Err-clause-err g c z over cut start flows =
+returns-in-Err-clause-err g c tail z start flows =
     let d = c.loop-done.done in
     let n = c.min-n.result in
     let bytes = c.args.bytes.now in
     stops_more Unblock c.args.size start _ ((z ++ take d bytes) ++ take (d + n - d) (drop d bytes)) (drop (d + n) bytes) (z ++ bytes) c.in-Err.fault
-    (piece_rest z bytes d n (d + n - d) (omega arith)) (c.in-Err.ensures.err (z ++ take d bytes) over cut start (c.loop-done.invariant.so_far z over cut start flows))
+    (piece_rest z bytes d n (d + n - d) (omega arith)) (c.in-Err.ensures.err tail (z ++ take d bytes) start (c.loop-done.invariant.so_far tail z start flows))

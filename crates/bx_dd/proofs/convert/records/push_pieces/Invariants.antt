@@ -1,6 +1,8 @@
-use Rattle.std.proofs.Common.{◌++◌, ◌-◌, ◌≤◌, ◌<◌, Bool, List, ℕ, Option, length, take}
+use Rattle.std.proofs.Common.{◌++◌, ◌-◌, ◌≤◌, ◌<◌, List, ℕ, Option, length, take}
 use Rattle.std.specs.Prelude.{vec_capacity}
 use Rattle.bx_dd.specs.declared.form.Shape.TheVariants.{Unblock}
+use Rattle.bx_dd.specs.declared.convert.records.Tail.{Tail}
+use Rattle.bx_dd.specs.inner.Paged.{output}
 use Rattle.bx_dd.specs.inner.Streaming.{Flows}
 use Rattle.bx_dd.proofs.convert.records.push_pieces.Given as goal
 
@@ -11,9 +13,9 @@ invariant-loop-done g l = record {
   room : length l.held.items < l.size;
   space : vec_capacity l.initial.held ≤ vec_capacity l.held;
   grows : l.initial.page.written ≤ l.page.written;
-  so_far : (z : List ℕ) (over : Bool) (cut : ℕ) (start : Option (List ℕ)) →
-      Flows Unblock l.size start (g.W.Write.contents l.initial.w) z l.initial.page.bytes.items l.initial.page.written l.initial.held.items over cut →
-      Flows Unblock l.size start (g.W.Write.contents l.w) (z ++ take l.done l.bytes) l.page.bytes.items l.page.written l.held.items over cut;
+  so_far : (tail : Tail) (z : List ℕ) (start : Option (List ℕ)) →
+      Flows Unblock l.size start z (output (g.W.Write.contents l.initial.w) l.initial.page l.initial.held) tail →
+      Flows Unblock l.size start (z ++ take l.done l.bytes) (output (g.W.Write.contents l.w) l.page l.held) tail;
 }
 
 abbrev pub decreases-loop-done : goal.decreases-loop-done

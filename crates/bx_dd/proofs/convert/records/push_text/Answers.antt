@@ -12,7 +12,7 @@ returns-in-None-clause-ok g c z start flows =
     let text : IsText rest = λ k inside e. c.in-None.ensures k (omega arith) inside (eq-eqb _ 10 e) in
     let so_far = c.loop-done.invariant.so_far z start flows in
     rw (rest_taken z c.args.bytes.now rest d c.split_at.ensures.back)
-    at (held_on so_far rest _ _ (c.hold-over_now.ensures.next (z ++ take d c.args.bytes.now) so_far.text c.loop-done.cut text so_far.stands))
+    at (held_on so_far rest _ _ (c.hold-over.ensures.next (z ++ take d c.args.bytes.now) so_far.text c.loop-done.now.cut text so_far.stands))
 
 pub loop-done-preserved : goal.loop-done-preserved
 loop-done-preserved g c =
@@ -29,14 +29,14 @@ loop-done-preserved g c =
     record {
       inside = omega (arith, found.0.high);
       room = omega (arith, ap length ended.within.0);
-      space = omega (arith, ended.space, c.hold-over_now-in-Some.ensures.space, c.loop-done.invariant.space);
+      space = omega (arith, ended.space, c.hold-over-in-Some.ensures.space, c.loop-done.invariant.space);
       few = omega (arith, ended.within.1, c.loop-done.invariant.few);
       grows = omega (arith, ended.grows, c.loop-done.invariant.grows);
       so_far = λ z start flows.
           let so_far = c.loop-done.invariant.so_far z start flows in
           rw (line_taken z c.args.bytes.now rest d n c.split_at.ensures.back found.0.high found.1)
           at (ended.ok ((z ++ take d c.args.bytes.now) ++ take n rest) start
-          (held_on so_far (take n rest) _ _ (c.hold-over_now-in-Some.ensures.next (z ++ take d c.args.bytes.now) so_far.text c.loop-done.cut text so_far.stands)));
+          (held_on so_far (take n rest) _ _ (c.hold-over-in-Some.ensures.next (z ++ take d c.args.bytes.now) so_far.text c.loop-done.now.cut text so_far.stands)));
     }
 
 pub returns-in-Err-clause-err : goal.returns-in-Err-clause-err
@@ -56,4 +56,4 @@ returns-in-Err-clause-err g c z start flows =
     let line : x ≡ z ++ take (d + (n + 1)) bytes = line_taken z bytes rest d n c.split_at.ensures.back found.0.high found.1 in
     stops_more Block c.args.size start _ x (drop (d + (n + 1)) bytes) (z ++ bytes) c.in-Err.fault (front_rest z bytes x (d + (n + 1)) line)
     (c.in-Err.ensures.err ((z ++ take d bytes) ++ take n rest) start
-    (held_on so_far (take n rest) _ _ (c.hold-over_now-in-Some.ensures.next (z ++ take d bytes) so_far.text c.loop-done.cut text so_far.stands)))
+    (held_on so_far (take n rest) _ _ (c.hold-over-in-Some.ensures.next (z ++ take d bytes) so_far.text c.loop-done.now.cut text so_far.stands)))

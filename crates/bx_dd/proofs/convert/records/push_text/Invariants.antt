@@ -1,6 +1,7 @@
 use Rattle.std.proofs.Common.{◌++◌, ◌+◌, ◌-◌, ◌≤◌, List, ℕ, Option, length, take}
 use Rattle.std.specs.Prelude.{vec_capacity}
 use Rattle.bx_dd.specs.declared.form.Shape.TheVariants.{Block}
+use Rattle.bx_dd.specs.inner.Paged.{output}
 use Rattle.bx_dd.specs.inner.Streaming.{Flows}
 use Rattle.bx_dd.proofs.convert.records.push_text.Given as goal
 
@@ -10,11 +11,11 @@ invariant-loop-done g l = record {
   inside : l.done ≤ length l.bytes;
   room : length l.held.items ≤ l.size;
   space : vec_capacity l.initial.held ≤ vec_capacity l.held;
-  few : l.cut ≤ l.initial.cut + l.done;
+  few : l.now.cut ≤ l.initial.now.cut + l.done;
   grows : l.initial.page.written ≤ l.page.written;
   so_far : (z : List ℕ) (start : Option (List ℕ)) →
-      Flows Block l.size start (g.W.Write.contents l.initial.w) z l.initial.page.bytes.items l.initial.page.written l.initial.held.items l.initial.over l.initial.cut →
-      Flows Block l.size start (g.W.Write.contents l.w) (z ++ take l.done l.bytes) l.page.bytes.items l.page.written l.held.items l.over l.cut;
+      Flows Block l.size start z (output (g.W.Write.contents l.initial.w) l.initial.page l.initial.held) l.initial.now →
+      Flows Block l.size start (z ++ take l.done l.bytes) (output (g.W.Write.contents l.w) l.page l.held) l.now;
 }
 
 abbrev pub decreases-loop-done : goal.decreases-loop-done

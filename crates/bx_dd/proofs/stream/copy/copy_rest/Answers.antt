@@ -13,21 +13,21 @@ returns-in-Ok-finish-clause-ok g c =
       consumed = p.consumed;
       within = p.within;
       ends = p.ends;
-      few = omega (arith, p.taken, c.in-Ok.ensures.limit, c.copy_units.new.meter.within);
+      few = omega (arith, p.read, c.in-Ok.ensures.taken, c.in-Ok.ensures.limit, c.copy_units.new.meter.within);
       appended = end.0;
-      counted = c.counts.ensures.counts p.input (omega (arith, p.taken)) end.1 end.2;
+      counted = c.counts.ensures.counts p.input p.read end.1 end.2;
     }
 
 pub returns-in-Err-finish-clause-err : goal.returns-in-Err-finish-clause-err
 returns-in-Err-finish-clause-err g c =
     let p = c.in-Ok.ensures.ok in
-    let few : c.args.meter.now.taken + length p.input ≤ 2 ^ 40 = omega (arith, p.taken, c.in-Ok.ensures.limit, c.copy_units.new.meter.within) in
+    let few : c.args.meter.now.taken + length p.input ≤ 2 ^ 40 = omega (arith, p.read, c.in-Ok.ensures.taken, c.in-Ok.ensures.limit, c.copy_units.new.meter.within) in
     let have = c.in-Ok.turn.have in
     let pending = take have c.copy_units.new.buf in
-    let page = c.copy_units.new.page in
+    let page = c.copy_units.new.waiting.page in
     let within = c.in-Ok.ensures.within in
     let last : length pending ≤ 2 ^ 24 = omega (arith, length-take have c.copy_units.new.buf, within.2, c.requires.fresh.inside, c.requires.fresh.few) in
-    let ahead = ahead_of (converted c.args.form) p.input p.stage.done pending page.written c.in-Err-finish.fault p.stage.parts last
+    let ahead = ahead_of (converted c.args.task.form) p.input p.stage.done pending page.written c.in-Err-finish.fault p.stage.parts last
     (stage_near p.stage c.requires.fresh.sizes page.near within.0) c.in-Err-finish.ensures.grows in
-    write_stops c.args.form _ _ _ _ p.input c.args.most c.args.meter.now.taken c.in-Err-finish.fault p.consumed p.within few ahead
+    write_stops c.args.task.form _ _ _ _ p.input c.args.task.most c.args.meter.now.taken c.in-Err-finish.fault p.consumed p.within few ahead
     (c.in-Err-finish.ensures.err p.input (g.W.Write.contents c.args.w.now) p.stage)
