@@ -92,9 +92,10 @@ StopsStageOf form out0 now pending tail outcome =
     (input : List ℕ) (start : Option (List ℕ)) → Stage form start input pending out0 tail → IfErr outcome (StopsStage form start now input)
 
 -- More was read, whatever stood so: of all of it whole units flow, and the rest is pending.
-abbrev pub GoesOn : {E : Type 0} → Form → Output → Output → List ℕ → List ℕ → Tail → Result Turn E → Type 0
-GoesOn form out0 out1 pending buf tail outcome = (input : List ℕ) (start : Option (List ℕ)) → Stage form start input pending out0 tail →
-    IfOk outcome (λ t. Stage form start input (take t.have buf) out1 t.tail)
+abbrev pub GoesOn : {E : Type 0} → Form → Output → Output → List ℕ → List ℕ → Turn → Result Turn E → Type 0
+GoesOn form out0 out1 before after turn outcome =
+    (input : List ℕ) (start : Option (List ℕ)) → Stage form start input (take turn.have before) out0 turn.tail →
+    IfOk outcome (λ t. Stage form start input (take t.have after) out1 t.tail)
 
 -- All that is written of the input went out, whatever stood so, and is counted.
 abbrev pub Finishes : {E : Type 0} → Form → Output → Output → List ℕ → Tail → Result Tail E → Type 0

@@ -203,7 +203,7 @@ fn pass<W: Write, A: Allocator>(
     ensures part { IfOk result (λ t. form.shape ≡ Unblock → length waiting.new.held.items < form.cbs) }
     ensures space { vec_capacity waiting.old.held ≤ vec_capacity waiting.new.held }
     ensures read { IfOk result (λ t. t.read ≡ turn.read) }
-    ensures ok { GoesOn form (output_of (W.contents w.old) waiting.old) (output_of (W.contents w.new) waiting.new) (take turn.have buf.old) buf.new turn.tail result }
+    ensures ok { GoesOn form (output_of (W.contents w.old) waiting.old) (output_of (W.contents w.new) waiting.new) buf.old buf.new turn result }
     ensures err { StopsStageOf form (output_of (W.contents w.old) waiting.old) (W.contents w.new) (take turn.have buf.old) turn.tail result }
     ensures grows { Grows waiting.old.page.written waiting.new.page.written result }
 {

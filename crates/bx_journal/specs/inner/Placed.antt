@@ -1,6 +1,9 @@
 -- Entries that are to be taken back, by the places of their records alone.
 use Rattle.std.specs.Prelude.{◌≡◌, ◌≤◌, ℕ, List, [], ◌∷◌, length, reverse}
+use Rattle.bx_image.specs.declared.device.Device.{Ghosts as DeviceViews}
+use Rattle.bx_store.specs.declared.store.TextStore.{Ghosts as StoreViews}
 use Rattle.bx_image.specs.declared.record.Saved.{Saved}
+use Rattle.bx_journal.specs.declared.devices.Devices.{Devices}
 use Rattle.bx_entries.specs.Kept.{kept_of}
 use Rattle.bx_entries.specs.declared.read.types.EntryRead.{EntryRead}
 use Rattle.bx_journal.specs.declared.protocol.undo_entry.Placed.{Placed}
@@ -35,3 +38,7 @@ pub record ArePrepared {A : Type 0} (honest : Type 0) (x : List ℕ) (text_hones
   pub few : length takens ≤ length entries
   pub placed : ArePlaced text_honest stored (reverse entries) (reverse places)
   pub ready : honest → AreReady x (reverse entries) (reverse takens)
+
+-- the same of image and journal in one hand
+abbrev pub ArePreparedIn : {D T A : Type 0} → DeviceViews D → StoreViews T → Devices D T → List Placed → List (Saved A) → Type 0
+ArePreparedIn d t x places takens = ArePrepared (d.honest x.device) (d.image x.device) (t.honest x.store) (t.text x.store) places takens

@@ -6,6 +6,7 @@ use Rattle.bx_image.specs.declared.change.TheConstants.{MAX_LEN}
 use Rattle.bx_image.specs.Change.{effect, saved, IsOf}
 use Rattle.bx_entries.specs.declared.format.version.Version.TheVariants.{Second}
 use Rattle.bx_entries.specs.Entry.{head_text, end_text}
+use Rattle.bx_store.specs.declared.store.TextStore.{Ghosts as StoreViews}
 use Rattle.bx_journal.specs.Phase.{IsAtRest}
 use Rattle.bx_journal.specs.inner.Phase.{IsOpen, as_read}
 use Rattle.bx_journal.specs.inner.Redo.{RecoversOpen}
@@ -51,14 +52,15 @@ pub record HasTail (text x : List ℕ) (stack : List (List ℕ)) (entries : List
   pub mark : IsMark text n (record { entries = entries; stage = Between })
 
 -- with the head of an entry behind it a text at rest is open on what the head keeps
-abbrev pub HeadOpens : {V E : Type 0} → List ℕ → List ℕ → List ℕ → Result V E → Type 0
-HeadOpens text head new result =
-    (x : List ℕ) (stack : List (List ℕ)) (s : Kept) → StartsEntry text x stack s head → OnOk result (IsOpen Second (as_read s) new x stack)
+abbrev pub HeadOpens : {T V E : Type 0} → StoreViews T → T → List ℕ → T → Result V E → Type 0
+HeadOpens t old head new result =
+    t.honest old → (x : List ℕ) (stack : List (List ℕ)) (s : Kept) → StartsEntry (t.text old) x stack s head
+    → OnOk result (IsOpen Second (as_read s) (t.text new) x stack)
 
 -- and with a front of the head opening finds its stack
-abbrev pub HeadStops : {V E : Type 0} → List ℕ → List ℕ → List ℕ → Result V E → Type 0
-HeadStops text head new result =
-    (x : List ℕ) (stack : List (List ℕ)) (s : Kept) → StartsEntry text x stack s head → OnErr result (Recovers new x stack)
+abbrev pub HeadStops : {T V E : Type 0} → StoreViews T → T → List ℕ → T → Result V E → Type 0
+HeadStops t old head new result =
+    t.honest old → (x : List ℕ) (stack : List (List ℕ)) (s : Kept) → StartsEntry (t.text old) x stack s head → OnErr result (Recovers (t.text new) x stack)
 
 -- with the end of an entry behind it a text is at rest, and the image is the newest of its stack
 abbrev pub EndRests : {V E : Type 0} → List ℕ → List ℕ → List ℕ → Result V E → Type 0

@@ -6,6 +6,7 @@ use Rattle.bx_image.specs.declared.record.Saved.{Saved}
 use Rattle.bx_image.specs.Change.{saved, AllWithin, IsOf, Restores}
 use Rattle.bx_image.specs.Image.{zeros}
 use Rattle.bx_image.specs.Runs.{LieBelow}
+use Rattle.bx_store.specs.declared.store.TextStore.{Ghosts as StoreViews}
 use Rattle.bx_entries.specs.Kept.{kept_of}
 use Rattle.bx_entries.specs.Entry.{entry_text}
 use Rattle.bx_entries.specs.declared.read.types.EntryRead.{EntryRead}
@@ -47,6 +48,10 @@ AllShaped (t ∷ ts) = AllWithin t.len t.runs × AllShaped ts
 abbrev pub entries_len : {A : Type 0} → List (Saved A) → ℕ
 entries_len [] = 0
 entries_len (t ∷ ts) = length (entry_text 0 (kept_of t) 0) + entries_len ts
+
+-- a store has room for them behind its text
+abbrev pub HasRoomForEntries : {T A : Type 0} → StoreViews T → T → List (Saved A) → Type 0
+HasRoomForEntries t s takens = length (t.text s) + entries_len takens ≤ t.room s
 
 -- the first record lies below a length
 abbrev pub IsFirstBelow : {A : Type 0} → ℕ → List (Saved A) → Type 0

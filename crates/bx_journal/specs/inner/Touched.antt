@@ -1,12 +1,14 @@
 -- What some redos will touch of the image: for each entry, the newest first, ranges.
 use Rattle.std.specs.Prelude.{◌≡◌, ◌≤◌, ◌+◌, ℕ, List, [], ◌∷◌, ◌++◌, length, reverse, Vec}
 use Rattle.bx_image.specs.declared.change.Change.{Change}
+use Rattle.bx_image.specs.declared.device.Device.{Ghosts as DeviceViews}
 use Rattle.bx_image.specs.declared.change.TheConstants.{MAX_LEN}
 use Rattle.bx_image.specs.declared.record.spans.Span.{Span}
 use Rattle.bx_image.specs.Change.{saved, HaveBytes, Restores}
 use Rattle.bx_image.specs.Over.{saved_over, LieWithin}
 use Rattle.bx_entries.specs.Entry.{head_text}
 use Rattle.bx_entries.specs.declared.read.types.EntryRead.{EntryRead}
+use Rattle.bx_journal.specs.declared.write.head.Head.{Head}
 use Rattle.bx_journal.specs.declared.write.ranges.Place.{Place}
 use Rattle.bx_journal.specs.inner.Ranges.{head_from, kept_over, left_len, rest_len, IsPlace}
 
@@ -39,6 +41,10 @@ pub record IsBegun (honest : Type 0) (x : List ℕ) (number : ℕ) (ranges : Lis
 abbrev pub IsFirstBegun : {A : Type 0} → Type 0 → List ℕ → ℕ → List (Vec Span A) → List ℕ → Place → Type 0
 IsFirstBegun honest x number [] page place = Unit {0}
 IsFirstBegun honest x number (r ∷ rs) page place = IsBegun honest x number r.items page place
+
+-- and it is the head that a redo of these goes on with
+abbrev pub IsFirstHead : {D A B : Type 0} → DeviceViews D → D → ℕ → List (Vec Span A) → Head B → Type 0
+IsFirstHead d x number takens head = IsFirstBegun (d.honest x) (d.image x) number (reverse takens) head.page.items head.place
 
 -- the first ranges lie within a length
 abbrev pub IsFirstWithin : {A : Type 0} → ℕ → List (Vec Span A) → Type 0

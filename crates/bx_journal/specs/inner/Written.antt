@@ -3,6 +3,7 @@ use Rattle.std.specs.Prelude.{◌∷◌, ℕ, List, take, Result, OnOk, OnErr}
 use Rattle.bx_image.specs.declared.device.Device.{Ghosts as DeviceViews}
 use Rattle.bx_store.specs.declared.store.TextStore.{Ghosts as StoreViews}
 use Rattle.bx_journal.specs.declared.devices.Devices.{Devices}
+use Rattle.bx_journal.specs.declared.write.head.Head.{Head}
 use Rattle.bx_image.specs.declared.change.Change.{Change}
 use Rattle.bx_image.specs.Change.{effect}
 use Rattle.bx_image.specs.Power.{Only}
@@ -26,14 +27,18 @@ pub record AreSettled {D T : Type 0} (d : DeviceViews D) (t : StoreViews T) (x :
 abbrev pub EntrySettles : {D T V E : Type 0} → DeviceViews D → StoreViews T → Devices D T → Devices D T → Result V E → Type 0
 EntrySettles d t old new result = d.honest old.device → t.honest old.store → t.honest old.redo_text → OnOk result (AreSettled d t new)
 
+-- the text of an entry's head which keeps these ranges of an image
+abbrev pub head_on : {D A : Type 0} → (D → List ℕ) → D → List Span → Head A → List ℕ
+head_on image x ranges head = head_text head.number (kept_over (image x) ranges)
+
 -- The text of an entry: up to its save line, and the line that ends it
 pub record EntryText : Type 0 where
   pub head : List ℕ
   pub end_line : List ℕ
 
--- that of an entry which keeps these ranges of the image x
-abbrev pub entry_over : List ℕ → List Span → ℕ → List ℕ → EntryText
-entry_over x ranges number end_line = record { head = head_text number (kept_over x ranges); end_line = end_line }
+-- that of an entry which keeps these ranges of the image
+abbrev pub entry_on : {D T A : Type 0} → (D → List ℕ) → Devices D T → List Span → Head A → List ℕ → EntryText
+entry_on image x ranges head end_line = record { head = head_on image x.device ranges head; end_line = end_line }
 
 -- image and journal are at rest behind the entry, and the changed image is the newest of their stack
 abbrev pub RestsBehind : {D T A V E : Type 0} → DeviceViews D → StoreViews T → Change A → EntryText → Devices D T → Devices D T → Result V E → Type 0

@@ -13,7 +13,7 @@ ghost use Rattle.bx_journal.specs.inner.Phase.{StaysOpenFor};
 ghost use Rattle.bx_journal.specs.inner.Ranges.{kept_over};
 ghost use Rattle.bx_journal.specs.inner.Step.{EndRests, EndStops, HeadOpens, HeadStops};
 ghost use Rattle.bx_journal.specs.inner.Turns.{place_of};
-ghost use Rattle.bx_journal.specs.inner.Written.{entry_over, EntrySettles, LeavesBoth, RestsBehind, StopsEither, SurvivesBoth};
+ghost use Rattle.bx_journal.specs.inner.Written.{entry_on, head_on, EntrySettles, LeavesBoth, RestsBehind, StopsEither, SurvivesBoth};
 
 use crate::devices::Devices;
 use crate::protocol::image::change_image;
@@ -37,9 +37,9 @@ pub fn append_head_of<D: Device, T: TextStore, A: Allocator>(
     requires head { IsHead ranges.now head.old }
     requires begun { D.honest device.old → IsBegunOver (D.image device.old) ranges.now head.old }
     requires fits { T.honest store.old → length (T.text store.old) + rest_of ranges.now head.old ≤ T.room store.old }
-    ensures ok { D.honest device.old → T.honest store.old → HeadOpens (T.text store.old) (head_text head.old.number (kept_over (D.image device.old) ranges.now)) (T.text store.new) result }
-    ensures fault { D.honest device.old → T.honest store.old → HeadStops (T.text store.old) (head_text head.old.number (kept_over (D.image device.old) ranges.now)) (T.text store.new) result }
-    ensures text { D.honest device.old → T.honest store.old → OnOk result (T.text store.new ≡ T.text store.old ++ head_text head.old.number (kept_over (D.image device.old) ranges.now)) }
+    ensures ok { D.honest device.old → HeadOpens T.TextStore store.old (head_on D.image device.old ranges.now head.old) store.new result }
+    ensures fault { D.honest device.old → HeadStops T.TextStore store.old (head_on D.image device.old ranges.now head.old) store.new result }
+    ensures text { D.honest device.old → T.honest store.old → OnOk result (T.text store.new ≡ T.text store.old ++ head_on D.image device.old ranges.now head.old) }
     ensures settled { T.honest store.old → OnOk result (Only (T.text store.new) (T.survives store.new)) }
     ensures survives { D.honest device.old → T.honest store.old → Only (T.text store.old) (T.survives store.old)
         → HeadSurvives (T.text store.old) (head_text head.old.number (kept_over (D.image device.old) ranges.now)) (T.survives store.new) }
@@ -132,10 +132,10 @@ pub fn write_change<D: Device, T: TextStore, A: Allocator>(
     requires text_room { T.honest devices.old.store
         → length (T.text devices.old.store) + rest_of ranges.now head.old + length end.now ≤ T.room devices.old.store }
     requires within { T.honest devices.old.redo_text → place_of part ≤ length (T.text devices.old.redo_text) }
-    ensures ok { RestsBehind D.Device T.TextStore change.now (entry_over (D.image devices.old.device) ranges.now head.old.number end.now) devices.old devices.new result }
-    ensures fault { StopsEither D.Device T.TextStore change.now (entry_over (D.image devices.old.device) ranges.now head.old.number end.now) devices.old devices.new result }
-    ensures left { LeavesBoth D.Device T.TextStore change.now (entry_over (D.image devices.old.device) ranges.now head.old.number end.now) part devices.old devices.new result }
-    ensures survives { SurvivesBoth D.Device T.TextStore change.now (entry_over (D.image devices.old.device) ranges.now head.old.number end.now) part devices.old devices.new }
+    ensures ok { RestsBehind D.Device T.TextStore change.now (entry_on D.image devices.old ranges.now head.old end.now) devices.old devices.new result }
+    ensures fault { StopsEither D.Device T.TextStore change.now (entry_on D.image devices.old ranges.now head.old end.now) devices.old devices.new result }
+    ensures left { LeavesBoth D.Device T.TextStore change.now (entry_on D.image devices.old ranges.now head.old end.now) part devices.old devices.new result }
+    ensures survives { SurvivesBoth D.Device T.TextStore change.now (entry_on D.image devices.old ranges.now head.old end.now) part devices.old devices.new }
     ensures settles { EntrySettles D.Device T.TextStore devices.old devices.new result }
     ensures image { D.honest devices.old.device → OnOk result (D.image devices.new.device ≡ effect change.now (D.image devices.old.device)) }
     ensures back { D.honest devices.old.device

@@ -6,7 +6,7 @@ ghost use Rattle.bx_entries.specs.inner.Parsed.{AllKept};
 ghost use Rattle.bx_journal.specs.inner.Devices.{AreBelow, StepsOn};
 ghost use Rattle.bx_journal.specs.Undoing.{LeavesFront};
 ghost use Rattle.bx_journal.specs.inner.Entries.{RedoAll, RedoRests, RedoSome, RedoSomeSurvives, RedoTakes, RestsOnTop, StandsOnTop, StaySettled, StopsOnTop};
-ghost use Rattle.bx_journal.specs.inner.Touched.{AreTouchedFrom, IsFirstBegun, IsFirstWithin, entries_over};
+ghost use Rattle.bx_journal.specs.inner.Touched.{AreTouchedFrom, IsFirstBegun, IsFirstHead, IsFirstWithin, entries_over};
 ghost use Rattle.bx_entries.specs.Text.{IsPrefix};
 ghost use Rattle.bx_journal.specs.inner.Undoing.{AreReadFrom};
 
@@ -80,7 +80,7 @@ pub fn redo_entries<D: Device, T: TextStore, A: Allocator>(
     requires kept { AllKept (D.room devices.old.device) (drop (length entries.old.items - length takens.old.items) entries.old.items) }
     requires read { AreReadFrom (T.honest devices.old.redo_text) (T.text devices.old.redo_text) entries.old.items }
     requires touched { AreTouchedFrom (D.honest devices.old.device) (D.image devices.old.device) entries.old.items takens.old.items }
-    requires begun { IsFirstBegun (D.honest devices.old.device) (D.image devices.old.device) (count + 1) (reverse takens.old.items) head.old.page.items head.old.place }
+    requires begun { IsFirstHead D.Device devices.old.device (count + 1) takens.old.items head.old }
     requires fits { T.honest devices.old.store → length (T.text devices.old.store) + entries_over takens.old.items ≤ T.room devices.old.store }
     requires page_room { 82 ≤ vec_capacity head.old.page }
     requires window { 16 ≤ length head.old.window.items }

@@ -7,7 +7,7 @@ ghost use Rattle.bx_image.specs.Power.{NoMore, Only};
 ghost use Rattle.bx_journal.specs.inner.Devices.{AreBelow, ImageIsFirst, StepsOn};
 ghost use Rattle.bx_journal.specs.Undoing.{LeavesFront};
 ghost use Rattle.bx_journal.specs.inner.Entries.{DropsRest, DropsSome, DropsStand, StaySettled, UndoAll, UndoSome, UndoSomeSurvives, UndoTakes};
-ghost use Rattle.bx_journal.specs.inner.Placed.{AllFit, ArePrepared};
+ghost use Rattle.bx_journal.specs.inner.Placed.{AllFit, ArePreparedIn};
 ghost use Rattle.bx_journal.specs.inner.Restoring.{StandsAt};
 ghost use Rattle.bx_journal.specs.inner.Takens.{AllShaped, entries_len};
 ghost use Rattle.bx_journal.specs.inner.Undone.{CanKeep, CanRestore, CutsFirst, KeepsLeftOut, KeepsRoom, LeftUndo, UndoRests, UndoStops, UndoSurvives, Undoes};
@@ -172,7 +172,7 @@ pub fn undo_entries<D: Device, T: TextStore, A: Allocator>(
     requires bound { undone + length takens.old.items ≤ 65535 }
     requires placed { AllFit (D.room devices.old.device) (length buffers.old.window.items) placed.old.items }
     requires parts { 0 < vec_capacity buffers.old.parts }
-    requires prepared { ArePrepared (D.honest devices.old.device) (D.image devices.old.device) (T.honest devices.old.store) (T.text devices.old.store) placed.old.items takens.old.items }
+    requires prepared { ArePreparedIn D.Device T.TextStore devices.old placed.old.items takens.old.items }
     requires shaped { AllShaped takens.old.items }
     requires fits { T.honest devices.old.redo_text → length (T.text devices.old.redo_text) + entries_len takens.old.items ≤ T.room devices.old.redo_text }
     requires empty { page.old.items ≡ [] }

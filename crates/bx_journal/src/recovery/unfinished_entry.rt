@@ -10,7 +10,7 @@ ghost use Rattle.bx_image.specs.Power.{Only};
 ghost use Rattle.bx_journal.specs.Power.{RecoverySurvives};
 ghost use Rattle.bx_journal.specs.inner.Opening.{HasBuffersFor, HasRoomFor, LookFault};
 ghost use Rattle.bx_journal.specs.Recovery.{OpenKind};
-ghost use Rattle.bx_journal.specs.inner.Recovering.{CountsStack, FindsAgain, KeepsFoundUndone, KeepsRedoText, Opens, OpensRead, SparesClean, SparesPair, TellsRefused, TellsUndone, TellsUnfit};
+ghost use Rattle.bx_journal.specs.inner.Recovering.{CountsStack, EmptiesFirst, FaultsAsRead, FindsAgain, KeepsFoundUndone, KeepsRedoText, LeavesRead, Opens, OpensRead, RefusesLength, SparesClean, SparesPair, TellsDamage, TellsRefused, TellsUndone, TellsUnfit};
 ghost use Rattle.bx_journal.specs.inner.Recovery.{IsTorn, IsUnfinishedIn, KeepsStack, LengthFault, LookReadFault, RecoverFault};
 ghost use Rattle.bx_journal.specs.Redo.{IsClean};
 ghost use Rattle.bx_journal.specs.Stack.{HaveLengths, image_at};
@@ -78,8 +78,8 @@ fn cut_unfinished<D: Device, T: TextStore, A: Allocator>(
     requires found { IsUnfinishedIn (T.honest store.old) (T.text store.old) torn }
     requires room { HasRoomFor torn.mark (D.room device.old) }
     requires buffers { HasBuffersFor torn.mark buffers.old }
-    ensures opened { D.honest device.old → T.honest store.old → OpensRead D.image T.text device.old store.old device.new store.new result }
-    ensures left { T.honest store.old → (r : Reading) → Reads (shown (T.text store.old)) r → OnOk result (HasLeft (T.text store.old) (T.text store.new) r.entries) }
+    ensures opened { OpensRead D.Device T.TextStore device.old store.old device.new store.new result }
+    ensures left { LeavesRead T.TextStore store.old store.new result }
     ensures unclean { IfOk result (λ o. (o.how ≡ How.Clean → ⊥) × (o.undone ≡ 0)) }
     ensures keeps { D.honest device.old → T.honest store.old
         → KeepsStack result (T.text store.old) (D.image device.old) (T.text store.new) (D.image device.new) }
@@ -124,8 +124,8 @@ fn finish<D: Device, T: TextStore, A: Allocator>(
     requires found { IsUnfinishedIn (T.honest devices.old.store) (T.text devices.old.store) torn }
     requires room { HasRoomFor torn.mark (D.room devices.old.device) }
     requires buffers { HasBuffersFor torn.mark buffers.old }
-    ensures opened { D.honest devices.old.device → T.honest devices.old.store → OpensRead D.image T.text devices.old.device devices.old.store devices.new.device devices.new.store result }
-    ensures left { T.honest devices.old.store → (r : Reading) → Reads (shown (T.text devices.old.store)) r → OnOk result (HasLeft (T.text devices.old.store) (T.text devices.new.store) r.entries) }
+    ensures opened { OpensRead D.Device T.TextStore devices.old.device devices.old.store devices.new.device devices.new.store result }
+    ensures left { LeavesRead T.TextStore devices.old.store devices.new.store result }
     ensures unclean { IfOk result (λ o. (o.how ≡ How.Clean → ⊥) × (o.undone ≡ 0)) }
     ensures keeps { D.honest devices.old.device → T.honest devices.old.store
         → KeepsStack result (T.text devices.old.store) (D.image devices.old.device) (T.text devices.new.store) (D.image devices.new.device) }
@@ -196,19 +196,19 @@ pub fn recover_read<D: Device, T: TextStore, A: Allocator + Clone>(
 ) -> Result<Recovered, SessionFault>
     requires countable { AreBelow D.Device T.TextStore u64.MAX devices.old }
     requires found { IsUnfinishedIn (T.honest devices.old.store) (T.text devices.old.store) torn }
-    ensures opened { D.honest devices.old.device → T.honest devices.old.store → Opens D.image T.text devices.old.device devices.old.store devices.new.device devices.new.store result }
-    ensures left { T.honest devices.old.store → (r : Reading) → Reads (shown (T.text devices.old.store)) r → OnOk result (HasLeft (T.text devices.old.store) (T.text devices.new.store) r.entries) }
+    ensures opened { Opens D.Device T.TextStore devices.old devices.new result }
+    ensures left { LeavesRead T.TextStore devices.old.store devices.new.store result }
     ensures unclean { IfOk result (λ o. (o.how ≡ How.Clean → ⊥) × (o.undone ≡ 0)) }
     ensures sum { IfOk result (λ o. o.changes + o.undone ≤ 65535) }
-    ensures faults { D.honest devices.old.device → T.honest devices.old.store → (r : Reading) → Reads (shown (T.text devices.old.store)) r → IfErr result (OpenFault r (D.image devices.old.device)) }
+    ensures faults { FaultsAsRead D.Device T.TextStore devices.old result }
     ensures kind { IfErr result RecoverFault }
-    ensures differs { D.honest devices.old.device → T.honest devices.old.store → RefusesDiffering result (λ e. e) (shown (T.text devices.old.store)) (D.image devices.old.device) }
+    ensures differs { RefusesLength D.Device T.TextStore devices.old result }
     ensures keeps { D.honest devices.old.device → T.honest devices.old.store
         → KeepsStack result (T.text devices.old.store) (D.image devices.old.device) (T.text devices.new.store) (D.image devices.new.device) }
-    ensures counted { D.honest devices.old.device → T.honest devices.old.store → CountsStack (shown (T.text devices.old.store)) (D.image devices.old.device) result }
-    ensures refused { D.honest devices.old.device → T.honest devices.old.store → SparesPair D.image T.text devices.old.device devices.old.store devices.new.device devices.new.store result }
+    ensures counted { CountsStack D.Device T.TextStore devices.old result }
+    ensures refused { SparesPair D.Device T.TextStore devices.old devices.new result }
     ensures emptied { T.honest devices.old.redo_text → OnOk result (T.text devices.new.redo_text ≡ []) }
-    ensures emptied_first { T.honest devices.old.store → T.honest devices.old.redo_text → OnErr result ((T.text devices.new.store ≡ T.text devices.old.store) ⊎ (T.text devices.new.redo_text ≡ [])) }
+    ensures emptied_first { EmptiesFirst T.TextStore devices.old devices.new result }
     ensures redo_same { T.honest devices.old.redo_text → IfErr result (λ e. AfterFault e (Unit {0}) (T.text devices.new.redo_text ≡ T.text devices.old.redo_text)) }
     ensures survives { D.honest devices.old.device → T.honest devices.old.store → T.honest devices.old.redo_text
         → RecoverySurvives D.Device T.TextStore result (λ o. Unit {0}) (λ e. e) devices.old devices.new }
@@ -234,20 +234,20 @@ pub fn recover<D: Device, T: TextStore, A: Allocator + Clone>(
     devices: &mut Devices<D, T>,
 ) -> Result<Recovered, SessionFault>
     requires countable { AreBelow D.Device T.TextStore u64.MAX devices.old }
-    ensures opened { D.honest devices.old.device → T.honest devices.old.store → Opens D.image T.text devices.old.device devices.old.store devices.new.device devices.new.store result }
-    ensures left { T.honest devices.old.store → (r : Reading) → Reads (shown (T.text devices.old.store)) r → OnOk result (HasLeft (T.text devices.old.store) (T.text devices.new.store) r.entries) }
-    ensures clean { D.honest devices.old.device → T.honest devices.old.store → SparesClean D.image T.text devices.old.device devices.old.store devices.new.device devices.new.store result }
+    ensures opened { Opens D.Device T.TextStore devices.old devices.new result }
+    ensures left { LeavesRead T.TextStore devices.old.store devices.new.store result }
+    ensures clean { SparesClean D.Device T.TextStore devices.old devices.new result }
     ensures accepted { T.honest devices.old.store → OnOk result (IsAccepted (shown (T.text devices.old.store))) }
-    ensures damaged { T.honest devices.old.store → IfErr result (λ e. (line : ℕ) → e ≡ SessionFault.Damaged line → IsDamagedAt (shown (T.text devices.old.store)) line) }
+    ensures damaged { TellsDamage T.TextStore devices.old.store result }
     ensures unaccepted { T.honest devices.old.store → (IsAccepted (shown (T.text devices.old.store)) → ⊥) → MatchResult result (λ _. ⊥) RefusesText }
-    ensures faults { D.honest devices.old.device → T.honest devices.old.store → (r : Reading) → Reads (shown (T.text devices.old.store)) r → IfErr result (OpenFault r (D.image devices.old.device)) }
+    ensures faults { FaultsAsRead D.Device T.TextStore devices.old result }
     ensures kind { IfErr result OpenKind }
     ensures unfinished { T.honest devices.old.store → IfErr result (λ e. e ≡ SessionFault.Interrupted → IsClean (T.text devices.old.store) → ⊥) }
-    ensures differs { D.honest devices.old.device → T.honest devices.old.store → RefusesDiffering result (λ e. e) (shown (T.text devices.old.store)) (D.image devices.old.device) }
+    ensures differs { RefusesLength D.Device T.TextStore devices.old result }
     ensures keeps { D.honest devices.old.device → T.honest devices.old.store
         → KeepsStack result (T.text devices.old.store) (D.image devices.old.device) (T.text devices.new.store) (D.image devices.new.device) }
-    ensures counted { D.honest devices.old.device → T.honest devices.old.store → CountsStack (shown (T.text devices.old.store)) (D.image devices.old.device) result }
-    ensures refused { D.honest devices.old.device → T.honest devices.old.store → SparesPair D.image T.text devices.old.device devices.old.store devices.new.device devices.new.store result }
+    ensures counted { CountsStack D.Device T.TextStore devices.old result }
+    ensures refused { SparesPair D.Device T.TextStore devices.old devices.new result }
     ensures clean_redo { T.honest devices.old.redo_text → IfOk result (λ o. o.how ≡ How.Clean → T.text devices.new.redo_text ≡ T.text devices.old.redo_text) }
     ensures emptied { T.honest devices.old.redo_text → IfOk result (λ o. (o.how ≡ How.Clean → ⊥) → (T.text devices.new.redo_text ≡ []) × (o.undone ≡ 0)) }
     ensures redo_same { T.honest devices.old.redo_text → IfErr result (λ e. AfterFault e (Unit {0}) (T.text devices.new.redo_text ≡ T.text devices.old.redo_text)) }

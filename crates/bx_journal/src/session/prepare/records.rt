@@ -5,9 +5,9 @@ ghost use Rattle.bx_journal.specs.Power.{FoundBefore};
 ghost use Rattle.bx_journal.specs.inner.Devices.{AreCounted, AreUnfailed, HaveStayed};
 ghost use Rattle.bx_journal.specs.inner.Written.{AreSettled};
 ghost use Rattle.bx_journal.specs.inner.Overwritten.{AreOrdered, place_in};
-ghost use Rattle.bx_journal.specs.inner.Placed.{AllFit, ArePrepared};
+ghost use Rattle.bx_journal.specs.inner.Placed.{AllFit, ArePreparedIn};
 ghost use Rattle.bx_journal.specs.inner.Plan.{IsPlan, IsTakenFor};
-ghost use Rattle.bx_journal.specs.inner.Takens.{AreReady, AllShaped, length_at, entries_len as entries_long};
+ghost use Rattle.bx_journal.specs.inner.Takens.{AreReady, AllShaped, HasRoomForEntries, length_at, entries_len as entries_long};
 ghost use Rattle.bx_journal.specs.inner.Undoing.{AreReadFrom, HasRoomFor};
 ghost use Rattle.bx_journal.specs.inner.Windows.{HasShortLines};
 
@@ -174,7 +174,7 @@ fn take_records<D: Device, T: TextStore, A: Allocator + Clone>(
     ensures filled { D.honest devices.old.device → IfOk result (λ o. AreReady (D.image devices.old.device) (reverse read.entries.items) (reverse o.takens.items)) }
     ensures shaped { IfOk result (λ o. AllShaped o.takens.items) }
     ensures count { IfOk result (λ o. length o.takens.items ≡ k) }
-    ensures roomed { T.honest devices.old.redo_text → IfOk result (λ o. length (T.text devices.new.redo_text) + entries_long o.takens.items ≤ T.room devices.new.redo_text) }
+    ensures roomed { T.honest devices.old.redo_text → IfOk result (λ o. HasRoomForEntries T.TextStore devices.new.redo_text o.takens.items) }
     ensures empty { IfOk result (λ o. o.page.items ≡ []) }
     ensures page_room { IfOk result (λ o. 82 ≤ vec_capacity o.page) }
     ensures kind { IfErr result DeviceFault }
@@ -219,14 +219,13 @@ pub fn prepare_takens<D: Device, T: TextStore, A: Allocator + Clone>(
     requires few { k ≤ length read.entries.items }
     requires read { AreReadFrom (T.honest devices.old.store) (T.text devices.old.store) read.entries.items }
     requires short { HasShortLines (T.honest devices.old.store) (T.text devices.old.store) read.longest }
-    ensures prepared { IfOk result
-        (λ o. ArePrepared (D.honest devices.new.device) (D.image devices.new.device) (T.honest devices.new.store) (T.text devices.new.store) o.placed.items o.takens.items) }
+    ensures prepared { IfOk result (λ o. ArePreparedIn D.Device T.TextStore devices.new o.placed.items o.takens.items) }
     ensures fit { IfOk result (λ o. AllFit (D.room devices.new.device) (length o.buffers.window.items) o.placed.items) }
     ensures parts { IfOk result (λ o. 0 < vec_capacity o.buffers.parts) }
     ensures same { IfOk result (λ o. length o.placed.items ≡ length o.takens.items) }
     ensures shaped { IfOk result (λ o. AllShaped o.takens.items) }
     ensures count { IfOk result (λ o. length o.takens.items ≡ k) }
-    ensures roomed { T.honest devices.old.redo_text → IfOk result (λ o. length (T.text devices.new.redo_text) + entries_long o.takens.items ≤ T.room devices.new.redo_text) }
+    ensures roomed { T.honest devices.old.redo_text → IfOk result (λ o. HasRoomForEntries T.TextStore devices.new.redo_text o.takens.items) }
     ensures empty { IfOk result (λ o. o.page.items ≡ []) }
     ensures page_room { IfOk result (λ o. 82 ≤ vec_capacity o.page) }
     ensures settled { D.honest devices.old.device → T.honest devices.old.store → T.honest devices.old.redo_text
