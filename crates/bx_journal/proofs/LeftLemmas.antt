@@ -1,18 +1,8 @@
 -- What opening leaves of a journal's text: a front of it, which is its finished entries alone.
-use Rattle.std.proofs.Common.{◌≡◌, ℕ, List, [], ◌++◌, take, drop, refl, ap, sym, ◌∙◌, subst, inl, Option, Some, append-nil}
-use Rattle.std.proofs.lemmas.List.{take-append-drop}
-use Rattle.bx_entries.specs.declared.read.whole.JournalRead.{JournalRead}
-use Rattle.bx_entries.specs.declared.read.types.StageRead.{StageRead}
-use Rattle.bx_entries.specs.Text.{Entry, Between, Reading, Reads, IsRest}
-use Rattle.bx_entries.specs.inner.Mark.{IsMark}
-use Rattle.bx_entries.specs.inner.Journal.{HasRead}
-use Rattle.bx_entries.specs.inner.Parsed.{IsMarked, entries_of, reading_of}
+use Rattle.std.proofs.Common.{◌≡◌, ℕ, List, [], sym, ◌∙◌, subst, Option, Some, append-nil}
+use Rattle.bx_entries.specs.Text.{Between, Reading, Reads}
 use Rattle.bx_entries.specs.inner.Tally.{IsCounted}
-use Rattle.bx_entries.specs.Finished.{IsFinished}
-use Rattle.bx_entries.specs.Shown.{shown}
-use Rattle.bx_entries.proofs.ShownLemmas.{take_shown}
 use Rattle.bx_journal.specs.Undoing.{HasLeft}
-use Rattle.bx_journal.proofs.TailLemmas.{begins_at, begin_mark}
 
 one_reading : {A : Type 0} (x y : A) → Some x ≡ Some y → x ≡ y
 one_reading x y e = cc

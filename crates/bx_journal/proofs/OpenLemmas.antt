@@ -1,30 +1,18 @@
 -- What opening finds, from what was read.
-use Rattle.std.proofs.Common.{◌≡◌, ℕ, suc, ◌+◌, ◌-◌, ◌≤◌, true, List, [], ◌∷◌, length, take, drop, refl, ap, sym, ◌∙◌, subst, inl, arith, Option, Some, None, length-append, length-drop}
+use Rattle.std.proofs.Common.{◌≡◌, ℕ, true, List, [], ◌∷◌, length, refl, sym, ◌∙◌, subst, arith, Option, Some, None}
 use Rattle.std.specs.Prelude.{IfSome}
 use Rattle.std.proofs.lemmas.Grind.{common_steps}
-use Rattle.bx_image.specs.declared.record.Saved.{Saved}
-use Rattle.bx_entries.specs.Kept.{kept_of}
-use Rattle.bx_image.specs.Change.{restore}
-use Rattle.bx_entries.specs.declared.format.version.Version.{Version}
-use Rattle.bx_journal.specs.declared.answers.How.{How}
-use Rattle.bx_journal.specs.declared.answers.How.TheVariants.{Dropped, Restored}
 use Rattle.bx_journal.specs.declared.fault.SessionFault.{SessionFault}
 use Rattle.bx_journal.specs.declared.fault.SessionFault.TheVariants.{NoMemory, TooLarge, DeviceFailed, Damaged, TooFew, JournalFull, Interrupted, Broken, LengthDiffers, NothingToRedo, RedoDamaged}
 use Rattle.bx_entries.specs.declared.read.whole.JournalRead.{JournalRead}
-use Rattle.bx_entries.specs.declared.read.types.StageRead.TheVariants.{Between as BetweenRead, Saving as SavingRead, Ending as EndingRead}
-use Rattle.bx_entries.specs.Text.{Entry, Between, Reading, Reads, IsRest, split, may_begin}
-use Rattle.bx_journal.specs.Stack.{HaveLengths, Recovers, image_at, stack_of}
-use Rattle.bx_entries.specs.inner.Mark.{IsMark}
+use Rattle.bx_entries.specs.Text.{Entry, Reading, Reads, may_begin}
+use Rattle.bx_journal.specs.Stack.{HaveLengths, Recovers, image_at}
 use Rattle.bx_entries.specs.inner.Journal.{HasRead}
 use Rattle.bx_entries.specs.Parsed.{told_by}
-use Rattle.bx_entries.specs.inner.Parsed.{entries_of, stage_of, reading_of}
-use Rattle.bx_journal.specs.Calls.{how_of, Differs, OpenFault, AfterFault}
-use Rattle.bx_journal.specs.Opening.{IsOpened, RefusesLength, left_over}
-use Rattle.bx_entries.specs.Shown.{shown}
-use Rattle.bx_entries.proofs.ShownLemmas.{shown_short, take_shown}
+use Rattle.bx_entries.specs.inner.Parsed.{reading_of}
+use Rattle.bx_journal.specs.Calls.{Differs, OpenFault, AfterFault}
+use Rattle.bx_journal.specs.Opening.{RefusesLength}
 use Rattle.bx_journal.specs.inner.Opening.{LookFault}
-use Rattle.bx_entries.proofs.ReadLemmas.{length-entries_of}
-use Rattle.bx_journal.proofs.ReadingLemmas.{IsSane, read_sane, have_lengths, length-restore}
 
 pub some_same : {A : Type 0} (x y : A) → Some x ≡ Some y → x ≡ y
 some_same x y e = cc

@@ -19,7 +19,6 @@ use Rattle.bx_journal.specs.Opening.{IsOpened, RefusesLength}
 use Rattle.bx_entries.specs.Parsed.{told_by}
 use Rattle.bx_journal.specs.inner.Recovery.{FindFault, FinishedFault, HasOtherLength, HasToldLength, HasUndoneCount, IsCountedIn, IsFoundIn, IsUnfinishedIn, KeepsUndone, RecoverFault}
 use Rattle.bx_entries.specs.Shown.{shown}
-use Rattle.bx_entries.specs.inner.Journal.{HasRead}
 use Rattle.bx_entries.proofs.CleanLemmas.{clean_shown}
 use Rattle.bx_journal.specs.Power.{Found as FoundOnDisk}
 use Rattle.bx_journal.specs.Redo.{IsClean, IsRedoOf, IsRefusedAt, RefusesRedoAt, found_undone}
@@ -28,7 +27,6 @@ use Rattle.bx_entries.specs.inner.Tally.{IsCounted}
 use Rattle.bx_entries.specs.Text.{Between, Entry, IsAccepted, Reading, Reads}
 use Rattle.bx_journal.proofs.Judged.{undamaged}
 use Rattle.bx_journal.proofs.OpenLemmas.{differs_of}
-use Rattle.bx_entries.proofs.ReadLoop.{marked_few}
 use Rattle.bx_journal.proofs.TornLemmas.{torn_stack}
 use Rattle.bx_journal.proofs.RedoText.{empty_is_redo, one_list}
 use Rattle.bx_journal.proofs.Refused.{none_refused}

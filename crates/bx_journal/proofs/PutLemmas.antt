@@ -1,8 +1,7 @@
 -- Ranges that are written a window at a time.
-use Rattle.std.proofs.Common.{◌≡◌, ℕ, ◌+◌, ◌-◌, ◌≤◌, List, [], ◌∷◌, ◌++◌, length, take, drop, refl, ap, sym, ◌∙◌, subst, arith, append-nil, Option}
+use Rattle.std.proofs.Common.{◌≡◌, ℕ, ◌+◌, ◌-◌, ◌≤◌, List, [], ◌++◌, take, drop, refl, ap, sym, ◌∙◌, subst, arith, append-nil, Option}
 use Rattle.std.proofs.KnownBytes.{Appends-nil, Appends-trans}
 use Rattle.bx_entries.specs.declared.read.marks.Mark.{Mark}
-use Rattle.bx_entries.specs.declared.read.ranges.Ranging.{Ranging}
 use Rattle.bx_entries.specs.Ranges.{ranges_text}
 use Rattle.bx_entries.specs.Spelled.{runs_behind}
 use Rattle.bx_entries.specs.Text.{Split, split}

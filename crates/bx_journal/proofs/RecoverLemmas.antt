@@ -1,7 +1,5 @@
 -- What is found in a journal's text: finished entries alone, or something unfinished.
-use Rattle.std.proofs.Common.{◌≡◌, ◌⊎◌, inl, inr, ℕ, ◌≤◌, List, length, refl, ap, sym, ◌∙◌, subst, arith, Option, length-drop}
-use Rattle.bx_image.specs.declared.record.Saved.{Saved}
-use Rattle.bx_entries.specs.declared.format.version.Version.{Version}
+use Rattle.std.proofs.Common.{◌≡◌, ◌⊎◌, inl, inr, ℕ, List, length, refl, ap, sym, ◌∙◌, subst, arith, Option, length-drop}
 use Rattle.bx_entries.specs.declared.read.whole.JournalRead.{JournalRead}
 use Rattle.bx_entries.specs.declared.read.types.StageRead.{StageRead}
 use Rattle.bx_entries.specs.declared.read.types.StageRead.TheVariants.{Between as BetweenRead, Saving as SavingRead, Ending as EndingRead}

@@ -1,7 +1,7 @@
 -- What a session that was ready left is opened again as it is.
 use Rattle.std.proofs.Common.{◌≡◌, ℕ, List, length, refl, ap, sym, ◌∙◌, subst}
 use Rattle.bx_entries.specs.Shown.{shown}
-use Rattle.bx_entries.specs.Text.{Between, Reading, Reads, IsAccepted, IsDamagedAt}
+use Rattle.bx_entries.specs.Text.{Between, Reading, Reads, IsDamagedAt}
 use Rattle.bx_entries.specs.Finished.{IsFinished}
 use Rattle.bx_entries.proofs.CleanLemmas.{clean_shown}
 use Rattle.bx_journal.specs.declared.answers.How.{How}

@@ -3,12 +3,11 @@ use Rattle.std.proofs.Common.{◌≡◌, ℕ, suc, ◌+◌, ◌-◌, ◌<◌, �
 use Rattle.std.specs.Prelude.{All, OnOk, ◌==◌, if◌then◌else◌, codes, decimal}
 use Rattle.std.proofs.lemmas.Grind.{flat_map-append}
 use Rattle.std.proofs.lemmas.List.{length-map, length-take-le, take_more}
-use Rattle.std.proofs.lemmas.List.Elements.{All-append, All-cons, All-get_or, All-nil}
+use Rattle.std.proofs.lemmas.List.Elements.{All-append, All-cons, All-nil}
 use Rattle.std.proofs.KnownBytes.{Appends-trans}
 use Rattle.std.specs.Io.KnownBytes.{Appends}
 use lib.Seq.{drop-append_seam, take-append_seam}
 use Rattle.bx_entries.specs.declared.read.marks.Mark.{Mark}
-use Rattle.bx_entries.specs.Kept.{Run}
 use Rattle.bx_entries.specs.Line.{save_line}
 use Rattle.bx_entries.specs.Ranges.{ranges_text}
 use Rattle.bx_entries.specs.Spelled.{EntryLines, GiveRuns, IsSpelled, entry_in, lines_of, runs_behind}
@@ -19,7 +18,7 @@ use Rattle.bx_entries.proofs.Damage.{split_joined}
 use Rattle.bx_entries.proofs.Foreign.{joined_lines, lines_plain}
 use Rattle.bx_journal.proofs.OpenLemmas.{some_same}
 use Rattle.bx_entries.proofs.Splits.{AllPlain}
-use Rattle.bx_journal.specs.Showing.{RangesOf, after_text, places_text, ranges_row, ranges_rows}
+use Rattle.bx_journal.specs.Showing.{RangesOf, after_text, ranges_row, ranges_rows}
 use Rattle.bx_journal.specs.inner.Showing.{AreAllMarks, LiesWithin, lines_at, mark_row, mark_rows, places_at, ranges_at, row_front}
 
 pub joined-append : (a b : List (List ℕ)) → joined (a ++ b) ≡ joined a ++ joined b

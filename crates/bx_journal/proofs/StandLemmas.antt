@@ -1,5 +1,5 @@
 -- Where the record of an unfinished entry stands, from the places at which the entry begins and its save line ends.
-use Rattle.std.proofs.Common.{◌≡◌, ℕ, suc, ◌+◌, ◌-◌, ◌<◌, ◌≤◌, inl, inr, List, [], ◌∷◌, ◌++◌, length, length-append, length-take, length-drop, take, drop, codes, refl, ap, sym, ◌∙◌, subst, arith, append_assoc, Option, Some, None}
+use Rattle.std.proofs.Common.{◌≡◌, ℕ, suc, ◌+◌, ◌-◌, ◌≤◌, inl, inr, List, [], ◌∷◌, ◌++◌, length, length-append, length-take, take, drop, codes, refl, ap, sym, ◌∙◌, subst, arith, Some}
 use Rattle.std.proofs.lemmas.List.{take-append-drop, take-append-le}
 use Rattle.bx_entries.specs.Hex.{hex_digits}
 use Rattle.bx_image.specs.declared.record.Saved.{Saved}
@@ -8,7 +8,7 @@ use Rattle.bx_entries.specs.declared.read.types.EntryRead.{EntryRead}
 use Rattle.bx_entries.specs.declared.read.types.StageRead.TheVariants.{Ending as EndingRead}
 use Rattle.bx_entries.specs.inner.Parsed.{IsMarked, entries_of}
 use Rattle.bx_entries.specs.Line.{digits_of, start_head, start_line}
-use Rattle.bx_entries.specs.Text.{Entry, Stage, Between, Saving, Ending, Reading, ended, joined, split, start, next_at, after_lines}
+use Rattle.bx_entries.specs.Text.{Entry, Between, Saving, Ending, Reading, ended, joined, split, start, next_at, after_lines}
 use Rattle.bx_entries.specs.declared.format.version.Version.{Version}
 use Rattle.bx_entries.specs.declared.format.version.Version.TheVariants.{First, Second}
 use Rattle.bx_entries.specs.inner.Line.{start_size}
@@ -20,7 +20,6 @@ use Rattle.bx_entries.proofs.Inverse.{bind_some, next_between, next_ending}
 use Rattle.bx_entries.proofs.Runs.{after_lines-append}
 use Rattle.bx_entries.proofs.Splits.{AllPlain, split-append, split-ended}
 use Rattle.bx_entries.proofs.TallyLemmas.{last, take_sum}
-use Rattle.bx_journal.specs.declared.read.mark.Mark.{Mark}
 use Rattle.bx_journal.specs.inner.Restoring.{AllShorter, StandsAt}
 use Rattle.bx_journal.proofs.RestoreLemmas.{line_gives, lines_more, same_reading}
 

@@ -1,22 +1,11 @@
 -- The unfinished end of a text that was read.
-use Rattle.std.proofs.Common.{◌≡◌, ℕ, suc, List, [], length, map, ap, sym, ◌∙◌, subst}
-use Rattle.bx_image.specs.declared.record.Saved.{Saved}
-use Rattle.bx_entries.specs.Kept.{run_of}
-use Rattle.bx_image.specs.Change.{AllWithin}
-use Rattle.bx_entries.specs.declared.format.version.Version.{Version}
-use Rattle.bx_entries.specs.declared.read.whole.JournalRead.{JournalRead}
+use Rattle.std.proofs.Common.{ℕ, List, []}
 use Rattle.bx_entries.specs.declared.read.types.EntryRead.{EntryRead}
 use Rattle.bx_entries.specs.declared.read.types.StageRead.{StageRead}
 use Rattle.bx_entries.specs.declared.read.types.StageRead.TheVariants.{Between as BetweenRead, Saving as SavingRead, Ending as EndingRead}
-use Rattle.bx_entries.specs.Text.{Entry, Stage, Between, Reads, split}
-use Rattle.bx_journal.specs.Stack.{Recovers}
-use Rattle.bx_journal.specs.inner.Step.{HasTail}
+use Rattle.bx_entries.specs.Text.{Between}
 use Rattle.bx_entries.specs.inner.Mark.{IsMark}
-use Rattle.bx_entries.specs.inner.Journal.{HasRead}
-use Rattle.bx_entries.specs.inner.Parsed.{entries_of, stage_of, reading_of, IsMarked}
-use Rattle.bx_entries.proofs.ReadLemmas.{length-entries_of}
-use Rattle.bx_journal.proofs.ReadingLemmas.{read_sane}
-use Rattle.bx_journal.proofs.Tails.{tail_of, counted_stack}
+use Rattle.bx_entries.specs.inner.Parsed.{entries_of, reading_of, IsMarked}
 
 -- where what is unfinished begins
 abbrev pub begins_at : {A : Type 0} → (StageRead A) → ℕ → ℕ

@@ -1,11 +1,10 @@
 -- What is unfinished at the end of a journal's text, and what opening leaves of it.
-use Rattle.std.proofs.Common.{◌≡◌, ℕ, suc, ◌+◌, ◌-◌, ◌≤◌, List, [], ◌∷◌, ◌++◌, length, length-append, length-drop, take, take_all, drop, true, refl, ap, sym, ◌∙◌, subst, inl, arith, Option, Some, None}
+use Rattle.std.proofs.Common.{◌≡◌, ℕ, suc, ◌+◌, ◌≤◌, List, [], ◌∷◌, ◌++◌, length, length-append, length-drop, take, take_all, drop, true, refl, ap, sym, ◌∙◌, subst, inl, arith, Some, None}
 use Rattle.std.specs.Prelude.{IfSome}
 use Rattle.std.proofs.lemmas.List.{take-append-drop}
 use Rattle.bx_image.specs.Change.{restore}
 use Rattle.bx_entries.specs.Kept.{Kept}
 use Rattle.bx_entries.specs.Finished.{IsFinished}
-use Rattle.bx_entries.specs.Parsed.{told_by}
 use Rattle.bx_entries.specs.Shown.{shown}
 use Rattle.bx_entries.specs.Text.{Entry, Stage, Between, Saving, Ending, Reading, Reads, IsRest, split, start, after_lines, may_begin}
 use Rattle.bx_entries.specs.declared.format.version.Version.{Version}

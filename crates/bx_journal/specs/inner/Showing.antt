@@ -1,5 +1,5 @@
 -- What proofs alone need: a text that is looked at in windows.
-use Rattle.std.specs.Prelude.{◌≡◌, ◌↔◌, ◌<◌, ◌≤◌, ◌+◌, ◌-◌, ◌==◌, ℕ, suc, Vec, Option, Result, IfOk, IfErr, OnOk, List, [], ◌∷◌, ◌++◌, length, take, drop, if◌then◌else◌, codes, decimal}
+use Rattle.std.specs.Prelude.{◌≡◌, ◌↔◌, ◌<◌, ◌≤◌, ◌+◌, ◌-◌, ◌==◌, ℕ, suc, Vec, Option, Result, IfOk, IfErr, OnOk, List, [], ◌∷◌, ◌++◌, take, drop, if◌then◌else◌, codes, decimal}
 use Rattle.std.specs.Io.KnownBytes.{Appends}
 use Rattle.bx_entries.specs.declared.read.marks.Mark.{Mark}
 use Rattle.bx_entries.specs.Ranges.{ranges_text}

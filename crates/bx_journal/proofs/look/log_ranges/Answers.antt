@@ -1,8 +1,6 @@
-use Rattle.std.proofs.Common.{◌≡◌, ◌≤◌, ◌∙◌, List, ℕ, length, ap, subst, sym, arith}
+use Rattle.std.proofs.Common.{◌∙◌, List, ℕ, length, ap, subst, sym, arith}
 use Rattle.std.specs.Prelude.{All}
-use Rattle.std.specs.Io.KnownBytes.{Appends}
-use Rattle.bx_journal.specs.Showing.{RangesOf}
-use Rattle.bx_journal.specs.inner.Showing.{AreAllMarks, LiesWithin, mark_rows}
+use Rattle.bx_journal.specs.inner.Showing.{AreAllMarks, LiesWithin}
 use Rattle.bx_journal.proofs.RowTexts.{all_lie, ok_weaker, ranges_written}
 use Rattle.bx_journal.proofs.look.log_ranges.Goals as goal
 

@@ -1,4 +1,4 @@
-use Rattle.std.proofs.Common.{◌≡◌, ◌≤◌, ◌∙◌, List, ℕ, length, take, refl, ap, subst, sym, arith, None}
+use Rattle.std.proofs.Common.{◌∙◌, length, refl, ap, subst, sym, arith, None}
 use Rattle.std.proofs.KnownBytes.{Appends-nil}
 use Rattle.std.specs.Io.KnownBytes.{Appends}
 use Rattle.bx_journal.proofs.RowTexts.{rows_none, rows_written}

@@ -1,4 +1,4 @@
-use Rattle.std.proofs.Common.{◌≡◌, ◌≤◌, ◌∙◌, List, ℕ, [], refl, subst, ap, arith, string_bytes}
+use Rattle.std.proofs.Common.{◌∙◌, List, ℕ, [], refl, subst, arith, string_bytes}
 use Rattle.std.specs.Prelude.{OnOk}
 use Rattle.std.specs.Io.KnownBytes.{Appends}
 use Rattle.bx_entries.specs.inner.Ranges.{EndsRanges}

@@ -1,9 +1,7 @@
-use Rattle.std.proofs.Common.{◌≡◌, ◌-◌, ◌^◌, ◌≤◌, ℕ, suc, List, length, ap, ◌∙◌, subst, sym, arith}
+use Rattle.std.proofs.Common.{◌≡◌, ◌-◌, ◌^◌, ℕ, suc, List, length, ap, ◌∙◌, subst, sym, arith}
 use Rattle.std.specs.Prelude.{slice_index_or, IfOk, Vec}
-use Rattle.bx_image.specs.Change.{HaveBytes}
 use Rattle.bx_image.specs.Over.{LieWithin}
 use Rattle.bx_image.specs.declared.record.spans.Span.{Span}
-use Rattle.bx_journal.specs.inner.Ranges.{AreRanges}
 use Rattle.bx_journal.specs.inner.Touched.{IsBegun}
 use Rattle.bx_journal.proofs.TouchedLemmas.{begun_of, last_begun, last_within, none_begun, ranges_in}
 use Rattle.bx_journal.proofs.protocol.redo_entry.begin_last.Goals as goal

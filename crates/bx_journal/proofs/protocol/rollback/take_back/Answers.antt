@@ -1,4 +1,4 @@
-use Rattle.std.proofs.Common.{◌≡◌, ◌∙◌, List, ℕ, sym, subst, take, ap, Result, Ok, Err}
+use Rattle.std.proofs.Common.{◌∙◌, List, ℕ, sym, subst, take, ap, Result, Ok, Err}
 use Rattle.std.specs.Prelude.{OnErr}
 use Rattle.std.proofs.lemmas.Result.{on_ok_weaker}
 use Rattle.bx_entries.specs.Shown.{shown}

@@ -1,6 +1,5 @@
-use Rattle.std.proofs.Common.{Some, None, ap, sym, subst, ◌∙◌}
+use Rattle.std.proofs.Common.{subst}
 use Rattle.std.specs.Prelude.{IfSome}
-use Rattle.bx_entries.specs.Text.{Stage}
 use Rattle.bx_journal.specs.inner.Restoring.{StandsAt}
 use Rattle.bx_journal.proofs.WalkLemmas.{mark_between, mark_saving, mark_ending}
 use Rattle.bx_journal.proofs.read.torn.find_mark.Goals as goal

@@ -1,6 +1,5 @@
-use Rattle.std.proofs.Common.{◌≡◌, ◌+◌, ℕ, Some, length, take, sym, subst, arith}
+use Rattle.std.proofs.Common.{◌≡◌, ◌+◌, length, sym, subst}
 use Rattle.std.specs.Prelude.{IfSome}
-use Rattle.bx_entries.specs.Text.{Ending}
 use Rattle.bx_entries.specs.inner.Line.{start_size}
 use Rattle.bx_entries.specs.inner.Mark.{IsMark}
 use Rattle.bx_journal.specs.inner.Restoring.{StandsAt}

@@ -1,8 +1,8 @@
-use Rattle.std.proofs.Common.{◌≡◌, ◌∙◌, ◌+◌, ◌≤◌, List, ℕ, refl, ap, sym, subst, arith, rules, Result, Ok, Err}
+use Rattle.std.proofs.Common.{◌≡◌, ◌∙◌, ◌+◌, ◌≤◌, List, ℕ, refl, ap, sym, subst, rules, Result, Ok, Err}
 use Rattle.std.specs.Prelude.{IfSome, OnErr, OnOk}
 use Rattle.std.proofs.lemmas.Result.{err_from_is_err_and}
 use Rattle.bx_entries.specs.Shown.{shown}
-use Rattle.bx_entries.specs.Text.{Reading, Reads}
+use Rattle.bx_entries.specs.Text.{Reading}
 use Rattle.bx_journal.specs.declared.answers.How.TheVariants.{Dropped, Restored}
 use Rattle.bx_journal.specs.Stack.{HaveLengths, Recovers, image_at}
 use Rattle.bx_journal.specs.Opening.{IsOpened}

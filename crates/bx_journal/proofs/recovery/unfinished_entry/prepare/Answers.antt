@@ -1,4 +1,3 @@
-use Rattle.std.proofs.Common.{sym, subst}
 use Rattle.std.proofs.lemmas.Result.{on_ok_weaker}
 use Rattle.bx_journal.proofs.TornLemmas.{torn_early, torn_under_way, torn_way}
 use Rattle.bx_journal.proofs.recovery.unfinished_entry.prepare.Goals as goal

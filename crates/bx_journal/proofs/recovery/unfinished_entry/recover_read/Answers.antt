@@ -7,7 +7,7 @@ use Rattle.bx_journal.specs.Calls.{Differs}
 use Rattle.bx_journal.specs.Opening.{IsOpened}
 use Rattle.bx_journal.proofs.OpenLemmas.{look_opens, look_refuses, after_same, same_lengths}
 use Rattle.bx_journal.proofs.TornLemmas.{torn_once, torn_stack}
-use Rattle.bx_journal.proofs.RecoverLemmas.{first_text, look_kind, look_silent}
+use Rattle.bx_journal.proofs.RecoverLemmas.{look_kind, look_silent}
 use Rattle.bx_journal.specs.Undoing.{HasLeft}
 use Rattle.bx_journal.specs.inner.Recovery.{IsTornIn}
 use Rattle.bx_journal.proofs.recovery.unfinished_entry.recover_read.Goals as goal

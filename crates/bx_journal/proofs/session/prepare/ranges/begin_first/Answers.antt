@@ -1,4 +1,4 @@
-use Rattle.std.proofs.Common.{◌≡◌, ◌≤◌, ℕ, length, subst, sym, arith}
+use Rattle.std.proofs.Common.{◌≤◌, subst, sym, arith}
 use Rattle.std.specs.List.{length_refill}
 use Rattle.std.specs.Prelude.{reverse}
 use Rattle.bx_journal.specs.inner.Touched.{IsFirstBegun, IsFirstWithin}

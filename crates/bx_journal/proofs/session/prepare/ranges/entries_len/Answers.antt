@@ -1,4 +1,4 @@
-use Rattle.std.proofs.Common.{◌≡◌, ◌-◌, ◌^◌, ◌∙◌, min, length, ap, subst, sym, arith}
+use Rattle.std.proofs.Common.{◌≡◌, ◌-◌, ◌^◌, ◌∙◌, min, ap, subst, sym, arith}
 use Rattle.std.specs.Prelude.{slice_index_or, Vec}
 use Rattle.std.proofs.lemmas.List.{take_all}
 use Rattle.bx_image.specs.Over.{LieWithin}

@@ -1,4 +1,4 @@
-use Rattle.std.proofs.Common.{◌≡◌, ◌-◌, ◌∙◌, length, drop, ap, arith}
+use Rattle.std.proofs.Common.{◌≡◌, ◌-◌, length, drop, ap, arith}
 use Rattle.bx_journal.proofs.LookedLemmas.{found_then, stayed_then}
 use Rattle.bx_journal.proofs.UndoLoop.{kept_more}
 use Rattle.bx_journal.proofs.session.prepare.ranges.prepare_redo.Goals as goal

@@ -1,4 +1,4 @@
-use Rattle.std.proofs.Common.{◌≡◌, ◌-◌, ◌^◌, ◌≤◌, ◌∙◌, min, ap, subst, sym, arith}
+use Rattle.std.proofs.Common.{◌-◌, ◌^◌, ◌∙◌, min, ap, subst, sym, arith}
 use Rattle.bx_journal.specs.inner.Touched.{AreToldRanges, entries_over}
 use Rattle.bx_journal.proofs.session.prepare.ranges.take_memory.Goals as goal
 
