@@ -20,7 +20,7 @@ use std::os::unix::fs::FileTypeExt;
 use std::rt::Files;
 
 /// Which of an image, its journal and its redo text this run made.
-#[derive(Clone, Copy, Debug, PartialEq, Eq)]
+#[derive(Clone, Copy)]
 pub struct Made {
     /// The image.
     pub image: bool,

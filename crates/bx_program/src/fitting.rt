@@ -3,7 +3,7 @@ use bx_dd::{Plan, Shape};
 use std::io::{self, Read};
 
 /// What is counted of an input.
-#[derive(Clone, Copy, PartialEq, Eq)]
+#[derive(Clone, Copy)]
 enum Unit {
     Bytes,
     /// Bytes that are no spaces, and the ends of records.
@@ -67,7 +67,7 @@ impl<I> Fitting<I> {
     fn most(&self) -> u64 {
         if self.skipped > 0 {
             self.skipped
-        } else if self.left > 0 && self.unit == Unit::Newlines {
+        } else if self.left > 0 && matches!(self.unit, Unit::Newlines) {
             u64::MAX
         } else {
             self.left

@@ -99,7 +99,7 @@ where
 fn is_of_words(stopped: Stopped<'_>) -> bool {
     let number = stopped.fault.number();
     let of_words = (20..30).contains(&number) || stopped.fault == Fault::Usage;
-    of_words && stopped.reason == Reason::Unknown
+    of_words && matches!(stopped.reason, Reason::Unknown)
 }
 
 /// The reason in words, as the system says it.

@@ -8,7 +8,7 @@ use std::io::{self, ErrorKind, Read};
 pub const STANDARD_INPUT: &str = "standard input";
 
 /// Why a file stopped a job.
-#[derive(Clone, Copy, Debug, PartialEq, Eq)]
+#[derive(Clone, Copy)]
 pub enum Reason {
     /// Nothing is known.
     Unknown,

@@ -9,7 +9,7 @@ use std::os::unix::fs::FileTypeExt;
 use std::rt::Files;
 
 /// What stands in a file that is changed.
-#[derive(Clone, Copy, PartialEq, Eq)]
+#[derive(Clone, Copy)]
 pub enum Holds {
     /// An image: a regular file or a block device.
     Image,
@@ -21,7 +21,10 @@ impl Holds {
     /// Whether a file of this kind can hold it.
     pub fn suits(self, file: &Metadata) -> bool {
         let kind = file.file_type();
-        kind.is_file() || (self == Holds::Image && kind.is_block_device())
+        match self {
+            Holds::Image => kind.is_file() || kind.is_block_device(),
+            Holds::Text => kind.is_file(),
+        }
     }
 
     /// What is said of a file that can't hold it.
@@ -53,7 +56,7 @@ where
         Ok(_) => Err(Stopped::refused(name, holds.unsuited())),
         Err(e) if e.kind() != ErrorKind::NotFound => Err(Stopped::unopened(name, e)),
         Err(_) if may_miss => Ok(None),
-        Err(_) if holds == Holds::Text => Err(Stopped::refused(name, NO_JOURNAL)),
+        Err(_) if matches!(holds, Holds::Text) => Err(Stopped::refused(name, NO_JOURNAL)),
         Err(e) => Err(Stopped::unopened(name, e)),
     }
 }
