@@ -15,10 +15,11 @@ use bx_cli::{
     log_text, run_one,
 };
 use bx_image::{Change, Device, FileImage, SystemFile};
-use bx_journal::{How, Session, SessionFault, Steps, Way};
+use bx_journal::{How, LogRow, Session, SessionFault, Steps, Way};
 use bx_read::ReadFault;
 use bx_store::{FileText, TextStore};
 use bx_text::Name;
+use std::alloc::Global;
 use std::fs::File;
 use std::io::{Read, Write};
 use std::rt::Files;
@@ -188,12 +189,26 @@ where
     } = opened;
     match command(rt, &mut session, asked) {
         Ok(reply) => Ok(reply),
-        Err(fault) => {
-            let trio = session.close();
-            let devices = Devices { trio, image, texts };
-            Err(devices.refused(rt, fault, made))
-        }
+        Err(fault) => Err(refusal(rt, session, fault, made, image, texts)),
     }
+}
+
+/// What refused a command on a session that is closed now. Where nothing was begun, the files that this run made are taken away
+/// again.
+fn refusal<'a, R>(
+    rt: &R,
+    session: FileSession,
+    fault: Fault,
+    made: Made,
+    image: &'a Name,
+    texts: &'a Texts,
+) -> Stopped<'a>
+where
+    R: Files<File = File> + AllocGlobal,
+{
+    let trio = session.close();
+    let devices = Devices { trio, image, texts };
+    devices.refused(rt, fault, made)
 }
 
 /// Makes the change of a text that was read, on a session that was just opened, and closes it.
@@ -216,11 +231,7 @@ where
         ..
     } = opened;
     match change_if_read(&mut session, read) {
-        Reply::Refused(fault) => {
-            let trio = session.close();
-            let devices = Devices { trio, image, texts };
-            Err(devices.refused(rt, fault, made))
-        }
+        Reply::Refused(fault) => Err(refusal(rt, session, fault, made, image, texts)),
         _ => Ok(()),
     }
 }
@@ -257,16 +268,36 @@ where
     requires { ⟦<FileText<TextFile> as TextStore>⟧.failures opened.session.store ≡ 0 }
 {
     let (device, mut store, redo_text) = opened.session.close();
-    let mut page = Paged::new(rt.alloc(), out);
-    match list_ranges(&rt.alloc(), &mut store, &mut page) {
-        Ok(()) => Ok(page.put()?),
-        Err(fault) => {
-            let fault = page.stopped.map_or(fault, Fault::Io);
-            let trio = (device, store, redo_text);
-            let devices = Devices { trio, image, texts };
-            Err(devices.stopped(fault))
-        }
+    match put_ranges(rt.alloc(), &mut store, out) {
+        Ok(()) => Ok(()),
+        Err(fault) => Err(stop((device, store, redo_text), fault, image, texts)),
     }
+}
+
+/// Writes what a journal's text says of ranges.
+fn put_ranges<W: Write>(
+    alloc: Global,
+    store: &mut FileText<TextFile>,
+    out: &mut W,
+) -> Result<(), Fault>
+    requires { ⟦<FileText<TextFile> as TextStore>⟧.failures store.old ≡ 0 }
+{
+    let mut page = Paged::new(alloc, out);
+    match list_ranges(&alloc, store, &mut page) {
+        Ok(()) => page.put(),
+        Err(fault) => Err(page.stopped.map_or(fault, Fault::Io)),
+    }
+}
+
+/// What stopped a session that had these devices.
+fn stop<'a>(
+    trio: (FileImage, FileText<TextFile>, FileText<TextFile>),
+    fault: Fault,
+    image: &'a Name,
+    texts: &'a Texts,
+) -> Stopped<'a> {
+    let devices = Devices { trio, image, texts };
+    devices.stopped(fault)
 }
 
 /// The changes of a session that was just opened as text, a line each, the oldest first.
@@ -282,13 +313,14 @@ where
 {
     let mut session = opened.session;
     match session.log() {
-        Ok(rows) => Ok(log_text(rt.alloc(), rows.as_slice())?),
-        Err(fault) => {
-            let trio = session.close();
-            let devices = Devices { trio, image, texts };
-            Err(devices.stopped(Fault::from(fault)))
-        }
+        Ok(rows) => Ok(text_of(rt.alloc(), rows)?),
+        Err(fault) => Err(stop(session.close(), Fault::from(fault), image, texts)),
     }
+}
+
+/// The text of these changes.
+fn text_of(alloc: Global, rows: Vec<LogRow>) -> Result<String, Fault> {
+    log_text(alloc, rows.as_slice())
 }
 
 /// Writes what an undo or a redo would do, the first step first, whatever `steps` says of the changes that stand. The files are
@@ -360,20 +392,32 @@ where
     requires store { ⟦<FileText<TextFile> as TextStore>⟧.failures devices.trio.1 < u64.MAX }
     requires redo_text { ⟦<FileText<TextFile> as TextStore>⟧.failures devices.trio.2 < u64.MAX }
 {
-    let mut page = Paged::new(rt.alloc(), out);
     let Devices { trio, image, texts } = devices;
     let (mut device, mut store, mut redo_text) = trio;
     let shown = match steps.way {
-        Way::Undo => list_steps(&rt.alloc(), &mut device, &mut store, steps, &mut page),
-        Way::Redo => list_steps(&rt.alloc(), &mut device, &mut redo_text, steps, &mut page),
+        Way::Undo => put_text(rt.alloc(), &mut device, &mut store, steps, out),
+        Way::Redo => put_text(rt.alloc(), &mut device, &mut redo_text, steps, out),
     };
     match shown {
-        Ok(()) => Ok(page.put()?),
-        Err(fault) => {
-            let fault = page.stopped.map_or(fault, Fault::Io);
-            let trio = (device, store, redo_text);
-            let devices = Devices { trio, image, texts };
-            Err(devices.stopped(fault))
-        }
+        Ok(()) => Ok(()),
+        Err(fault) => Err(stop((device, store, redo_text), fault, image, texts)),
+    }
+}
+
+/// Writes what one text says of an undo or a redo.
+fn put_text<W: Write>(
+    alloc: Global,
+    device: &mut FileImage,
+    text: &mut FileText<TextFile>,
+    steps: Steps,
+    out: &mut W,
+) -> Result<(), Fault>
+    requires device { ⟦<FileImage as Device>⟧.failures device.old < u64.MAX }
+    requires text { ⟦<FileText<TextFile> as TextStore>⟧.failures text.old < u64.MAX }
+{
+    let mut page = Paged::new(alloc, out);
+    match list_steps(&alloc, device, text, steps, &mut page) {
+        Ok(()) => page.put(),
+        Err(fault) => Err(page.stopped.map_or(fault, Fault::Io)),
     }
 }
