@@ -26,16 +26,29 @@ pub fn copy_onto<'a, R>(
 where
     R: Files<File = File> + Input + Eprint + AllocGlobal,
 {
-    let counts = match &dd.plan.input {
-        Some(name) => copy_from(rt, dd, image, texts, name.as_str(), file(rt, job, name)?)?,
-        None => copy_from(rt, dd, image, texts, STANDARD_INPUT, standard(rt, job))?,
-    };
-    if let Some(counts) = counts {
+    if let Some(counts) = copy_input(rt, job, dd, image, texts)? {
         remarks.look_at_counts(&counts);
         // One that can't be made or written is no fault: what it tells of is done.
         let _ = tell(rt, &counts, 0);
     }
     Ok(())
+}
+
+/// Opens the input, puts what the operands make of it onto the image, and answers the counts.
+fn copy_input<'a, R>(
+    rt: &R,
+    job: &Job,
+    dd: &'a DdJob,
+    image: &'a Name,
+    texts: &'a Texts,
+) -> Result<Option<Counts>, Stopped<'a>>
+where
+    R: Files<File = File> + Input + Eprint + AllocGlobal,
+{
+    match &dd.plan.input {
+        Some(name) => copy_from(rt, dd, image, texts, name.as_str(), file(rt, job, name)?),
+        None => copy_from(rt, dd, image, texts, STANDARD_INPUT, standard(rt, job)),
+    }
 }
 
 /// The operands for what stands behind passed bytes: `skip=` tells how many blocks are left to skip. Of a block device, whose
