@@ -53,11 +53,23 @@ where
     R: Files<File = File> + Env + Input + Print + Eprint + AllocGlobal,
 {
     match planned(rt, words) {
-        Ok(job) => match perform_for(rt, person, &job) {
-            Ok(()) => Ok(()),
-            Err(stopped) => Err(show_fault(rt, person, words, Some(&job), stopped)),
-        },
+        Ok(job) => {
+            let outcome = run_planned(rt, person, words, &job);
+            drop(job);
+            outcome
+        }
         Err(stopped) => Err(show_fault(rt, person, words, None, stopped)),
+    }
+}
+
+/// Does what a job asks for that these words gave.
+fn run_planned<R>(rt: &R, person: bool, words: &Words, job: &Job) -> Result<(), Fault>
+where
+    R: Files<File = File> + Input + Print + Eprint + AllocGlobal,
+{
+    match perform_for(rt, person, job) {
+        Ok(()) => Ok(()),
+        Err(stopped) => Err(show_fault(rt, person, words, Some(job), stopped)),
     }
 }
 
@@ -138,17 +150,35 @@ where
     R: Files<File = File> + Input + Eprint + AllocGlobal,
 {
     match job {
-        Job::Help { text } => show(out, text.as_str())?,
         Job::Od(OdJob { file, .. })
         | Job::Xxd(XxdJob { file, .. })
         | Job::Hexdump(HexdumpJob { file, .. })
-        | Job::Strings(StringsJob { file, .. }) => return dump_file(rt, job, file, out),
-        Job::Dd(dd) => return copy(rt, job, dd, out, remarks),
-        Job::Revert(job) => revert(rt, job, remarks)?,
-        Job::Undo { .. } | Job::Redo { .. } => take_steps(rt, job, out, remarks)?,
-        Job::Log { .. } | Job::Show { .. } => look(rt, job, out)?,
+        | Job::Strings(StringsJob { file, .. }) => dump_file(rt, job, file, out),
+        Job::Dd(dd) => copy(rt, job, dd, out, remarks),
+        _ => {
+            run_uncounted(rt, job, out, remarks)?;
+            Ok(None)
+        }
     }
-    Ok(None)
+}
+
+/// Runs a job that is neither a dump nor a dd.
+fn run_uncounted<'a, R, W: Write>(
+    rt: &R,
+    job: &'a Job,
+    out: &mut W,
+    remarks: &mut Remarks,
+) -> Result<(), Stopped<'a>>
+where
+    R: Files<File = File> + Input + Eprint + AllocGlobal,
+{
+    match job {
+        Job::Help { text } => Ok(show(out, text.as_str())?),
+        Job::Revert(job) => revert(rt, job, remarks),
+        Job::Undo { .. } | Job::Redo { .. } => take_steps(rt, job, out, remarks),
+        Job::Log { .. } | Job::Show { .. } => look(rt, job, out),
+        _ => Ok(()),
+    }
 }
 
 /// An undo or a redo, and how many changes then stand.
@@ -259,14 +289,37 @@ where
     R: Files<File = File> + Input + Eprint + AllocGlobal,
 {
     let mut seen = remarks.seen_of(rt.alloc(), job.plain);
-    let read = match &job.dump {
-        Some(name) => change_of(rt.alloc(), job, name.as_str(), open(rt, name)?, &mut seen)?,
-        None => change_of(rt.alloc(), job, STANDARD_INPUT, rt.reader(), &mut seen)?,
-    };
+    let read = read_dump(rt, job, &mut seen)?;
     remarks.look_at_dump(seen);
+    put_dump(rt, job, read)
+}
+
+/// The change of the dump that a job reads, or the dump's fault; `seen` sees it.
+fn read_dump<'a, R>(
+    rt: &R,
+    job: &'a RevertJob,
+    seen: &mut Seen,
+) -> Result<Result<Change, ReadFault>, Stopped<'a>>
+where
+    R: Files<File = File> + Input + AllocGlobal,
+{
+    match &job.dump {
+        Some(name) => change_of(rt.alloc(), job, name.as_str(), open(rt, name)?, seen),
+        None => change_of(rt.alloc(), job, STANDARD_INPUT, rt.reader(), seen),
+    }
+}
+
+/// Makes the change of a dump that was read on the job's image.
+fn put_dump<'a, R>(
+    rt: &R,
+    job: &'a RevertJob,
+    read: Result<Change, ReadFault>,
+) -> Result<(), Stopped<'a>>
+where
+    R: Files<File = File> + Eprint + AllocGlobal,
+{
     let session = open_session(rt, &job.image, &job.texts, true, job.access)?;
-    finish_read(rt, session, read, &job.image, &job.texts)?;
-    Ok(())
+    finish_read(rt, session, read, &job.image, &job.texts)
 }
 
 /// The change of the dump that an input gives, or the dump's fault.
