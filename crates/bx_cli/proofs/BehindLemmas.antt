@@ -7,18 +7,20 @@ use Rattle.bx_text.specs.declared.fault.IoFault.{IoFault}
 use Rattle.bx_dump.specs.declared.xxd.options.XxdOptions.{XxdOptions}
 use Rattle.bx_dump.specs.declared.xxd.options.XxdStyle.{XxdStyle}
 use Rattle.bx_dump.specs.declared.od.options.OdOptions.{OdOptions}
-use Rattle.bx_dump.specs.Behind.{IsOdRest, IsXxdRest}
+use Rattle.bx_dump.specs.declared.hexdump.options.HexdumpOptions.{HexdumpOptions}
+use Rattle.bx_dump.specs.Behind.{IsHexdumpRest, IsOdRest, IsXxdRest}
+use Rattle.bx_dump.specs.Hexdump.{hexdump_of}
 use Rattle.bx_dump.specs.OdDump.{StopsOd, StopsReaching, od_of}
 use Rattle.bx_dump.specs.Pages.{Dump, WritesAll, WritesFrontOf}
 use Rattle.bx_dump.specs.Styles.{xxd_of}
-use Rattle.bx_dump.proofs.BehindLemmas.{od_rest, xxd_rest}
+use Rattle.bx_dump.proofs.BehindLemmas.{hexdump_rest, od_rest, xxd_rest}
 use Rattle.bx_dd.specs.Behind.{IsRest}
 use Rattle.bx_dd.specs.declared.operands.plan.Plan.{Plan}
 use Rattle.bx_dd.specs.declared.counts.Counts.{Counts}
 use Rattle.bx_commands.specs.declared.fault.Fault.{Fault}
 use Rattle.bx_cli.specs.Dump.{IsStyleOf}
 use Rattle.bx_cli.specs.inner.CopyOut.{CopiesOut, StopsOut}
-use Rattle.bx_cli.specs.inner.JobBehind.{CopiesBehind, DumpsLookBehind, DumpsOdBehind, StopsCopyBehind, StopsLookBehind, StopsOdBehind}
+use Rattle.bx_cli.specs.inner.JobBehind.{CopiesBehind, DumpsHexdumpBehind, DumpsLookBehind, DumpsOdBehind, StopsCopyBehind, StopsHexdumpBehind, StopsLookBehind, StopsOdBehind}
 use Rattle.bx_cli.specs.declared.job.XxdJob.{XxdJob}
 
 less : (n x y z : ℕ) → z ≡ x - y → y ≡ n → n ≤ x → n + z ≡ x
@@ -52,6 +54,16 @@ pub od_err : (n : ℕ) (o rest : OdOptions) (r0 r1 w0 w1 : Option (List ℕ)) (r
     IsOdRest n o rest → IfErr result (StopsOd rest r0 r1 w0 w1) → IfErr result (StopsOdBehind n o r0 r1 w0 w1)
 od_err n o rest r0 r1 w0 w1 (Ok k) is stop = tt
 od_err n o rest r0 r1 w0 w1 (Err f) is stop = subst (λ (d : Dump). StopsReaching d r0 r1 w0 w1 f) (od_rest n o rest is) stop
+
+pub hexdump_ok : (n : ℕ) (o rest : HexdumpOptions) (r0 r1 w0 w1 : Option (List ℕ)) (result : Result ℕ IoFault) →
+    IsHexdumpRest n o rest → IfOk result (WritesAll (hexdump_of rest) r0 r1 w0 w1) → IfOk result (DumpsHexdumpBehind n o r0 r1 w0 w1)
+hexdump_ok n o rest r0 r1 w0 w1 (Ok k) is done = subst (λ (d : Dump). WritesAll d r0 r1 w0 w1 k) (hexdump_rest n o rest is) done
+hexdump_ok n o rest r0 r1 w0 w1 (Err e) is done = tt
+
+pub hexdump_err : (n : ℕ) (o rest : HexdumpOptions) (r0 r1 w0 w1 : Option (List ℕ)) (result : Result ℕ IoFault) →
+    IsHexdumpRest n o rest → IfErr result (WritesFrontOf (hexdump_of rest) r0 r1 w0 w1) → IfErr result (StopsHexdumpBehind n o r0 r1 w0 w1)
+hexdump_err n o rest r0 r1 w0 w1 (Ok k) is stop = tt
+hexdump_err n o rest r0 r1 w0 w1 (Err f) is stop = subst (λ (d : Dump). WritesFrontOf d r0 r1 w0 w1 f) (hexdump_rest n o rest is) stop
 
 pub copy_ok : {A : Type 0} (n : ℕ) (plan rest : Plan A) (r0 r1 w0 w1 : Option (List ℕ)) (result : Result Counts Fault) →
     IsRest n plan rest → IfOk result (CopiesOut rest r0 r1 w0 w1) → IfOk result (CopiesBehind n plan r0 r1 w0 w1)

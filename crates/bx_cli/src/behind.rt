@@ -1,7 +1,8 @@
 //! Dumps and copies of what stands behind bytes of an input that were passed, as a seek passes them.
 ghost use Rattle.std.specs.Prelude.{◌≡◌, ◌+◌, ◌*◌, ◌%◌, ◌^◌, ◌≤◌, IfOk, IfErr};
 ghost use Rattle.bx_cli.specs.JobBehind.{CanPass, DumpsJobBehind, StopsJobBehind};
-ghost use Rattle.bx_cli.specs.inner.JobBehind.{CopiesBehind, DumpsLookBehind, DumpsOdBehind, StopsCopyBehind, StopsLookBehind, StopsOdBehind};
+ghost use Rattle.bx_cli.specs.inner.JobBehind.{CopiesBehind, DumpsHexdumpBehind, DumpsLookBehind, DumpsOdBehind};
+ghost use Rattle.bx_cli.specs.inner.JobBehind.{StopsCopyBehind, StopsHexdumpBehind, StopsLookBehind, StopsOdBehind};
 ghost use Rattle.bx_dd.specs.Behind.{IsRest};
 ghost use Rattle.bx_dump.specs.Behind.{IsHexdumpRest, IsOdRest, IsXxdRest};
 
@@ -37,10 +38,7 @@ pub fn run_dump_behind<R: Read, W: Write, A: Allocator + Clone>(
         }
         Job::Od(job) => Ok(Done::Dumped(run_od_behind(&job.options, passed, r, w)?)),
         Job::Xxd(job) => Ok(Done::Dumped(run_xxd_behind(job, passed, r, w)?)),
-        Job::Hexdump(job) => {
-            let rest = hexdump_rest(&job.options, passed);
-            Ok(Done::Dumped(hexdump_c(r, w, &rest)?))
-        }
+        Job::Hexdump(job) => Ok(Done::Dumped(run_hexdump_behind(&job.options, passed, r, w)?)),
         Job::Strings(job) => Ok(Done::Dumped(strings(r, w, &job.options)?)),
         _ => Err(Fault::Usage),
     }
@@ -104,6 +102,21 @@ fn run_od_behind<R: Read, W: Write>(
     ensures err { IfErr result (StopsOdBehind passed o.now (R.remaining r.old) (R.remaining r.new) (W.contents w.old) (W.contents w.new)) }
 {
     od(r, w, &od_rest(o, passed))
+}
+
+/// Writes the text of hexdump -C of what the reader gives behind passed bytes.
+fn run_hexdump_behind<R: Read, W: Write>(
+    o: &HexdumpOptions,
+    passed: u64,
+    r: &mut R,
+    w: &mut W,
+) -> Result<u64, IoFault>
+    requires skip { passed ≤ o.now.skip }
+    requires first { o.now.first + passed ≤ 2 ^ 62 }
+    ensures ok { IfOk result (DumpsHexdumpBehind passed o.now (R.remaining r.old) (R.remaining r.new) (W.contents w.old) (W.contents w.new)) }
+    ensures err { IfErr result (StopsHexdumpBehind passed o.now (R.remaining r.old) (R.remaining r.new) (W.contents w.old) (W.contents w.new)) }
+{
+    hexdump_c(r, w, &hexdump_rest(o, passed))
 }
 
 /// Writes the text that the job's options ask for, of what the reader gives behind passed bytes.
