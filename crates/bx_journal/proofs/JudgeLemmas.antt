@@ -13,7 +13,7 @@ use Rattle.bx_journal.specs.declared.read.count.CountedText.{CountedText}
 use Rattle.bx_journal.specs.inner.Calls.{ReadFault}
 use Rattle.bx_entries.specs.inner.Journal.{HasRead}
 use Rattle.bx_journal.specs.Judging.{RefusesRedo}
-use Rattle.bx_journal.specs.inner.Devices.{FaultCounts}
+use Rattle.bx_journal.specs.inner.Looking.{FaultCounts}
 use Rattle.bx_journal.specs.inner.Judging.{AllTold, IsBeyondAt, IsFit, IsRedoCounted, IsUnfitAt, IsUnfitFrom, IsUntoldAt, JudgeFault, RedoTextFault}
 use Rattle.bx_journal.specs.inner.Fault.{redo_fault}
 use Rattle.bx_entries.specs.inner.Mark.{IsMark, HasMarks}

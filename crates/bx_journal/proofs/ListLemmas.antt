@@ -21,7 +21,7 @@ use Rattle.bx_journal.specs.declared.answers.LogRow.{LogRow}
 use Rattle.bx_journal.specs.declared.fault.SessionFault.{SessionFault}
 use Rattle.bx_journal.specs.declared.read.windows.Reached.{Reached}
 use Rattle.bx_journal.specs.declared.session.log.windows.RowScan.{RowScan}
-use Rattle.bx_journal.specs.inner.Devices.{LooksAt}
+use Rattle.bx_journal.specs.inner.Looking.{LooksAt}
 use Rattle.bx_journal.specs.inner.Rows.{AreRowsOf, FindsRows, IsListed, ended_row}
 use Rattle.bx_journal.specs.inner.Windows.{IsReached}
 use Rattle.bx_journal.proofs.ScanLemmas.{reached_all}

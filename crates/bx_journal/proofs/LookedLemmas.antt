@@ -19,7 +19,8 @@ use Rattle.bx_journal.specs.Standing.{IsStanding}
 use Rattle.bx_journal.specs.Taken.{taken_by}
 use Rattle.bx_journal.specs.Undoing.{HasLeft}
 use Rattle.bx_journal.specs.declared.fault.SessionFault.{SessionFault}
-use Rattle.bx_journal.specs.inner.Devices.{HaveStayed, LooksAt}
+use Rattle.bx_journal.specs.inner.Devices.{HaveStayed}
+use Rattle.bx_journal.specs.inner.Looking.{LooksAt}
 use Rattle.bx_journal.specs.inner.Turns.{AreAtRest, AreStanding}
 use Rattle.bx_journal.specs.inner.Undoing.{AreReadFrom, IsLastFrom}
 use Rattle.bx_journal.proofs.DeviceLemmas.{HaveGoneOn, both_ways}

@@ -6,7 +6,7 @@ use Rattle.std.proofs.lemmas.Result.{IfErr-weaker, IfOk-weaker}
 use Rattle.bx_entries.specs.Shown.{shown}
 use Rattle.bx_journal.specs.declared.fault.SessionFault.{SessionFault}
 use Rattle.bx_journal.specs.declared.fault.SessionFault.TheVariants.{NoMemory, TooLarge, DeviceFailed, Damaged, TooFew, JournalFull, Interrupted, Broken, LengthDiffers, NothingToRedo, RedoDamaged}
-use Rattle.bx_journal.specs.inner.Devices.{LooksAt}
+use Rattle.bx_journal.specs.inner.Looking.{LooksAt}
 use Rattle.bx_journal.specs.inner.Recovery.{FindFault}
 use Rattle.bx_journal.proofs.WindowLemmas.{looks_before}
 use Rattle.bx_entries.specs.declared.read.count.Place.TheVariants.{Between as BetweenPlace}

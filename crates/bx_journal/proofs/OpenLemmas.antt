@@ -12,7 +12,7 @@ use Rattle.bx_entries.specs.Parsed.{told_by}
 use Rattle.bx_entries.specs.inner.Parsed.{reading_of}
 use Rattle.bx_journal.specs.Calls.{Differs, OpenFault, AfterFault}
 use Rattle.bx_journal.specs.Opening.{RefusesLength}
-use Rattle.bx_journal.specs.inner.Opening.{LookFault}
+use Rattle.bx_journal.specs.inner.Looking.{LookFault}
 
 pub some_same : {A : Type 0} (x y : A) → Some x ≡ Some y → x ≡ y
 some_same x y e = cc

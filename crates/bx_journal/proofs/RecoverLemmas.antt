@@ -8,9 +8,9 @@ use Rattle.bx_journal.specs.declared.fault.SessionFault.TheVariants.{NoMemory, T
 use Rattle.bx_entries.specs.inner.Journal.{HasRead}
 use Rattle.bx_journal.specs.Calls.{AfterFault}
 use Rattle.bx_journal.specs.Opening.{OneMoreOfThree, ThreeCounts}
-use Rattle.bx_journal.specs.inner.Devices.{FaultCounts, OneMore}
+use Rattle.bx_journal.specs.inner.Looking.{FaultCounts, OneMore}
 use Rattle.bx_journal.specs.inner.Judging.{JudgeFault}
-use Rattle.bx_journal.specs.inner.Opening.{LookFault}
+use Rattle.bx_journal.specs.inner.Looking.{LookFault}
 use Rattle.bx_entries.specs.Parsed.{told_by}
 use Rattle.bx_entries.specs.inner.Parsed.{entries_of, stage_of, reading_of}
 use Rattle.bx_journal.specs.inner.Recovery.{FinishedFault, HasToldLength, RecoverFault}

@@ -5,7 +5,7 @@ use Rattle.bx_journal.specs.declared.fault.SessionFault.TheVariants.{NoMemory, T
 use Rattle.bx_journal.specs.Images.{Images, redo_of, redone_by}
 use Rattle.bx_journal.specs.Machine.{changes_of}
 use Rattle.bx_journal.specs.Redo.{IsRedoOf}
-use Rattle.bx_journal.specs.inner.Devices.{FaultCounts}
+use Rattle.bx_journal.specs.inner.Looking.{FaultCounts}
 use Rattle.bx_entries.specs.Finished.{IsFinished}
 use Rattle.bx_entries.specs.Text.{Between, Entry}
 use Rattle.bx_journal.specs.Taken.{taken_by}

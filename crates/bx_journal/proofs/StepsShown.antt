@@ -32,7 +32,7 @@ use Rattle.bx_journal.specs.declared.read.mark.Mark.{Mark as Place}
 use Rattle.bx_journal.specs.declared.read.journal.Torn.{Torn}
 use Rattle.bx_journal.specs.declared.fault.SessionFault.{SessionFault}
 use Rattle.bx_journal.specs.declared.fault.SessionFault.TheVariants.{NoMemory, TooLarge, DeviceFailed, Damaged, TooFew, JournalFull, Interrupted, Broken, LengthDiffers, NothingToRedo, RedoDamaged}
-use Rattle.bx_journal.specs.inner.Devices.{LooksAt}
+use Rattle.bx_journal.specs.inner.Looking.{LooksAt}
 use Rattle.bx_journal.specs.inner.Recovery.{FindFault, HasMark, IsTornIn, IsUnfinishedIn}
 use Rattle.bx_journal.specs.inner.Showing.{AreAllMarks, AreMarksOf, LiesWithin, PutFault}
 use Rattle.bx_journal.specs.inner.Steps.{AreFrontMarks, AreStepsPut, CannotStep, FindsFront, FindsSteps, IsChecked, StandsBehind, fault_that, few_that, mark_word, newest_first, torn_text}

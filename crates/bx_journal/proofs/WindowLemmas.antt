@@ -12,7 +12,7 @@ use Rattle.bx_journal.specs.declared.read.journal.Found.TheVariants.{Finished, U
 use Rattle.bx_journal.specs.declared.fault.SessionFault.{SessionFault}
 use Rattle.bx_journal.specs.declared.fault.SessionFault.TheVariants.{NoMemory, TooLarge, DeviceFailed, Damaged, TooFew, JournalFull, Interrupted, Broken, LengthDiffers, NothingToRedo, RedoDamaged}
 use Rattle.bx_journal.specs.Undoing.{AgainFault, IsOutOfStep}
-use Rattle.bx_journal.specs.inner.Devices.{FaultCounts, LooksAt}
+use Rattle.bx_journal.specs.inner.Looking.{FaultCounts, LooksAt}
 use Rattle.bx_journal.specs.inner.Recovery.{FindFault, FindsText, IsFoundIn, IsTornIn}
 use Rattle.bx_journal.specs.inner.Windows.{IsFrontCounted, IsAllCounted}
 

@@ -8,6 +8,7 @@ pub mod Entries
 pub mod Fading
 pub mod Fault
 pub mod Judging
+pub mod Looking
 pub mod Opening
 pub mod Overwritten
 pub mod Page

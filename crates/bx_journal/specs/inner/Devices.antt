@@ -5,22 +5,12 @@ use Rattle.bx_store.specs.declared.store.TextStore.{Ghosts as StoreViews}
 use Rattle.bx_journal.specs.declared.devices.Devices.{Devices}
 use Rattle.bx_image.specs.Power.{NoMore}
 use Rattle.bx_journal.specs.Opening.{OneMoreOfThree, ThreeCounts}
+use Rattle.bx_journal.specs.inner.Looking.{OneMore}
 use Rattle.bx_journal.specs.declared.fault.SessionFault.{SessionFault}
-use Rattle.bx_journal.specs.declared.fault.SessionFault.TheVariants.{DeviceFailed, Interrupted}
 
 -- the counts of failed calls of the three are below a limit
 abbrev pub AreBelow : {D T : Type 0} → DeviceViews D → StoreViews T → ℕ → Devices D T → Type 0
 AreBelow d t limit x = (d.failures x.device < limit) × (t.failures x.store < limit) × (t.failures x.redo_text < limit)
-
--- one more failed call on one of two devices: no count falls, and both together rise by one
-abbrev pub OneMore : ℕ → ℕ → ℕ → ℕ → Type 0
-OneMore d t d_new t_new = (d ≤ d_new) × (t ≤ t_new) × (d_new + t_new ≡ d + t + 1)
-
--- how the counts of failed calls go on: a device's fault raises one of them by one, and another fault none
-abbrev pub FaultCounts : SessionFault → ℕ → ℕ → ℕ → ℕ → Type 0
-FaultCounts DeviceFailed d t d_new t_new = OneMore d t d_new t_new
-FaultCounts Interrupted d t d_new t_new = OneMore d t d_new t_new
-FaultCounts e d t d_new t_new = (d_new ≡ d) × (t_new ≡ t)
 
 -- the image's step comes before the redo text's: where one of them failed, the redo text is as it was, or the image's is done
 abbrev pub ImageIsFirst : {D T R E : Type 0} → (D → Type 0) → (D → List ℕ) → Result R E → (List ℕ → List ℕ) → D → D → T → T → Type 0
@@ -50,13 +40,6 @@ pub record GoOnPaired {D T R E : Type 0} (d : DeviceViews D) (t : StoreViews T) 
   pub store_room : t.room s ≤ t.room s_new
   pub no_failure : OnOk result ((d.failures x_new ≡ d.failures x) × (t.failures s_new ≡ t.failures s))
   pub failure : OnErr result (OneMore (d.failures x) (t.failures s) (d.failures x_new) (t.failures s_new))
-
--- a call that only looks at a device, the image's or a text's: it changes nothing, and its fault tells whether the device failed
-pub record LooksAt {D R : Type 0} (honest : D → Type 0) (view : D → List ℕ) (failures : D → ℕ) (result : Result R SessionFault) (old new : D) : Type 0 where
-  pub same : honest old → view new ≡ view old
-  pub honesty : honest new ↔ honest old
-  pub no_failure : OnOk result (failures new ≡ failures old)
-  pub counts : IfErr result (λ e. FaultCounts e (failures old) 0 (failures new) 0)
 
 -- A device and two texts behind calls that only looked at them: each is honest if it was, and has what it had
 pub record HaveStayed {D T : Type 0} (d : DeviceViews D) (t : StoreViews T) (old new : Devices D T) : Type 0 where

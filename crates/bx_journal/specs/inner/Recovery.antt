@@ -10,8 +10,8 @@ use Rattle.bx_journal.specs.declared.read.mark.Mark.{Mark}
 use Rattle.bx_journal.specs.declared.read.journal.Torn.{Torn}
 use Rattle.bx_entries.specs.inner.Mark.{IsMark}
 use Rattle.bx_journal.specs.Judging.{RefusesRedo}
-use Rattle.bx_journal.specs.inner.Devices.{LooksAt}
-use Rattle.bx_journal.specs.inner.Opening.{LookFault}
+use Rattle.bx_journal.specs.inner.Looking.{LooksAt}
+use Rattle.bx_journal.specs.inner.Looking.{LookFault}
 use Rattle.bx_journal.specs.Phase.{IsAtRest}
 use Rattle.bx_journal.specs.Stack.{Recovers, image_at}
 use Rattle.bx_journal.specs.Redo.{IsClean, IsRedoOf, IsRefusedAt, found_undone}

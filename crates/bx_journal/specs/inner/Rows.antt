@@ -11,7 +11,7 @@ use Rattle.bx_journal.specs.declared.session.log.windows.Listed.{Listed}
 use Rattle.bx_journal.specs.declared.fault.SessionFault.{SessionFault}
 use Rattle.bx_journal.specs.Calls.{rows_of}
 use Rattle.bx_journal.specs.Undoing.{AgainFault}
-use Rattle.bx_journal.specs.inner.Devices.{LooksAt}
+use Rattle.bx_journal.specs.inner.Looking.{LooksAt}
 
 -- the row of the entry that the last line ended, where the text stands at such a place
 abbrev pub ended_row : Place → Summed → List LogRow

@@ -9,7 +9,7 @@ use Rattle.bx_entries.specs.Text.{split}
 use Rattle.bx_entries.specs.inner.Marks.{marks_of}
 use Rattle.bx_entries.specs.inner.Ranges.{AreRanged, RangesOn}
 use Rattle.bx_journal.specs.declared.fault.SessionFault.{SessionFault}
-use Rattle.bx_journal.specs.inner.Devices.{LooksAt}
+use Rattle.bx_journal.specs.inner.Looking.{LooksAt}
 use Rattle.bx_journal.specs.inner.Recovery.{FindFault}
 use Rattle.bx_journal.specs.Showing.{after_text}
 use Rattle.bx_journal.specs.declared.look.ranges.Done.{Done}

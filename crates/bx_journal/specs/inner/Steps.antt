@@ -17,7 +17,7 @@ use Rattle.bx_journal.specs.declared.read.mark.Mark.{Mark as Place}
 use Rattle.bx_journal.specs.declared.read.journal.Torn.{Torn}
 use Rattle.bx_journal.specs.declared.fault.SessionFault.{SessionFault}
 use Rattle.bx_journal.specs.declared.fault.SessionFault.TheVariants.{NoMemory, TooFew, NothingToRedo}
-use Rattle.bx_journal.specs.inner.Devices.{LooksAt}
+use Rattle.bx_journal.specs.inner.Looking.{LooksAt}
 use Rattle.bx_journal.specs.inner.Fault.{redo_fault}
 use Rattle.bx_journal.specs.inner.Recovery.{FindFault}
 use Rattle.bx_journal.specs.inner.Showing.{Stays, lines_at, ranges_at}

@@ -16,7 +16,7 @@ use Rattle.bx_entries.specs.inner.Mark.{IsMark}
 use Rattle.bx_entries.specs.inner.Parsed.{AllKept, AreMarked, entries_of, entries_onto}
 use Rattle.bx_entries.specs.Finished.{IsFinished}
 use Rattle.bx_journal.specs.Undoing.{IsOutOfStep}
-use Rattle.bx_journal.specs.inner.Devices.{LooksAt}
+use Rattle.bx_journal.specs.inner.Looking.{LooksAt}
 use Rattle.bx_journal.specs.inner.Fault.{LacksOrFails}
 use Rattle.bx_journal.specs.inner.Windows.{HasShortLines}
 use Rattle.bx_journal.specs.declared.read.entries.FinishedRead.{FinishedRead}

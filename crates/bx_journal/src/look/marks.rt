@@ -1,7 +1,7 @@
 //! The marks of a text's entries, from a text that is read in windows.
 ghost use Rattle.std.specs.Prelude.{◌≡◌, ◌<◌, ◌≤◌, length, true, IfOk, IfErr, IfSome};
 ghost use Rattle.bx_entries.specs.inner.Marks.{IsMarked};
-ghost use Rattle.bx_journal.specs.inner.Devices.{LooksAt};
+ghost use Rattle.bx_journal.specs.inner.Looking.{LooksAt};
 ghost use Rattle.bx_journal.specs.inner.Fault.{LacksOrFails};
 ghost use Rattle.bx_journal.specs.inner.Showing.{AreAllMarks, AreMarksOf, FindsMarks};
 

@@ -6,7 +6,7 @@ ghost use Rattle.bx_image.specs.Image.{cut};
 ghost use Rattle.bx_image.specs.Power.{Follows, NoMore, Only};
 ghost use Rattle.bx_entries.specs.Kept.{Kept};
 ghost use Rattle.bx_entries.specs.inner.Parts.{LiesIn, part_run};
-ghost use Rattle.bx_journal.specs.inner.Devices.{OneMore};
+ghost use Rattle.bx_journal.specs.inner.Looking.{OneMore};
 ghost use Rattle.bx_journal.specs.inner.Fading.{AllKeepUnmapped};
 ghost use Rattle.bx_journal.specs.inner.Phase.{StaysOpen};
 ghost use Rattle.bx_journal.specs.inner.Restoring.{AreNamed, IsRestoredTo, Names, RestoresWindow, StandsAt};

@@ -9,7 +9,7 @@ ghost use Rattle.bx_entries.specs.Shown.{shown};
 ghost use Rattle.bx_journal.specs.inner.Opening.{HasBuffersFor};
 ghost use Rattle.bx_journal.specs.inner.Restoring.{StandsAt};
 ghost use Rattle.bx_journal.specs.inner.Step.{StopsTail, TailRests, TailStops, TakesTail};
-ghost use Rattle.bx_journal.specs.inner.Devices.{OneMore};
+ghost use Rattle.bx_journal.specs.inner.Looking.{OneMore};
 
 use crate::protocol::restore::{Buffers, restore_windows};
 use crate::read::mark::Mark;

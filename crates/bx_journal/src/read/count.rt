@@ -2,7 +2,7 @@
 ghost use Rattle.std.specs.Prelude.{◌≡◌, ◌<◌, ◌≤◌, length, take, min, is_err, IfOk, IfErr, IfSome};
 ghost use Rattle.bx_image.specs.Device.{GoesOn};
 ghost use Rattle.bx_image.specs.Power.{NoMore};
-ghost use Rattle.bx_journal.specs.inner.Devices.{LooksAt};
+ghost use Rattle.bx_journal.specs.inner.Looking.{LooksAt};
 ghost use Rattle.bx_journal.specs.inner.Fault.{LacksOrFails};
 ghost use Rattle.bx_journal.specs.inner.Windows.{HasShortLines, IsAllCounted, IsCountedBy, IsFrontCounted, IsWalkedTo};
 

@@ -59,7 +59,7 @@ fn as_counted<A: Allocator>(journal: &JournalRead<A>, len: u64) -> Option<Counte
 }
 
 ghost use Rattle.bx_image.specs.Device.{GoesOn};
-ghost use Rattle.bx_journal.specs.inner.Devices.{LooksAt};
+ghost use Rattle.bx_journal.specs.inner.Looking.{LooksAt};
 ghost use Rattle.bx_journal.specs.inner.Fault.{LacksOrFails};
 ghost use Rattle.bx_journal.specs.inner.Recovery.{FindsText, IsFoundIn, IsTorn};
 ghost use Rattle.bx_entries.specs.inner.Parsed.{reading_of};

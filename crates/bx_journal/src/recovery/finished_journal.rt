@@ -1,7 +1,7 @@
 //! Opening beside a journal of committed entries alone: the redo text is read and judged.
 ghost use Rattle.std.specs.Prelude.{◌≡◌, ◌↔◌, ◌+◌, ◌<◌, ◌≤◌, ℕ, OnOk, IfOk, IfErr, IfSome, MatchResult};
 ghost use Rattle.bx_journal.specs.Opening.{RefusesLength};
-ghost use Rattle.bx_journal.specs.inner.Devices.{FaultCounts, LooksAt};
+ghost use Rattle.bx_journal.specs.inner.Looking.{FaultCounts, LooksAt};
 ghost use Rattle.bx_journal.specs.inner.Fault.{LacksOrFails};
 ghost use Rattle.bx_journal.specs.inner.Recovery.{FaultBeside, HasOtherLength, HasToldLength, RefusesBeside, TellsCount};
 ghost use Rattle.bx_journal.specs.inner.RedoFound.{IsRedoCountedIn, IsRedoIn};

@@ -2,7 +2,7 @@
 ghost use Rattle.std.specs.Prelude.{◌≡◌, ◌⊎◌, ◌+◌, ◌<◌, ◌≤◌, List, ℕ, suc, length, take, Some, OnOk, IfOk, IfErr, IfSome, IfNone, MatchResult};
 ghost use Rattle.bx_entries.specs.inner.Journal.{HasRead};
 ghost use Rattle.bx_journal.specs.Judging.{RefusesRedo};
-ghost use Rattle.bx_journal.specs.inner.Devices.{LooksAt};
+ghost use Rattle.bx_journal.specs.inner.Looking.{LooksAt};
 ghost use Rattle.bx_journal.specs.inner.Judging.{AllTold, IsBeyondAt, IsFit, IsRedoCounted, IsUnfitAt, IsUnfitFrom, IsUntoldAt, JudgeFault, LastLineFault, RedoTextFault};
 ghost use Rattle.bx_journal.specs.inner.Recovery.{HasUndoneCount};
 ghost use Rattle.bx_entries.specs.inner.Parsed.{entries_of};

@@ -3,12 +3,14 @@ ghost use Rattle.std.specs.Prelude.{◌≡◌, ◌↔◌, ◌⊎◌, Some, ◌+�
 ghost use Rattle.bx_journal.specs.Calls.{AfterFault, OpenFault};
 ghost use Rattle.bx_journal.specs.Opened.{RefusesDiffering};
 ghost use Rattle.bx_journal.specs.Opening.{RefusesText};
-ghost use Rattle.bx_journal.specs.inner.Devices.{AreBelow, AreCounted, AreUnfailed, HaveStayed, LooksAt, OneMore, StepsOn};
+ghost use Rattle.bx_journal.specs.inner.Devices.{AreBelow, AreCounted, AreUnfailed, HaveStayed, StepsOn};
+ghost use Rattle.bx_journal.specs.inner.Looking.{LooksAt, OneMore};
 ghost use Rattle.bx_journal.specs.inner.Fading.{OpeningSurvives, PairSurvives};
 ghost use Rattle.bx_journal.specs.inner.Written.{AreSettled};
 ghost use Rattle.bx_image.specs.Power.{Only};
 ghost use Rattle.bx_journal.specs.Power.{RecoverySurvives};
-ghost use Rattle.bx_journal.specs.inner.Opening.{HasBuffersFor, HasRoomFor, LookFault};
+ghost use Rattle.bx_journal.specs.inner.Opening.{HasBuffersFor, HasRoomFor};
+ghost use Rattle.bx_journal.specs.inner.Looking.{LookFault};
 ghost use Rattle.bx_journal.specs.Recovery.{OpenKind};
 ghost use Rattle.bx_journal.specs.inner.Recovering.{CountsStack, EmptiesFirst, FaultsAsRead, FindsAgain, KeepsFoundUndone, KeepsRedoText, LeavesRead, Opens, OpensRead, RefusesLength, SparesClean, SparesPair, TellsDamage, TellsRefused, TellsUndone, TellsUnfit};
 ghost use Rattle.bx_journal.specs.inner.Recovery.{IsTorn, IsUnfinishedIn, KeepsStack, LengthFault, LookReadFault, RecoverFault};

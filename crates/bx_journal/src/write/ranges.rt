@@ -7,7 +7,7 @@ ghost use Rattle.bx_entries.specs.Entry.{rows, head_text};
 ghost use Rattle.bx_entries.specs.Text.{ended, IsPrefix};
 ghost use Rattle.bx_entries.specs.inner.Entry.{rows_text};
 ghost use Rattle.bx_journal.specs.inner.Begun.{rest_of, IsHead, KeepsBuffers};
-ghost use Rattle.bx_journal.specs.inner.Devices.{OneMore};
+ghost use Rattle.bx_journal.specs.inner.Looking.{OneMore};
 ghost use Rattle.bx_journal.specs.inner.Page.{IsPaged, row_text};
 ghost use Rattle.bx_journal.specs.inner.Ranges.{range_text, range_len, head_from, kept_over, left_len, rest_text, rest_len, AreRanges, IsBehind, IsPlace};
 

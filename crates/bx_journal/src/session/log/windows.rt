@@ -1,6 +1,6 @@
 //! The rows of a log, from a text that is read in windows.
 ghost use Rattle.std.specs.Prelude.{◌≡◌, ◌<◌, ◌++◌, true, OnOk, IfOk, IfErr, IfSome};
-ghost use Rattle.bx_journal.specs.inner.Devices.{LooksAt};
+ghost use Rattle.bx_journal.specs.inner.Looking.{LooksAt};
 ghost use Rattle.bx_journal.specs.inner.Fault.{LacksOrFails};
 ghost use Rattle.bx_journal.specs.inner.Rows.{AreRowsOf, IsListed, IsListedIn, ended_row};
 
