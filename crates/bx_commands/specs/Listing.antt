@@ -1,8 +1,8 @@
 -- The log of a session as text.
 use Rattle.std.specs.Prelude.{ℕ, List, ◌++◌, codes, decimal}
-use Rattle.bx_journal.specs.declared.look.ShowFault.TheVariants as look
+use Rattle.bx_journal.specs.declared.look.fault.ShowFault.TheVariants as look
 use Rattle.bx_journal.specs.declared.answers.LogRow.{LogRow}
-use Rattle.bx_journal.specs.declared.look.step.Steps.{Steps}
+use Rattle.bx_journal.specs.declared.look.way.Steps.{Steps}
 use Rattle.bx_journal.specs.Showing.{StopsLog}
 use Rattle.bx_journal.specs.Steps.{RefusesSteps, StopsSteps}
 use Rattle.bx_commands.specs.declared.fault.Fault.{Fault}

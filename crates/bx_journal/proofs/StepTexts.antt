@@ -16,9 +16,9 @@ use Rattle.bx_entries.proofs.TallyLemmas.{take_sum}
 use Rattle.bx_journal.proofs.RowTexts.{joined-append, lines_there, marks_many, plain_front, ranges_there, tail_of}
 use Rattle.bx_journal.specs.Differences.{diff_text}
 use Rattle.bx_journal.specs.Steps.{bytes_text, heading, length_text, lines_text, next_number, step_text, steps_text}
-use Rattle.bx_journal.specs.declared.look.step.Steps.{Steps}
-use Rattle.bx_journal.specs.declared.look.step.Way.{Way}
-use Rattle.bx_journal.specs.declared.look.step.Way.TheVariants.{Undo, Redo}
+use Rattle.bx_journal.specs.declared.look.way.Steps.{Steps}
+use Rattle.bx_journal.specs.declared.look.way.Way.{Way}
+use Rattle.bx_journal.specs.declared.look.way.Way.TheVariants.{Undo, Redo}
 use Rattle.bx_journal.specs.inner.Showing.{lines_at}
 use Rattle.bx_journal.specs.inner.Steps.{IsCopied, amount_text, heading_at, heading_end, heading_front, heading_start, mark_step, newest_first, number_at, saved_at, where_at}
 

@@ -22,11 +22,11 @@ use Rattle.bx_journal.proofs.Spellings.{front_once, spelled_few, spelled_once}
 use Rattle.bx_journal.proofs.StepTexts.{steps_there}
 use Rattle.bx_journal.proofs.WindowLemmas.{looks_before}
 use Rattle.bx_journal.specs.Steps.{HasEntries, HasShown, IsUnfinishedBehind, RefusesSteps, ShowsSteps, StopsSteps, first_number, next_word, shown_steps, steps_text, unfinished_line}
-use Rattle.bx_journal.specs.declared.look.ShowFault.{ShowFault}
-use Rattle.bx_journal.specs.declared.look.ShowFault.TheVariants.{Text, Io}
-use Rattle.bx_journal.specs.declared.look.step.Steps.{Steps}
-use Rattle.bx_journal.specs.declared.look.step.Way.{Way}
-use Rattle.bx_journal.specs.declared.look.step.Way.TheVariants.{Undo, Redo}
+use Rattle.bx_journal.specs.declared.look.fault.ShowFault.{ShowFault}
+use Rattle.bx_journal.specs.declared.look.fault.ShowFault.TheVariants.{Text, Io}
+use Rattle.bx_journal.specs.declared.look.way.Steps.{Steps}
+use Rattle.bx_journal.specs.declared.look.way.Way.{Way}
+use Rattle.bx_journal.specs.declared.look.way.Way.TheVariants.{Undo, Redo}
 use Rattle.bx_journal.specs.declared.look.unfinished.Marked.{Marked}
 use Rattle.bx_journal.specs.declared.read.mark.Mark.{Mark as Place}
 use Rattle.bx_journal.specs.declared.read.journal.Torn.{Torn}

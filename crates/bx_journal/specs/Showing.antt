@@ -6,8 +6,8 @@ use Rattle.bx_entries.specs.Kept.{Run, Kept}
 use Rattle.bx_entries.specs.Ranges.{ranges_text}
 use Rattle.bx_entries.specs.Shown.{shown}
 use Rattle.bx_entries.specs.Text.{Entry, IsDamagedAt}
-use Rattle.bx_journal.specs.declared.look.ShowFault.{ShowFault}
-use Rattle.bx_journal.specs.declared.look.ShowFault.TheVariants.{Text, Io}
+use Rattle.bx_journal.specs.declared.look.fault.ShowFault.{ShowFault}
+use Rattle.bx_journal.specs.declared.look.fault.ShowFault.TheVariants.{Text, Io}
 use Rattle.bx_journal.specs.declared.fault.SessionFault.TheVariants.{Damaged}
 use Rattle.bx_journal.specs.Fault.{DeviceFault}
 

@@ -10,11 +10,11 @@ use Rattle.bx_journal.specs.Differences.{diff_text}
 use Rattle.bx_journal.specs.Fault.{DeviceFault}
 use Rattle.bx_journal.specs.Redo.{IsClean}
 use Rattle.bx_journal.specs.Showing.{after_text, bytes_of}
-use Rattle.bx_journal.specs.declared.look.ShowFault.{ShowFault}
-use Rattle.bx_journal.specs.declared.look.ShowFault.TheVariants.{Text, Io}
-use Rattle.bx_journal.specs.declared.look.step.Steps.{Steps}
-use Rattle.bx_journal.specs.declared.look.step.Way.{Way}
-use Rattle.bx_journal.specs.declared.look.step.Way.TheVariants.{Undo, Redo}
+use Rattle.bx_journal.specs.declared.look.fault.ShowFault.{ShowFault}
+use Rattle.bx_journal.specs.declared.look.fault.ShowFault.TheVariants.{Text, Io}
+use Rattle.bx_journal.specs.declared.look.way.Steps.{Steps}
+use Rattle.bx_journal.specs.declared.look.way.Way.{Way}
+use Rattle.bx_journal.specs.declared.look.way.Way.TheVariants.{Undo, Redo}
 use Rattle.bx_journal.specs.declared.fault.SessionFault.TheVariants.{Damaged, RedoDamaged, TooFew, NothingToRedo}
 
 -- the word for a way

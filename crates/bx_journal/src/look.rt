@@ -1,7 +1,5 @@
 //! A look at the changes of a text, without a session: nothing is recovered, and the text stays.
 ghost use Rattle.std.specs.Prelude.{◌≡◌, ◌<◌, ◌≤◌, ℕ, All, false, IsTrue, None, length, OnOk, IfOk, IfErr};
-ghost use Rattle.bx_journal.specs.declared.look.ShowFault.TheVariants.{Text as OfText, Io as OfIo};
-ghost use Rattle.bx_journal.specs.declared.fault.SessionFault.TheVariants.{NoMemory as OutOfMemory, DeviceFailed as CallFailed};
 ghost use Rattle.bx_journal.specs.Showing.{RangesOf, StopsLog};
 ghost use Rattle.bx_journal.specs.Steps.{RefusesSteps, ShowsSteps, StopsSteps};
 ghost use Rattle.bx_journal.specs.inner.Showing.{LiesWithin, PutFault};
@@ -10,68 +8,30 @@ ghost use Rattle.bx_journal.specs.inner.Steps.{CannotStep, FindsSteps, IsChecked
 mod cache;
 mod differences;
 mod entries;
+mod fault;
 mod heading;
 mod lines;
 mod marks;
 mod put;
 mod ranges;
-pub mod step;
+mod step;
 mod unfinished;
+mod way;
 
 use crate::SessionFault;
 use crate::fault::of_redo;
 use crate::look::entries::put_rows;
 use crate::look::marks::all_marks;
 use crate::look::put::begin_writing;
-use crate::look::step::{Steps, Way, put_steps};
+use crate::look::fault::ShowFault;
+use crate::look::step::put_steps;
+use crate::look::way::{Steps, Way};
 use crate::look::unfinished::{Marked, front_marks, put_torn};
 use crate::read::journal::Torn;
 use bx_image::{Device, DeviceFailed};
 use bx_store::TextStore;
-use bx_text::{IoFault, NoMemory};
-use std::alloc::{AllocError, Allocator};
+use std::alloc::Allocator;
 use std::io::Write;
-
-/// What stops a look at the changes of a text.
-#[derive(Clone, Copy, Debug, PartialEq, Eq)]
-pub enum ShowFault {
-    /// The text can't be shown, as a call of a session answers it.
-    Text(SessionFault),
-    /// What is shown couldn't be written.
-    Io(IoFault),
-}
-
-impl From<IoFault> for ShowFault {
-    ghost from_gives = { λ fault f. f ≡ OfIo fault };
-
-    fn from(fault: IoFault) -> Self {
-        ShowFault::Io(fault)
-    }
-}
-
-impl From<NoMemory> for ShowFault {
-    ghost from_gives = { λ _ f. f ≡ OfText OutOfMemory };
-
-    fn from(_: NoMemory) -> Self {
-        ShowFault::Text(SessionFault::NoMemory)
-    }
-}
-
-impl From<AllocError> for ShowFault {
-    ghost from_gives = { λ _ f. f ≡ OfText OutOfMemory };
-
-    fn from(_: AllocError) -> Self {
-        ShowFault::Text(SessionFault::NoMemory)
-    }
-}
-
-impl From<DeviceFailed> for ShowFault {
-    ghost from_gives = { λ _ f. f ≡ OfText CallFailed };
-
-    fn from(_: DeviceFailed) -> Self {
-        ShowFault::Text(SessionFault::DeviceFailed)
-    }
-}
 
 /// Writes a line for each change of a text that is finished entries alone, the oldest first: its number, the lengths before
 /// and after it, how many bytes were saved, and at which ranges.

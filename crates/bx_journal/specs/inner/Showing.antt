@@ -13,8 +13,8 @@ use Rattle.bx_journal.specs.inner.Looking.{LooksAt}
 use Rattle.bx_journal.specs.inner.Recovery.{FindFault}
 use Rattle.bx_journal.specs.Showing.{after_text}
 use Rattle.bx_journal.specs.declared.look.ranges.Done.{Done}
-use Rattle.bx_journal.specs.declared.look.ShowFault.{ShowFault}
-use Rattle.bx_journal.specs.declared.look.ShowFault.TheVariants.{Text, Io}
+use Rattle.bx_journal.specs.declared.look.fault.ShowFault.{ShowFault}
+use Rattle.bx_journal.specs.declared.look.fault.ShowFault.TheVariants.{Text, Io}
 use Rattle.bx_journal.specs.Fault.{DeviceFault}
 
 -- the first bytes of a text are finished entries alone, with these marks: of the store's, where that is honest

@@ -8,10 +8,10 @@ use Rattle.bx_entries.specs.Text.{Stage, split}
 use Rattle.bx_entries.specs.inner.Marks.{marks_of}
 use Rattle.bx_journal.specs.Differences.{diff_text}
 use Rattle.bx_journal.specs.Steps.{IsUnfinishedBehind, StopsSteps, bytes_text, first_number, length_text, next_word, way_word}
-use Rattle.bx_journal.specs.declared.look.ShowFault.TheVariants.{Text}
-use Rattle.bx_journal.specs.declared.look.step.Steps.{Steps}
-use Rattle.bx_journal.specs.declared.look.step.Way.{Way}
-use Rattle.bx_journal.specs.declared.look.step.Way.TheVariants.{Undo, Redo}
+use Rattle.bx_journal.specs.declared.look.fault.ShowFault.TheVariants.{Text}
+use Rattle.bx_journal.specs.declared.look.way.Steps.{Steps}
+use Rattle.bx_journal.specs.declared.look.way.Way.{Way}
+use Rattle.bx_journal.specs.declared.look.way.Way.TheVariants.{Undo, Redo}
 use Rattle.bx_journal.specs.declared.look.unfinished.Marked.{Marked}
 use Rattle.bx_journal.specs.declared.read.mark.Mark.{Mark as Place}
 use Rattle.bx_journal.specs.declared.read.journal.Torn.{Torn}

@@ -7,7 +7,7 @@ ghost use Rattle.bx_journal.specs.inner.Differences.{AreBeside, AreCompared, Has
 ghost use Rattle.bx_journal.specs.inner.Showing.{PutFault, Stays, lines_at};
 
 use crate::SessionFault;
-use crate::look::ShowFault;
+use crate::look::fault::ShowFault;
 use crate::look::cache::{Cached, keep};
 use crate::look::put::{Writing, put};
 use bx_entries::{Mark, line_end, row_of, saved_in};

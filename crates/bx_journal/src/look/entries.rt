@@ -3,7 +3,7 @@ ghost use Rattle.std.specs.Prelude.{◌≡◌, ◌<◌, ◌≤◌, ◌++◌, ℕ
 ghost use Rattle.std.specs.Io.KnownBytes.{Appends};
 ghost use Rattle.bx_journal.specs.inner.Showing.{LiesWithin, PutFault, Stays, mark_row, mark_rows, places_at, row_front};
 
-use crate::look::ShowFault;
+use crate::look::fault::ShowFault;
 use crate::look::put::put;
 use crate::look::ranges::put_ranges;
 use crate::read::windows::WINDOW;

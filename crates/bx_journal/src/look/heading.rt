@@ -5,10 +5,10 @@ ghost use Rattle.bx_journal.specs.inner.Showing.{PutFault, Stays};
 ghost use Rattle.bx_journal.specs.inner.Steps.{amount_text, changed_end, heading_at, heading_end, heading_front, heading_start, kept_end, told_end, where_at};
 ghost use Rattle.bx_journal.specs.Steps.{keeps_length};
 
-use crate::look::ShowFault;
+use crate::look::fault::ShowFault;
 use crate::look::put::{Writing, put};
 use crate::look::ranges::put_ranges;
-use crate::look::step::{Step, Way};
+use crate::look::way::{Step, Way};
 use bx_entries::Mark;
 use bx_store::TextStore;
 use std::alloc::{AllocError, Allocator};

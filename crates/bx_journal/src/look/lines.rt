@@ -5,7 +5,7 @@ ghost use Rattle.bx_journal.specs.inner.Showing.{PutFault, Stays, lines_at};
 ghost use Rattle.bx_journal.specs.inner.Steps.{IsCopied};
 
 use crate::SessionFault;
-use crate::look::ShowFault;
+use crate::look::fault::ShowFault;
 use crate::look::put::{Writing, put};
 use bx_entries::Mark;
 use bx_store::TextStore;

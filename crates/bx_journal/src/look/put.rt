@@ -3,7 +3,7 @@ ghost use Rattle.std.specs.Prelude.{◌≡◌, OnOk, IfOk, IfErr};
 ghost use Rattle.std.specs.Io.KnownBytes.{Appends};
 ghost use Rattle.bx_journal.specs.inner.Showing.{PutFault};
 
-use crate::look::ShowFault;
+use crate::look::fault::ShowFault;
 use crate::read::windows::WINDOW;
 use bx_text::emit_after;
 use std::alloc::{AllocError, Allocator, Global};

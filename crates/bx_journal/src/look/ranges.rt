@@ -4,7 +4,7 @@ ghost use Rattle.std.specs.Io.KnownBytes.{Appends};
 ghost use Rattle.bx_journal.specs.inner.Showing.{PutFault, PutsOn, Stays, ranges_at};
 
 use crate::SessionFault;
-use crate::look::ShowFault;
+use crate::look::fault::ShowFault;
 use crate::look::put::put;
 use bx_entries::{Mark, RangedLines, Ranging, nothing_ranged, range_last, range_lines};
 use bx_store::TextStore;

@@ -5,43 +5,17 @@ ghost use Rattle.bx_journal.specs.Steps.{first_number};
 ghost use Rattle.bx_journal.specs.inner.Showing.{LiesWithin, PutFault, Stays};
 ghost use Rattle.bx_journal.specs.inner.Steps.{AreStepsPut, mark_step, number_at, saved_at};
 
-use crate::look::ShowFault;
+use crate::look::fault::ShowFault;
 use crate::look::differences::put_differences;
 use crate::look::heading::put_heading;
 use crate::look::lines::put_lines;
 use crate::look::put::{Writing, put};
+use crate::look::way::{Step, Steps, Way};
 use bx_entries::Mark;
 use bx_image::Device;
 use bx_store::TextStore;
 use std::alloc::Allocator;
 use std::io::Write;
-
-/// Which way changes are stepped over.
-#[derive(Clone, Copy, Debug, PartialEq, Eq)]
-pub enum Way {
-    /// Changes are taken back, the newest first.
-    Undo,
-    /// Undone changes are made again, the one that was undone last first.
-    Redo,
-}
-
-/// What is shown: this many steps that way. `changes` is how many changes stand: a redo makes change `changes + 1` first.
-/// `compares` puts beside each saved line what the image has there.
-#[derive(Clone, Copy, Debug)]
-pub struct Steps {
-    pub way: Way,
-    pub count: u32,
-    pub changes: u32,
-    pub compares: bool,
-}
-
-/// One of the steps: over the change of this number, whose entry has this mark.
-#[derive(Clone, Copy)]
-pub struct Step {
-    pub steps: Steps,
-    pub number: u64,
-    pub mark: Mark,
-}
 
 /// The number of the change that the step behind `i` others is over, where a text has this many entries.
 fn step_number(steps: Steps, entries: usize, i: u32) -> u64

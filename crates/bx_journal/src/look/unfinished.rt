@@ -6,7 +6,7 @@ ghost use Rattle.bx_journal.specs.inner.Showing.{PutFault};
 ghost use Rattle.bx_journal.specs.inner.Steps.{FindsFront, torn_line, torn_text};
 
 use crate::SessionFault;
-use crate::look::ShowFault;
+use crate::look::fault::ShowFault;
 use crate::look::marks::{marks_in_windows, marks_to};
 use crate::look::put::put;
 use crate::read::journal::{Found, Torn, read_text};
