@@ -3,7 +3,7 @@ use Rattle.std.specs.Prelude.{ℕ, List, [], length, ◌++◌, ◌==◌, codes, 
 use Rattle.bx_text.specs.declared.fault.IoFault.TheVariants as io
 use Rattle.bx_read.specs.declared.fault.ReadFault.TheVariants as read
 use Rattle.bx_dd.specs.declared.fault.DdFault.TheVariants as dd
-use Rattle.bx_journal.specs.declared.fault.SessionFault.TheVariants as session
+use Rattle.bx_scan.specs.declared.fault.SessionFault.TheVariants as session
 use Rattle.bx_commands.specs.declared.fault.Fault.{Fault}
 use Rattle.bx_commands.specs.declared.fault.Fault.TheVariants.{Io, Read, Dd, Session}
 use Rattle.bx_cli.specs.declared.hint.Known.{Known}

@@ -4,9 +4,9 @@ use Rattle.std.proofs.lemmas.List.{drop-drop}
 use Rattle.bx_image.specs.declared.change.Change.{Change}
 use Rattle.bx_image.specs.declared.change.TheConstants.{MAX_LEN}
 use Rattle.bx_read.specs.declared.fault.ReadFault.{ReadFault}
-use Rattle.bx_journal.specs.declared.fault.SessionFault.{SessionFault}
-use Rattle.bx_journal.specs.Images.{Images, redo_of, undo_of, with_undone, undone_by, redone_by}
-use Rattle.bx_journal.specs.Machine.{changes_of}
+use Rattle.bx_scan.specs.declared.fault.SessionFault.{SessionFault}
+use Rattle.bx_scan.specs.Images.{Images, redo_of, undo_of, with_undone, undone_by, redone_by}
+use Rattle.bx_scan.specs.Machine.{changes_of}
 use Rattle.bx_commands.specs.declared.command.Command.{Command}
 use Rattle.bx_commands.specs.declared.command.Command.TheVariants.{Revert, RevertPlain, Dd, Undo, Redo}
 use Rattle.bx_commands.specs.declared.command.Reply.{Reply}

@@ -13,10 +13,10 @@ use Rattle.bx_read.specs.Runs.{with_piece, joined}
 use Rattle.bx_read.specs.Text.{dump_pieces}
 use Rattle.bx_dd.specs.declared.counts.Counts.{Counts}
 use Rattle.std.specs.Prelude.{Option, None}
-use Rattle.bx_journal.specs.Images.{Images, change_to}
-use Rattle.bx_journal.specs.Machine.{top}
-use Rattle.bx_journal.specs.declared.fault.SessionFault.{SessionFault}
-use Rattle.bx_journal.specs.declared.fault.SessionFault.TheVariants.{NoMemory, TooLarge, DeviceFailed, Damaged, TooFew, JournalFull, Interrupted, Broken, LengthDiffers, NothingToRedo, RedoDamaged}
+use Rattle.bx_scan.specs.Images.{Images, change_to}
+use Rattle.bx_scan.specs.Machine.{top}
+use Rattle.bx_scan.specs.declared.fault.SessionFault.{SessionFault}
+use Rattle.bx_scan.specs.declared.fault.SessionFault.TheVariants.{NoMemory, TooLarge, DeviceFailed, Damaged, TooFew, JournalFull, Interrupted, Broken, LengthDiffers, NothingToRedo, RedoDamaged}
 use Rattle.bx_commands.specs.declared.command.Reply.{Reply}
 use Rattle.bx_commands.specs.Command.{dump_change}
 use Rattle.bx_commands.specs.Run.{ReadStep}

@@ -8,16 +8,16 @@ use Rattle.bx_image.specs.declared.change.TheConstants.{MAX_LEN}
 use Rattle.bx_image.specs.Change.{effect, Fits}
 use Rattle.bx_image.specs.declared.device.Device.{Ghosts as DeviceViews}
 use Rattle.bx_store.specs.declared.store.TextStore.{Ghosts as StoreViews}
-use Rattle.bx_journal.specs.Calls.{AfterFault}
-use Rattle.bx_journal.specs.Images.{Images, change_to, redo_of, undo_of, undone_by}
-use Rattle.bx_journal.specs.Machine.{PerformStep, RedoStep, UndoStep, top}
-use Rattle.bx_journal.specs.Session.{FailsSafely, FindsEither, HasUndone, IsReady, IsRedoSame, IsSame, IsUnfailed, SessionCounts, SessionFinds}
-use Rattle.bx_journal.specs.Power.{Found, NothingNew, Survive}
-use Rattle.bx_journal.specs.SessionView.{SessionView}
-use Rattle.bx_journal.specs.Standing.{IsStanding, PerformFault}
-use Rattle.bx_journal.specs.Undoing.{HasCount, RedoFault, UndoFault}
-use Rattle.bx_journal.specs.declared.fault.SessionFault.{SessionFault}
-use Rattle.bx_journal.specs.declared.fault.SessionFault.TheVariants.{NoMemory, Damaged, TooFew, TooLarge, JournalFull, Interrupted, Broken, NothingToRedo, RedoDamaged}
+use Rattle.bx_scan.specs.Calls.{AfterFault}
+use Rattle.bx_scan.specs.Images.{Images, change_to, redo_of, undo_of, undone_by}
+use Rattle.bx_scan.specs.Machine.{PerformStep, RedoStep, UndoStep, top}
+use Rattle.bx_steps.specs.Session.{FailsSafely, FindsEither, HasUndone, IsReady, IsRedoSame, IsSame, IsUnfailed, SessionCounts, SessionFinds}
+use Rattle.bx_steps.specs.Power.{Found, NothingNew, Survive}
+use Rattle.bx_steps.specs.SessionView.{SessionView}
+use Rattle.bx_steps.specs.Standing.{IsStanding, PerformFault}
+use Rattle.bx_scan.specs.Undoing.{HasCount, RedoFault, UndoFault}
+use Rattle.bx_scan.specs.declared.fault.SessionFault.{SessionFault}
+use Rattle.bx_scan.specs.declared.fault.SessionFault.TheVariants.{NoMemory, Damaged, TooFew, TooLarge, JournalFull, Interrupted, Broken, NothingToRedo, RedoDamaged}
 use Rattle.bx_read.specs.declared.fault.ReadFault.{ReadFault}
 use Rattle.bx_commands.specs.declared.command.Reply.{Reply}
 use Rattle.bx_commands.specs.declared.command.Reply.TheVariants.{Refused, Undone, Redone}

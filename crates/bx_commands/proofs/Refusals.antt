@@ -3,12 +3,12 @@ use Rattle.std.proofs.Common.{◌≡◌, ◌↔◌, ◌∙◌, ◌⊎◌, inl, i
 use Rattle.bx_dd.specs.declared.counts.Counts.{Counts}
 use Rattle.bx_image.specs.declared.device.Device.{Ghosts as DeviceViews}
 use Rattle.bx_store.specs.declared.store.TextStore.{Ghosts as StoreViews}
-use Rattle.bx_journal.specs.Calls.{AfterFault}
-use Rattle.bx_journal.specs.Power.{NothingNew}
-use Rattle.bx_journal.specs.Session.{IsRedoSame, IsSame}
-use Rattle.bx_journal.specs.SessionView.{SessionView}
-use Rattle.bx_journal.specs.declared.fault.SessionFault.{SessionFault}
-use Rattle.bx_journal.specs.declared.fault.SessionFault.TheVariants.{NoMemory, TooLarge, DeviceFailed, Damaged, TooFew, JournalFull, Interrupted, Broken, LengthDiffers, NothingToRedo, RedoDamaged}
+use Rattle.bx_scan.specs.Calls.{AfterFault}
+use Rattle.bx_steps.specs.Power.{NothingNew}
+use Rattle.bx_steps.specs.Session.{IsRedoSame, IsSame}
+use Rattle.bx_steps.specs.SessionView.{SessionView}
+use Rattle.bx_scan.specs.declared.fault.SessionFault.{SessionFault}
+use Rattle.bx_scan.specs.declared.fault.SessionFault.TheVariants.{NoMemory, TooLarge, DeviceFailed, Damaged, TooFew, JournalFull, Interrupted, Broken, LengthDiffers, NothingToRedo, RedoDamaged}
 use Rattle.bx_commands.specs.declared.command.Reply.{Reply}
 use Rattle.bx_commands.specs.declared.command.Reply.TheVariants.{Changed, Copied, Undone, Redone, Refused}
 use Rattle.bx_commands.specs.declared.fault.Fault.TheVariants.{Session}

@@ -6,10 +6,10 @@ use Rattle.bx_image.specs.declared.change.TheConstants.{MAX_LEN}
 use Rattle.bx_image.specs.Change.{effect}
 use Rattle.bx_image.specs.declared.device.Device.{Ghosts as DeviceViews}
 use Rattle.bx_store.specs.declared.store.TextStore.{Ghosts as StoreViews}
-use Rattle.bx_journal.specs.Images.{Images, redo_of, redone_by, undo_of}
-use Rattle.bx_journal.specs.Machine.{top}
-use Rattle.bx_journal.specs.SessionView.{SessionView}
-use Rattle.bx_journal.proofs.Ready.{top_of}
+use Rattle.bx_scan.specs.Images.{Images, redo_of, redone_by, undo_of}
+use Rattle.bx_scan.specs.Machine.{top}
+use Rattle.bx_steps.specs.SessionView.{SessionView}
+use Rattle.bx_steps.proofs.Ready.{top_of}
 use Rattle.bx_commands.specs.inner.RoundTrip.{RestsIn, UndoneFrom, change_of}
 
 module _ {D T : Type 0} (d : DeviceViews D) (t : StoreViews T) where

@@ -1,7 +1,7 @@
 -- Runs of commands, one behind the other.
 use Rattle.std.proofs.Common.{◌<◌, ◌≤◌, ◌+◌, ℕ, List, [], ◌∷◌, ◌++◌, length, set, get_or, sym, subst, arith, Option}
 use Rattle.std.proofs.lemmas.List.{length-set, get_or-set_other}
-use Rattle.bx_journal.specs.Images.{Images}
+use Rattle.bx_scan.specs.Images.{Images}
 use Rattle.bx_commands.specs.declared.command.Command.{Command}
 use Rattle.bx_commands.specs.declared.command.Reply.{Reply}
 use Rattle.bx_commands.specs.Standing.{Standing}

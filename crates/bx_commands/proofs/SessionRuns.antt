@@ -6,9 +6,9 @@ use Rattle.std.proofs.lemmas.List.Elements.{All-cons, All-nil}
 use Rattle.std.proofs.lemmas.List.Sums.{sum_by-cons}
 use Rattle.bx_image.specs.declared.device.Device.{Ghosts as DeviceViews}
 use Rattle.bx_store.specs.declared.store.TextStore.{Ghosts as StoreViews}
-use Rattle.bx_journal.specs.Power.{Found, NothingNew, Survive}
-use Rattle.bx_journal.specs.Session.{IsRedoSame, IsUnfailed}
-use Rattle.bx_journal.specs.SessionView.{SessionView}
+use Rattle.bx_steps.specs.Power.{Found, NothingNew, Survive}
+use Rattle.bx_steps.specs.Session.{IsRedoSame, IsUnfailed}
+use Rattle.bx_steps.specs.SessionView.{SessionView}
 use Rattle.bx_commands.specs.declared.command.Command.{Command}
 use Rattle.bx_commands.specs.declared.command.Command.TheVariants.{Revert, RevertPlain, Dd, Undo, Redo}
 use Rattle.bx_commands.specs.declared.command.Reply.{Reply}

@@ -2,13 +2,13 @@
 use Rattle.std.proofs.Common.{◌↔◌, ℕ, suc, List, sym, ◌∙◌, ap, subst}
 use Rattle.bx_image.specs.declared.device.Device.{Ghosts as DeviceViews}
 use Rattle.bx_store.specs.declared.store.TextStore.{Ghosts as StoreViews}
-use Rattle.bx_journal.specs.Images.{Images}
-use Rattle.bx_journal.specs.Phase.{IsAtRest}
-use Rattle.bx_journal.specs.Redo.{Finds, IsRedoOf}
-use Rattle.bx_journal.specs.Session.{HasUndone, IsReady, IsRedoSame, IsSame, SessionFinds}
-use Rattle.bx_journal.specs.SessionView.{SessionView}
-use Rattle.bx_journal.specs.Stack.{StandsFor}
-use Rattle.bx_journal.specs.Standing.{IsStanding}
+use Rattle.bx_scan.specs.Images.{Images}
+use Rattle.bx_scan.specs.Phase.{IsAtRest}
+use Rattle.bx_scan.specs.Redo.{Finds, IsRedoOf}
+use Rattle.bx_steps.specs.Session.{HasUndone, IsReady, IsRedoSame, IsSame, SessionFinds}
+use Rattle.bx_steps.specs.SessionView.{SessionView}
+use Rattle.bx_scan.specs.Stack.{StandsFor}
+use Rattle.bx_steps.specs.Standing.{IsStanding}
 use Rattle.bx_commands.specs.Standing.{HoldsAt, Shows, Standing}
 
 module _ {D T : Type 0} (image : D → List ℕ) (text : T → List ℕ) where

@@ -4,17 +4,17 @@ use Rattle.std.specs.Result.{IsErrOf}
 use Rattle.bx_image.specs.declared.change.Change.{Change}
 use Rattle.bx_image.specs.declared.change.TheConstants.{MAX_LEN}
 use Rattle.bx_image.specs.Change.{Fits}
-use Rattle.bx_journal.specs.Images.{Images}
-use Rattle.bx_journal.specs.SessionView.{SessionView}
-use Rattle.bx_journal.specs.declared.fault.SessionFault.{SessionFault}
-use Rattle.bx_journal.specs.declared.fault.SessionFault.TheVariants.{NoMemory, TooLarge, DeviceFailed, Damaged, TooFew, JournalFull, Interrupted, Broken, LengthDiffers, NothingToRedo, RedoDamaged}
-use Rattle.bx_journal.specs.Standing.{IsStanding, PerformFault}
-use Rattle.bx_journal.specs.Undoing.{HasCount, RedoFault, UndoFault}
-use Rattle.bx_journal.specs.Machine.{top, changes_of}
-use Rattle.bx_journal.specs.Opening.{ThreeCounts}
-use Rattle.bx_journal.specs.Session.{HasUndone}
-use Rattle.bx_journal.proofs.Phases.{length-stack_of}
-use Rattle.bx_journal.proofs.Ready.{top_of}
+use Rattle.bx_scan.specs.Images.{Images}
+use Rattle.bx_steps.specs.SessionView.{SessionView}
+use Rattle.bx_scan.specs.declared.fault.SessionFault.{SessionFault}
+use Rattle.bx_scan.specs.declared.fault.SessionFault.TheVariants.{NoMemory, TooLarge, DeviceFailed, Damaged, TooFew, JournalFull, Interrupted, Broken, LengthDiffers, NothingToRedo, RedoDamaged}
+use Rattle.bx_steps.specs.Standing.{IsStanding, PerformFault}
+use Rattle.bx_scan.specs.Undoing.{HasCount, RedoFault, UndoFault}
+use Rattle.bx_scan.specs.Machine.{top, changes_of}
+use Rattle.bx_scan.specs.Opening.{ThreeCounts}
+use Rattle.bx_steps.specs.Session.{HasUndone}
+use Rattle.bx_scan.proofs.Phases.{length-stack_of}
+use Rattle.bx_steps.proofs.Ready.{top_of}
 use Rattle.bx_commands.specs.declared.command.Reply.TheVariants.{Refused}
 use Rattle.bx_commands.specs.declared.fault.Fault.TheVariants.{Session}
 use Rattle.bx_commands.specs.Run.{is_failure}

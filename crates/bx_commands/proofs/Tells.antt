@@ -2,11 +2,11 @@
 use Rattle.std.proofs.Common.{◌≡◌, ◌↔◌, ◌<◌, ◌≤◌, ◌+◌, ℕ, Option, None, Some, false, sym, ap, subst}
 use Rattle.std.specs.Result.{IsErrOf}
 use Rattle.bx_dd.specs.declared.counts.Counts.{Counts}
-use Rattle.bx_journal.specs.SessionView.{SessionView}
-use Rattle.bx_journal.specs.Standing.{PerformFault}
-use Rattle.bx_journal.specs.Undoing.{RedoFault, UndoFault}
-use Rattle.bx_journal.specs.declared.fault.SessionFault.{SessionFault}
-use Rattle.bx_journal.specs.declared.fault.SessionFault.TheVariants.{TooFew, JournalFull, NothingToRedo}
+use Rattle.bx_steps.specs.SessionView.{SessionView}
+use Rattle.bx_steps.specs.Standing.{PerformFault}
+use Rattle.bx_scan.specs.Undoing.{RedoFault, UndoFault}
+use Rattle.bx_scan.specs.declared.fault.SessionFault.{SessionFault}
+use Rattle.bx_scan.specs.declared.fault.SessionFault.TheVariants.{TooFew, JournalFull, NothingToRedo}
 use Rattle.bx_commands.specs.declared.command.Reply.{Reply}
 use Rattle.bx_commands.specs.declared.command.Reply.TheVariants.{Refused}
 use Rattle.bx_commands.specs.declared.fault.Fault.TheVariants.{Session}

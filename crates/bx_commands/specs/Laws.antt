@@ -1,7 +1,7 @@
 -- Laws of runs.
 use Rattle.std.specs.Prelude.{◌≡◌, ◌≤◌, ◌-◌, ℕ, List, ◌++◌, length, Option, All}
-use Rattle.bx_journal.specs.Images.{Images, undo_of}
-use Rattle.bx_journal.specs.Machine.{changes_of}
+use Rattle.bx_scan.specs.Images.{Images, undo_of}
+use Rattle.bx_scan.specs.Machine.{changes_of}
 use Rattle.bx_commands.specs.declared.command.Command.{Command}
 use Rattle.bx_commands.specs.declared.command.Command.TheVariants.{Undo, Redo}
 use Rattle.bx_commands.specs.declared.command.Reply.{Reply}

@@ -1,10 +1,10 @@
 -- The log of a session as text.
 use Rattle.std.specs.Prelude.{ℕ, List, ◌++◌, codes, decimal}
-use Rattle.bx_journal.specs.declared.look.fault.ShowFault.TheVariants as look
-use Rattle.bx_journal.specs.declared.answers.LogRow.{LogRow}
-use Rattle.bx_journal.specs.declared.look.way.Steps.{Steps}
-use Rattle.bx_journal.specs.Showing.{StopsLog}
-use Rattle.bx_journal.specs.Steps.{RefusesSteps, StopsSteps}
+use Rattle.bx_show.specs.declared.fault.ShowFault.TheVariants as look
+use Rattle.bx_scan.specs.declared.answers.LogRow.{LogRow}
+use Rattle.bx_show.specs.declared.way.Steps.{Steps}
+use Rattle.bx_show.specs.Showing.{StopsLog}
+use Rattle.bx_show.specs.Steps.{RefusesSteps, StopsSteps}
 use Rattle.bx_commands.specs.declared.fault.Fault.{Fault}
 use Rattle.bx_commands.specs.declared.fault.Fault.TheVariants as of
 

@@ -2,9 +2,9 @@
 use Rattle.std.specs.Prelude.{◌≡◌, ◌↔◌, cond}
 use Rattle.bx_image.specs.declared.device.Device.{Ghosts as DeviceViews}
 use Rattle.bx_store.specs.declared.store.TextStore.{Ghosts as StoreViews}
-use Rattle.bx_journal.specs.Power.{NothingNew}
-use Rattle.bx_journal.specs.Session.{IsRedoSame}
-use Rattle.bx_journal.specs.SessionView.{SessionView}
+use Rattle.bx_steps.specs.Power.{NothingNew}
+use Rattle.bx_steps.specs.Session.{IsRedoSame}
+use Rattle.bx_steps.specs.SessionView.{SessionView}
 use Rattle.bx_commands.specs.declared.command.Reply.{Reply}
 use Rattle.bx_commands.specs.Power.{FindsEnd}
 use Rattle.bx_commands.specs.Refusal.{IsOwnRefusal, IsWholeRefusal, KeepsPair}

@@ -2,10 +2,10 @@
 use Rattle.std.specs.Prelude.{◌≡◌, ◌⊎◌, ◌≤◌, ℕ, true, Option, List, [], ◌∷◌, All}
 use Rattle.bx_image.specs.declared.device.Device.{Ghosts as DeviceViews}
 use Rattle.bx_store.specs.declared.store.TextStore.{Ghosts as StoreViews}
-use Rattle.bx_journal.specs.Images.{Images, change_to, redo_of, undo_of}
-use Rattle.bx_journal.specs.Power.{Found, Survive}
-use Rattle.bx_journal.specs.SessionView.{SessionView}
-use Rattle.bx_journal.specs.declared.fault.SessionFault.TheVariants.{Interrupted}
+use Rattle.bx_scan.specs.Images.{Images, change_to, redo_of, undo_of}
+use Rattle.bx_steps.specs.Power.{Found, Survive}
+use Rattle.bx_steps.specs.SessionView.{SessionView}
+use Rattle.bx_scan.specs.declared.fault.SessionFault.TheVariants.{Interrupted}
 use Rattle.bx_commands.specs.declared.command.Command.{Command}
 use Rattle.bx_commands.specs.declared.command.Command.TheVariants.{Undo, Redo}
 use Rattle.bx_commands.specs.declared.command.Reply.{Reply}

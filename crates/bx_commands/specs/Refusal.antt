@@ -4,9 +4,9 @@ use Rattle.bx_image.specs.declared.device.Device.{Ghosts as DeviceViews}
 use Rattle.bx_store.specs.declared.store.TextStore.{Ghosts as StoreViews}
 use Rattle.bx_read.specs.declared.fault.ReadFault.TheVariants as read
 use Rattle.bx_dd.specs.declared.fault.DdFault.TheVariants as dd
-use Rattle.bx_journal.specs.declared.fault.SessionFault.TheVariants.{Interrupted}
-use Rattle.bx_journal.specs.Session.{IsSame}
-use Rattle.bx_journal.specs.SessionView.{SessionView}
+use Rattle.bx_scan.specs.declared.fault.SessionFault.TheVariants.{Interrupted}
+use Rattle.bx_steps.specs.Session.{IsSame}
+use Rattle.bx_steps.specs.SessionView.{SessionView}
 use Rattle.bx_commands.specs.declared.command.Reply.{Reply}
 use Rattle.bx_commands.specs.declared.command.Reply.TheVariants.{Refused}
 use Rattle.bx_commands.specs.declared.fault.Fault.TheVariants.{Read, Dd, Session}

@@ -6,8 +6,8 @@ use Rattle.bx_image.specs.declared.device.Device.{Ghosts as DeviceViews}
 use Rattle.bx_store.specs.declared.store.TextStore.{Ghosts as StoreViews}
 use Rattle.bx_read.specs.declared.fault.ReadFault.{ReadFault}
 use Rattle.bx_read.specs.declared.fault.ReadFault.TheVariants.{NoMemory}
-use Rattle.bx_journal.specs.declared.fault.SessionFault.{SessionFault}
-use Rattle.bx_journal.specs.declared.fault.SessionFault.TheVariants.{DeviceFailed, Interrupted, Broken}
+use Rattle.bx_scan.specs.declared.fault.SessionFault.{SessionFault}
+use Rattle.bx_scan.specs.declared.fault.SessionFault.TheVariants.{DeviceFailed, Interrupted, Broken}
 use Rattle.bx_read.specs.Plain.{plain_answer}
 use Rattle.bx_read.specs.Text.{dump_pieces}
 use Rattle.bx_commands.specs.declared.command.Command.{Command}
@@ -15,10 +15,10 @@ use Rattle.bx_commands.specs.declared.command.Command.TheVariants.{Revert, Rever
 use Rattle.bx_commands.specs.declared.command.Reply.{Reply}
 use Rattle.bx_commands.specs.declared.command.Reply.TheVariants.{Changed, Copied, Undone, Redone, Refused}
 use Rattle.bx_commands.specs.declared.fault.Fault.TheVariants.{Read, Dd, Session}
-use Rattle.bx_journal.specs.Images.{Images, redo_of, undo_of}
-use Rattle.bx_journal.specs.Machine.{RedoStep, UndoStep}
-use Rattle.bx_journal.specs.Session.{IsUnfailed}
-use Rattle.bx_journal.specs.SessionView.{SessionView}
+use Rattle.bx_scan.specs.Images.{Images, redo_of, undo_of}
+use Rattle.bx_scan.specs.Machine.{RedoStep, UndoStep}
+use Rattle.bx_steps.specs.Session.{IsUnfailed}
+use Rattle.bx_steps.specs.SessionView.{SessionView}
 use Rattle.bx_commands.specs.declared.changes.DdChange.{DdChange}
 use Rattle.bx_commands.specs.Command.{dump_change, plain_change}
 use Rattle.bx_commands.specs.Copy.{Makes}

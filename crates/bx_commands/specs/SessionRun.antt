@@ -3,7 +3,7 @@ use Rattle.std.specs.Prelude.{◌≡◌, ℕ, Option, Result, List, [], ◌∷�
 use Rattle.bx_dd.specs.declared.fault.DdFault.{DdFault}
 use Rattle.bx_image.specs.declared.device.Device.{Ghosts as DeviceViews}
 use Rattle.bx_store.specs.declared.store.TextStore.{Ghosts as StoreViews}
-use Rattle.bx_journal.specs.SessionView.{SessionView}
+use Rattle.bx_steps.specs.SessionView.{SessionView}
 use Rattle.bx_commands.specs.declared.changes.DdChange.{DdChange}
 use Rattle.bx_commands.specs.declared.command.Command.{Command}
 use Rattle.bx_commands.specs.declared.command.Command.TheVariants.{Dd, Revert, RevertPlain}

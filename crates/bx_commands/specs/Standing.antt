@@ -5,13 +5,13 @@ use Rattle.bx_image.specs.declared.change.TheConstants.{MAX_LEN}
 use Rattle.bx_image.specs.declared.device.Device.{Ghosts as DeviceViews}
 use Rattle.bx_image.specs.Change.{effect, Fits}
 use Rattle.bx_store.specs.declared.store.TextStore.{Ghosts as StoreViews}
-use Rattle.bx_journal.specs.Images.{Images, change_to}
-use Rattle.bx_journal.specs.SessionView.{SessionView}
-use Rattle.bx_journal.specs.declared.fault.SessionFault.{SessionFault}
-use Rattle.bx_journal.specs.declared.fault.SessionFault.TheVariants.{NoMemory, DeviceFailed, JournalFull, Interrupted}
-use Rattle.bx_journal.specs.Machine.{PerformStep, top, changes_of}
-use Rattle.bx_journal.specs.Session.{HasUndone, IsReady, SessionFinds}
-use Rattle.bx_journal.specs.Standing.{IsStanding}
+use Rattle.bx_scan.specs.Images.{Images, change_to}
+use Rattle.bx_steps.specs.SessionView.{SessionView}
+use Rattle.bx_scan.specs.declared.fault.SessionFault.{SessionFault}
+use Rattle.bx_scan.specs.declared.fault.SessionFault.TheVariants.{NoMemory, DeviceFailed, JournalFull, Interrupted}
+use Rattle.bx_scan.specs.Machine.{PerformStep, top, changes_of}
+use Rattle.bx_steps.specs.Session.{HasUndone, IsReady, SessionFinds}
+use Rattle.bx_steps.specs.Standing.{IsStanding}
 
 -- A session that goes on and stands for these images; or one that was stopped, and opening its devices finds them
 pub data Standing : Type 0 where

@@ -1,9 +1,9 @@
 -- What a reply tells of a session's counts, whatever the devices are.
 use Rattle.std.specs.Prelude.{◌≡◌, ◌↔◌, ◌<◌, ◌≤◌, ◌+◌, ℕ, false}
-use Rattle.bx_journal.specs.SessionView.{SessionView}
-use Rattle.bx_journal.specs.Standing.{PerformFault}
-use Rattle.bx_journal.specs.Undoing.{RedoFault, UndoFault}
-use Rattle.bx_journal.specs.declared.fault.SessionFault.TheVariants.{TooFew, JournalFull, NothingToRedo}
+use Rattle.bx_steps.specs.SessionView.{SessionView}
+use Rattle.bx_steps.specs.Standing.{PerformFault}
+use Rattle.bx_scan.specs.Undoing.{RedoFault, UndoFault}
+use Rattle.bx_scan.specs.declared.fault.SessionFault.TheVariants.{TooFew, JournalFull, NothingToRedo}
 use Rattle.bx_commands.specs.declared.command.Command.{Command}
 use Rattle.bx_commands.specs.declared.command.Command.TheVariants.{Undo, Redo}
 use Rattle.bx_commands.specs.declared.command.Reply.{Reply}

@@ -1,8 +1,8 @@
 //! The log of a session as text.
 ghost use Rattle.std.specs.Prelude.{◌≡◌, ◌<◌, ◌++◌, IfErr, IfOk, OnOk, IsOkUnless, IsTrue, string_bytes};
 ghost use Rattle.std.specs.List.{flat_map};
-ghost use Rattle.bx_journal.specs.Showing.{RangesOf};
-ghost use Rattle.bx_journal.specs.Steps.{ShowsSteps};
+ghost use Rattle.bx_show.specs.Showing.{RangesOf};
+ghost use Rattle.bx_show.specs.Steps.{ShowsSteps};
 ghost use Rattle.bx_commands.specs.Listing.{RefusesShowing, StopsListing, StopsShowing, log_line};
 
 use crate::Fault;

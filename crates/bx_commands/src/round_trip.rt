@@ -1,7 +1,7 @@
 //! Undo and redo in the user's words: calls of sessions one after another, and what the three devices hold before and after them.
 ghost use Rattle.std.specs.Prelude.{◌≡◌, ◌<◌, ◌≤◌, length, IfSome, OnSome};
 ghost use Rattle.bx_image.specs.Change.{effect};
-ghost use Rattle.bx_journal.specs.Images.{Images, redo_of, undo_of};
+ghost use Rattle.bx_scan.specs.Images.{Images, redo_of, undo_of};
 ghost use Rattle.bx_commands.specs.Standing.{CountsBelow};
 ghost use Rattle.bx_commands.specs.inner.RoundTrip.{MovesOn, OpensAt, RestsIn, UndoneFrom, change_of};
 

@@ -1,6 +1,6 @@
 //! Lists of commands, run in order on a session.
 ghost use Rattle.std.specs.Prelude.{◌≡◌, ◌+◌, ◌^◌, ◌≤◌, ℕ, [], length, IfOk, OnErr, All, count_by};
-ghost use Rattle.bx_journal.specs.Session.{IsRedoSame, IsUnfailed};
+ghost use Rattle.bx_steps.specs.Session.{IsRedoSame, IsUnfailed};
 ghost use Rattle.bx_commands.specs.Obeys.{Obeys};
 ghost use Rattle.bx_commands.specs.Standing.{CountsBelow, CountsBy, HoldsAt, Leads, RestsAt, Shows};
 ghost use Rattle.bx_commands.specs.Command.{IsNear};

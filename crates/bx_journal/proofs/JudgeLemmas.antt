@@ -4,32 +4,32 @@ use Rattle.std.specs.Prelude.{is_some, IsTrue, IfSome, IfNone, IfOk, IfErr, Matc
 use Rattle.std.proofs.lemmas.Grind.{common_steps}
 use Rattle.std.proofs.lemmas.List.{take_more, take-append-drop}
 use Rattle.std.proofs.Math.Seq.{drop-cons}
-use Rattle.bx_journal.specs.declared.fault.SessionFault.{SessionFault}
-use Rattle.bx_journal.specs.declared.fault.SessionFault.TheVariants.{NoMemory, TooLarge, DeviceFailed, Damaged, TooFew, JournalFull, Interrupted, Broken, LengthDiffers, NothingToRedo, RedoDamaged}
+use Rattle.bx_scan.specs.declared.fault.SessionFault.{SessionFault}
+use Rattle.bx_scan.specs.declared.fault.SessionFault.TheVariants.{NoMemory, TooLarge, DeviceFailed, Damaged, TooFew, JournalFull, Interrupted, Broken, LengthDiffers, NothingToRedo, RedoDamaged}
 use Rattle.bx_entries.specs.declared.read.whole.JournalRead.{JournalRead}
 use Rattle.bx_entries.specs.declared.read.types.EntryRead.{EntryRead}
 use Rattle.bx_entries.specs.declared.read.types.StageRead.TheVariants.{Between as BetweenRead, Saving as SavingRead, Ending as EndingRead}
-use Rattle.bx_journal.specs.declared.read.count.CountedText.{CountedText}
-use Rattle.bx_journal.specs.inner.Calls.{ReadFault}
+use Rattle.bx_scan.specs.declared.read.count.CountedText.{CountedText}
+use Rattle.bx_scan.specs.inner.Calls.{ReadFault}
 use Rattle.bx_entries.specs.inner.Journal.{HasRead}
-use Rattle.bx_journal.specs.Judging.{RefusesRedo}
-use Rattle.bx_journal.specs.inner.Looking.{FaultCounts}
-use Rattle.bx_journal.specs.inner.Judging.{AllTold, IsBeyondAt, IsFit, IsRedoCounted, IsUnfitAt, IsUnfitFrom, IsUntoldAt, JudgeFault, RedoTextFault}
-use Rattle.bx_journal.specs.inner.Fault.{redo_fault}
+use Rattle.bx_scan.specs.Judging.{RefusesRedo}
+use Rattle.bx_scan.specs.inner.Looking.{FaultCounts}
+use Rattle.bx_scan.specs.inner.Judging.{AllTold, IsBeyondAt, IsFit, IsRedoCounted, IsUnfitAt, IsUnfitFrom, IsUntoldAt, JudgeFault, RedoTextFault}
+use Rattle.bx_scan.specs.inner.Fault.{redo_fault}
 use Rattle.bx_entries.specs.inner.Mark.{IsMark, HasMarks}
 use Rattle.bx_entries.specs.inner.Parsed.{entry_of, entries_onto, entries_of, stage_of, reading_of, AreMarked, IsMarked}
 use Rattle.bx_entries.specs.Finished.{AllTell, IsFinished}
-use Rattle.bx_journal.specs.Redo.{BeginsAt, IsRedoOf, DamagedLine, Tail, FirstForm, IsRefusedAt, NoRedo, TooMany, Off}
-use Rattle.bx_journal.specs.Stack.{stack_of}
+use Rattle.bx_scan.specs.Redo.{BeginsAt, IsRedoOf, DamagedLine, Tail, FirstForm, IsRefusedAt, NoRedo, TooMany, Off}
+use Rattle.bx_scan.specs.Stack.{stack_of}
 use Rattle.bx_entries.specs.inner.Tally.{IsCounted, IsCountedAll}
 use Rattle.bx_entries.specs.Text.{Entry, Between, Reading, Reads, Split, split, with_front, start, after_lines}
 use Rattle.bx_entries.proofs.Damage.{split_at_mark}
-use Rattle.bx_journal.proofs.Phases.{length-stack_of}
+use Rattle.bx_scan.proofs.Phases.{length-stack_of}
 use Rattle.bx_entries.proofs.ReadLemmas.{length-entries_of}
-use Rattle.bx_journal.proofs.RedoText.{one_reading}
+use Rattle.bx_steps.proofs.RedoText.{one_reading}
 use Rattle.bx_journal.proofs.Refused.{not_no_redo, too_many, refused_once, none_refused}
-use Rattle.bx_journal.proofs.TailLemmas.{begins_at, begin_mark}
-use Rattle.bx_journal.proofs.Tails.{rest_none}
+use Rattle.bx_scan.proofs.TailLemmas.{begins_at, begin_mark}
+use Rattle.bx_scan.proofs.Tails.{rest_none}
 use Rattle.bx_journal.proofs.CountedLemmas.{counted_lengths}
 
 -- entries that were read, in parts

@@ -2,7 +2,7 @@
 use Rattle.std.proofs.Common.{◌≡◌, ℕ, List, [], sym, ◌∙◌, subst, Option, Some, append-nil}
 use Rattle.bx_entries.specs.Text.{Between, Reading, Reads}
 use Rattle.bx_entries.specs.inner.Tally.{IsCounted}
-use Rattle.bx_journal.specs.Undoing.{HasLeft}
+use Rattle.bx_scan.specs.Undoing.{HasLeft}
 
 one_reading : {A : Type 0} (x y : A) → Some x ≡ Some y → x ≡ y
 one_reading x y e = cc

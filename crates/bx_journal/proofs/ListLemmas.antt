@@ -16,16 +16,16 @@ use Rattle.bx_entries.proofs.Inverse.{next_between, next_saving, next_ending}
 use Rattle.bx_entries.proofs.Runs.{after_lines-append}
 use Rattle.bx_entries.proofs.Splits.{split-append, split-ended}
 use Rattle.bx_entries.proofs.TallyLemmas.{HasForm, IsFirstLine, has_form, last, line_taken, take_sum}
-use Rattle.bx_journal.specs.Calls.{rows_of}
-use Rattle.bx_journal.specs.declared.answers.LogRow.{LogRow}
-use Rattle.bx_journal.specs.declared.fault.SessionFault.{SessionFault}
-use Rattle.bx_journal.specs.declared.read.windows.Reached.{Reached}
+use Rattle.bx_scan.specs.Calls.{rows_of}
+use Rattle.bx_scan.specs.declared.answers.LogRow.{LogRow}
+use Rattle.bx_scan.specs.declared.fault.SessionFault.{SessionFault}
+use Rattle.bx_scan.specs.declared.read.windows.Reached.{Reached}
 use Rattle.bx_journal.specs.declared.session.log.windows.RowScan.{RowScan}
-use Rattle.bx_journal.specs.inner.Looking.{LooksAt}
+use Rattle.bx_scan.specs.inner.Looking.{LooksAt}
 use Rattle.bx_journal.specs.inner.Rows.{AreRowsOf, FindsRows, IsListed, ended_row}
-use Rattle.bx_journal.specs.inner.Windows.{IsReached}
-use Rattle.bx_journal.proofs.ScanLemmas.{reached_all}
-use Rattle.bx_journal.proofs.WindowLemmas.{again_behind, looks_before}
+use Rattle.bx_scan.specs.inner.Windows.{IsReached}
+use Rattle.bx_scan.proofs.ScanLemmas.{reached_all}
+use Rattle.bx_scan.proofs.WindowLemmas.{again_behind, looks_before}
 
 -- a line adds a row where it ends an entry
 abbrev RowsNext : List Entry → Reading → Type 0

@@ -7,8 +7,8 @@ use Rattle.std.proofs.lemmas.List.Sums.{sum-map, sum_by_more_le}
 use Rattle.bx_text.specs.declared.owned.pieces.Piece.{Piece}
 use Rattle.bx_entries.specs.Kept.{Run, run_of, kept_of}
 use Rattle.bx_entries.specs.declared.read.types.EntryRead.{EntryRead}
-use Rattle.bx_journal.specs.declared.answers.LogRow.{LogRow}
-use Rattle.bx_journal.specs.Calls.{rows_of}
+use Rattle.bx_scan.specs.declared.answers.LogRow.{LogRow}
+use Rattle.bx_scan.specs.Calls.{rows_of}
 use Rattle.bx_entries.specs.inner.Rows.{saved_length}
 use Rattle.bx_entries.specs.inner.Parsed.{entry_of, entries_of}
 use Rattle.bx_entries.proofs.ReadLemmas.{onto-push, length-entries_of}

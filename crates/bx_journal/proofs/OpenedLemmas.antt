@@ -2,33 +2,33 @@
 use Rattle.std.proofs.Common.{◌≡◌, ℕ, suc, ◌+◌, ◌≤◌, List, [], ◌∷◌, length, refl, ap, sym, ◌∙◌, subst, inl, inr, ◌⊎◌, arith, Option, Some, None, Result, Ok, Err}
 use Rattle.std.specs.Prelude.{IfOk, IfErr, OnOk, OnErr, MatchResult}
 use Rattle.std.proofs.lemmas.Bool.{cases_lt}
-use Rattle.bx_journal.specs.declared.answers.How.{How}
-use Rattle.bx_journal.specs.declared.answers.How.TheVariants.{Clean, Dropped, Restored}
-use Rattle.bx_journal.specs.declared.answers.Recovered.{Recovered}
-use Rattle.bx_journal.specs.declared.fault.SessionFault.{SessionFault}
-use Rattle.bx_journal.specs.declared.fault.SessionFault.TheVariants.{NoMemory, TooLarge, DeviceFailed, Damaged, TooFew, JournalFull, Interrupted, Broken, LengthDiffers, NothingToRedo, RedoDamaged}
-use Rattle.bx_journal.specs.declared.read.journal.Found.{Found}
-use Rattle.bx_journal.specs.declared.read.journal.Found.TheVariants.{Finished, Unfinished}
-use Rattle.bx_journal.specs.declared.read.journal.Torn.{Torn}
+use Rattle.bx_scan.specs.declared.answers.How.{How}
+use Rattle.bx_scan.specs.declared.answers.How.TheVariants.{Clean, Dropped, Restored}
+use Rattle.bx_scan.specs.declared.answers.Recovered.{Recovered}
+use Rattle.bx_scan.specs.declared.fault.SessionFault.{SessionFault}
+use Rattle.bx_scan.specs.declared.fault.SessionFault.TheVariants.{NoMemory, TooLarge, DeviceFailed, Damaged, TooFew, JournalFull, Interrupted, Broken, LengthDiffers, NothingToRedo, RedoDamaged}
+use Rattle.bx_scan.specs.declared.read.journal.Found.{Found}
+use Rattle.bx_scan.specs.declared.read.journal.Found.TheVariants.{Finished, Unfinished}
+use Rattle.bx_scan.specs.declared.read.journal.Torn.{Torn}
 use Rattle.bx_entries.specs.declared.read.window.Counted.{Counted}
-use Rattle.bx_journal.specs.Calls.{AfterFault, Differs, OpenFault}
-use Rattle.bx_journal.specs.Images.{Images}
-use Rattle.bx_journal.specs.Judging.{RefusesRedo}
-use Rattle.bx_journal.specs.Machine.{changes_of}
-use Rattle.bx_journal.specs.Opening.{IsOpened, RefusesLength}
+use Rattle.bx_scan.specs.Calls.{AfterFault, Differs, OpenFault}
+use Rattle.bx_scan.specs.Images.{Images}
+use Rattle.bx_scan.specs.Judging.{RefusesRedo}
+use Rattle.bx_scan.specs.Machine.{changes_of}
+use Rattle.bx_scan.specs.Opening.{IsOpened, RefusesLength}
 use Rattle.bx_entries.specs.Parsed.{told_by}
-use Rattle.bx_journal.specs.inner.Recovery.{FindFault, FinishedFault, HasOtherLength, HasToldLength, HasUndoneCount, IsCountedIn, IsFoundIn, IsUnfinishedIn, KeepsUndone, RecoverFault}
+use Rattle.bx_scan.specs.inner.Recovery.{FindFault, FinishedFault, HasOtherLength, HasToldLength, HasUndoneCount, IsCountedIn, IsFoundIn, IsUnfinishedIn, KeepsUndone, RecoverFault}
 use Rattle.bx_entries.specs.Shown.{shown}
 use Rattle.bx_entries.proofs.CleanLemmas.{clean_shown}
-use Rattle.bx_journal.specs.Power.{Found as FoundOnDisk}
-use Rattle.bx_journal.specs.Redo.{IsClean, IsRedoOf, IsRefusedAt, RefusesRedoAt, found_undone}
-use Rattle.bx_journal.specs.Stack.{Recovers, image_at}
+use Rattle.bx_steps.specs.Power.{Found as FoundOnDisk}
+use Rattle.bx_scan.specs.Redo.{IsClean, IsRedoOf, IsRefusedAt, RefusesRedoAt, found_undone}
+use Rattle.bx_scan.specs.Stack.{Recovers, image_at}
 use Rattle.bx_entries.specs.inner.Tally.{IsCounted}
 use Rattle.bx_entries.specs.Text.{Between, Entry, IsAccepted, Reading, Reads}
-use Rattle.bx_journal.proofs.Judged.{undamaged}
-use Rattle.bx_journal.proofs.OpenLemmas.{differs_of}
+use Rattle.bx_scan.proofs.Judged.{undamaged}
+use Rattle.bx_scan.proofs.OpenLemmas.{differs_of}
 use Rattle.bx_journal.proofs.TornLemmas.{torn_stack}
-use Rattle.bx_journal.proofs.RedoText.{empty_is_redo, one_list}
+use Rattle.bx_steps.proofs.RedoText.{empty_is_redo, one_list}
 use Rattle.bx_journal.proofs.Refused.{none_refused}
 use Rattle.bx_journal.proofs.CountedLemmas.{counted_differs, counted_once, counted_opened, counted_stack}
 

@@ -4,23 +4,23 @@ use Rattle.bx_entries.specs.Shown.{shown}
 use Rattle.bx_entries.specs.Text.{Between, Reading, Reads, IsDamagedAt}
 use Rattle.bx_entries.specs.Finished.{IsFinished}
 use Rattle.bx_entries.proofs.CleanLemmas.{clean_shown}
-use Rattle.bx_journal.specs.declared.answers.How.{How}
-use Rattle.bx_journal.specs.declared.answers.How.TheVariants.{Clean, Dropped, Restored}
-use Rattle.bx_journal.specs.declared.fault.SessionFault.{SessionFault}
-use Rattle.bx_journal.specs.declared.fault.SessionFault.TheVariants.{NoMemory, TooLarge, DeviceFailed, Damaged, TooFew, JournalFull, Interrupted, Broken, LengthDiffers, NothingToRedo, RedoDamaged}
-use Rattle.bx_journal.specs.Calls.{how_of}
-use Rattle.bx_journal.specs.Fault.{DeviceFault}
-use Rattle.bx_journal.specs.Images.{Images}
-use Rattle.bx_journal.specs.Machine.{changes_of}
-use Rattle.bx_journal.specs.Opening.{left_over}
-use Rattle.bx_journal.specs.Phase.{IsAtRest}
-use Rattle.bx_journal.specs.Power.{Found}
+use Rattle.bx_scan.specs.declared.answers.How.{How}
+use Rattle.bx_scan.specs.declared.answers.How.TheVariants.{Clean, Dropped, Restored}
+use Rattle.bx_scan.specs.declared.fault.SessionFault.{SessionFault}
+use Rattle.bx_scan.specs.declared.fault.SessionFault.TheVariants.{NoMemory, TooLarge, DeviceFailed, Damaged, TooFew, JournalFull, Interrupted, Broken, LengthDiffers, NothingToRedo, RedoDamaged}
+use Rattle.bx_scan.specs.Calls.{how_of}
+use Rattle.bx_scan.specs.Fault.{DeviceFault}
+use Rattle.bx_scan.specs.Images.{Images}
+use Rattle.bx_scan.specs.Machine.{changes_of}
+use Rattle.bx_scan.specs.Opening.{left_over}
+use Rattle.bx_scan.specs.Phase.{IsAtRest}
+use Rattle.bx_steps.specs.Power.{Found}
 use Rattle.bx_journal.specs.Recovery.{OpenKind}
-use Rattle.bx_journal.specs.Redo.{IsClean, IsRedoOf, found_undone}
-use Rattle.bx_journal.specs.Stack.{Recovers}
+use Rattle.bx_scan.specs.Redo.{IsClean, IsRedoOf, found_undone}
+use Rattle.bx_scan.specs.Stack.{Recovers}
 use Rattle.bx_journal.proofs.CountedLemmas.{left_none}
-use Rattle.bx_journal.proofs.LawProofs.{damaged_at_one}
-use Rattle.bx_journal.proofs.Phases.{rest_recovers}
+use Rattle.bx_steps.proofs.LawProofs.{damaged_at_one}
+use Rattle.bx_scan.proofs.Phases.{rest_recovers}
 
 -- where nothing was unfinished, what was undone is kept
 pub kept_undone : (redo x : List ℕ) (changes count : ℕ) (how : How) (undone : List (List ℕ)) → how ≡ Clean → IsRedoOf redo x changes (found_undone how undone) → count ≡ length (found_undone how undone)

@@ -13,7 +13,7 @@ use Rattle.bx_entries.specs.inner.Text.{next}
 use Rattle.bx_entries.specs.inner.Rows.{saved_length}
 use Rattle.bx_entries.specs.inner.Parsed.{entry_of, entries_onto, entries_of}
 use Rattle.bx_entries.proofs.Inverse.{bind_some, map_some, test_some, next_between, next_ending}
-use Rattle.bx_journal.proofs.Tails.{joined_rest}
+use Rattle.bx_scan.proofs.Tails.{joined_rest}
 use Rattle.bx_journal.proofs.LogLemmas.{run_length}
 use Rattle.bx_entries.proofs.PieceBound.{piece_short}
 

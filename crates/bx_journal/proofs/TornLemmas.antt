@@ -10,21 +10,21 @@ use Rattle.bx_entries.specs.Text.{Entry, Stage, Between, Saving, Ending, Reading
 use Rattle.bx_entries.specs.declared.format.version.Version.{Version}
 use Rattle.bx_entries.specs.inner.Mark.{IsMark}
 use Rattle.bx_entries.proofs.ShownLemmas.{shown_is_front, shown_short, take_shown}
-use Rattle.bx_journal.specs.declared.read.mark.Mark.{Mark}
-use Rattle.bx_journal.specs.declared.read.journal.Torn.{Torn}
-use Rattle.bx_journal.specs.declared.answers.How.{How}
-use Rattle.bx_journal.specs.declared.answers.How.TheVariants.{Dropped, Restored}
-use Rattle.bx_journal.specs.Calls.{how_of}
-use Rattle.bx_journal.specs.Opening.{IsOpened, left_over}
-use Rattle.bx_journal.specs.Redo.{IsClean}
-use Rattle.bx_journal.specs.Stack.{HaveLengths, Recovers, image_at, stack_of}
-use Rattle.bx_journal.specs.Undoing.{HasLeft}
-use Rattle.bx_journal.specs.inner.Recovery.{HasMark, IsTorn}
-use Rattle.bx_journal.specs.inner.Restoring.{AllShorter, StandsAt}
-use Rattle.bx_journal.specs.inner.Step.{HasTail}
-use Rattle.bx_journal.proofs.OpenLemmas.{begins_told}
-use Rattle.bx_journal.proofs.ReadingLemmas.{IsSane, have_lengths, length-restore, read_sane}
-use Rattle.bx_journal.proofs.Tails.{counted_stack, tail_of}
+use Rattle.bx_scan.specs.declared.read.mark.Mark.{Mark}
+use Rattle.bx_scan.specs.declared.read.journal.Torn.{Torn}
+use Rattle.bx_scan.specs.declared.answers.How.{How}
+use Rattle.bx_scan.specs.declared.answers.How.TheVariants.{Dropped, Restored}
+use Rattle.bx_scan.specs.Calls.{how_of}
+use Rattle.bx_scan.specs.Opening.{IsOpened, left_over}
+use Rattle.bx_scan.specs.Redo.{IsClean}
+use Rattle.bx_scan.specs.Stack.{HaveLengths, Recovers, image_at, stack_of}
+use Rattle.bx_scan.specs.Undoing.{HasLeft}
+use Rattle.bx_scan.specs.inner.Recovery.{HasMark, IsTorn}
+use Rattle.bx_scan.specs.inner.Restoring.{AllShorter, StandsAt}
+use Rattle.bx_scan.specs.inner.Step.{HasTail}
+use Rattle.bx_scan.proofs.OpenLemmas.{begins_told}
+use Rattle.bx_scan.proofs.ReadingLemmas.{IsSane, have_lengths, length-restore, read_sane}
+use Rattle.bx_scan.proofs.Tails.{counted_stack, tail_of}
 
 same_reading : (q r : Reading) → Some q ≡ Some r → q ≡ r
 same_reading q r e = cc

@@ -19,17 +19,17 @@ use Rattle.bx_entries.proofs.KeptLemmas.{is_of_in, same_byte, same_restore}
 use Rattle.bx_entries.proofs.Inverse.{bind_some, next_between, next_saving, next_ending}
 use Rattle.bx_entries.proofs.Runs.{after_lines-append}
 use Rattle.bx_entries.proofs.Splits.{split-append}
-use Rattle.bx_journal.specs.Laws.{HasBytes}
-use Rattle.bx_journal.specs.Redo.{IsRedoOf}
-use Rattle.bx_journal.specs.RedoLaws.{IsWrittenAgain}
-use Rattle.bx_journal.specs.Stack.{StandsFor}
-use Rattle.bx_journal.specs.Taken.{taken, taken_by}
-use Rattle.bx_journal.specs.Undoing.{HasLeft}
+use Rattle.bx_steps.specs.Laws.{HasBytes}
+use Rattle.bx_scan.specs.Redo.{IsRedoOf}
+use Rattle.bx_steps.specs.RedoLaws.{IsWrittenAgain}
+use Rattle.bx_scan.specs.Stack.{StandsFor}
+use Rattle.bx_steps.specs.Taken.{taken, taken_by}
+use Rattle.bx_scan.specs.Undoing.{HasLeft}
 use Rattle.bx_journal.proofs.AgainTaken.{back_of, saved_is_of, taken_again, taken_back}
-use Rattle.bx_journal.proofs.LawProofs.{written_is_read}
-use Rattle.bx_journal.proofs.Performed.{performed, restored_same, top_of_stands}
-use Rattle.bx_journal.proofs.RedoText.{one_reading}
-use Rattle.bx_journal.proofs.Phases.{length-stack_of, may_begin_of}
+use Rattle.bx_steps.proofs.LawProofs.{written_is_read}
+use Rattle.bx_steps.proofs.Performed.{performed, restored_same, top_of_stands}
+use Rattle.bx_steps.proofs.RedoText.{one_reading}
+use Rattle.bx_scan.proofs.Phases.{length-stack_of, may_begin_of}
 
 abbrev between : List Entry → Reading
 between es = record { entries = es; stage = Between }

@@ -5,11 +5,11 @@ use Rattle.bx_image.specs.declared.change.TheConstants.{MAX_LEN}
 use Rattle.bx_image.specs.declared.device.Device.{Ghosts as DeviceViews}
 use Rattle.bx_image.specs.Change.{Fits}
 use Rattle.bx_store.specs.declared.store.TextStore.{Ghosts as StoreViews}
-use Rattle.bx_journal.specs.declared.fault.SessionFault.{SessionFault}
-use Rattle.bx_journal.specs.declared.fault.SessionFault.TheVariants.{Damaged, Interrupted, JournalFull, NoMemory, NothingToRedo, RedoDamaged, TooFew, TooLarge}
-use Rattle.bx_journal.specs.SessionView.{SessionView}
-use Rattle.bx_journal.specs.Standing.{PerformFault}
-use Rattle.bx_journal.specs.Undoing.{HasCount, IsOutOfStep, RedoFault, UndoFault}
+use Rattle.bx_scan.specs.declared.fault.SessionFault.{SessionFault}
+use Rattle.bx_scan.specs.declared.fault.SessionFault.TheVariants.{Damaged, Interrupted, JournalFull, NoMemory, NothingToRedo, RedoDamaged, TooFew, TooLarge}
+use Rattle.bx_steps.specs.SessionView.{SessionView}
+use Rattle.bx_steps.specs.Standing.{PerformFault}
+use Rattle.bx_scan.specs.Undoing.{HasCount, IsOutOfStep, RedoFault, UndoFault}
 
 -- Of a change: `JournalFull` comes exactly where the journal is full, a change that fits is never too large, and the other faults come of one that fits
 pub record FaultsOfChange {D T A V : Type 0} (d : DeviceViews D) (c : Change A) (old : SessionView D T) (result : Result V SessionFault) : Type 0 where

@@ -1,26 +1,26 @@
 -- What opening leaves and answers, of the devices that it is given.
 use Rattle.std.specs.Prelude.{◌≡◌, ◌↔◌, ℕ, List, [], false, Result, IfOk, IfErr, OnOk, MatchResult}
-use Rattle.bx_journal.specs.declared.answers.How.{How}
-use Rattle.bx_journal.specs.declared.answers.How.TheVariants.{Clean}
-use Rattle.bx_journal.specs.declared.answers.Recovered.{Recovered}
-use Rattle.bx_journal.specs.declared.fault.SessionFault.{SessionFault}
-use Rattle.bx_journal.specs.declared.fault.SessionFault.TheVariants.{Damaged, Interrupted, LengthDiffers, RedoDamaged}
+use Rattle.bx_scan.specs.declared.answers.How.{How}
+use Rattle.bx_scan.specs.declared.answers.How.TheVariants.{Clean}
+use Rattle.bx_scan.specs.declared.answers.Recovered.{Recovered}
+use Rattle.bx_scan.specs.declared.fault.SessionFault.{SessionFault}
+use Rattle.bx_scan.specs.declared.fault.SessionFault.TheVariants.{Damaged, Interrupted, LengthDiffers, RedoDamaged}
 use Rattle.bx_entries.specs.Shown.{shown}
 use Rattle.bx_entries.specs.Text.{IsAccepted, IsDamagedAt, Reading, Reads}
-use Rattle.bx_journal.specs.Calls.{AfterFault, Differs, OpenFault}
-use Rattle.bx_journal.specs.Images.{Images}
-use Rattle.bx_journal.specs.Judging.{RefusesRedo}
-use Rattle.bx_journal.specs.Opening.{IsOpened, RefusesLength, RefusesText, ThreeCounts}
-use Rattle.bx_journal.specs.Power.{Found}
-use Rattle.bx_journal.specs.Machine.{changes_of}
-use Rattle.bx_journal.specs.Phase.{IsAtRest}
+use Rattle.bx_scan.specs.Calls.{AfterFault, Differs, OpenFault}
+use Rattle.bx_scan.specs.Images.{Images}
+use Rattle.bx_scan.specs.Judging.{RefusesRedo}
+use Rattle.bx_scan.specs.Opening.{IsOpened, RefusesLength, RefusesText, ThreeCounts}
+use Rattle.bx_steps.specs.Power.{Found}
+use Rattle.bx_scan.specs.Machine.{changes_of}
+use Rattle.bx_scan.specs.Phase.{IsAtRest}
 use Rattle.bx_journal.specs.Recovery.{OpenKind}
-use Rattle.bx_journal.specs.Redo.{IsClean, IsRedoOf, RefusesRedoAt, found_undone}
-use Rattle.bx_journal.specs.Session.{HasUndone, IsReady}
-use Rattle.bx_journal.specs.SessionView.{SessionView}
-use Rattle.bx_journal.specs.Stack.{Recovers, image_at, recovered}
-use Rattle.bx_journal.specs.Standing.{IsStanding}
-use Rattle.bx_journal.specs.Undoing.{HasLeft}
+use Rattle.bx_scan.specs.Redo.{IsClean, IsRedoOf, RefusesRedoAt, found_undone}
+use Rattle.bx_steps.specs.Session.{HasUndone, IsReady}
+use Rattle.bx_steps.specs.SessionView.{SessionView}
+use Rattle.bx_scan.specs.Stack.{Recovers, image_at, recovered}
+use Rattle.bx_steps.specs.Standing.{IsStanding}
+use Rattle.bx_scan.specs.Undoing.{HasLeft}
 use Rattle.bx_image.specs.declared.device.Device.{Ghosts as DeviceViews}
 use Rattle.bx_store.specs.declared.store.TextStore.{Ghosts as StoreViews}
 

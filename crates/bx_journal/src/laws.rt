@@ -1,6 +1,6 @@
 //! Laws over the definitions alone.
-ghost use Rattle.bx_journal.specs.Laws.{WrittenIsRead, StandsForOne, DamagedAtOne, EmptyIsSound};
-ghost use Rattle.bx_journal.specs.RedoLaws.{EmptyIsRedo, IsWrittenAgain, RedoIsOne, RedoLineOne};
+ghost use Rattle.bx_steps.specs.Laws.{WrittenIsRead, StandsForOne, DamagedAtOne, EmptyIsSound};
+ghost use Rattle.bx_steps.specs.RedoLaws.{EmptyIsRedo, IsWrittenAgain, RedoIsOne, RedoLineOne};
 
 use bx_image::Device;
 use bx_store::TextStore;

@@ -11,21 +11,13 @@
 //! `docs/CALLING.md` has the whole caller, which the gate proves and runs.
 #![tactic(auto)]
 
-mod answers;
-mod devices;
-mod fault;
 pub mod laws;
 mod look;
-mod protocol;
-mod read;
 mod recovery;
 mod session;
-mod write;
 
-pub use answers::{How, LogRow, Recovered};
+pub use bx_scan::{How, LogRow, Recovered, SessionFault};
+pub use bx_show::{ShowFault, Steps, Way};
 pub use bx_store::{FileText, FuseText, MemText, TextStore};
-pub use fault::SessionFault;
-pub use look::fault::ShowFault;
-pub use look::way::{Steps, Way};
 pub use look::{log_ranges, show_steps};
 pub use session::Session;

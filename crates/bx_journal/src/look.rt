@@ -1,34 +1,18 @@
 //! A look at the changes of a text, without a session: nothing is recovered, and the text stays.
 ghost use Rattle.std.specs.Prelude.{◌≡◌, ◌<◌, ◌≤◌, ℕ, All, false, IsTrue, None, length, OnOk, IfOk, IfErr};
-ghost use Rattle.bx_journal.specs.Showing.{RangesOf, StopsLog};
-ghost use Rattle.bx_journal.specs.Steps.{RefusesSteps, ShowsSteps, StopsSteps};
-ghost use Rattle.bx_journal.specs.inner.Showing.{LiesWithin, PutFault};
-ghost use Rattle.bx_journal.specs.inner.Steps.{CannotStep, FindsSteps, IsChecked, IsFoundPut, few_that, fault_that};
+ghost use Rattle.bx_show.specs.Showing.{RangesOf, StopsLog};
+ghost use Rattle.bx_show.specs.Steps.{RefusesSteps, ShowsSteps, StopsSteps};
+ghost use Rattle.bx_show.specs.inner.Showing.{LiesWithin, PutFault};
+ghost use Rattle.bx_show.specs.inner.Steps.{CannotStep, FindsSteps, IsChecked, IsFoundPut, few_that, fault_that};
 
-mod cache;
-mod differences;
 mod entries;
-mod fault;
-mod heading;
-mod lines;
-mod marks;
-mod put;
-mod ranges;
 mod step;
-mod unfinished;
-mod way;
 
-use crate::SessionFault;
-use crate::fault::of_redo;
 use crate::look::entries::put_rows;
-use crate::look::marks::all_marks;
-use crate::look::put::begin_writing;
-use crate::look::fault::ShowFault;
 use crate::look::step::put_steps;
-use crate::look::way::{Steps, Way};
-use crate::look::unfinished::{Marked, front_marks, put_torn};
-use crate::read::journal::Torn;
 use bx_image::{Device, DeviceFailed};
+use bx_scan::{SessionFault, Torn, of_redo};
+use bx_show::{Marked, ShowFault, Steps, Way, all_marks, begin_writing, front_marks, put_torn};
 use bx_store::TextStore;
 use std::alloc::Allocator;
 use std::io::Write;

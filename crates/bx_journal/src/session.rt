@@ -1,21 +1,18 @@
 //! A session: changes to an image, each with its entry in the journal, a write-ahead undo log.
 ghost use Rattle.std.specs.Prelude.{◌≡◌, ◌+◌, ◌<◌, ◌≤◌, [], false, IfOk, IfErr, OnOk};
-ghost use Rattle.bx_journal.specs.Machine.{PerformStep, changed};
+ghost use Rattle.bx_scan.specs.Machine.{PerformStep, changed};
 
 mod log;
 mod open;
-mod prepare;
 mod redo;
 mod undo;
 mod view;
 
-use crate::SessionFault;
-use crate::devices::Devices;
-use crate::protocol::entry::write_change;
-use crate::protocol::redo_text::RedoCut;
-use crate::session::prepare::prepare_change;
 use bx_entries::MOST_CHANGES;
 use bx_image::{Change, Device};
+use bx_prepare::prepare_change;
+use bx_scan::SessionFault;
+use bx_steps::{Devices, RedoCut, write_change};
 use bx_store::TextStore;
 use std::alloc::{Allocator, Global};
 use std::marker::Model;
@@ -33,7 +30,7 @@ pub struct Session<D: Device, T: TextStore, A: Allocator = Global> {
 }
 
 impl<D: Device, T: TextStore, A: Allocator> Model for Session<D, T, A> {
-    ghost use Rattle.bx_journal.specs.SessionView.{SessionView};
+    ghost use Rattle.bx_steps.specs.SessionView.{SessionView};
 
     ghost Value = { SessionView D T };
 
@@ -41,10 +38,10 @@ impl<D: Device, T: TextStore, A: Allocator> Model for Session<D, T, A> {
 }
 
 impl<D: Device, T: TextStore, A: Allocator + Clone> Session<D, T, A> {
-    ghost use Rattle.bx_journal.specs.Performing.{AppendsEntry, FindsOne, StaysReady, Steps, StopsPerform};
-    ghost use Rattle.bx_journal.specs.Calls.{AfterFault};
-    ghost use Rattle.bx_journal.specs.Power.{NothingNew, ChangeSurvives};
-    ghost use Rattle.bx_journal.specs.Session.{FailsSafely, HasUndone};
+    ghost use Rattle.bx_steps.specs.Performing.{AppendsEntry, FindsOne, StaysReady, Steps, StopsPerform};
+    ghost use Rattle.bx_scan.specs.Calls.{AfterFault};
+    ghost use Rattle.bx_steps.specs.Power.{NothingNew, ChangeSurvives};
+    ghost use Rattle.bx_steps.specs.Session.{FailsSafely, HasUndone};
     ghost use Rattle.bx_journal.specs.Faults.{FaultsOfChange};
 
     /// Changes the image, and answers the change's number, which is how many changes then stand. What was undone is

@@ -4,9 +4,9 @@ use Rattle.bx_image.specs.declared.change.Change.{Change}
 use Rattle.bx_image.specs.declared.device.Device.{Ghosts as DeviceViews}
 use Rattle.bx_image.specs.Change.{effect}
 use Rattle.bx_store.specs.declared.store.TextStore.{Ghosts as StoreViews}
-use Rattle.bx_journal.specs.Images.{Images, change_to, undo_of}
-use Rattle.bx_journal.specs.Machine.{top}
-use Rattle.bx_journal.specs.SessionView.{SessionView}
+use Rattle.bx_scan.specs.Images.{Images, change_to, undo_of}
+use Rattle.bx_scan.specs.Machine.{top}
+use Rattle.bx_steps.specs.SessionView.{SessionView}
 use Rattle.bx_commands.specs.Standing.{Shows}
 
 -- the images behind a change

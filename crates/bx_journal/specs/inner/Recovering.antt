@@ -2,23 +2,23 @@
 use Rattle.std.specs.Prelude.{◌≡◌, ◌⊎◌, ℕ, suc, List, [], length, Result, IfOk, IfErr, OnErr, OnOk, MatchResult}
 use Rattle.bx_image.specs.declared.device.Device.{Ghosts as DeviceViews}
 use Rattle.bx_store.specs.declared.store.TextStore.{Ghosts as StoreViews}
-use Rattle.bx_journal.specs.declared.devices.Devices.{Devices}
-use Rattle.bx_journal.specs.declared.answers.How.TheVariants.{Clean}
-use Rattle.bx_journal.specs.declared.answers.Recovered.{Recovered}
-use Rattle.bx_journal.specs.declared.fault.SessionFault.{SessionFault}
-use Rattle.bx_journal.specs.declared.fault.SessionFault.TheVariants.{Damaged, RedoDamaged}
+use Rattle.bx_steps.specs.declared.devices.Devices.{Devices}
+use Rattle.bx_scan.specs.declared.answers.How.TheVariants.{Clean}
+use Rattle.bx_scan.specs.declared.answers.Recovered.{Recovered}
+use Rattle.bx_scan.specs.declared.fault.SessionFault.{SessionFault}
+use Rattle.bx_scan.specs.declared.fault.SessionFault.TheVariants.{Damaged, RedoDamaged}
 use Rattle.bx_entries.specs.Shown.{shown}
 use Rattle.bx_entries.specs.Text.{IsDamagedAt, Reading, Reads}
-use Rattle.bx_journal.specs.Calls.{AfterFault, OpenFault}
-use Rattle.bx_journal.specs.Images.{Images}
-use Rattle.bx_journal.specs.Judging.{RefusesRedo}
+use Rattle.bx_scan.specs.Calls.{AfterFault, OpenFault}
+use Rattle.bx_scan.specs.Images.{Images}
+use Rattle.bx_scan.specs.Judging.{RefusesRedo}
 use Rattle.bx_journal.specs.Opened.{IsPairSame, RefusesDiffering}
-use Rattle.bx_journal.specs.Opening.{IsOpened}
-use Rattle.bx_journal.specs.Power.{Found}
-use Rattle.bx_journal.specs.Redo.{RefusesRedoAt}
-use Rattle.bx_journal.specs.Undoing.{HasLeft}
-use Rattle.bx_journal.specs.Stack.{HaveLengths, Recovers, image_at}
-use Rattle.bx_journal.specs.inner.Recovery.{HasUndoneCount, KeepsUndone}
+use Rattle.bx_scan.specs.Opening.{IsOpened}
+use Rattle.bx_steps.specs.Power.{Found}
+use Rattle.bx_scan.specs.Redo.{RefusesRedoAt}
+use Rattle.bx_scan.specs.Undoing.{HasLeft}
+use Rattle.bx_scan.specs.Stack.{HaveLengths, Recovers, image_at}
+use Rattle.bx_scan.specs.inner.Recovery.{HasUndoneCount, KeepsUndone}
 
 -- whatever the journal reads as, what is left stands for what that recovers
 abbrev pub Opens : {D T E : Type 0} → DeviceViews D → StoreViews T → Devices D T → Devices D T → Result Recovered E → Type 0

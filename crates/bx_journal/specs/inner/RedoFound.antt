@@ -1,14 +1,14 @@
 -- What proofs alone need: what was found of a redo text.
 use Rattle.std.specs.Prelude.{◌≡◌, ℕ, List, length, Result, IfErr, MatchResult}
-use Rattle.bx_journal.specs.declared.read.count.CountedText.{CountedText}
+use Rattle.bx_scan.specs.declared.read.count.CountedText.{CountedText}
 use Rattle.bx_journal.specs.declared.recovery.judge.RedoFound.{RedoFound}
 use Rattle.bx_journal.specs.declared.recovery.judge.RedoFound.TheVariants.{Counted, Text}
-use Rattle.bx_journal.specs.declared.fault.SessionFault.{SessionFault}
-use Rattle.bx_journal.specs.declared.fault.SessionFault.TheVariants.{RedoDamaged}
+use Rattle.bx_scan.specs.declared.fault.SessionFault.{SessionFault}
+use Rattle.bx_scan.specs.declared.fault.SessionFault.TheVariants.{RedoDamaged}
 use Rattle.bx_entries.specs.Text.{split}
-use Rattle.bx_journal.specs.Judging.{RefusesRedo}
-use Rattle.bx_journal.specs.Redo.{IsRedoOf, IsRefusedAt}
-use Rattle.bx_journal.specs.inner.Judging.{IsRedoCounted}
+use Rattle.bx_scan.specs.Judging.{RefusesRedo}
+use Rattle.bx_scan.specs.Redo.{IsRedoOf, IsRefusedAt}
+use Rattle.bx_scan.specs.inner.Judging.{IsRedoCounted}
 
 -- the text was counted as a redo text beside this many changes, or is there as it is
 abbrev pub IsRedoFound : {A : Type 0} → List ℕ → ℕ → RedoFound A → Type 0

@@ -6,12 +6,12 @@ use Rattle.bx_entries.specs.declared.read.rows.Summed.{Summed}
 use Rattle.bx_entries.specs.inner.Rows.{summed_of}
 use Rattle.bx_entries.specs.Finished.{IsFinished}
 use Rattle.bx_entries.specs.Text.{Entry, Reading, split, start, after_lines}
-use Rattle.bx_journal.specs.declared.answers.LogRow.{LogRow}
+use Rattle.bx_scan.specs.declared.answers.LogRow.{LogRow}
 use Rattle.bx_journal.specs.declared.session.log.windows.Listed.{Listed}
-use Rattle.bx_journal.specs.declared.fault.SessionFault.{SessionFault}
-use Rattle.bx_journal.specs.Calls.{rows_of}
-use Rattle.bx_journal.specs.Undoing.{AgainFault}
-use Rattle.bx_journal.specs.inner.Looking.{LooksAt}
+use Rattle.bx_scan.specs.declared.fault.SessionFault.{SessionFault}
+use Rattle.bx_scan.specs.Calls.{rows_of}
+use Rattle.bx_scan.specs.Undoing.{AgainFault}
+use Rattle.bx_scan.specs.inner.Looking.{LooksAt}
 
 -- the row of the entry that the last line ended, where the text stands at such a place
 abbrev pub ended_row : Place → Summed → List LogRow

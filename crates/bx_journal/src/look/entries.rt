@@ -1,13 +1,11 @@
 //! The entries of a text that are marked, a row for each.
 ghost use Rattle.std.specs.Prelude.{◌≡◌, ◌<◌, ◌≤◌, ◌++◌, ℕ, All, OnOk, IfErr, length, string_bytes};
 ghost use Rattle.std.specs.Io.KnownBytes.{Appends};
-ghost use Rattle.bx_journal.specs.inner.Showing.{LiesWithin, PutFault, Stays, mark_row, mark_rows, places_at, row_front};
+ghost use Rattle.bx_show.specs.inner.Showing.{LiesWithin, PutFault, Stays, mark_row, mark_rows, places_at, row_front};
 
-use crate::look::fault::ShowFault;
-use crate::look::put::put;
-use crate::look::ranges::put_ranges;
-use crate::read::windows::WINDOW;
 use bx_entries::Mark;
+use bx_scan::WINDOW;
+use bx_show::{ShowFault, put, put_ranges};
 use bx_store::TextStore;
 use std::alloc::{AllocError, Allocator};
 use std::fmt::Write as _;

@@ -1,18 +1,13 @@
 //! Steps over changes, as they are shown: a heading, the saved lines, and an empty line for each.
 ghost use Rattle.std.specs.Prelude.{◌≡◌, ◌+◌, ◌<◌, ◌≤◌, ℕ, All, IsTrue, length, OnOk, IfErr};
 ghost use Rattle.std.specs.Io.KnownBytes.{Appends};
-ghost use Rattle.bx_journal.specs.Steps.{first_number};
-ghost use Rattle.bx_journal.specs.inner.Showing.{LiesWithin, PutFault, Stays};
-ghost use Rattle.bx_journal.specs.inner.Steps.{AreStepsPut, mark_step, number_at, saved_at};
+ghost use Rattle.bx_show.specs.Steps.{first_number};
+ghost use Rattle.bx_show.specs.inner.Showing.{LiesWithin, PutFault, Stays};
+ghost use Rattle.bx_show.specs.inner.Steps.{AreStepsPut, mark_step, number_at, saved_at};
 
-use crate::look::fault::ShowFault;
-use crate::look::differences::put_differences;
-use crate::look::heading::put_heading;
-use crate::look::lines::put_lines;
-use crate::look::put::{Writing, put};
-use crate::look::way::{Step, Steps, Way};
 use bx_entries::Mark;
 use bx_image::Device;
+use bx_show::{ShowFault, Step, Steps, Way, Writing, put, put_differences, put_heading, put_lines};
 use bx_store::TextStore;
 use std::alloc::Allocator;
 use std::io::Write;

@@ -1,18 +1,16 @@
 //! Opening beside a journal of committed entries alone: the redo text is read and judged.
 ghost use Rattle.std.specs.Prelude.{◌≡◌, ◌↔◌, ◌+◌, ◌<◌, ◌≤◌, ℕ, OnOk, IfOk, IfErr, IfSome, MatchResult};
-ghost use Rattle.bx_journal.specs.Opening.{RefusesLength};
-ghost use Rattle.bx_journal.specs.inner.Looking.{FaultCounts, LooksAt};
-ghost use Rattle.bx_journal.specs.inner.Fault.{LacksOrFails};
-ghost use Rattle.bx_journal.specs.inner.Recovery.{FaultBeside, HasOtherLength, HasToldLength, RefusesBeside, TellsCount};
+ghost use Rattle.bx_scan.specs.Opening.{RefusesLength};
+ghost use Rattle.bx_scan.specs.inner.Looking.{FaultCounts, LooksAt};
+ghost use Rattle.bx_scan.specs.inner.Fault.{LacksOrFails};
+ghost use Rattle.bx_scan.specs.inner.Recovery.{FaultBeside, HasOtherLength, HasToldLength, RefusesBeside, TellsCount};
 ghost use Rattle.bx_journal.specs.inner.RedoFound.{IsRedoCountedIn, IsRedoIn};
 
-use crate::fault::of_text;
-use crate::read::count::{CountedText, count_text};
 use crate::recovery::judge::{RedoFound, judge_redo};
 use crate::recovery::unfinished_entry::check_length;
-use crate::{How, Recovered, SessionFault};
 use bx_entries::{Counted, MOST_CHANGES};
 use bx_image::Device;
+use bx_scan::{CountedText, How, Recovered, SessionFault, count_text, of_text};
 use bx_store::TextStore;
 use std::alloc::Allocator;
 

@@ -1,19 +1,16 @@
 //! Whether a text is a redo text: finished entries of the second form, no more than a journal holds beside its changes.
 ghost use Rattle.std.specs.Prelude.{◌≡◌, ◌⊎◌, ◌+◌, ◌<◌, ◌≤◌, List, ℕ, suc, length, take, Some, OnOk, IfOk, IfErr, IfSome, IfNone, MatchResult};
 ghost use Rattle.bx_entries.specs.inner.Journal.{HasRead};
-ghost use Rattle.bx_journal.specs.Judging.{RefusesRedo};
-ghost use Rattle.bx_journal.specs.inner.Looking.{LooksAt};
-ghost use Rattle.bx_journal.specs.inner.Judging.{AllTold, IsBeyondAt, IsFit, IsRedoCounted, IsUnfitAt, IsUnfitFrom, IsUntoldAt, JudgeFault, LastLineFault, RedoTextFault};
-ghost use Rattle.bx_journal.specs.inner.Recovery.{HasUndoneCount};
+ghost use Rattle.bx_scan.specs.Judging.{RefusesRedo};
+ghost use Rattle.bx_scan.specs.inner.Looking.{LooksAt};
+ghost use Rattle.bx_scan.specs.inner.Judging.{AllTold, IsBeyondAt, IsFit, IsRedoCounted, IsUnfitAt, IsUnfitFrom, IsUntoldAt, JudgeFault, LastLineFault, RedoTextFault};
+ghost use Rattle.bx_scan.specs.inner.Recovery.{HasUndoneCount};
 ghost use Rattle.bx_entries.specs.inner.Parsed.{entries_of};
 ghost use Rattle.bx_entries.specs.Text.{split};
 
-use crate::SessionFault;
-use crate::fault::of_redo;
-use crate::read::count::CountedText;
-use crate::read::whole::read_journal;
 use bx_entries::{Counted, EntryRead, JournalRead, MOST_CHANGES, StageRead, told_length};
 use bx_image::Device;
+use bx_scan::{CountedText, SessionFault, of_redo, read_journal};
 use std::alloc::{Allocator, Global};
 
 /// What a redo text is.

@@ -1,20 +1,20 @@
 //! The rows of a log: a row for each change.
 ghost use Rattle.std.specs.Prelude.{◌≡◌, ◌+◌, ◌<◌, ◌≤◌, ◌^◌, List, ℕ, length, All, IfOk, IfErr, OnOk};
-ghost use Rattle.bx_journal.specs.Calls.{rows_of};
+ghost use Rattle.bx_scan.specs.Calls.{rows_of};
 ghost use Rattle.bx_entries.specs.inner.Parsed.{entries_of};
 ghost use Rattle.bx_entries.specs.Kept.{kept_of};
 ghost use Rattle.bx_entries.specs.inner.Rows.{saved_length};
 ghost use Rattle.bx_entries.specs.Text.{Entry};
-ghost use Rattle.bx_journal.specs.Undoing.{AgainFault, HasCount};
+ghost use Rattle.bx_scan.specs.Undoing.{AgainFault, HasCount};
 ghost use Rattle.bx_entries.specs.Finished.{IsFinished};
 
 mod windows;
 
-use crate::read::entries::read_again;
+use crate::Session;
 use crate::session::log::windows::rows_in_windows;
-use crate::{LogRow, Session, SessionFault};
 use bx_entries::EntryRead;
 use bx_image::{Device, Saved};
+use bx_scan::{LogRow, SessionFault, read_again};
 use bx_store::TextStore;
 use bx_text::NoMemory;
 use std::alloc::Allocator;
@@ -94,7 +94,7 @@ fn rows_of_text<T: TextStore, A: Allocator + Clone>(
 }
 
 impl<D: Device, T: TextStore, A: Allocator + Clone> Session<D, T, A> {
-    ghost use Rattle.bx_journal.specs.Session.{FailsSafely};
+    ghost use Rattle.bx_steps.specs.Session.{FailsSafely};
 
     /// One row for each change, the oldest first. It reads the journal's text again, and changes nothing.
     pub fn log(&mut self) -> Result<Vec<LogRow, A>, SessionFault>

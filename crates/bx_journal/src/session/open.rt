@@ -1,19 +1,20 @@
 //! Opening an image with its journal and its redo text, with recovery.
 ghost use Rattle.std.specs.Prelude.{◌≡◌, ◌<◌, IfOk, IfErr, MatchResult};
 
-use crate::devices::Devices;
+use crate::Session;
 use crate::recovery::unfinished_entry::recover;
-use crate::{How, Recovered, Session, SessionFault};
 use bx_image::Device;
+use bx_scan::{How, Recovered, SessionFault};
+use bx_steps::Devices;
 use bx_store::TextStore;
 use std::alloc::Allocator;
 
 impl<D: Device, T: TextStore, A: Allocator + Clone> Session<D, T, A> {
-    ghost use Rattle.bx_journal.specs.Images.{Images};
-    ghost use Rattle.bx_journal.specs.Power.{EmptiedSurvives, Found};
-    ghost use Rattle.bx_journal.specs.Session.{IsReady};
-    ghost use Rattle.bx_journal.specs.Calls.{AfterFault};
-    ghost use Rattle.bx_journal.specs.Fault.{DeviceFault};
+    ghost use Rattle.bx_scan.specs.Images.{Images};
+    ghost use Rattle.bx_steps.specs.Power.{EmptiedSurvives, Found};
+    ghost use Rattle.bx_steps.specs.Session.{IsReady};
+    ghost use Rattle.bx_scan.specs.Calls.{AfterFault};
+    ghost use Rattle.bx_scan.specs.Fault.{DeviceFault};
     ghost use Rattle.bx_journal.specs.Opened.{AnswersFault, AsFound, CountsCalls, FindsStack, IsPairSame, IsReopened, JudgesRedo, JudgesText, OpensRedo, ShowImages, SparesDevices};
 
     /// Opens an image with its journal and its redo text. An unfinished entry is dropped, or its change is taken back;

@@ -1,17 +1,16 @@
 //! Redo: undone changes are made again.
 ghost use Rattle.std.specs.Prelude.{◌≡◌, ◌↔◌, ◌+◌, ◌<◌, ◌≤◌, ℕ, length, true, false, IfOk, IfErr, OnOk, IsErrOf};
 ghost use Rattle.bx_image.specs.Power.{NoMore};
-ghost use Rattle.bx_journal.specs.Images.{redo_of};
-ghost use Rattle.bx_journal.specs.inner.Looking.{LooksAt};
+ghost use Rattle.bx_scan.specs.Images.{redo_of};
+ghost use Rattle.bx_scan.specs.inner.Looking.{LooksAt};
 ghost use Rattle.bx_entries.specs.Text.{IsPrefix};
-ghost use Rattle.bx_journal.specs.inner.Undoing.{IsLastFrom, RedoAgainFault};
+ghost use Rattle.bx_scan.specs.inner.Undoing.{IsLastFrom, RedoAgainFault};
 
-use crate::fault::of_redo;
-use crate::protocol::redo_entry::redo_entries;
-use crate::read::entries::{FinishedRead, read_last_of};
-use crate::session::prepare::ranges::prepare_redo;
-use crate::{Session, SessionFault};
+use crate::Session;
 use bx_image::Device;
+use bx_prepare::prepare_redo;
+use bx_scan::{FinishedRead, SessionFault, of_redo, read_last_of};
+use bx_steps::redo_entries;
 use bx_store::TextStore;
 use std::alloc::Allocator;
 
@@ -54,12 +53,12 @@ fn undone_left(undone: u32, made: u32) -> u32
 }
 
 impl<D: Device, T: TextStore, A: Allocator + Clone> Session<D, T, A> {
-    ghost use Rattle.bx_journal.specs.Calls.{AfterFault};
-    ghost use Rattle.bx_journal.specs.Power.{NothingNew, StepsSurvive};
-    ghost use Rattle.bx_journal.specs.Session.{FailsSafely};
-    ghost use Rattle.bx_journal.specs.Performing.{FindsSome, GrowsByTaken, KeepsOldStack, RedoesImages, StaysRedone};
+    ghost use Rattle.bx_scan.specs.Calls.{AfterFault};
+    ghost use Rattle.bx_steps.specs.Power.{NothingNew, StepsSurvive};
+    ghost use Rattle.bx_steps.specs.Session.{FailsSafely};
+    ghost use Rattle.bx_steps.specs.Performing.{FindsSome, GrowsByTaken, KeepsOldStack, RedoesImages, StaysRedone};
     ghost use Rattle.bx_journal.specs.Faults.{FaultsOfRedo};
-    ghost use Rattle.bx_journal.specs.Undoing.{LeavesFront};
+    ghost use Rattle.bx_scan.specs.Undoing.{LeavesFront};
 
     /// Makes the last j undone changes again, the one undone last first, and answers how many changes then stand.
     ///

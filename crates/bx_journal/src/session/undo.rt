@@ -1,13 +1,13 @@
 //! Undo: changes are taken back, the newest first.
 ghost use Rattle.std.specs.Prelude.{◌≡◌, ◌↔◌, ◌+◌, ◌<◌, ◌≤◌, ℕ, drop, true, false, IfOk, IfErr, OnOk, IsErrOf};
-ghost use Rattle.bx_journal.specs.Images.{undo_of};
-ghost use Rattle.bx_journal.specs.Machine.{UndoStep};
+ghost use Rattle.bx_scan.specs.Images.{undo_of};
+ghost use Rattle.bx_scan.specs.Machine.{UndoStep};
 
-use crate::protocol::undo_entry::undo_entries;
-use crate::read::entries::read_last_of;
-use crate::session::prepare::records::prepare_takens;
-use crate::{Session, SessionFault};
+use crate::Session;
 use bx_image::Device;
+use bx_prepare::prepare_takens;
+use bx_scan::{SessionFault, read_last_of};
+use bx_steps::undo_entries;
 use bx_store::TextStore;
 use std::alloc::Allocator;
 
@@ -21,12 +21,12 @@ fn count_left(count: u32, undone: u32) -> u32
 }
 
 impl<D: Device, T: TextStore, A: Allocator + Clone> Session<D, T, A> {
-    ghost use Rattle.bx_journal.specs.Calls.{AfterFault};
-    ghost use Rattle.bx_journal.specs.Power.{NothingNew, StepsSurvive};
-    ghost use Rattle.bx_journal.specs.Session.{FailsSafely};
-    ghost use Rattle.bx_journal.specs.Performing.{FindsSome, KeepsTaken, StaysReady, Steps, StopsUndo, UndoesImages};
+    ghost use Rattle.bx_scan.specs.Calls.{AfterFault};
+    ghost use Rattle.bx_steps.specs.Power.{NothingNew, StepsSurvive};
+    ghost use Rattle.bx_steps.specs.Session.{FailsSafely};
+    ghost use Rattle.bx_steps.specs.Performing.{FindsSome, KeepsTaken, StaysReady, Steps, StopsUndo, UndoesImages};
     ghost use Rattle.bx_journal.specs.Faults.{FaultsOfUndo};
-    ghost use Rattle.bx_journal.specs.Undoing.{LeavesFront};
+    ghost use Rattle.bx_scan.specs.Undoing.{LeavesFront};
 
     /// Takes the last k changes back, the newest first, and answers how many are left. Their images are then undone, and
     /// can be made again; but an image of more than `MAX_LEN` bytes, and what was undone before it, is given up.

@@ -2,8 +2,8 @@
 ghost use Rattle.std.specs.Prelude.{◌≡◌, max};
 
 use crate::Session;
-use crate::devices::Devices;
 use bx_image::Device;
+use bx_steps::Devices;
 use bx_store::TextStore;
 use std::alloc::Allocator;
 

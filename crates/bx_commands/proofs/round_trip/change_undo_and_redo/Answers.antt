@@ -1,5 +1,5 @@
 use Rattle.std.proofs.Common.{ap, ◌∙◌}
-use Rattle.bx_journal.specs.Images.{undo_of}
+use Rattle.bx_scan.specs.Images.{undo_of}
 use Rattle.bx_commands.specs.inner.RoundTrip.{change_of}
 use Rattle.bx_commands.proofs.RoundTrips.{redone_image}
 use Rattle.bx_commands.proofs.round_trip.change_undo_and_redo.Goals as goal

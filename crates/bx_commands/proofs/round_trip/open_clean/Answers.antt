@@ -1,4 +1,4 @@
-use Rattle.bx_journal.specs.Stack.{recovered}
+use Rattle.bx_scan.specs.Stack.{recovered}
 use Rattle.bx_commands.proofs.round_trip.open_clean.Goals as goal
 
 pub returns-in-Clean-clause-opens : goal.returns-in-Clean-clause-opens

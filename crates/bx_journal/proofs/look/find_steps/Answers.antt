@@ -1,4 +1,4 @@
-use Rattle.bx_journal.proofs.StepsShown.{front_checked, front_few, front_refused}
+use Rattle.bx_show.proofs.StepsShown.{front_checked, front_few, front_refused}
 use Rattle.bx_journal.proofs.look.find_steps.Goals as goal
 
 pub returns-in-Err : goal.returns-in-Err

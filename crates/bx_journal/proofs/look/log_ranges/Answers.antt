@@ -1,7 +1,7 @@
 use Rattle.std.proofs.Common.{◌∙◌, List, ℕ, length, ap, subst, sym, arith}
 use Rattle.std.specs.Prelude.{All}
-use Rattle.bx_journal.specs.inner.Showing.{AreAllMarks, LiesWithin}
-use Rattle.bx_journal.proofs.RowTexts.{all_lie, ok_weaker, ranges_written}
+use Rattle.bx_show.specs.inner.Showing.{AreAllMarks, LiesWithin}
+use Rattle.bx_show.proofs.RowTexts.{all_lie, ok_weaker, ranges_written}
 use Rattle.bx_journal.proofs.look.log_ranges.Goals as goal
 
 pub put_rows-requires-clause-lie : goal.put_rows-requires-clause-lie

@@ -1,8 +1,8 @@
 use Rattle.std.proofs.Common.{◌≤◌, length, subst, sym}
 use Rattle.std.specs.Prelude.{All}
-use Rattle.bx_journal.specs.inner.Showing.{LiesWithin}
-use Rattle.bx_journal.specs.inner.Steps.{AreStepsPut}
-use Rattle.bx_journal.proofs.RowTexts.{ok_weaker}
+use Rattle.bx_show.specs.inner.Showing.{LiesWithin}
+use Rattle.bx_show.specs.inner.Steps.{AreStepsPut}
+use Rattle.bx_show.proofs.RowTexts.{ok_weaker}
 use Rattle.bx_journal.proofs.look.put_found.Goals as goal
 
 pub put_steps-requires-clause-enough : goal.put_steps-requires-clause-enough

@@ -1,10 +1,10 @@
 use Rattle.std.proofs.Common.{◌≡◌, List, ℕ, refl}
 use Rattle.std.proofs.lemmas.Result.{IfErr-weaker}
-use Rattle.bx_journal.specs.Steps.{RefusesSteps, StopsSteps}
-use Rattle.bx_journal.specs.inner.Showing.{PutFault}
-use Rattle.bx_journal.specs.inner.Steps.{AreFrontMarks}
-use Rattle.bx_journal.proofs.RowTexts.{ok_weaker}
-use Rattle.bx_journal.proofs.StepsShown.{front_lie, put_allows, put_stops, steps_shown}
+use Rattle.bx_show.specs.Steps.{RefusesSteps, StopsSteps}
+use Rattle.bx_show.specs.inner.Showing.{PutFault}
+use Rattle.bx_show.specs.inner.Steps.{AreFrontMarks}
+use Rattle.bx_show.proofs.RowTexts.{ok_weaker}
+use Rattle.bx_show.proofs.StepsShown.{front_lie, put_allows, put_stops, steps_shown}
 use Rattle.bx_journal.proofs.look.show_steps.Goals as goal
 
 pub put_found-requires-clause-enough : goal.put_found-requires-clause-enough

@@ -1,12 +1,11 @@
 //! The rows of a log, from a text that is read in windows.
 ghost use Rattle.std.specs.Prelude.{◌≡◌, ◌<◌, ◌++◌, true, OnOk, IfOk, IfErr, IfSome};
-ghost use Rattle.bx_journal.specs.inner.Looking.{LooksAt};
-ghost use Rattle.bx_journal.specs.inner.Fault.{LacksOrFails};
+ghost use Rattle.bx_scan.specs.inner.Looking.{LooksAt};
+ghost use Rattle.bx_scan.specs.inner.Fault.{LacksOrFails};
 ghost use Rattle.bx_journal.specs.inner.Rows.{AreRowsOf, IsListed, IsListedIn, ended_row};
 
-use crate::read::windows::{Scan, Taken, WINDOW, scan_windows};
-use crate::{LogRow, SessionFault};
 use bx_entries::{ENDED, Place, Summed, full_behind, next_end, nothing_summed, sum_full, sum_one};
+use bx_scan::{LogRow, Scan, SessionFault, Taken, WINDOW, scan_windows};
 use bx_store::TextStore;
 use bx_text::NoMemory;
 use std::alloc::{Allocator, Global};

@@ -1,4 +1,4 @@
-use Rattle.bx_journal.proofs.RowTexts.{ok_weaker, row_written}
+use Rattle.bx_show.proofs.RowTexts.{ok_weaker, row_written}
 use Rattle.bx_journal.proofs.look.entries.put_row.Goals as goal
 
 pub returns-clause-row : goal.returns-clause-row

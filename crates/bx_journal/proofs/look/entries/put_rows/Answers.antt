@@ -1,10 +1,10 @@
 use Rattle.std.proofs.Common.{◌∙◌, length, refl, ap, subst, sym, arith, None}
 use Rattle.std.proofs.KnownBytes.{Appends-nil}
 use Rattle.std.specs.Io.KnownBytes.{Appends}
-use Rattle.bx_journal.proofs.RowTexts.{rows_none, rows_written}
+use Rattle.bx_show.proofs.RowTexts.{rows_none, rows_written}
 use Rattle.std.proofs.lemmas.List.Elements.{All-get_or}
 use Rattle.bx_entries.specs.declared.read.marks.Mark.{Mark}
-use Rattle.bx_journal.specs.inner.Showing.{LiesWithin}
+use Rattle.bx_show.specs.inner.Showing.{LiesWithin}
 use Rattle.bx_journal.proofs.look.entries.put_rows.Goals as goal
 
 -- what stands for a mark where there is none

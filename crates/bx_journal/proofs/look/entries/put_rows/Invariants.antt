@@ -1,7 +1,7 @@
 use Rattle.std.proofs.Common.{◌≡◌, take}
 use Rattle.std.specs.Prelude.{◌↔◌}
 use Rattle.std.specs.Io.KnownBytes.{Appends}
-use Rattle.bx_journal.specs.inner.Showing.{mark_rows}
+use Rattle.bx_show.specs.inner.Showing.{mark_rows}
 use Rattle.bx_journal.proofs.look.entries.put_rows.Given as goal
 
 -- the rows of the marks so far were written

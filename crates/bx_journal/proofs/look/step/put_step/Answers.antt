@@ -1,7 +1,7 @@
 use Rattle.std.proofs.Common.{subst}
 use Rattle.std.specs.Io.KnownBytes.{Appends}
-use Rattle.bx_journal.specs.inner.Steps.{saved_at}
-use Rattle.bx_journal.proofs.StepTexts.{step_written}
+use Rattle.bx_show.specs.inner.Steps.{saved_at}
+use Rattle.bx_show.proofs.StepTexts.{step_written}
 use Rattle.bx_journal.proofs.look.step.put_step.Goals as goal
 
 pub returns-clause-step : goal.returns-clause-step

@@ -3,10 +3,10 @@ use Rattle.std.proofs.KnownBytes.{Appends-nil}
 use Rattle.std.specs.Io.KnownBytes.{Appends}
 use Rattle.std.proofs.lemmas.List.Elements.{All-get_or}
 use Rattle.bx_entries.specs.declared.read.marks.Mark.{Mark}
-use Rattle.bx_journal.specs.Steps.{first_number}
-use Rattle.bx_journal.specs.inner.Showing.{LiesWithin}
-use Rattle.bx_journal.specs.inner.Steps.{AreStepsPut}
-use Rattle.bx_journal.proofs.StepTexts.{steps_none, steps_put}
+use Rattle.bx_show.specs.Steps.{first_number}
+use Rattle.bx_show.specs.inner.Showing.{LiesWithin}
+use Rattle.bx_show.specs.inner.Steps.{AreStepsPut}
+use Rattle.bx_show.proofs.StepTexts.{steps_none, steps_put}
 use Rattle.bx_journal.proofs.look.step.put_steps.Goals as goal
 
 -- what stands for a mark where there is none

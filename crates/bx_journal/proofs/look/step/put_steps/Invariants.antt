@@ -1,6 +1,6 @@
 use Rattle.std.proofs.Common.{◌≡◌}
 use Rattle.std.specs.Prelude.{◌↔◌, IsTrue}
-use Rattle.bx_journal.specs.inner.Steps.{AreStepsPut}
+use Rattle.bx_show.specs.inner.Steps.{AreStepsPut}
 use Rattle.bx_journal.proofs.look.step.put_steps.Given as goal
 
 -- the steps so far were written

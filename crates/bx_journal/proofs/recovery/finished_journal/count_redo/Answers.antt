@@ -1,6 +1,6 @@
 use Rattle.std.proofs.Common.{true, subst, arith}
 use Rattle.std.specs.Prelude.{IfSome}
-use Rattle.bx_journal.specs.inner.Windows.{IsAllCounted}
+use Rattle.bx_scan.specs.inner.Windows.{IsAllCounted}
 use Rattle.bx_journal.proofs.JudgeLemmas.{counted_fit}
 use Rattle.bx_journal.proofs.recovery.finished_journal.count_redo.Goals as goal
 

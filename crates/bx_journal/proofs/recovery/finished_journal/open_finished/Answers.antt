@@ -1,6 +1,6 @@
 use Rattle.std.proofs.Common.{List, ℕ, sym, subst}
-use Rattle.bx_journal.specs.inner.Recovery.{HasUndoneCount}
-use Rattle.bx_journal.proofs.RecoverLemmas.{judged_finished, refused_at}
+use Rattle.bx_scan.specs.inner.Recovery.{HasUndoneCount}
+use Rattle.bx_scan.proofs.RecoverLemmas.{judged_finished, refused_at}
 use Rattle.bx_journal.proofs.recovery.finished_journal.open_finished.Goals as goal
 
 pub returns-in-Err-judge_redo-clause-fault : goal.returns-in-Err-judge_redo-clause-fault

@@ -1,5 +1,5 @@
 use Rattle.std.proofs.Common.{take}
-use Rattle.bx_journal.specs.inner.Judging.{AllTold}
+use Rattle.bx_scan.specs.inner.Judging.{AllTold}
 use Rattle.bx_journal.proofs.recovery.judge.first_untold.Given as goal
 
 abbrev pub invariant-loop-entry : goal.invariant-loop-entry

@@ -1,6 +1,6 @@
 use Rattle.std.proofs.Common.{sym, subst}
-use Rattle.bx_journal.specs.inner.Calls.{ReadFault}
-use Rattle.bx_journal.specs.inner.Judging.{RedoTextFault}
+use Rattle.bx_scan.specs.inner.Calls.{ReadFault}
+use Rattle.bx_scan.specs.inner.Judging.{RedoTextFault}
 use Rattle.bx_journal.proofs.JudgeLemmas.{fault_refuses, read_fault_redo, unfit_refuses}
 use Rattle.bx_journal.proofs.recovery.judge.redo_counted.Goals as goal
 

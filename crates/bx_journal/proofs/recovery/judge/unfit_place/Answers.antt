@@ -1,5 +1,5 @@
 use Rattle.std.proofs.Common.{◌≡◌, ◌⊎◌, length, subst, arith}
-use Rattle.bx_journal.specs.inner.Judging.{IsUntoldAt, IsBeyondAt, IsUnfitFrom, AllTold}
+use Rattle.bx_scan.specs.inner.Judging.{IsUntoldAt, IsBeyondAt, IsUnfitFrom, AllTold}
 use Rattle.bx_journal.proofs.JudgeLemmas.{rest_unfit, saving_unfit, ending_unfit, entry_unfit, fit_read, some_weaker, none_weaker}
 use Rattle.bx_journal.proofs.recovery.judge.unfit_place.Goals as goal
 

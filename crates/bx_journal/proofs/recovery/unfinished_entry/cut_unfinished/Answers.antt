@@ -3,11 +3,11 @@ use Rattle.std.specs.Prelude.{IfSome, OnErr, OnOk}
 use Rattle.std.proofs.lemmas.Result.{err_from_is_err_and}
 use Rattle.bx_entries.specs.Shown.{shown}
 use Rattle.bx_entries.specs.Text.{Reading}
-use Rattle.bx_journal.specs.declared.answers.How.TheVariants.{Dropped, Restored}
-use Rattle.bx_journal.specs.Stack.{HaveLengths, Recovers, image_at}
-use Rattle.bx_journal.specs.Opening.{IsOpened}
-use Rattle.bx_journal.specs.Undoing.{HasLeft}
-use Rattle.bx_journal.specs.inner.Step.{HasTail}
+use Rattle.bx_scan.specs.declared.answers.How.TheVariants.{Dropped, Restored}
+use Rattle.bx_scan.specs.Stack.{HaveLengths, Recovers, image_at}
+use Rattle.bx_scan.specs.Opening.{IsOpened}
+use Rattle.bx_scan.specs.Undoing.{HasLeft}
+use Rattle.bx_scan.specs.inner.Step.{HasTail}
 use Rattle.bx_journal.proofs.TornLemmas.{stands_in, torn_begins, torn_dropped, torn_left, torn_once, torn_opened, torn_restored, torn_same, torn_tail, torn_way}
 use Rattle.bx_journal.proofs.recovery.unfinished_entry.cut_unfinished.Goals as goal
 

@@ -4,7 +4,7 @@ use Rattle.std.proofs.lemmas.Grind.{common_steps}
 use Rattle.std.proofs.lemmas.Result.{err_from_is_err_and, on_err_weaker, on_ok_weaker}
 use Rattle.bx_image.proofs.Changes.{OnErr-known}
 use Rattle.bx_journal.proofs.OpenedLemmas.{emptied_found, found_few, found_unclean, stopped_found}
-use Rattle.bx_journal.proofs.RecoverLemmas.{one_more_beside}
+use Rattle.bx_scan.proofs.RecoverLemmas.{one_more_beside}
 use Rattle.bx_journal.proofs.CountedLemmas.{ok_always}
 use Rattle.bx_journal.proofs.recovery.unfinished_entry.finish.Goals as goal
 

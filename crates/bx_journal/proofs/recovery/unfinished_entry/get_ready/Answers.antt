@@ -1,5 +1,5 @@
 use Rattle.std.proofs.Common.{refl, arith}
-use Rattle.bx_journal.proofs.RecoverLemmas.{counts_among}
+use Rattle.bx_scan.proofs.RecoverLemmas.{counts_among}
 use Rattle.bx_journal.proofs.recovery.unfinished_entry.get_ready.Goals as goal
 
 pub returns-in-Err-prepare-clause-counts : goal.returns-in-Err-prepare-clause-counts

@@ -1,10 +1,10 @@
 use Rattle.std.proofs.Common.{◌≡◌, List, ℕ, sym, ◌∙◌, subst, inl, inr, ◌⊎◌, Result, Ok, Err}
 use Rattle.std.specs.Prelude.{IfErr, OnErr}
 use Rattle.bx_image.proofs.Changes.{OnErr-known}
-use Rattle.bx_journal.specs.Calls.{AfterFault}
-use Rattle.bx_journal.specs.Power.{Found as FoundOnDisk}
-use Rattle.bx_journal.specs.Phase.{IsAtRest}
-use Rattle.bx_journal.specs.Stack.{Recovers}
+use Rattle.bx_scan.specs.Calls.{AfterFault}
+use Rattle.bx_steps.specs.Power.{Found as FoundOnDisk}
+use Rattle.bx_scan.specs.Phase.{IsAtRest}
+use Rattle.bx_scan.specs.Stack.{Recovers}
 use Rattle.bx_entries.specs.Shown.{shown}
 use Rattle.bx_entries.proofs.CleanLemmas.{clean_shown}
 use Rattle.bx_entries.specs.Text.{Between, IsAccepted, Reads}

@@ -1,15 +1,15 @@
 use Rattle.std.proofs.Common.{inl, ◌≡◌, ℕ, suc, List, [], refl, ap, sym, ◌∙◌, subst, arith}
 use Rattle.bx_entries.specs.Shown.{shown}
 use Rattle.bx_entries.specs.Text.{Reading, Reads}
-use Rattle.bx_journal.specs.Power.{Found}
-use Rattle.bx_journal.specs.Stack.{Recovers, image_at, HaveLengths}
-use Rattle.bx_journal.specs.Calls.{Differs}
-use Rattle.bx_journal.specs.Opening.{IsOpened}
-use Rattle.bx_journal.proofs.OpenLemmas.{look_opens, look_refuses, after_same, same_lengths}
+use Rattle.bx_steps.specs.Power.{Found}
+use Rattle.bx_scan.specs.Stack.{Recovers, image_at, HaveLengths}
+use Rattle.bx_scan.specs.Calls.{Differs}
+use Rattle.bx_scan.specs.Opening.{IsOpened}
+use Rattle.bx_scan.proofs.OpenLemmas.{look_opens, look_refuses, after_same, same_lengths}
 use Rattle.bx_journal.proofs.TornLemmas.{torn_once, torn_stack}
-use Rattle.bx_journal.proofs.RecoverLemmas.{look_kind, look_silent}
-use Rattle.bx_journal.specs.Undoing.{HasLeft}
-use Rattle.bx_journal.specs.inner.Recovery.{IsTornIn}
+use Rattle.bx_scan.proofs.RecoverLemmas.{look_kind, look_silent}
+use Rattle.bx_scan.specs.Undoing.{HasLeft}
+use Rattle.bx_scan.specs.inner.Recovery.{IsTornIn}
 use Rattle.bx_journal.proofs.recovery.unfinished_entry.recover_read.Goals as goal
 
 pub returns-in-Err-clause-faults : goal.returns-in-Err-clause-faults

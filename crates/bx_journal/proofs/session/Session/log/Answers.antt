@@ -1,9 +1,9 @@
 use Rattle.std.proofs.Common.{◌≡◌, ℕ, sym, subst, arith}
 use Rattle.std.proofs.lemmas.Grind.{common_steps}
-use Rattle.bx_journal.specs.declared.fault.SessionFault.TheVariants.{Damaged}
-use Rattle.bx_journal.specs.Undoing.{AgainFault}
+use Rattle.bx_scan.specs.declared.fault.SessionFault.TheVariants.{Damaged}
+use Rattle.bx_scan.specs.Undoing.{AgainFault}
 use Rattle.bx_entries.specs.Finished.{IsFinished}
-use Rattle.bx_journal.proofs.AgainLemmas.{in_step}
+use Rattle.bx_scan.proofs.AgainLemmas.{in_step}
 use Rattle.bx_journal.proofs.session.Session.log.Goals as goal
 
 pub returns-in_err-rows-clause-undamaged : goal.returns-in_err-rows-clause-undamaged

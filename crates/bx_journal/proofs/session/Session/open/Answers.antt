@@ -1,8 +1,8 @@
 use Rattle.std.proofs.Common.{ℕ, List, refl, ap, suc, sym, ◌∙◌}
 use Rattle.bx_entries.specs.Shown.{shown}
-use Rattle.bx_journal.specs.Stack.{image_at}
-use Rattle.bx_journal.proofs.Phases.{length-stack_of}
-use Rattle.bx_journal.proofs.OpenLemmas.{recovers_same}
+use Rattle.bx_scan.specs.Stack.{image_at}
+use Rattle.bx_scan.proofs.Phases.{length-stack_of}
+use Rattle.bx_scan.proofs.OpenLemmas.{recovers_same}
 use Rattle.bx_journal.proofs.Reopening.{kept_undone, rest_clean, rest_fault, rest_found, rest_reads, rest_recovers_shown}
 use Rattle.bx_journal.proofs.session.Session.open.Goals as goal
 

@@ -3,21 +3,21 @@ use Rattle.bx_image.specs.declared.change.TheConstants.{MAX_LEN}
 use Rattle.bx_entries.specs.Kept.{Kept, kept_of}
 use Rattle.bx_image.specs.Change.{effect, saved, Fits, IsOf}
 use Rattle.bx_entries.specs.Entry.{head_text, end_text}
-use Rattle.bx_journal.specs.inner.Begun.{BeginsEntry}
-use Rattle.bx_journal.specs.inner.Ranges.{kept_over}
-use Rattle.bx_journal.specs.Machine.{top, changes_of}
-use Rattle.bx_journal.specs.Phase.{IsAtRest}
-use Rattle.bx_journal.specs.Redo.{IsRedoOf}
-use Rattle.bx_journal.specs.Stack.{StandsFor}
-use Rattle.bx_journal.proofs.RedoText.{empty_is_redo}
-use Rattle.bx_journal.proofs.TurnLemmas.{change_stops}
-use Rattle.bx_journal.proofs.Performed.{appended, performs, top_of_stands}
-use Rattle.bx_journal.specs.inner.Devices.{HaveStayed}
+use Rattle.bx_steps.specs.inner.Begun.{BeginsEntry}
+use Rattle.bx_steps.specs.inner.Ranges.{kept_over}
+use Rattle.bx_scan.specs.Machine.{top, changes_of}
+use Rattle.bx_scan.specs.Phase.{IsAtRest}
+use Rattle.bx_scan.specs.Redo.{IsRedoOf}
+use Rattle.bx_scan.specs.Stack.{StandsFor}
+use Rattle.bx_steps.proofs.RedoText.{empty_is_redo}
+use Rattle.bx_steps.proofs.TurnLemmas.{change_stops}
+use Rattle.bx_steps.proofs.Performed.{appended, performs, top_of_stands}
+use Rattle.bx_steps.specs.inner.Devices.{HaveStayed}
 use Rattle.bx_journal.proofs.SafeLemmas.{any_fault}
-use Rattle.bx_journal.proofs.LookedLemmas.{pair_stays, rest_step}
-use Rattle.bx_journal.specs.inner.Step.{WritesEntry}
-use Rattle.bx_journal.proofs.Ready.{IsPrepared, writes_entry, top_of_rest}
-use Rattle.bx_journal.proofs.StepSurvivors.{found_at_rest, found_either, found_of}
+use Rattle.bx_prepare.proofs.LookedLemmas.{pair_stays, rest_step}
+use Rattle.bx_scan.specs.inner.Step.{WritesEntry}
+use Rattle.bx_steps.proofs.Ready.{IsPrepared, writes_entry, top_of_rest}
+use Rattle.bx_steps.proofs.StepSurvivors.{found_at_rest, found_either, found_of}
 use Rattle.bx_journal.proofs.session.Session.perform.Goals as goal
 use Rattle.bx_journal.proofs.session.Session.perform.Goals.{After-write_change}
 

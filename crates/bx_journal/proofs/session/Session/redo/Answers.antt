@@ -1,26 +1,26 @@
 use Rattle.std.proofs.Common.{rules, ◌≡◌, ◌+◌, ℕ, length, length-append, refl, ap, sym, ◌∙◌, subst, arith, Err}
 use Rattle.std.specs.Prelude.{IfErr}
-use Rattle.bx_journal.specs.Fault.{DeviceFault}
+use Rattle.bx_scan.specs.Fault.{DeviceFault}
 use Rattle.std.proofs.lemmas.Grind.{common_steps}
-use Rattle.bx_journal.specs.declared.fault.SessionFault.TheVariants.{RedoDamaged}
+use Rattle.bx_scan.specs.declared.fault.SessionFault.TheVariants.{RedoDamaged}
 use Rattle.bx_entries.specs.Text.{IsPrefix}
-use Rattle.bx_journal.specs.Machine.{changes_of}
-use Rattle.bx_journal.specs.Phase.{IsAtRest}
-use Rattle.bx_journal.specs.Stack.{StandsFor}
-use Rattle.bx_journal.specs.Undoing.{IsOutOfStep}
-use Rattle.bx_journal.specs.inner.Undoing.{RedoAgainFault}
-use Rattle.bx_journal.proofs.AgainLemmas.{has_count}
+use Rattle.bx_scan.specs.Machine.{changes_of}
+use Rattle.bx_scan.specs.Phase.{IsAtRest}
+use Rattle.bx_scan.specs.Stack.{StandsFor}
+use Rattle.bx_scan.specs.Undoing.{IsOutOfStep}
+use Rattle.bx_scan.specs.inner.Undoing.{RedoAgainFault}
+use Rattle.bx_scan.proofs.AgainLemmas.{has_count}
 use Rattle.bx_journal.proofs.RedoingLemmas.{grown_since, redo_in_step, redone}
 use Rattle.std.proofs.lemmas.Result.{err_from_is_err_and}
-use Rattle.bx_journal.specs.inner.Devices.{HaveStayed}
+use Rattle.bx_steps.specs.inner.Devices.{HaveStayed}
 use Rattle.bx_image.proofs.Survivors.{NoMore_then}
-use Rattle.bx_journal.proofs.DeviceLemmas.{one_more}
-use Rattle.bx_journal.specs.Power.{FoundBefore}
+use Rattle.bx_steps.proofs.DeviceLemmas.{one_more}
+use Rattle.bx_steps.specs.Power.{FoundBefore}
 use Rattle.bx_journal.proofs.SafeLemmas.{accepts, any_fault, device_after, interrupts, refuses}
-use Rattle.bx_journal.proofs.LookedLemmas.{left_since, none_failed, pair_step, redo_looked_at, read_since, rest_step, standing_step}
-use Rattle.bx_journal.specs.Images.{redo_of}
-use Rattle.bx_journal.proofs.TouchedLemmas.{begun_same}
-use Rattle.bx_journal.proofs.StepSurvivors.{found_at_rest, found_of, found_some}
+use Rattle.bx_prepare.proofs.LookedLemmas.{left_since, none_failed, pair_step, redo_looked_at, read_since, rest_step, standing_step}
+use Rattle.bx_scan.specs.Images.{redo_of}
+use Rattle.bx_steps.proofs.TouchedLemmas.{begun_same}
+use Rattle.bx_steps.proofs.StepSurvivors.{found_at_rest, found_of, found_some}
 use Rattle.bx_journal.proofs.session.Session.redo.Goals as goal
 use Rattle.bx_journal.proofs.session.Session.redo.Goals.{After-prepare_redo}
 

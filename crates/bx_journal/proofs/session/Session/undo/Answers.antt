@@ -1,22 +1,22 @@
 use Rattle.std.proofs.Common.{rules, ◌≡◌, ℕ, refl, ◌∙◌, sym, subst, arith, length-drop}
 use Rattle.std.proofs.lemmas.Grind.{common_steps}
-use Rattle.bx_journal.specs.declared.fault.SessionFault.TheVariants.{Damaged}
-use Rattle.bx_journal.specs.Phase.{IsAtRest}
-use Rattle.bx_journal.specs.Stack.{StandsFor}
-use Rattle.bx_journal.specs.Undoing.{AgainFault, IsOutOfStep}
-use Rattle.bx_journal.proofs.AgainLemmas.{has_count, in_step}
-use Rattle.bx_journal.proofs.TakingLemmas.{changes_left}
+use Rattle.bx_scan.specs.declared.fault.SessionFault.TheVariants.{Damaged}
+use Rattle.bx_scan.specs.Phase.{IsAtRest}
+use Rattle.bx_scan.specs.Stack.{StandsFor}
+use Rattle.bx_scan.specs.Undoing.{AgainFault, IsOutOfStep}
+use Rattle.bx_scan.proofs.AgainLemmas.{has_count, in_step}
+use Rattle.bx_steps.proofs.TakingLemmas.{changes_left}
 use Rattle.std.proofs.lemmas.Result.{err_from_is_err_and}
-use Rattle.bx_journal.specs.inner.Devices.{HaveStayed}
+use Rattle.bx_steps.specs.inner.Devices.{HaveStayed}
 use Rattle.bx_image.proofs.Survivors.{NoMore_then}
-use Rattle.bx_journal.proofs.DeviceLemmas.{one_more}
-use Rattle.bx_journal.specs.Power.{FoundBefore}
+use Rattle.bx_steps.proofs.DeviceLemmas.{one_more}
+use Rattle.bx_steps.specs.Power.{FoundBefore}
 use Rattle.bx_journal.proofs.SafeLemmas.{accepts, any_fault, interrupts, refuses}
-use Rattle.bx_journal.proofs.LookedLemmas.{left_since, looked_at, none_failed, pair_step, read_since, rest_step, standing_step, taken_step}
-use Rattle.bx_journal.specs.Images.{undo_of}
-use Rattle.bx_journal.proofs.LastLemmas.{short_before}
-use Rattle.bx_journal.proofs.LoopLemmas.{standing}
-use Rattle.bx_journal.proofs.StepSurvivors.{found_at_rest, found_of, found_some}
+use Rattle.bx_prepare.proofs.LookedLemmas.{left_since, looked_at, none_failed, pair_step, read_since, rest_step, standing_step, taken_step}
+use Rattle.bx_scan.specs.Images.{undo_of}
+use Rattle.bx_scan.proofs.LastLemmas.{short_before}
+use Rattle.bx_steps.proofs.LoopLemmas.{standing}
+use Rattle.bx_steps.proofs.StepSurvivors.{found_at_rest, found_of, found_some}
 use Rattle.bx_journal.proofs.session.Session.undo.Goals as goal
 use Rattle.bx_journal.proofs.session.Session.undo.Goals.{After-prepare_takens}
 

@@ -1,5 +1,5 @@
 use Rattle.std.proofs.Common.{◌≡◌, take}
-use Rattle.bx_journal.specs.Calls.{rows_of}
+use Rattle.bx_scan.specs.Calls.{rows_of}
 use Rattle.bx_entries.specs.inner.Parsed.{entries_of}
 use Rattle.bx_journal.proofs.session.log.rows.Given as goal
 

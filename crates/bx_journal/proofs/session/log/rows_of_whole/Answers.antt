@@ -1,5 +1,5 @@
 use Rattle.std.proofs.Common.{◌≤◌, length, ap, ◌∙◌, arith, rules}
-use Rattle.bx_journal.specs.Calls.{rows_of}
+use Rattle.bx_scan.specs.Calls.{rows_of}
 use Rattle.bx_entries.specs.inner.Parsed.{entries_of}
 use Rattle.bx_entries.proofs.ReadLemmas.{length-entries_of}
 use Rattle.bx_journal.proofs.SavedBound.{saved_countable}

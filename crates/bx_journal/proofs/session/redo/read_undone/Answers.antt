@@ -1,6 +1,6 @@
 use Rattle.std.proofs.Common.{sym, subst}
-use Rattle.bx_journal.specs.inner.Looking.{FaultCounts}
-use Rattle.bx_journal.specs.inner.Undoing.{RedoAgainFault}
+use Rattle.bx_scan.specs.inner.Looking.{FaultCounts}
+use Rattle.bx_scan.specs.inner.Undoing.{RedoAgainFault}
 use Rattle.bx_journal.proofs.RedoingLemmas.{redo_again, redo_counts}
 use Rattle.bx_journal.proofs.session.redo.read_undone.Goals as goal
 

@@ -1,6 +1,6 @@
 use Rattle.std.proofs.Common.{[], length, refl, arith}
 use Rattle.bx_journal.proofs.ListLemmas.{listed_all, listed_none}
-use Rattle.bx_journal.proofs.ScanLemmas.{reached_of}
+use Rattle.bx_scan.proofs.ScanLemmas.{reached_of}
 use Rattle.bx_journal.proofs.session.log.windows.rows_in_windows.Goals as goal
 
 pub scan_windows-requires-clause-led : goal.scan_windows-requires-clause-led

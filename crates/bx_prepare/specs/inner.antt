@@ -1,0 +1,4 @@
+-- What no public contract names.
+pub mod Again
+pub mod Overwritten
+pub mod Plan

@@ -1,0 +1,11 @@
+pub mod Calls
+pub mod Fault
+pub mod Machine
+pub mod Phase
+pub mod Stack
+pub mod Opening
+pub mod Undoing
+pub mod Images
+pub mod Redo
+pub mod Judging
+pub mod inner

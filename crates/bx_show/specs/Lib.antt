@@ -1,0 +1,4 @@
+pub mod Showing
+pub mod Differences
+pub mod Steps
+pub mod inner

@@ -1,0 +1,10 @@
+pub mod Laws
+pub mod Power
+pub mod SessionView
+pub mod Session
+pub mod Taken
+pub mod OnTop
+pub mod Performing
+pub mod Standing
+pub mod RedoLaws
+pub mod inner
