@@ -2,10 +2,11 @@
 """Which definitions the public contracts rest on, and whether docs/BELIEVE.md lists them.
 
 A public contract is a clause of an exported function, method, trait or type of bx_cli and of the crates that it stands on
-by crates.txt. The names in its clauses are followed through specs/. What the contracts of calls meet is what a reader has to believe. A law is a public function that
-takes nothing and does nothing, so its clauses are proved of definitions: what laws alone meet is a second reading of them, and
-stands in the page's part D. The page's headings give the order; below each, this script writes the definitions of that file
-with the sentence that stands above them in specs/.
+by crates.txt; of an inner part only its laws and what another crate exports are public. The names in its clauses are followed
+through specs/. What the contracts of calls meet is what a reader has to believe. A law is a public function that takes nothing
+and does nothing, so its clauses are proved of definitions: what laws alone meet is a second reading of them, and stands in the
+page's part D. The page's headings give the order; below each, this script writes the definitions of that file with the sentence
+that stands above them in specs/.
 """
 import argparse
 import pathlib
@@ -13,11 +14,13 @@ import re
 import sys
 
 import crates
+from uses import used
 
 # the crate whose calls and those below are public: bx_program only puts them in order
 TOP = "bx_cli"
-# whose calls no other crate exports: their definitions count where a public contract above, or a law of theirs, names them
-INNER = ["bx_entries"]
+# inner parts of bx_journal, which exports some of their types and none of their calls: their definitions count where a public
+# contract above, a clause of such a type, or a law of theirs, names them
+INNER = ["bx_entries", "bx_scan", "bx_show", "bx_steps", "bx_prepare"]
 # the page's part of what laws alone name
 TOLD = "D"
 NAME = re.compile(r"[A-Za-z_][A-Za-z0-9_'-]*")
@@ -109,6 +112,12 @@ def exports_of(root, crate):
     return names
 
 
+def exported_above(root, crate):
+    """what the roots of crates that are no inner parts export of an inner part"""
+    roots = [root / "crates" / other / "src" / "lib.rt" for other in crates_of(root) if other not in INNER]
+    return {path[-1] for lib in roots for path in used(lib.read_text(), "pub ") if path[0] == crate}
+
+
 def items_of(text):
     """(access, kind, text, end) of each item at the left margin, with its clauses; a body is left out where it can be told"""
     begins = r"^(pub(?:\([a-z]+\))? )?(unsafe )?(fn|trait|struct|enum|impl|const)\b"
@@ -148,9 +157,9 @@ def methods_of(body):
         yield ("pub" if text.strip().startswith("pub fn") or text.strip().startswith("pub const fn") else "inner"), text
 
 
-def public_names(root, crate):
-    """the specs that the public contracts of a crate name: of its calls, and of its laws"""
-    exports, called, said = exports_of(root, crate), set(), set()
+def public_names(root, crate, exports):
+    """the specs that the contracts of what is exported of a crate name: of its calls and types, and of its laws"""
+    called, said = set(), set()
     folder = root / "crates" / crate / "src"
     for path in sorted(folder.rglob("*.rt")):
         text = path.read_text()
@@ -248,10 +257,10 @@ def main():
     definitions, imports = read_specs(args.root)
     called, said = set(), set()
     for crate in crates_of(args.root):
-        of_calls, of_laws = public_names(args.root, crate)
+        of_calls, of_laws = public_names(args.root, crate, exports_of(args.root, crate))
         if crate in INNER:
-            said |= {key for key in of_laws if not key[1].startswith("inner.")}
-            continue
+            of_calls, _ = public_names(args.root, crate, exported_above(args.root, crate))
+            of_laws = {key for key in of_laws if not key[1].startswith("inner.")}
         called |= of_calls
         said |= of_laws
     met, met_by_all = closure(definitions, imports, called), closure(definitions, imports, called | said)
