@@ -5,13 +5,15 @@ Usage: scripts/check-sizes.py [--list] [NAME ..]
 
 A definition of `specs/` has at most 8 parameters: those in braces don't count, nor do those of a `module _` around it. A function
 of a product crate has at most 6 arguments, `self` left out. A public call of a library has at most 12 `ensures`: a function that
-its `lib.rt` exports, or a method of a type or trait that it exports. What is above its limit and stays so is named below with its
-number, which may only fall. --list prints what is above, and each NAME the counts of all that has the name.
+its `lib.rt` exports, or a method of a type or trait that it exports. The calls of the inner parts (INNER of believe.py) are no
+public calls, but for those of what another crate exports. What is above its limit and stays so is named below with its number,
+which may only fall. --list prints what is above, and each NAME the counts of all that has the name.
 """
 import argparse
 import re
 import sys
 
+import believe
 import crates
 from uses import used
 
@@ -94,6 +96,13 @@ def exported(source):
     return items, modules
 
 
+def public_items(name, source):
+    """What is public of a crate: what its `lib.rt` exports, and of an inner part what another crate exports of it."""
+    if name in believe.INNER:
+        return {(item,) for item in believe.exported_above(crates.ROOT, name)}, set()
+    return exported(source)
+
+
 def is_exported(name, module, items, modules):
     """Whether an item of a module is exported: by its path, which may pass over modules below the one that it names."""
     return module in modules or any(item[-1] == name and module[: len(item) - 1] == item[:-1] for item in items)
@@ -129,7 +138,7 @@ def counted():
         for path in sorted((top / "specs").rglob("*.antt")):
             for word, count in definitions(path):
                 yield "parameters", count, f"{name}: {word} ({path.relative_to(top)})"
-        items, modules = exported(top / "src")
+        items, modules = public_items(name, top / "src")
         for path in sorted((top / "src").rglob("*.rt")) if name not in TESTS else []:
             module = path.relative_to(top / "src").with_suffix("").parts
             for word, arguments, ensures, is_public in functions(path, () if module == ("lib",) else module, items, modules):
