@@ -22,7 +22,7 @@ FAULTS = {
     "IoFault": "bx_text/src/fault.rt",
     "ReadFault": "bx_read/src/fault.rt",
     "DdFault": "bx_dd/src/fault.rt",
-    "SessionFault": "bx_journal/src/fault.rt",
+    "SessionFault": "bx_scan/src/fault.rt",
     "Fault": "bx_commands/src/fault.rt",
 }
 COMMANDS = ["xxd", "od", "hexdump", "strings", "dd", "revert", "undo", "redo", "log", "show"]
