@@ -4,7 +4,8 @@ ghost use Rattle.bx_cli.specs.Hint.{advice_of, completed, hint_of, joined, rest_
 
 use crate::instead::{has_negative, instead, is_negative, negative, no_negative, similar};
 use crate::options::program;
-use crate::plan::{MOST_LEAST, MOST_STEPS, columns, count_or, kind, number, radix, words_of};
+use crate::plan::{kind, words_of};
+use crate::values::{MOST_LEAST, MOST_STEPS, columns, count_or, number, radix};
 use bx_commands::Fault;
 use bx_dd::DdFault;
 use bx_dump::od::Address;
@@ -372,13 +373,14 @@ fn form_of(id: &str, style: SizeStyle) -> &'static str {
 
 /// Whether an option has a value of its own, or none was given.
 fn is_value(m: &ArgMatches<'_>, id: &str, style: SizeStyle) -> bool {
+    let text = m.get_str(id);
     match id {
-        "radix" => radix(m.get_str(id), Address::Octal, true).is_ok(),
-        "offsets" => radix(m.get_str(id), Address::Without, false).is_ok(),
+        "radix" => radix(text, Address::Octal, true).is_ok(),
+        "offsets" => radix(text, Address::Without, false).is_ok(),
         "kind" => kind(m).is_ok(),
-        "least" => count_or(m, id, 1, MOST_LEAST).is_ok_and(|n| n > 0),
-        "count" => count_or(m, id, 1, MOST_STEPS).is_ok(),
-        "cols" => columns(m, 16).is_ok(),
-        _ => number(m, id, style).is_ok(),
+        "least" => count_or(text, 1, MOST_LEAST).is_ok_and(|n| n > 0),
+        "count" => count_or(text, 1, MOST_STEPS).is_ok(),
+        "cols" => columns(text, 16).is_ok(),
+        _ => number(text, style).is_ok(),
     }
 }

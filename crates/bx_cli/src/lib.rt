@@ -20,6 +20,7 @@ pub mod laws;
 mod options;
 mod passable;
 mod plan;
+mod values;
 
 pub use behind::run_dump_behind;
 pub use beside::unlike_line;

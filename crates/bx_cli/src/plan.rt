@@ -1,30 +1,24 @@
 //! From words to a job.
-ghost use Rattle.std.specs.Prelude.{◌≤◌, ◌^◌, IfOk, IfSome};
-
 use crate::job::{
     Access, DdJob, Durability, HexdumpJob, Job, OdJob, RevertJob, StringsJob, Texts, XxdJob,
     XxdLook,
 };
 use crate::options::program;
+use crate::values::{
+    MOST_COLUMNS, MOST_LEAST, MOST_STEPS, columns, count_or, kind_word, name_of, number, number_or,
+    radix, texts_of,
+};
 use bx_commands::Fault;
 use bx_dd::parse;
 use bx_dump::hexdump::HexdumpOptions;
-use bx_dump::od::{Address, Kind, NumForm, OdOptions, Size};
+use bx_dump::od::{Address, Kind, OdOptions};
 use bx_dump::strings::StringsOptions;
 use bx_dump::xxd::XxdOptions;
 use bx_journal::Way;
-use bx_text::{IoFault, Name, SizeStyle, Words, read_size};
+use bx_text::{IoFault, Name, SizeStyle, Words};
 use clap::error::ErrorKind;
 use clap::{ArgMatches, Error};
 use std::alloc::Global;
-
-const MOST_COLUMNS: u64 = 256;
-
-const MOST_NUMBER: u64 = 1 << 62;
-
-pub(crate) const MOST_LEAST: u64 = 4096;
-
-pub(crate) const MOST_STEPS: u64 = 65_535;
 
 /// The words as clap takes them, behind the program's name.
 pub(crate) fn words_of(alloc: Global, words: &Words) -> Result<Vec<&str>, Fault> {
@@ -82,49 +76,6 @@ fn job_of(alloc: Global, name: &str, inner: &ArgMatches<'_>) -> Result<Job, Faul
     }
 }
 
-pub(crate) fn number(m: &ArgMatches<'_>, id: &str, style: SizeStyle) -> Result<Option<u64>, Fault>
-    ensures { IfOk result (λ o. IfSome o (λ n. n ≤ 2 ^ 62)) }
-{
-    match m.get_str(id) {
-        None => Ok(None),
-        Some(text) => match read_size(text.as_bytes(), style) {
-            Ok(n) if n <= MOST_NUMBER => Ok(Some(n)),
-            _ => Err(Fault::Usage),
-        },
-    }
-}
-
-fn number_or(m: &ArgMatches<'_>, id: &str, style: SizeStyle, default: u64) -> Result<u64, Fault>
-    requires { default ≤ 2 ^ 62 }
-    ensures { IfOk result (λ n. n ≤ 2 ^ 62) }
-{
-    match number(m, id, style)? {
-        Some(n) => Ok(n),
-        None => Ok(default),
-    }
-}
-
-// A number of decimal digits alone.
-pub(crate) fn count_or(m: &ArgMatches<'_>, id: &str, default: u64, most: u64) -> Result<u64, Fault>
-    requires { default ≤ most }
-    ensures { IfOk result (λ n. n ≤ most) }
-{
-    let Some(text) = m.get_str(id) else {
-        return Ok(default);
-    };
-    if text.is_empty() || !text.bytes().all(|b| b.is_ascii_digit()) {
-        return Err(Fault::Usage);
-    }
-    match text.parse::<u64>() {
-        Ok(n) if n <= most => Ok(n),
-        _ => Err(Fault::Usage),
-    }
-}
-
-fn name_of(alloc: Global, text: &str) -> Result<Name, Fault> {
-    Ok(Name::from_string(String::from_str(alloc, text)?))
-}
-
 fn name(alloc: Global, m: &ArgMatches<'_>, id: &str) -> Result<Option<Name>, Fault> {
     match m.get_str(id) {
         None => Ok(None),
@@ -137,24 +88,8 @@ fn image_and_texts(alloc: Global, m: &ArgMatches<'_>) -> Result<(Name, Texts), F
     let Some(image) = m.get_str("image") else {
         return Err(Fault::Usage);
     };
-    let texts = texts_of(alloc, m, image)?;
+    let texts = texts_of(alloc, m.get_str("journal"), image)?;
     Ok((name_of(alloc, image)?, texts))
-}
-
-// The journal of an image and the redo file beside it: neither is the image.
-fn texts_of(alloc: Global, m: &ArgMatches<'_>, image: &str) -> Result<Texts, Fault> {
-    let journal = match m.get_str("journal") {
-        Some(journal) => String::from_str(alloc, journal)?,
-        None => format!(in alloc; "{image}.bxj")?,
-    };
-    let redo = format!(in alloc; "{journal}.redo")?;
-    if journal.as_str() == image || redo.as_str() == image {
-        return Err(Fault::Usage);
-    }
-    Ok(Texts {
-        journal: Name::from_string(journal),
-        redo: Name::from_string(redo),
-    })
 }
 
 fn access(m: &ArgMatches<'_>) -> Access {
@@ -167,40 +102,6 @@ fn access(m: &ArgMatches<'_>) -> Access {
         durability,
         mounted: m.get_flag("mounted"),
     }
-}
-
-pub(crate) fn radix(text: Option<&str>, none: Address, with_n: bool) -> Result<Address, Fault> {
-    match text {
-        None => Ok(none),
-        Some("d") => Ok(Address::Decimal),
-        Some("o") => Ok(Address::Octal),
-        Some("x") => Ok(Address::Hexadecimal),
-        Some("n") if with_n => Ok(Address::Without),
-        Some(_) => Err(Fault::Usage),
-    }
-}
-
-fn kind_word(text: &str) -> Result<Kind, Fault> {
-    let (form, size) = match text.as_bytes() {
-        [b'c'] => return Ok(Kind::Chars),
-        [form, size] => (*form, *size),
-        _ => return Err(Fault::Usage),
-    };
-    let form = match form {
-        b'd' => NumForm::Signed,
-        b'o' => NumForm::Octal,
-        b'u' => NumForm::Unsigned,
-        b'x' => NumForm::Hexadecimal,
-        _ => return Err(Fault::Usage),
-    };
-    let size = match size {
-        b'1' => Size::One,
-        b'2' => Size::Two,
-        b'4' => Size::Four,
-        b'8' => Size::Eight,
-        _ => return Err(Fault::Usage),
-    };
-    Ok(Kind::Number { form, size })
 }
 
 pub(crate) fn kind(m: &ArgMatches<'_>) -> Result<Kind, Fault> {
@@ -224,23 +125,12 @@ fn od(alloc: Global, m: &ArgMatches<'_>) -> Result<Job, Fault> {
             address: radix(m.get_str("radix"), Address::Octal, true)?,
             kind: kind(m)?,
             first: 0,
-            skip: number_or(m, "skip", SizeStyle::Count, 0)?,
-            limit: number(m, "limit", SizeStyle::Count)?,
+            skip: number_or(m.get_str("skip"), SizeStyle::Count, 0)?,
+            limit: number(m.get_str("limit"), SizeStyle::Count)?,
             all: m.get_flag("all"),
         },
         file: name(alloc, m, "file")?,
     }))
-}
-
-pub(crate) fn columns(m: &ArgMatches<'_>, default: u64) -> Result<u16, Fault>
-    requires least { 1 ≤ default }
-    requires most { default ≤ 256 }
-    ensures { IfOk result (λ n. (1 ≤ n) × (n ≤ 256)) }
-{
-    match number_or(m, "cols", SizeStyle::Bare, default)? {
-        n @ 1..=MOST_COLUMNS => Ok(n as u16),
-        _ => Err(Fault::Usage),
-    }
 }
 
 fn xxd(alloc: Global, m: &ArgMatches<'_>) -> Result<Job, Fault> {
@@ -253,16 +143,16 @@ fn xxd(alloc: Global, m: &ArgMatches<'_>) -> Result<Job, Fault> {
     } else {
         (XxdLook::Normal, 16, 2)
     };
-    let cols = columns(m, cols)?;
-    let group = number_or(m, "group", SizeStyle::Bare, group)?.min(MOST_COLUMNS) as u16;
+    let cols = columns(m.get_str("cols"), cols)?;
+    let group = number_or(m.get_str("group"), SizeStyle::Bare, group)?.min(MOST_COLUMNS) as u16;
     Ok(Job::Xxd(XxdJob {
         look,
         options: XxdOptions {
             cols,
             group,
-            limit: number(m, "limit", SizeStyle::Bare)?,
-            seek: number_or(m, "seek", SizeStyle::Bare, 0)?,
-            shift: number_or(m, "shift", SizeStyle::Bare, 0)?,
+            limit: number(m.get_str("limit"), SizeStyle::Bare)?,
+            seek: number_or(m.get_str("seek"), SizeStyle::Bare, 0)?,
+            shift: number_or(m.get_str("shift"), SizeStyle::Bare, 0)?,
             upper: m.get_flag("upper"),
         },
         file: name(alloc, m, "file")?,
@@ -277,8 +167,8 @@ fn hexdump(alloc: Global, m: &ArgMatches<'_>) -> Result<Job, Fault> {
     Ok(Job::Hexdump(HexdumpJob {
         options: HexdumpOptions {
             first: 0,
-            skip: number_or(m, "skip", SizeStyle::Count, 0)?,
-            limit: number(m, "limit", SizeStyle::Count)?,
+            skip: number_or(m.get_str("skip"), SizeStyle::Count, 0)?,
+            limit: number(m.get_str("limit"), SizeStyle::Count)?,
             all: m.get_flag("all"),
         },
         file: name(alloc, m, "file")?,
@@ -286,7 +176,7 @@ fn hexdump(alloc: Global, m: &ArgMatches<'_>) -> Result<Job, Fault> {
 }
 
 fn strings(alloc: Global, m: &ArgMatches<'_>) -> Result<Job, Fault> {
-    let least = count_or(m, "least", 4, MOST_LEAST)? as u16;
+    let least = count_or(m.get_str("least"), 4, MOST_LEAST)? as u16;
     if least == 0 {
         return Err(Fault::Usage);
     }
@@ -314,7 +204,7 @@ fn dd(alloc: Global, m: &ArgMatches<'_>) -> Result<Job, Fault> {
     let operands = operands_of(alloc, m)?;
     let plan = parse(alloc, &operands)?;
     let texts = match &plan.output {
-        Some(image) => Some(texts_of(alloc, m, image.as_str())?),
+        Some(image) => Some(texts_of(alloc, m.get_str("journal"), image.as_str())?),
         None => None,
     };
     Ok(Job::Dd(DdJob {
@@ -326,7 +216,7 @@ fn dd(alloc: Global, m: &ArgMatches<'_>) -> Result<Job, Fault> {
 }
 
 fn revert(alloc: Global, m: &ArgMatches<'_>) -> Result<Job, Fault> {
-    let at = number_or(m, "offset", SizeStyle::Bare, 0)?;
+    let at = number_or(m.get_str("offset"), SizeStyle::Bare, 0)?;
     let (image, texts) = image_and_texts(alloc, m)?;
     Ok(Job::Revert(RevertJob {
         dump: name(alloc, m, "dump")?,
@@ -339,7 +229,7 @@ fn revert(alloc: Global, m: &ArgMatches<'_>) -> Result<Job, Fault> {
 }
 
 fn undo(alloc: Global, m: &ArgMatches<'_>) -> Result<Job, Fault> {
-    let count = count_or(m, "count", 1, MOST_STEPS)? as u32;
+    let count = count_or(m.get_str("count"), 1, MOST_STEPS)? as u32;
     let (image, texts) = image_and_texts(alloc, m)?;
     Ok(Job::Undo {
         count,
@@ -350,7 +240,7 @@ fn undo(alloc: Global, m: &ArgMatches<'_>) -> Result<Job, Fault> {
 }
 
 fn redo(alloc: Global, m: &ArgMatches<'_>) -> Result<Job, Fault> {
-    let count = count_or(m, "count", 1, MOST_STEPS)? as u32;
+    let count = count_or(m.get_str("count"), 1, MOST_STEPS)? as u32;
     let (image, texts) = image_and_texts(alloc, m)?;
     Ok(Job::Redo {
         count,
@@ -371,7 +261,7 @@ fn log(alloc: Global, m: &ArgMatches<'_>) -> Result<Job, Fault> {
 }
 
 fn show(alloc: Global, m: &ArgMatches<'_>) -> Result<Job, Fault> {
-    let count = count_or(m, "count", 1, MOST_STEPS)? as u32;
+    let count = count_or(m.get_str("count"), 1, MOST_STEPS)? as u32;
     let (image, texts) = image_and_texts(alloc, m)?;
     let way = if m.get_flag("redo") {
         Way::Redo
