@@ -1,4 +1,1 @@
 pub mod AgreeingLemmas
-pub mod XxdRows
-pub mod XxdReverts
-pub mod BehindLemmas

@@ -1,8 +1,2 @@
-pub use Rattle.bx_commands.specs.Command
 pub mod Hint
-pub mod Job
-pub mod Dump
-pub mod JobDump
-pub mod JobBehind
-pub mod XxdLaws
 pub mod inner

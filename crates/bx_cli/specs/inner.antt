@@ -1,5 +1,2 @@
 -- What no public contract names.
 pub mod Beside
-pub mod CopyOut
-pub mod JobDump
-pub mod JobBehind

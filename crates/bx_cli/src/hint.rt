@@ -5,10 +5,10 @@ ghost use Rattle.bx_cli.specs.Hint.{advice_of, completed, hint_of, joined, rest_
 use crate::instead::{has_negative, instead, is_negative, negative, no_negative, similar};
 use crate::options::program;
 use crate::plan::{kind, words_of};
-use crate::values::{MOST_LEAST, MOST_STEPS, columns, count_or, number, radix};
 use bx_commands::Fault;
 use bx_dd::DdFault;
 use bx_dump::od::Address;
+use bx_jobs::{MOST_LEAST, MOST_STEPS, columns, count_or, number, radix};
 use bx_journal::SessionFault;
 use bx_read::ReadFault;
 use bx_text::{IoFault, SizeStyle, Words};

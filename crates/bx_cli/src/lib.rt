@@ -10,28 +10,21 @@
 //! `docs/CALLING.md` has the whole caller, which the gate proves and runs.
 #![tactic(auto)]
 
-mod behind;
 mod beside;
-mod dump;
 mod hint;
 mod instead;
-mod job;
 pub mod laws;
 mod options;
-mod passable;
 mod plan;
-mod values;
 
-pub use behind::run_dump_behind;
 pub use beside::unlike_line;
 pub use bx_commands::{
     Command, Fault, Form, Reply, change_from, change_if_read, list_ranges, list_steps, log_text,
     run_all, run_one,
 };
-pub use dump::{Done, run_dump};
-pub use hint::{Known, Misuse, hint_text, misuse_of};
-pub use job::{
-    Access, DdJob, Durability, HexdumpJob, Job, OdJob, RevertJob, StringsJob, Texts, XxdJob,
-    XxdLook,
+pub use bx_jobs::{
+    Access, DdJob, Done, Durability, HexdumpJob, Job, OdJob, RevertJob, StringsJob, Texts, XxdJob,
+    XxdLook, run_dump, run_dump_behind,
 };
+pub use hint::{Known, Misuse, hint_text, misuse_of};
 pub use plan::plan_words;

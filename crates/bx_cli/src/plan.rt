@@ -1,19 +1,16 @@
 //! From words to a job.
-use crate::job::{
-    Access, DdJob, Durability, HexdumpJob, Job, OdJob, RevertJob, StringsJob, Texts, XxdJob,
-    XxdLook,
-};
 use crate::options::program;
-use crate::values::{
-    MOST_COLUMNS, MOST_LEAST, MOST_STEPS, columns, count_or, kind_word, name_of, number, number_or,
-    radix, texts_of,
-};
 use bx_commands::Fault;
 use bx_dd::parse;
 use bx_dump::hexdump::HexdumpOptions;
 use bx_dump::od::{Address, Kind, OdOptions};
 use bx_dump::strings::StringsOptions;
 use bx_dump::xxd::XxdOptions;
+use bx_jobs::{
+    Access, DdJob, Durability, HexdumpJob, Job, MOST_COLUMNS, MOST_LEAST, MOST_STEPS, OdJob,
+    RevertJob, StringsJob, Texts, XxdJob, XxdLook, columns, count_or, kind_word, name_of, number,
+    number_or, radix, texts_of,
+};
 use bx_journal::Way;
 use bx_text::{IoFault, Name, SizeStyle, Words};
 use clap::error::ErrorKind;

@@ -1,6 +1,6 @@
 //! What a dump or a copy reads: FILE, moved by a seek past the bytes that the job skips, or standard input.
 ghost use Rattle.std.specs.Prelude.{IfOk};
-ghost use Rattle.bx_cli.specs.JobBehind.{CanPass};
+ghost use Rattle.bx_jobs.specs.JobBehind.{CanPass};
 
 use crate::stopped::Stopped;
 use bx_cli::{Fault, Job};

@@ -1,5 +1,5 @@
 //! The jobs, and one run of the program.
-ghost use Rattle.bx_cli.specs.JobBehind.{CanPass};
+ghost use Rattle.bx_jobs.specs.JobBehind.{CanPass};
 ghost use Rattle.bx_commands.specs.Command.{IsNear};
 
 use crate::copies::{copy_onto, tell};

@@ -1,0 +1,3 @@
+pub mod XxdRows
+pub mod XxdReverts
+pub mod BehindLemmas

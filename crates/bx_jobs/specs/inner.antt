@@ -1,0 +1,4 @@
+-- What no public contract names.
+pub mod CopyOut
+pub mod JobDump
+pub mod JobBehind
