@@ -18,9 +18,9 @@ from uses import used
 
 # the crate whose calls and those below are public: bx_program only puts them in order
 TOP = "bx_cli"
-# inner parts of bx_journal, which exports some of their types and none of their calls: their definitions count where a public
-# contract above, a clause of such a type, or a law of theirs, names them
-INNER = ["bx_entries", "bx_scan", "bx_show", "bx_steps", "bx_prepare"]
+# inner parts of bx_dump and bx_journal, which export some of their types and none of their calls: their definitions count where a
+# public contract above, a clause of such a type, or a law of theirs, names them
+INNER = ["bx_columns", "bx_entries", "bx_scan", "bx_show", "bx_steps", "bx_prepare"]
 # the page's part of what laws alone name
 TOLD = "D"
 NAME = re.compile(r"[A-Za-z_][A-Za-z0-9_'-]*")

@@ -6,7 +6,7 @@ use Rattle.std.proofs.lemmas.Bool.{eq-eqb, ne_eqb}
 use Rattle.std.proofs.lemmas.Bool.Decides.{nat_tests}
 use Rattle.std.proofs.lemmas.List.Sums.{sum_by-cons}
 use Rattle.std.proofs.Math.Nat.{pow-suc, pow-zero, mul-le-mul_left, div-eq_of_lt, le-div_iff_mul-le}
-use Rattle.bx_dump.specs.Od.{value_of}
+use Rattle.bx_columns.specs.Values.{value_of}
 use Rattle.bx_dump.specs.Laws.{item, items, ValueIsSum, ItemsAreBytes, ItemsAreLines, item_at, line_count}
 use Rattle.bx_dump.specs.inner.Rows.{include_line, next_item}
 

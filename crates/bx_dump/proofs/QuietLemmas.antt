@@ -4,16 +4,13 @@ use Rattle.std.specs.Prelude.{nat_lt, nat_le, ◌==◌, ◌&&◌}
 use Rattle.std.specs.List.{prefix_len}
 use Rattle.std.proofs.lemmas.Bool.{cases_lt, eq-eqb, ne_eqb, cond-true, cond-false}
 use Rattle.std.proofs.lemmas.Bool.Decides.{nat_tests}
-use Rattle.std.proofs.lemmas.List.{length-take-le, drop-drop, take-append-drop, length-take, get_or-take, get_or_past}
+use Rattle.std.proofs.lemmas.List.{length-take-le, drop-drop, take-append-drop, get_or-take, get_or_past}
 use Rattle.std.proofs.lemmas.List.Folds.{prefix_len-append}
-use Rattle.std.proofs.lemmas.List.Sums.{prefix_len-le-length}
-use Rattle.bx_dump.specs.declared.od.options.Address.{Address}
+use Rattle.bx_columns.specs.declared.od.options.Address.{Address}
 use Rattle.bx_text.specs.Ascii.{is_printable}
-use Rattle.bx_dump.specs.inner.Scan.{scan_text, scan_run, AllPrint, EndsQuiet, IsQuiet, four_print}
+use Rattle.bx_dump.specs.inner.Scan.{scan_text, scan_run, AllPrint, EndsQuiet, IsQuiet}
+use Rattle.bx_columns.specs.inner.Printing.{four_print}
 use Rattle.bx_dump.proofs.ScanLemmas.{both, ends_quiet}
-
-pub count_most : (n done r : ℕ) (xs : List ℕ) → r ≡ prefix_len is_printable (take n (drop done xs)) → r ≤ n
-count_most n done r xs is = omega (arith, is, prefix_len-le-length is_printable (take n (drop done xs)), length-take n (drop done xs))
 
 -- one load of n bytes: not all print, or all
 pub count_stops : (n done r : ℕ) (xs : List ℕ) → n ≤ length (drop done xs) → r ≡ prefix_len is_printable (take n (drop done xs)) → r < n →

@@ -6,11 +6,12 @@ use Rattle.std.proofs.lemmas.Bool.{cases_eq, eq-eqb, ne_eqb}
 use Rattle.std.proofs.lemmas.Bool.Decides.{nat_tests}
 use Rattle.std.specs.Prelude.{slice_index}
 use Rattle.std.proofs.Math.Seq.{take-add}
-use Rattle.bx_dump.specs.declared.od.options.Address.{Address}
+use Rattle.bx_columns.specs.declared.od.options.Address.{Address}
 use Rattle.bx_text.specs.Ascii.{is_printable}
-use Rattle.bx_dump.specs.Strings.{place_text}
-use Rattle.bx_dump.specs.declared.od.options.Address.TheVariants.{Octal, Decimal, Hexadecimal, Without}
-use Rattle.bx_dump.specs.inner.Scan.{scan_text, scan_run, grown_text, end_text, AllPrint, NonePrints, cost_of, pending, IsKept, EndsQuiet, IsQuiet}
+use Rattle.bx_columns.specs.Places.{place_text}
+use Rattle.bx_columns.specs.declared.od.options.Address.TheVariants.{Octal, Decimal, Hexadecimal, Without}
+use Rattle.bx_dump.specs.inner.Scan.{scan_text, scan_run, grown_text, end_text, AllPrint, NonePrints, pending, IsKept, EndsQuiet, IsQuiet}
+use Rattle.bx_columns.specs.inner.Places.{cost_of}
 
 pub both : (b : Bool) → (b ≡ true) ⊎ (b ≡ false)
 both true = inl refl

@@ -12,9 +12,10 @@ use Rattle.bx_dump.specs.inner.Pages.{WritesFrontBut, streams}
 use Rattle.bx_dump.specs.inner.Dumped.{DumpsFrontBut}
 use Rattle.bx_dump.proofs.DumpLemmas.{cause_longer, keeps_along, front_whole}
 use Rattle.bx_dump.proofs.ScanLemmas.{both}
-use Rattle.bx_dump.specs.declared.od.options.Address.{Address}
+use Rattle.bx_columns.specs.declared.od.options.Address.{Address}
 use Rattle.bx_text.specs.Ascii.{is_printable}
-use Rattle.bx_dump.specs.Strings.{place_text, is_run_start, line_at, strings_text}
+use Rattle.bx_columns.specs.Places.{place_text}
+use Rattle.bx_dump.specs.Strings.{is_run_start, line_at, strings_text}
 use Rattle.bx_dump.specs.inner.Strings.{runs_text}
 use Rattle.bx_dump.specs.inner.Scan.{scan_text, scan_run, grown_text, end_text}
 

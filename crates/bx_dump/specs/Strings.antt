@@ -1,22 +1,16 @@
 -- The printable runs of an input, and the text of strings (POSIX strings).
 use Rattle.std.specs.Prelude.{ℕ, zero, suc, ◌+◌, Bool, false, ◌&&◌, not, nat_le, if◌then◌else◌, List, [], ◌++◌, length, take, drop, slice_index, codes, None}
 use Rattle.std.specs.List.{flat_map, range_with_len, prefix_len}
-use Rattle.std.specs.Fmt.{digits}
-use Rattle.std.specs.Option.{option_map_or}
 use Rattle.bx_text.specs.Ascii.{is_printable}
-use Rattle.bx_dump.specs.Od.{digits_of}
+use Rattle.bx_columns.specs.Places.{place_text}
 use Rattle.bx_dump.specs.Pages.{Dump}
 use Rattle.bx_dump.specs.declared.strings.options.StringsOptions.{StringsOptions}
-use Rattle.bx_dump.specs.declared.od.options.Address.{Address}
+use Rattle.bx_columns.specs.declared.od.options.Address.{Address}
 
 -- Whether a printable run begins at a place: its byte prints, and the one before doesn't. `before` is whether the byte in front of x prints
 abbrev pub is_run_start : Bool → List ℕ → ℕ → Bool
 is_run_start before x zero = is_printable (slice_index x 0) && not before
 is_run_start before x (suc a) = is_printable (slice_index x (suc a)) && not (is_printable (slice_index x a))
-
--- the place of a run, and a space
-abbrev pub place_text : Address → ℕ → List ℕ
-place_text offsets at = option_map_or (λ d. digits d.0 false at ++ codes " ") (digits_of offsets) []
 
 -- the line of a run, where one of at least this many bytes begins at place a: it goes up to the next byte that doesn't print, or up to the end
 abbrev pub line_at : ℕ → Address → Bool → ℕ → List ℕ → ℕ → List ℕ

@@ -1,19 +1,15 @@
 -- The text of xxd in each style.
-use Rattle.std.specs.Prelude.{ℕ, ◌+◌, ◌^◌, ◌≤◌, ◌==◌, false, if◌then◌else◌, List, [], ◌∷◌, ◌++◌, map, length, slice_index, codes, None, Some}
-use Rattle.std.specs.Char.{is_ascii_alphanumeric, is_ascii_digit}
+use Rattle.std.specs.Prelude.{ℕ, ◌+◌, ◌^◌, ◌≤◌, ◌==◌, false, if◌then◌else◌, List, [], ◌∷◌, ◌++◌, length, codes, None, Some}
 use Rattle.std.specs.Fmt.{digits}
 use Rattle.std.specs.List.{flat_map, join_by}
 use Rattle.bx_text.specs.Dump.{dump_line, pair_of}
-use Rattle.bx_dump.specs.Lines.{in_lines}
+use Rattle.bx_columns.specs.Lines.{in_lines}
 use Rattle.bx_dump.specs.Pages.{Dump}
 use Rattle.bx_dump.specs.Xxd.{bits_line}
 use Rattle.bx_dump.specs.declared.xxd.options.XxdStyle.{XxdStyle}
 use Rattle.bx_dump.specs.declared.xxd.options.XxdStyle.TheVariants.{Normal, Plain, Bits, Include}
 use Rattle.bx_dump.specs.declared.xxd.options.XxdOptions.{XxdOptions}
-
--- a name as C has it: with `_` for what is no letter and no digit, and with two in front where it begins with a digit
-abbrev pub c_name : List ℕ → List ℕ
-c_name name = (if is_ascii_digit (slice_index name 0) then codes "__" else []) ++ map (λ b. if is_ascii_alphanumeric b then b else 95) name
+use Rattle.bx_columns.specs.Names.{c_name}
 
 -- All items: in a line there is a comma between two. Behind each line stand a comma and a newline, and behind the last a newline alone;
 -- nothing where there is no byte.

@@ -12,7 +12,6 @@
 #![tactic(auto)]
 
 mod driver;
-mod hex_lanes;
 pub mod hexdump;
 pub mod laws;
 pub mod od;

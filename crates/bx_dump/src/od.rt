@@ -1,18 +1,8 @@
-//! od: what stands for each value, its lines and its dump.
-mod byte_tables;
-mod decimal;
-mod decimal_fours;
-mod decimal_lanes;
-mod decimal_twos;
+//! od: its lines and its dump.
 mod dump;
-mod fixed;
-mod hexadecimal;
 mod lines;
-mod octal;
-mod octal_lanes;
-pub(crate) mod options;
-mod values;
+mod options;
 
-pub(crate) use decimal::put_eight;
+pub use bx_columns::od::options::{Address, Kind, NumForm, Size};
 pub use dump::od;
-pub use options::{Address, Kind, NumForm, OdOptions, Size};
+pub use options::OdOptions;

@@ -1,15 +1,6 @@
--- What proofs alone need: the columns and the end of hexdump -C.
-use Rattle.std.specs.Prelude.{ℕ, ◌+◌, ◌*◌, ◌/◌, false, List, ◌++◌, length, slice_index, codes}
-use Rattle.bx_text.specs.Field.{hex_text, laid_out}
-use Rattle.bx_text.specs.Dump.{pair_of}
-
--- where the digits of byte i stand: one space after each, and one more after the eighth
-abbrev pub canon_place : ℕ → ℕ
-canon_place i = 3 * i + i / 8
-
--- the bytes in hexadecimal, in a field of 50 characters
-abbrev pub canon_columns : List ℕ → ℕ → List ℕ
-canon_columns bytes width = laid_out canon_place (λ i. pair_of false (slice_index bytes i)) (length bytes) width
+-- What proofs alone need: the end of hexdump -C.
+use Rattle.std.specs.Prelude.{ℕ, false, List, ◌++◌, codes}
+use Rattle.bx_text.specs.Field.{hex_text}
 
 -- the address behind the last byte, on a line of its own
 abbrev pub canon_end : ℕ → List ℕ

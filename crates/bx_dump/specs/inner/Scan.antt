@@ -1,10 +1,8 @@
 -- The text of strings as far as it is known behind each byte. `run` is what stands printable right before place `at`.
-use Rattle.std.specs.Prelude.{◌≡◌, ◌<◌, ◌≤◌, ℕ, ◌+◌, ◌-◌, ◌==◌, Bool, true, false, ◌&&◌, nat_le, nat_lt, if◌then◌else◌, List, [], ◌∷◌, ◌++◌, length, take, slice_index, codes}
-use Rattle.std.specs.Int.{w64, trailing_zeros}
-use Rattle.bx_dump.specs.declared.od.options.Address.{Address}
-use Rattle.bx_dump.specs.declared.od.options.Address.TheVariants.{Octal, Decimal, Hexadecimal, Without}
+use Rattle.std.specs.Prelude.{◌≡◌, ◌<◌, ◌≤◌, ℕ, ◌+◌, ◌-◌, ◌==◌, true, false, nat_le, nat_lt, if◌then◌else◌, List, [], ◌∷◌, ◌++◌, length, take, codes}
+use Rattle.bx_columns.specs.declared.od.options.Address.{Address}
 use Rattle.bx_text.specs.Ascii.{is_printable}
-use Rattle.bx_dump.specs.Strings.{place_text}
+use Rattle.bx_columns.specs.Places.{place_text}
 
 -- what is known with one more byte of a run: all of it once it is long enough, then each byte
 abbrev pub grown_text : ℕ → Address → ℕ → List ℕ → ℕ → List ℕ
@@ -44,15 +42,6 @@ EndsQuiet [] = Unit {0}
 EndsQuiet (b ∷ []) = is_printable b ≡ false
 EndsQuiet (b ∷ c ∷ bs) = EndsQuiet (c ∷ bs)
 
--- whether the four bytes from a place on all print
-abbrev pub four_print : List ℕ → ℕ → Bool
-four_print x k = is_printable (slice_index x k)
-    && (is_printable (slice_index x (k + 1)) && (is_printable (slice_index x (k + 2)) && is_printable (slice_index x (k + 3))))
-
--- the place of the lowest bit that is set, or n
-abbrev pub first_set : ℕ → ℕ → ℕ
-first_set mask n = if mask == 0 then n else trailing_zeros w64 mask
-
 -- behind a byte that doesn't print, nothing is known of these, and no run is left
 pub record IsQuiet (least : ℕ) (bytes : List ℕ) : Type 0 where
   pub text : (offsets : Address) (at : ℕ) → scan_text least offsets at [] bytes ≡ []
@@ -67,10 +56,3 @@ pub record IsKept (least count : ℕ) (kept run : List ℕ) : Type 0 where
 -- how many bytes of a run are kept and not yet written
 abbrev pub pending : ℕ → ℕ → ℕ
 pending least count = if nat_lt count least then count else 0
-
--- the most text that a byte can stand for, its share of a place and of a newline included
-abbrev pub cost_of : Address → ℕ
-cost_of Octal = 26
-cost_of Decimal = 26
-cost_of Hexadecimal = 26
-cost_of Without = 2

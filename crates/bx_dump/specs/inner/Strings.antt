@@ -2,7 +2,7 @@
 use Rattle.std.specs.Prelude.{ℕ, Bool, List, length, take, drop}
 use Rattle.std.specs.List.{flat_map, range_with_len, prefix_len}
 use Rattle.bx_text.specs.Ascii.{is_printable}
-use Rattle.bx_dump.specs.declared.od.options.Address.{Address}
+use Rattle.bx_columns.specs.declared.od.options.Address.{Address}
 use Rattle.bx_dump.specs.Strings.{line_at}
 
 -- the printable bytes from a place up to the next byte that doesn't print, or up to the end

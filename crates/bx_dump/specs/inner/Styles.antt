@@ -1,29 +1,12 @@
--- What proofs alone need: the parts of a declaration, and lines of plain digits.
-use Rattle.std.specs.Prelude.{ℕ, ◌+◌, false, if◌then◌else◌, List, [], ◌++◌, length, slice_index, codes}
-use Rattle.std.specs.Char.{is_ascii_alphanumeric, is_ascii_digit}
-use Rattle.std.specs.Fmt.{digits}
-use Rattle.bx_dump.specs.Lines.{in_lines}
+-- What proofs alone need: a whole declaration, columns of digits, and lines of plain digits.
+use Rattle.std.specs.Prelude.{ℕ, ◌+◌, List, ◌++◌, length}
+use Rattle.bx_columns.specs.Lines.{in_lines}
 use Rattle.bx_dump.specs.inner.Rows.{plain_line}
 use Rattle.bx_dump.specs.declared.xxd.options.XxdOptions.{XxdOptions}
-use Rattle.bx_dump.specs.Styles.{c_name, group_of, include_items}
+use Rattle.bx_dump.specs.Styles.{group_of, include_items}
 use Rattle.bx_dump.specs.declared.xxd.columns.Digits.{Digits}
 use Rattle.bx_dump.specs.inner.Xxd.{columns_line}
-
--- what stands in front of a name
-abbrev pub name_front : List ℕ → List ℕ
-name_front name = if is_ascii_digit (slice_index name 0) then codes "__" else []
-
--- what stands for a byte of a name
-abbrev pub name_byte : ℕ → ℕ
-name_byte b = if is_ascii_alphanumeric b then b else 95
-
--- what a declaration begins with
-abbrev pub include_head : List ℕ → List ℕ
-include_head name = codes "unsigned char " ++ c_name name ++ codes "[] = {\n"
-
--- the end of the array, and its length under the name
-abbrev pub include_tail : List ℕ → ℕ → List ℕ
-include_tail name n = codes "};\nunsigned int " ++ c_name name ++ codes "_len = " ++ (digits 10 false n ++ codes ";\n")
+use Rattle.bx_columns.specs.inner.Names.{include_head, include_tail}
 
 -- a whole declaration: its head, the items, the end of the array, and its length under the name
 abbrev pub named_text : List ℕ → ℕ → List ℕ → List ℕ

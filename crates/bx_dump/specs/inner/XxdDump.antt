@@ -1,7 +1,7 @@
 -- What proofs alone need: what a dump of xxd leaves, where `text` stands for the bytes of the part that the options ask for.
 use Rattle.std.specs.Prelude.{ℕ, ◌^◌, List, Result, IfErr}
 use Rattle.bx_text.specs.declared.fault.IoFault.{IoFault}
-use Rattle.bx_dump.specs.Lines.{in_lines}
+use Rattle.bx_columns.specs.Lines.{in_lines}
 use Rattle.bx_dump.specs.Styles.{include_items, styled}
 use Rattle.bx_dump.specs.inner.Pages.{Streams, WritesTextOf, StopsTextOf}
 use Rattle.bx_dump.specs.declared.driver.pages.Part.{Part}

@@ -2,16 +2,18 @@
 ghost use Rattle.std.specs.Prelude.{◌≡◌, ℕ, ◌+◌, ◌-◌, ◌*◌, ◌^◌, ◌<◌, ◌≤◌, [], List, ◌++◌, length, take, codes, not, IfOk, IfErr};
 ghost use Rattle.std.specs.List.{prefix_len};
 ghost use Rattle.bx_dump.specs.inner.Runs.{Keeps, Scans, StopsScan, known_text, waiting};
-ghost use Rattle.bx_dump.specs.inner.Scan.{scan_run, scan_text, cost_of, end_text, AllPrint, EndsQuiet, IsQuiet};
+ghost use Rattle.bx_dump.specs.inner.Scan.{scan_run, scan_text, end_text, AllPrint, EndsQuiet, IsQuiet};
+ghost use Rattle.bx_columns.specs.inner.Places.{cost_of};
 ghost use Rattle.bx_text.specs.Ascii.{is_printable};
 ghost use Rattle.bx_dump.specs.Pages.{WritesAll, WritesFrontOf};
-ghost use Rattle.bx_dump.specs.Strings.{place_text, strings_of};
+ghost use Rattle.bx_columns.specs.Places.{place_text};
+ghost use Rattle.bx_dump.specs.Strings.{strings_of};
 
 use crate::driver::pages::BLOCK;
-use crate::od::options::Address;
-use crate::strings::lanes::{four_in, printing_in};
 use crate::strings::options::StringsOptions;
-use crate::strings::places::{put_at, put_place};
+use bx_columns::od::options::Address;
+use bx_columns::strings::lanes::{four_in, printing_in};
+use bx_columns::strings::places::{put_at, put_place};
 use bx_text::{IoFault, Meter, State, emit_after};
 use std::io::{Read, Write};
 use std::simd::prelude::*;

@@ -9,9 +9,9 @@ ghost use Rattle.bx_dump.specs.inner.XxdDump.{StopsFront, StopsItems, StopsLines
 use crate::driver::pages::{Part, dump_part};
 use crate::xxd::columns::{Columns, Digits};
 use crate::xxd::lines::{LineForm, Lines};
-use crate::xxd::names::{emit_head, emit_tail};
 use crate::xxd::options::{XxdOptions, XxdStyle};
 use crate::xxd::rows::{Items, Plain};
+use bx_columns::xxd::names::{emit_head, emit_tail};
 use bx_text::{IoFault, emit_after};
 use std::io::{Read, Write};
 

@@ -1,5 +1,5 @@
 use Rattle.std.proofs.Common.{◌≡◌, ◌*◌, take}
-use Rattle.bx_dump.specs.Lines.{in_lines}
+use Rattle.bx_columns.specs.Lines.{in_lines}
 use Rattle.bx_dump.specs.inner.Xxd.{columns_line}
 use Rattle.bx_dump.proofs.xxd.columns.put_full.Given as goal
 

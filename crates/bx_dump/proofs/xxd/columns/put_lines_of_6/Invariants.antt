@@ -1,5 +1,5 @@
 use Rattle.std.proofs.Common.{◌≡◌, ◌*◌, take}
-use Rattle.bx_dump.specs.Lines.{in_lines}
+use Rattle.bx_columns.specs.Lines.{in_lines}
 use Rattle.bx_dump.specs.declared.xxd.columns.Digits.TheVariants.{Binary}
 use Rattle.bx_dump.specs.inner.Xxd.{columns_line}
 use Rattle.bx_dump.proofs.xxd.columns.put_lines_of_6.Given as goal

@@ -1,5 +1,5 @@
 use Rattle.std.proofs.Common.{◌≡◌, ℕ, ◌+◌, ◌^◌, List, refl, arith}
-use Rattle.bx_dump.specs.Lines.{in_lines}
+use Rattle.bx_columns.specs.Lines.{in_lines}
 use Rattle.bx_dump.specs.Pages.{part_of}
 use Rattle.bx_dump.specs.Styles.{group_of}
 use Rattle.bx_dump.specs.inner.Xxd.{columns_line}

@@ -1,5 +1,5 @@
 use Rattle.std.proofs.Common.{◌≡◌, ℕ, ◌^◌, List, refl, arith}
-use Rattle.bx_dump.specs.Lines.{in_lines}
+use Rattle.bx_columns.specs.Lines.{in_lines}
 use Rattle.bx_dump.specs.Pages.{part_of}
 use Rattle.bx_dump.specs.inner.Rows.{plain_line}
 use Rattle.bx_dump.proofs.DumpLemmas.{err_along}

@@ -2,7 +2,7 @@ use Rattle.std.proofs.Common.{◌≡◌, ◌+◌, ◌-◌, ◌*◌, ◌≤◌, l
 use Rattle.std.proofs.lemmas.Slice.{take-put_mid}
 use Rattle.std.proofs.lemmas.List.{length-take-le, length-drop}
 use Rattle.bx_dump.specs.inner.Rows.{plain_line}
-use Rattle.bx_dump.proofs.LinesLemmas.{lines_next_at}
+use Rattle.bx_columns.proofs.LinesLemmas.{lines_next_at}
 use Rattle.bx_dump.proofs.xxd.rows.put_lines_of_30.Goals as goal
 
 pub loop-k-preserved : goal.loop-k-preserved

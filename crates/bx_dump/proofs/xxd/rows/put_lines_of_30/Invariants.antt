@@ -1,5 +1,5 @@
 use Rattle.std.proofs.Common.{◌≡◌, ◌*◌, take}
-use Rattle.bx_dump.specs.Lines.{in_lines}
+use Rattle.bx_columns.specs.Lines.{in_lines}
 use Rattle.bx_dump.specs.inner.Rows.{plain_line}
 use Rattle.bx_dump.proofs.xxd.rows.put_lines_of_30.Given as goal
 

@@ -1,0 +1,16 @@
+pub mod LinesLemmas
+pub mod PlaceLemmas
+pub mod BinaryLemmas
+pub mod OdLemmas
+pub mod OdFixed
+pub mod OdHex
+pub mod OdOctal
+pub mod OdDecimal
+pub mod OdTwos
+pub mod OdPlaces
+pub mod OdFours
+pub mod DigitParts
+pub mod CellsLemmas
+pub mod NamesLemmas
+pub mod HexLemmas
+pub mod LaneLemmas

@@ -1,0 +1,7 @@
+//! Values and characters as text in columns, for the dumps of `bx_dump`. No reader is in it. An inner part of `bx_dump`.
+#![tactic(auto)]
+
+pub mod hex_lanes;
+pub mod od;
+pub mod strings;
+pub mod xxd;
