@@ -7,10 +7,10 @@ mod stops;
 
 use crate::commands::behind::{Lost, Next, Nothing, Stopped};
 use crate::commands::growths::play_growths;
-use crate::commands::rows::{play_each, play_once};
-use crate::commands::stops::play_stops;
+use crate::commands::rows::{first_texts, play_each, play_once};
+use crate::commands::stops::{Calls, play_stops};
 use crate::report::tally::{Failure, at};
-use crate::session::medium::{Killed, PageCache};
+use crate::session::medium::{DEVICES, PageCache, WAYS};
 use crate::session::places::{Files, Memory, Pages, Place};
 use crate::sweep::weight::{is_large, is_swept, loss_step, odd, opening_step, stop_step};
 use bx_case_files::CommandsCase;
@@ -40,22 +40,29 @@ pub fn play_commands(rt: &HostRuntime, case: &CommandsCase, sweep: usize) -> Res
         1 => play_at(alloc, &Pages, case),
         2 => play_at(alloc, &Files::new(rt), case),
         3 => play_growths(alloc, case),
-        4 => play_stops(alloc, &Memory, case, stop_step(case), &mut Nothing),
-        5 => {
-            let step = opening_step(case);
-            play_stops(alloc, &Memory, case, step, &mut Stopped::new(alloc))
-        }
-        _ => play_losses(alloc, case, sweep),
+        _ => play_stopped(alloc, case, sweep),
     }
 }
 
-/// Plays a case with losses of power.
-fn play_losses(alloc: Global, case: &CommandsCase, sweep: usize) -> Result<u32, Failure> {
-    let step = loss_step(case);
+/// Plays a case that is stopped at its calls.
+fn play_stopped(alloc: Global, case: &CommandsCase, sweep: usize) -> Result<u32, Failure> {
+    let (ways, step) = match sweep {
+        4 => (WAYS, stop_step(case)),
+        5 => (WAYS, opening_step(case)),
+        6 => (DEVICES, odd(stop_step(case))),
+        _ => (DEVICES, loss_step(case)),
+    };
+    let calls = Calls { ways, step };
+    let seen = Vec::new(alloc);
     match sweep {
-        6 => play_stops(alloc, &PageCache, case, odd(stop_step(case)), &mut Nothing),
-        7 => play_stops(alloc, &PageCache, case, step, &mut Lost::new(alloc)),
-        _ => play_stops(alloc, &Killed, case, step, &mut Next::new(alloc, case)),
+        4 => play_stops(alloc, &Memory, case, calls, &mut Nothing),
+        5 => play_stops(alloc, &Memory, case, calls, &mut Stopped { seen }),
+        6 => play_stops(alloc, &PageCache, case, calls, &mut Nothing),
+        7 => play_stops(alloc, &PageCache, case, calls, &mut Lost { seen }),
+        _ => {
+            let disk = first_texts(case);
+            play_stops(alloc, &Memory, case, calls, &mut Next { disk, seen })
+        }
     }
 }
 
@@ -66,9 +73,7 @@ fn play_at<D: Device + Drop, T: TextStore + Drop, P: Place<D, T>>(
     place: &P,
     case: &CommandsCase,
 ) -> Result<u32, Failure> {
-    if let Err(wrong) = play_each(alloc, place, case) {
-        return Err(at(0, wrong));
-    }
+    play_each(alloc, place, case)?;
     if is_large(case) {
         return Ok(1);
     }

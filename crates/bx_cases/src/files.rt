@@ -128,9 +128,9 @@ fn play_case(rt: &HostRuntime, case: &Case, tally: &mut Tally<'_>) -> bool {
 fn play(rt: &HostRuntime, test: &Test, sweep: usize) -> Result<u32, Failure> {
     match test {
         Test::Words(case) => play_words(rt.alloc(), case, sweep),
-        Test::Reading(case) => play_reading(rt.alloc(), case, sweep),
+        Test::Reading(case) => Ok(play_reading(rt.alloc(), case, sweep)?),
         Test::Commands(case) => play_commands(rt, case, sweep),
-        Test::Text(case) => play_text(rt, case, sweep),
-        Test::Looks(case) => play_looks(rt, case, sweep),
+        Test::Text(case) => Ok(play_text(rt, case, sweep)?),
+        Test::Looks(case) => Ok(play_looks(rt, case, sweep)?),
     }
 }

@@ -3,10 +3,9 @@ mod growths;
 
 use crate::looks::growths::LookOf;
 use crate::report::compare::{Wrong, no_fault, same_bytes, same_fault};
-use crate::report::tally::{Failure, at};
 use crate::session::MANY;
 use crate::session::devices::{Devices, Texts};
-use crate::session::fuse::locked;
+use crate::session::fuse::{LOCKED, fuse};
 use crate::session::open::{close, open};
 use crate::session::places::{Files, Memory, Pages, Place};
 use crate::sweep::hunt::each_growth;
@@ -24,17 +23,13 @@ const MOST_SQUEEZED: usize = 8192;
 pub static SWEEPS: [&str; 4] = ["in memory", "in pages", "in files", "growths refused"];
 
 /// Plays the looks of a case in one way. Tells how often.
-pub fn play_looks(rt: &HostRuntime, case: &LooksCase, sweep: usize) -> Result<u32, Failure> {
+pub fn play_looks(rt: &HostRuntime, case: &LooksCase, sweep: usize) -> Result<u32, Wrong> {
     let alloc = rt.alloc();
-    let played = match sweep {
+    match sweep {
         0 => all(alloc, &Memory, case),
         1 => all(alloc, &Pages, case),
         2 => all(alloc, &Files::new(rt), case),
         _ => all_growths(alloc, case),
-    };
-    match played {
-        Ok(plays) => Ok(plays),
-        Err(wrong) => Err(at(0, wrong)),
     }
 }
 
@@ -105,7 +100,7 @@ fn once<D: Device + Drop, T: TextStore + Drop, P: Place<D, T>>(
     look: &Look,
     compares: bool,
 ) -> Result<(), Wrong> {
-    let devices = locked(place.devices(alloc, texts_of(case))?)?;
+    let devices = fuse(place.devices(alloc, texts_of(case))?, LOCKED)?;
     let mut found = Vec::new(alloc);
     let outcome = show(alloc, devices, look, compares, &mut found);
     shown_so(alloc, look, compares, found.as_slice(), outcome)

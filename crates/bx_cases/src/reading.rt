@@ -1,11 +1,10 @@
 //! Cases of reading.
 use crate::report::compare::{Wrong, differs, no_fault, same_bytes, same_fault, same_number};
-use crate::report::tally::{Failure, at};
+use crate::session::ask::{Limit, eased, limit_to};
 use crate::sweep::hunt::{Call, each_growth};
 use bumpalo::Bump;
 use bx_case_files::{ReadingCase, Reads};
 use bx_cli::Fault;
-use bx_ration::{squeeze, used};
 use bx_read::{ReadFault, read_dump, read_plain};
 use bx_text::Piece;
 use std::alloc::{Allocator, Global};
@@ -14,15 +13,11 @@ use std::alloc::{Allocator, Global};
 pub static SWEEPS: [&str; 2] = ["read", "growths refused"];
 
 /// Plays a case in one way. Tells how often.
-pub fn play_reading(alloc: Global, case: &ReadingCase, sweep: usize) -> Result<u32, Failure> {
-    let played = if sweep == 0 {
+pub fn play_reading(alloc: Global, case: &ReadingCase, sweep: usize) -> Result<u32, Wrong> {
+    if sweep == 0 {
         once(alloc, case)
     } else {
         each_growth(alloc, case)
-    };
-    match played {
-        Ok(plays) => Ok(plays),
-        Err(wrong) => Err(at(0, wrong)),
     }
 }
 
@@ -35,23 +30,15 @@ fn once(alloc: Global, case: &ReadingCase) -> Result<u32, Wrong> {
 }
 
 impl Call for ReadingCase {
-    fn squeezed<'a>(
+    fn make<'a>(
         &self,
         alloc: Global,
         bump: &'a Bump,
-        bytes: usize,
+        limit: Limit<'_>,
     ) -> Result<Option<usize>, Wrong> {
-        squeeze(bump, bytes)?;
+        limit_to(limit)?;
         let has_room = reads(alloc, bump, self)?;
-        let taken = used(bump, bytes);
-        bump.set_allocation_limit(None);
-        if has_room {
-            return Ok(None);
-        }
-        if reads(alloc, bump, self)? {
-            return Ok(Some(taken));
-        }
-        Err(Wrong::NoMemory)
+        Ok(eased(limit, !has_room))
     }
 }
 

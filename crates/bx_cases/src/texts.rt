@@ -4,13 +4,12 @@ mod growths;
 mod zeros;
 
 use crate::report::compare::{Wrong, differs, same_bytes};
-use crate::report::tally::{Failure, at};
 use crate::session::answers::found_so;
-use crate::session::devices::{Devices, Held, Texts, contents, held_of, in_memory};
-use crate::session::medium::{Medium, PageCache};
+use crate::session::devices::{Held, Texts, Wanted, in_memory};
+use crate::session::medium::{DEVICES, Medium, OPENING_WAYS, PageCache};
 use crate::session::open::open;
 use crate::session::places::{Files, Memory, Pages, Place};
-use crate::session::standing::{Standing, again};
+use crate::session::standing::{again_with, hold};
 use crate::sweep::hunt::each_growth;
 use crate::sweep::images::{History, Images, history_of};
 use crate::sweep::recovery::openings;
@@ -19,7 +18,6 @@ use crate::texts::growths::OpeningOf;
 use crate::texts::zeros::fronts_with_zeros;
 use bx_case_files::TextCase;
 use bx_image::Device;
-use bx_journal::Session;
 use bx_store::TextStore;
 use std::alloc::Global;
 
@@ -38,30 +36,22 @@ pub static SWEEPS: [&str; 10] = [
 ];
 
 /// Opens a text in one way. Tells how often.
-pub fn play_text(rt: &HostRuntime, case: &TextCase, sweep: usize) -> Result<u32, Failure> {
+pub fn play_text(rt: &HostRuntime, case: &TextCase, sweep: usize) -> Result<u32, Wrong> {
     let alloc = rt.alloc();
-    let played = match sweep {
+    let wanted = &case.outcome.found;
+    let texts = texts_of(case);
+    match sweep {
         0 => opens(alloc, &Memory, case),
         1 => opens(alloc, &Pages, case),
         2 => opens(alloc, &Files::new(rt), case),
         3 => all_undone(alloc, case),
-        4 => opening_growths(alloc, case),
-        5 => stopped(alloc, &Memory, case),
-        6 => stopped(alloc, &PageCache, case),
-        7 => fronts(alloc, texts_of(case)),
-        8 => changed_bytes(alloc, texts_of(case), case.all_changes),
-        _ => fronts_with_zeros(alloc, texts_of(case)),
-    };
-    match played {
-        Ok(plays) => Ok(plays),
-        Err(wrong) => Err(at(0, wrong)),
+        4 => each_growth(alloc, &OpeningOf { wanted, texts }),
+        5 => stopped(alloc, &Memory, OPENING_WAYS, case),
+        6 => stopped(alloc, &PageCache, DEVICES, case),
+        7 => fronts(alloc, texts),
+        8 => changed_bytes(alloc, texts, case.all_changes),
+        _ => fronts_with_zeros(alloc, texts),
     }
-}
-
-/// Refuses each growth of the opening in turn.
-fn opening_growths(alloc: Global, case: &TextCase) -> Result<u32, Wrong> {
-    let texts = texts_of(case);
-    each_growth(alloc, &OpeningOf { case, texts })
 }
 
 /// What is opened.
@@ -81,14 +71,13 @@ fn or_before<'a>(told: &'a Option<Vec<u8>>, before: &'a Vec<u8>) -> &'a [u8] {
     }
 }
 
-/// This is left.
-fn same_left(alloc: Global, case: &TextCase, held: &Held) -> Result<(), Wrong> {
-    let image = or_before(&case.outcome.image, &case.image);
-    same_bytes(alloc, "image left", image, held.image.as_slice())?;
-    let journal = or_before(&case.outcome.journal, &case.journal);
-    same_bytes(alloc, "journal left", journal, held.journal.as_slice())?;
-    let redo = or_before(&case.outcome.redo, &case.redo);
-    same_bytes(alloc, "redo text left", redo, held.redo.as_slice())
+/// What is left.
+fn left_of(case: &TextCase) -> Wanted<'_> {
+    Wanted {
+        image: Some(or_before(&case.outcome.image, &case.image)),
+        journal: Some(or_before(&case.outcome.journal, &case.journal)),
+        redo: Some(or_before(&case.outcome.redo, &case.redo)),
+    }
 }
 
 /// Opens the text at a place.
@@ -100,45 +89,21 @@ fn opens<D: Device + Drop, T: TextStore + Drop, P: Place<D, T>>(
     match open(alloc, place.devices(alloc, texts_of(case))?) {
         Ok((session, found)) => {
             found_so(alloc, &case.outcome.found, Ok(found))?;
-            leaves(alloc, place, case, session)?;
+            let _ = again_with(alloc, place, session, left_of(case))?;
         }
         Err((devices, fault)) => {
+            let mut devices = devices;
             found_so(alloc, &case.outcome.found, Err(fault))?;
-            left(alloc, case, devices)?;
+            hold(alloc, &mut devices, left_of(case))?;
         }
     }
     Ok(1)
 }
 
-/// A session that was opened leaves what the case tells.
-fn leaves<D: Device + Drop, T: TextStore + Drop, P: Place<D, T>>(
-    alloc: Global,
-    place: &P,
-    case: &TextCase,
-    session: Session<D, T>,
-) -> Result<(), Wrong> {
-    let Standing { held, .. } = again(alloc, place, session)?;
-    same_left(alloc, case, &held)
-}
-
-/// Devices that weren't opened hold what the case tells.
-fn left<D: Device + Drop, T: TextStore + Drop>(
-    alloc: Global,
-    case: &TextCase,
-    devices: Devices<D, T>,
-) -> Result<(), Wrong> {
-    let mut devices = devices;
-    let held = contents(alloc, &mut devices)?;
-    same_left(alloc, case, &held)
-}
-
 /// The images of what is opened; none where it isn't opened.
 fn history(alloc: Global, case: &TextCase) -> Result<Option<History>, Wrong> {
     match open(alloc, in_memory(alloc, texts_of(case))?) {
-        Ok((session, _)) => {
-            let standing = again(alloc, &Memory, session)?;
-            Ok(Some(history_of(alloc, standing)?))
-        }
+        Ok((session, _)) => Ok(Some(history_of(alloc, session)?)),
         Err(_) => Ok(None),
     }
 }
@@ -163,17 +128,18 @@ fn all_undone(alloc: Global, case: &TextCase) -> Result<u32, Wrong> {
     Ok(1)
 }
 
-/// Stops the opening at each call of each device, and what is left again.
+/// Stops the opening at each call of each device, in this many ways, and what is left again.
 fn stopped<D: Device + Drop, T: TextStore + Drop, M: Medium<D, T>>(
     alloc: Global,
     medium: &M,
+    ways: u32,
     case: &TextCase,
 ) -> Result<u32, Wrong> {
     let Some(history) = history(alloc, case)? else {
         return Ok(0);
     };
     let expected = Images::of(alloc, &history)?;
-    let left = held_of(alloc, &in_memory(alloc, texts_of(case))?)?;
+    let left = Held::new(alloc, texts_of(case))?;
     let mut seen = Vec::new(alloc);
-    openings(alloc, medium, left, &expected, &mut seen)
+    openings(alloc, medium, ways, left, &expected, &mut seen)
 }

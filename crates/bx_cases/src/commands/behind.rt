@@ -1,13 +1,12 @@
 //! What is done with each thing that a stopped run left: its opening is stopped, or loses power; or the next command does.
-use crate::commands::rows::first_texts;
-use crate::commands::stops::{Behind, Run, stop_run};
+use crate::commands::stops::{Behind, Calls, Run, stop_run};
 use crate::report::compare::Wrong;
 use crate::session::devices::{Held, Texts};
-use crate::session::medium::{PageCache, Unsynced};
+use crate::session::medium::{DEVICES, OPENING_WAYS, PageCache, Unsynced};
 use crate::session::places::Memory;
 use crate::sweep::images::Images;
 use crate::sweep::recovery::{is_seen, openings};
-use bx_case_files::{Answer, Ask, CommandsCase, Left, Row, Write};
+use bx_case_files::{Answer, Ask, Left, Row, Write};
 use std::alloc::Global;
 
 /// Nothing.
@@ -23,40 +22,26 @@ impl Behind for Nothing {
 /// Its opening is stopped at each call.
 #[derive(Drop)]
 pub struct Stopped {
-    seen: Vec<Held>,
-}
-
-impl Stopped {
-    pub fn new(alloc: Global) -> Self {
-        Stopped {
-            seen: Vec::new(alloc),
-        }
-    }
+    /// What was opened so far.
+    pub seen: Vec<Held>,
 }
 
 impl Behind for Stopped {
     fn play(&mut self, alloc: Global, left: Held, expected: &Images<'_>) -> Result<u32, Wrong> {
-        openings(alloc, &Memory, left, expected, &mut self.seen)
+        openings(alloc, &Memory, OPENING_WAYS, left, expected, &mut self.seen)
     }
 }
 
 /// The power is lost at each call of its opening.
 #[derive(Drop)]
 pub struct Lost {
-    seen: Vec<Held>,
-}
-
-impl Lost {
-    pub fn new(alloc: Global) -> Self {
-        Lost {
-            seen: Vec::new(alloc),
-        }
-    }
+    /// What was opened so far.
+    pub seen: Vec<Held>,
 }
 
 impl Behind for Lost {
     fn play(&mut self, alloc: Global, left: Held, expected: &Images<'_>) -> Result<u32, Wrong> {
-        openings(alloc, &PageCache, left, expected, &mut self.seen)
+        openings(alloc, &PageCache, DEVICES, left, expected, &mut self.seen)
     }
 }
 
@@ -64,17 +49,9 @@ impl Behind for Lost {
 #[derive(Drop)]
 pub struct Next<'a> {
     /// What is on the disk.
-    disk: Texts<'a>,
-    seen: Vec<Held>,
-}
-
-impl<'a> Next<'a> {
-    pub fn new(alloc: Global, case: &'a CommandsCase) -> Self {
-        Next {
-            disk: first_texts(case),
-            seen: Vec::new(alloc),
-        }
-    }
+    pub disk: Texts<'a>,
+    /// What was left so far.
+    pub seen: Vec<Held>,
 }
 
 impl Behind for Next<'_> {
@@ -87,7 +64,10 @@ impl Behind for Next<'_> {
         let run = Run {
             texts: left.texts(),
             rows: &rows,
-            step: 1,
+            calls: Calls {
+                ways: DEVICES,
+                step: 1,
+            },
         };
         let medium = Unsynced { disk: self.disk };
         let stops = match stop_run(alloc, &medium, run, expected, &mut Nothing) {

@@ -122,9 +122,10 @@ impl<'a> Follower<'a> {
         }
     }
 
-    /// A row behind one that was refused.
-    fn go_on_refused(&mut self, alloc: Global, row: &Row, reply: Reply) -> Result<(), Wrong> {
+    /// A row where a call failed before the first that writes.
+    fn follow_refused(&mut self, alloc: Global, row: &Row, reply: Reply) -> Result<(), Wrong> {
         let changes = match reply {
+            Reply::Refused(Fault::Session(SessionFault::DeviceFailed)) => return Ok(()),
             Reply::Undone { left } => left as usize,
             Reply::Redone { changes } => changes as usize,
             _ => return refused_so(alloc, row, self.lacks(row), reply),
@@ -142,14 +143,6 @@ impl<'a> Follower<'a> {
             Course::Stopped(_) => refused_so(alloc, row, SessionFault::Broken, reply),
             Course::Unopened | Course::Refused => self.follow_refused(alloc, row, reply),
             Course::Whole => self.follow_whole(alloc, row, reply),
-        }
-    }
-
-    /// A row where a call failed before the first that writes.
-    fn follow_refused(&mut self, alloc: Global, row: &Row, reply: Reply) -> Result<(), Wrong> {
-        match reply {
-            Reply::Refused(Fault::Session(SessionFault::DeviceFailed)) => Ok(()),
-            _ => self.go_on_refused(alloc, row, reply),
         }
     }
 

@@ -1,9 +1,9 @@
 //! Cases of commands with each growth refused in turn.
 use crate::commands::rows::{begun, play_row};
-use crate::report::compare::{Wrong, is_out_of_memory, same_bytes};
+use crate::report::compare::{Wrong, is_out_of_memory, same_bytes, unwanted};
 use crate::report::tally::{Failure, at};
-use crate::session::answers::{refused, replied, same_reply};
-use crate::session::ask::{Limit, ask_for, log_of, unwanted};
+use crate::session::answers::same_reply;
+use crate::session::ask::{Limit, ask_for, eased, limit_to, lists};
 use crate::session::devices::{MemDevices, Texts, in_memory, unchanged};
 use crate::session::open::{MemSession, close, open};
 use crate::session::places::Memory;
@@ -14,51 +14,41 @@ use bumpalo::Bump;
 use bx_case_files::{Ask, CommandsCase, Row};
 use bx_cli::Reply;
 use bx_image::MemImage;
-use bx_ration::{squeeze, used};
 use bx_store::MemText;
-use std::alloc::{Allocator, Global};
+use std::alloc::Global;
 
 /// Refuses each growth of each command of a case in turn, and of each log. Tells how many they were.
 pub fn play_growths(alloc: Global, case: &CommandsCase) -> Result<u32, Failure> {
-    let mut standing = match begun(alloc, &Memory, case) {
-        Ok(standing) => standing,
-        Err(wrong) => return Err(at(0, wrong)),
-    };
+    let mut standing = begun(alloc, &Memory, case)?;
     let mut growths = 0u32;
     for (i, row) in case.rows.iter().enumerate() {
         let swept = is_swept(i, case.rows.len());
-        if swept {
-            let more = row_growths(alloc, standing.held.texts(), row);
-            growths = add(growths, more)?;
-        }
-        standing = next_row(alloc, standing, row, growths)?;
-        if swept {
-            let more = log_growths(alloc, standing.held.texts(), row);
-            growths = add(growths, more)?;
+        match next_row(alloc, standing, row, swept, &mut growths) {
+            Ok(next) => standing = next,
+            Err(wrong) => return Err(at(growths, wrong)),
         }
     }
     Ok(growths)
 }
 
-/// This many growths, and more.
-fn add(growths: u32, more: Result<u32, Wrong>) -> Result<u32, Failure> {
-    match more {
-        Ok(more) => Ok(growths.saturating_add(more)),
-        Err(wrong) => Err(at(growths, wrong)),
-    }
-}
-
-/// A row behind this many growths that were refused.
+/// Plays a row. Where it is swept, the growths of its command are refused before it, and those of its log behind it.
 fn next_row(
     alloc: Global,
     standing: Standing<MemImage, MemText>,
     row: &Row,
-    growths: u32,
-) -> Result<Standing<MemImage, MemText>, Failure> {
-    match play_row(alloc, &Memory, standing, row) {
-        Ok(standing) => Ok(standing),
-        Err(wrong) => Err(at(growths, wrong)),
+    swept: bool,
+    growths: &mut u32,
+) -> Result<Standing<MemImage, MemText>, Wrong> {
+    if swept {
+        let more = row_growths(alloc, standing.held.texts(), row)?;
+        *growths = growths.saturating_add(more);
     }
+    let standing = play_row(alloc, &Memory, standing, row)?;
+    if swept {
+        let more = log_growths(alloc, standing.held.texts(), row)?;
+        *growths = growths.saturating_add(more);
+    }
+    Ok(standing)
 }
 
 /// Refuses each growth of a command in turn. Tells how many they were.
@@ -77,13 +67,38 @@ struct Asking<'a> {
 }
 
 impl Call for Asking<'_> {
-    fn squeezed<'a>(
+    fn make<'a>(
         &self,
         alloc: Global,
         bump: &'a Bump,
-        bytes: usize,
+        limit: Limit<'_>,
     ) -> Result<Option<usize>, Wrong> {
-        squeezed(alloc, bump, self.texts, self.row, bytes)
+        let mut session = opened_in(alloc, bump, self.texts)?;
+        let reply = ask_for(bump, &mut session, &self.row.ask, limit)?;
+        let has_room = had_room(alloc, self, reply, &close(session))?;
+        Ok(eased(limit, !has_room))
+    }
+}
+
+/// Whether there was memory for a command. It answered and left what the case tells, or left all as it was.
+fn had_room<'a>(
+    alloc: Global,
+    asking: &Asking<'_>,
+    reply: Reply,
+    devices: &MemDevices<&'a Bump>,
+) -> Result<bool, Wrong> {
+    let row = asking.row;
+    match reply {
+        Reply::Refused(fault) if is_out_of_memory(fault) => {
+            unchanged(alloc, asking.texts, devices)?;
+            Ok(false)
+        }
+        _ => {
+            same_reply(alloc, &row.answer, reply)?;
+            let image = row.left.image.as_slice();
+            same_bytes(alloc, "image", image, devices.image.as_slice())?;
+            Ok(true)
+        }
     }
 }
 
@@ -95,55 +110,36 @@ struct Listing<'a> {
 }
 
 impl Call for Listing<'_> {
-    fn squeezed<'a>(
+    fn make<'a>(
         &self,
         alloc: Global,
         bump: &'a Bump,
-        bytes: usize,
+        limit: Limit<'_>,
     ) -> Result<Option<usize>, Wrong> {
-        let session = opened_in(alloc, bump, self.texts)?;
-        listed(alloc, bump, session, self, bytes)
+        let mut session = opened_in(alloc, bump, self.texts)?;
+        let refused = listed(alloc, bump, &mut session, self.log, limit)?;
+        if refused.is_some() {
+            unchanged(alloc, self.texts, &close(session))?;
+        }
+        Ok(refused)
     }
 }
 
-/// Lists the changes of a session with this many bytes, and where that is too little again with enough.
+/// Lists the changes of a session, and where there is too little memory again with enough.
 fn listed<'a>(
-    alloc: Global,
-    bump: &'a Bump,
-    session: MemSession<&'a Bump>,
-    listing: &Listing<'_>,
-    bytes: usize,
-) -> Result<Option<usize>, Wrong> {
-    let mut session = session;
-    squeeze(bump, bytes)?;
-    let has_room = lists(alloc, bump, &mut session, listing.log)?;
-    let taken = used(bump, bytes);
-    bump.set_allocation_limit(None);
-    if has_room {
-        return Ok(None);
-    }
-    if !lists(alloc, bump, &mut session, listing.log)? {
-        return Err(Wrong::NoMemory);
-    }
-    unchanged(alloc, listing.texts, &close(session))?;
-    Ok(Some(taken))
-}
-
-/// Whether there was memory for the log, which is this one.
-fn lists<'a>(
     alloc: Global,
     bump: &'a Bump,
     session: &mut MemSession<&'a Bump>,
     log: &[u8],
-) -> Result<bool, Wrong> {
-    match log_of(bump, session) {
-        Ok(found) => {
-            same_bytes(alloc, "log", log, found.as_slice())?;
-            Ok(true)
-        }
-        Err(fault) if is_out_of_memory(fault) => Ok(false),
-        Err(fault) => Err(unwanted(alloc, "log", fault)),
+    limit: Limit<'_>,
+) -> Result<Option<usize>, Wrong> {
+    limit_to(limit)?;
+    let has_room = lists(alloc, bump, session, log)?;
+    let refused = eased(limit, !has_room);
+    if !has_room && !lists(alloc, bump, session, log)? {
+        return Err(Wrong::NoMemory);
     }
+    Ok(refused)
 }
 
 /// Refuses each growth of the log that a row tells in turn. Tells how many they were.
@@ -165,82 +161,6 @@ fn opened_in<'a>(
 ) -> Result<MemSession<&'a Bump>, Wrong> {
     match open(bump, in_memory(bump, texts)?) {
         Ok((session, _)) => Ok(session),
-        Err((_, fault)) => Err(refused(alloc, fault)),
+        Err((_, fault)) => Err(unwanted(alloc, "opening", fault)),
     }
-}
-
-/// What one command came to in an arena.
-#[derive(Drop)]
-struct Asked<'a> {
-    reply: Option<Reply>,
-    devices: MemDevices<&'a Bump>,
-}
-
-/// One command, with memory that may be short. Behind it there is room.
-fn asked_with<'a>(
-    alloc: Global,
-    bump: &'a Bump,
-    texts: Texts<'_>,
-    row: &Row,
-    limit: Limit<'a>,
-) -> Result<Asked<'a>, Wrong> {
-    let mut session = opened_in(alloc, bump, texts)?;
-    let reply = ask_for(bump, &mut session, &row.ask, limit)?;
-    bump.set_allocation_limit(None);
-    let devices = close(session);
-    Ok(Asked { reply, devices })
-}
-
-/// One command with this many bytes, and where that is too little again with enough. Tells how many it had taken when it was
-/// refused, if it was.
-fn squeezed<'a>(
-    alloc: Global,
-    bump: &'a Bump,
-    texts: Texts<'_>,
-    row: &Row,
-    bytes: usize,
-) -> Result<Option<usize>, Wrong> {
-    let asked = asked_with(alloc, bump, texts, row, Some((bump, bytes)))?;
-    let taken = used(bump, bytes);
-    match asked.reply {
-        Some(reply) if !lacks_memory(reply) => {
-            same_reply(alloc, &row.answer, reply)?;
-            same_image(alloc, row, &asked.devices)?;
-            Ok(None)
-        }
-        _ => {
-            unchanged(alloc, texts, &asked.devices)?;
-            with_room(alloc, bump, texts, row)?;
-            Ok(Some(taken))
-        }
-    }
-}
-
-/// Whether a command was refused for want of memory.
-fn lacks_memory(reply: Reply) -> bool {
-    match reply {
-        Reply::Refused(fault) => is_out_of_memory(fault),
-        _ => false,
-    }
-}
-
-/// Devices hold the image that a row leaves.
-fn same_image<A: Allocator>(
-    alloc: Global,
-    row: &Row,
-    devices: &MemDevices<A>,
-) -> Result<(), Wrong> {
-    same_bytes(
-        alloc,
-        "image",
-        row.left.image.as_slice(),
-        devices.image.as_slice(),
-    )
-}
-
-/// The command with room enough.
-fn with_room<'a>(alloc: Global, bump: &'a Bump, texts: Texts<'_>, row: &Row) -> Result<(), Wrong> {
-    let asked = asked_with(alloc, bump, texts, row, None)?;
-    replied(alloc, &row.answer, asked.reply)?;
-    same_image(alloc, row, &asked.devices)
 }

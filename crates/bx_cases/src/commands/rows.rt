@@ -1,13 +1,12 @@
 //! Cases of commands, played row by row with nothing in their way.
-use crate::report::compare::{Wrong, same_bytes};
-use crate::session::answers::{replied, same_opening};
-use crate::session::ask::{ask_for, log_of, unwanted};
-use crate::session::devices::{Held, Texts};
+use crate::report::compare::Wrong;
+use crate::session::answers::{same_opening, same_reply};
+use crate::session::ask::{ask_for, lists};
+use crate::session::devices::{Held, Texts, Wanted};
 use crate::session::open::found_again;
 use crate::session::places::Place;
-use crate::session::standing::{Standing, again, stand};
+use crate::session::standing::{Standing, again, again_with, opened};
 use bx_case_files::{Answer, Ask, CommandsCase, Row};
-use bx_cli::Fault;
 use bx_image::Device;
 use bx_journal::Session;
 use bx_store::TextStore;
@@ -22,14 +21,15 @@ pub fn first_texts(case: &CommandsCase) -> Texts<'_> {
     }
 }
 
-/// The session that a case begins with.
+/// The session that a case begins with, opened as it tells, and again.
 pub fn begun<D: Device + Drop, T: TextStore + Drop, P: Place<D, T>>(
     alloc: Global,
     place: &P,
     case: &CommandsCase,
 ) -> Result<Standing<D, T>, Wrong> {
     let devices = place.devices(alloc, first_texts(case))?;
-    stand(alloc, place, devices, case.opening)
+    let session = opened(alloc, devices, case.opening)?;
+    again(alloc, place, session)
 }
 
 /// Asks for what a row tells, and compares the reply and the log.
@@ -39,7 +39,7 @@ fn play_ask<D: Device + Drop, T: TextStore + Drop>(
     row: &Row,
 ) -> Result<(), Wrong> {
     let reply = ask_for(alloc, session, &row.ask, None)?;
-    replied(alloc, &row.answer, reply)?;
+    same_reply(alloc, &row.answer, reply)?;
     same_log(alloc, session, row)
 }
 
@@ -49,34 +49,22 @@ fn same_log<D: Device + Drop, T: TextStore + Drop>(
     session: &mut Session<D, T>,
     row: &Row,
 ) -> Result<(), Wrong> {
-    match &row.left.log {
-        Some(log) => same_listing(alloc, log.as_slice(), log_of(alloc, session)),
-        None => Ok(()),
+    let Some(log) = &row.left.log else {
+        return Ok(());
+    };
+    if lists(alloc, alloc, session, log.as_slice())? {
+        return Ok(());
     }
+    Err(Wrong::NoMemory)
 }
 
-fn same_listing(alloc: Global, log: &[u8], found: Result<Vec<u8>, Fault>) -> Result<(), Wrong> {
-    match found {
-        Ok(found) => same_bytes(alloc, "log", log, found.as_slice()),
-        Err(fault) => Err(unwanted(alloc, "log", fault)),
-    }
-}
-
-/// The devices hold what a row leaves. A fault leaves the texts as they were.
-fn same_held(alloc: Global, row: &Row, before: &Held, held: &Held) -> Result<(), Wrong> {
-    same_bytes(
-        alloc,
-        "image",
-        row.left.image.as_slice(),
-        held.image.as_slice(),
-    )?;
+/// What a row leaves. A fault leaves the texts as they were.
+fn left_by<'a>(row: &'a Row, before: &'a Held) -> Wanted<'a> {
     let kept = matches!(&row.answer, Answer::Refused(_));
-    if let Some(journal) = wanted_text(&row.left.journal, &before.journal, kept) {
-        same_bytes(alloc, "journal", journal, held.journal.as_slice())?;
-    }
-    match wanted_text(&row.left.redo, &before.redo, kept) {
-        Some(redo) => same_bytes(alloc, "redo text", redo, held.redo.as_slice()),
-        None => Ok(()),
+    Wanted {
+        image: Some(row.left.image.as_slice()),
+        journal: wanted_text(&row.left.journal, &before.journal, kept),
+        redo: wanted_text(&row.left.redo, &before.redo, kept),
     }
 }
 
@@ -112,7 +100,7 @@ pub fn play_row<D: Device + Drop, T: TextStore + Drop, P: Place<D, T>>(
     let mut session = session;
     answer(alloc, &mut session, row)?;
     let behind = again(alloc, place, session)?;
-    same_held(alloc, row, &held, &behind.held)?;
+    left_by(row, &held).same(alloc, behind.held.texts())?;
     Ok(behind)
 }
 
@@ -141,13 +129,10 @@ pub fn play_once<D: Device + Drop, T: TextStore + Drop, P: Place<D, T>>(
     for (i, row) in case.rows.iter().enumerate() {
         session = play_next(alloc, place, session, row, i == behind)?;
     }
-    match case.rows.last() {
-        Some(row) => {
-            let _ = looked(alloc, place, session, row)?;
-            Ok(())
-        }
-        None => Ok(()),
+    if let Some(row) = case.rows.last() {
+        let _ = again_with(alloc, place, session, told_by(row))?;
     }
+    Ok(())
 }
 
 /// A row of a session; the devices are closed and opened behind it where that is asked for, or the row tells it.
@@ -158,44 +143,25 @@ fn play_next<D: Device + Drop, T: TextStore + Drop, P: Place<D, T>>(
     row: &Row,
     is_closed: bool,
 ) -> Result<Session<D, T>, Wrong> {
-    if matches!(&row.ask, Ask::Open) {
-        return looked(alloc, place, session, row);
-    }
+    let is_open = matches!(&row.ask, Ask::Open);
     let mut session = session;
-    play_ask(alloc, &mut session, row)?;
-    if is_closed {
-        return looked(alloc, place, session, row);
+    if !is_open {
+        play_ask(alloc, &mut session, row)?;
+    }
+    if is_open || is_closed {
+        return again_with(alloc, place, session, told_by(row));
     }
     Ok(session)
 }
 
-/// The devices hold what a row tells.
-fn same_told(alloc: Global, row: &Row, held: &Held) -> Result<(), Wrong> {
-    same_bytes(
-        alloc,
-        "image",
-        row.left.image.as_slice(),
-        held.image.as_slice(),
-    )?;
-    match &row.left.journal {
-        Some(journal) => same_bytes(
-            alloc,
-            "journal",
-            journal.as_slice(),
-            held.journal.as_slice(),
-        ),
-        None => Ok(()),
+/// What a row tells of the image and the journal.
+fn told_by(row: &Row) -> Wanted<'_> {
+    Wanted {
+        image: Some(row.left.image.as_slice()),
+        journal: match &row.left.journal {
+            Some(journal) => Some(journal.as_slice()),
+            None => None,
+        },
+        redo: None,
     }
-}
-
-/// Closes a session, compares what its devices hold, and opens them again.
-fn looked<D: Device + Drop, T: TextStore + Drop, P: Place<D, T>>(
-    alloc: Global,
-    place: &P,
-    session: Session<D, T>,
-    row: &Row,
-) -> Result<Session<D, T>, Wrong> {
-    let Standing { session, held } = again(alloc, place, session)?;
-    same_told(alloc, row, &held)?;
-    Ok(session)
 }

@@ -1,21 +1,21 @@
 //! Cases on devices that fail at each of their calls: what is left is opened again, and stands for images that it may.
 use crate::commands::follower::Follower;
 use crate::commands::rows::{begun, first_texts};
-use crate::report::compare::{Wrong, differs};
+use crate::report::compare::{Wrong, differs, unwanted};
 use crate::report::tally::{Failure, at};
-use crate::session::answers::refused;
 use crate::session::ask::ask_for;
 use crate::session::devices::{Held, Texts};
-use crate::session::fuse::{Fused, FusedDevices, FusedSession, found_of, fuse_at, in_fused};
+use crate::session::fuse::{
+    Fused, FusedDevices, FusedSession, found_of, fuse_at, in_fused, is_of_device,
+};
 use crate::session::medium::Medium;
 use crate::session::open::{close, open};
 use crate::session::places::Memory;
+use crate::session::standing::Standing;
 use crate::sweep::images::{History, Images, history_of};
 use crate::sweep::recovery::{MOST_CALLS, recovered, stands_for};
 use bx_case_files::{Ask, CommandsCase, Opening, Row};
-use bx_cli::Fault;
 use bx_image::Device;
-use bx_journal::SessionFault;
 use bx_store::TextStore;
 use std::alloc::Global;
 
@@ -29,10 +29,8 @@ fn run_row<'a, D: Device + Drop, T: TextStore + Drop>(
     if matches!(&row.ask, Ask::Open) || !follower.can_follow(row) {
         return Ok(());
     }
-    match ask_for(alloc, session, &row.ask, None)? {
-        Some(reply) => follower.follow(alloc, row, reply),
-        None => Err(Wrong::NoMemory),
-    }
+    let reply = ask_for(alloc, session, &row.ask, None)?;
+    follower.follow(alloc, row, reply)
 }
 
 /// Runs rows on devices that were opened, or not. Hands the devices back.
@@ -42,16 +40,20 @@ fn run_rows<'a, D: Device + Drop, T: TextStore + Drop>(
     rows: &'a Vec<Row>,
     follower: &mut Follower<'a>,
 ) -> Result<FusedDevices<D, T>, Wrong> {
-    let mut session = match open(alloc, devices) {
-        Ok((session, _)) => session,
-        Err((devices, Fault::Session(SessionFault::DeviceFailed | SessionFault::Interrupted))) => {
-            follower.refuse();
-            return Ok(devices);
+    match open(alloc, devices) {
+        Ok((session, _)) => {
+            let mut session = session;
+            run_each(alloc, &mut session, rows, follower)?;
+            Ok(close(session))
         }
-        Err((_, fault)) => return Err(refused(alloc, fault)),
-    };
-    run_each(alloc, &mut session, rows, follower)?;
-    Ok(close(session))
+        Err((devices, fault)) => {
+            if !is_of_device(fault) {
+                return Err(unwanted(alloc, "opening", fault));
+            }
+            follower.refuse();
+            Ok(devices)
+        }
+    }
 }
 
 /// Runs rows.
@@ -94,9 +96,10 @@ fn follows<'a>(alloc: Global, left: &Held, follower: &Follower<'a>) -> Result<Im
     Ok(expected)
 }
 
-/// What a case begins with.
+/// The images that a case begins with.
 fn first_of(alloc: Global, case: &CommandsCase) -> Result<History, Wrong> {
-    history_of(alloc, begun(alloc, &Memory, case)?)
+    let Standing { session, .. } = begun(alloc, &Memory, case)?;
+    history_of(alloc, session)
 }
 
 /// What is done with each thing that a stopped run left.
@@ -105,13 +108,21 @@ pub trait Behind {
     fn play(&mut self, alloc: Global, left: Held, expected: &Images<'_>) -> Result<u32, Wrong>;
 }
 
-/// A run: what devices hold, and what is asked for.
+/// Which calls fail.
+#[derive(Clone, Copy)]
+pub struct Calls {
+    /// In how many ways.
+    pub ways: u32,
+    /// Between two of them: how far the second is behind the first.
+    pub step: u64,
+}
+
+/// A run: what devices hold, what is asked for, and which calls fail.
 #[derive(Clone, Copy)]
 pub struct Run<'a, 'b> {
     pub texts: Texts<'a>,
     pub rows: &'b Vec<Row>,
-    /// Between two of its calls that fail: how far the second is behind the first.
-    pub step: u64,
+    pub calls: Calls,
 }
 
 /// A run on devices where one fails, and what it leaves opened again. Tells how often it was stopped, if a call failed: once
@@ -164,7 +175,7 @@ fn stop_kind<D: Device + Drop, T: TextStore + Drop, M: Medium<D, T>, B: Behind>(
 ) -> Result<u32, Failure> {
     let mut stops = 0u32;
     for turn in 0..MOST_CALLS {
-        let pass = place_of(kind, medium.kinds(), run.step, turn);
+        let pass = run.calls.place(kind, turn);
         match one_stop(alloc, medium, run, images, fuse_at(kind, pass), behind) {
             Ok(None) => break,
             Ok(Some(more)) => stops = stops.saturating_add(more),
@@ -174,11 +185,13 @@ fn stop_kind<D: Device + Drop, T: TextStore + Drop, M: Medium<D, T>, B: Behind>(
     Ok(stops)
 }
 
-/// The call that fails at this turn. The ways begin at calls that are spread over a step.
-fn place_of(kind: u32, kinds: u32, step: u64, turn: u64) -> u64 {
-    let first = (kind as u64).saturating_mul(step);
-    let first = first.checked_div(kinds as u64).unwrap_or(0);
-    turn.saturating_mul(step).saturating_add(first)
+impl Calls {
+    /// The call that fails at this turn. The ways begin at calls that are spread over a step.
+    fn place(self, kind: u32, turn: u64) -> u64 {
+        let first = (kind as u64).saturating_mul(self.step);
+        let first = first.checked_div(self.ways as u64).unwrap_or(0);
+        turn.saturating_mul(self.step).saturating_add(first)
+    }
 }
 
 /// How a failure names the call: its way and device, and how many calls came before.
@@ -196,33 +209,27 @@ pub fn stop_run<D: Device + Drop, T: TextStore + Drop, M: Medium<D, T>, B: Behin
     behind: &mut B,
 ) -> Result<u32, Failure> {
     let mut stops = 0u32;
-    for kind in 0..medium.kinds() {
+    for kind in 0..run.calls.ways {
         let more = stop_kind(alloc, medium, run, images, kind, behind)?;
         stops = stops.saturating_add(more);
     }
     Ok(stops)
 }
 
-/// Stops a case at the calls of each device that the step takes. Tells how often.
+/// Stops a case at these calls. Tells how often.
 pub fn play_stops<D: Device + Drop, T: TextStore + Drop, M: Medium<D, T>, B: Behind>(
     alloc: Global,
     medium: &M,
     case: &CommandsCase,
-    step: u64,
+    calls: Calls,
     behind: &mut B,
 ) -> Result<u32, Failure> {
-    let first = match first_of(alloc, case) {
-        Ok(first) => first,
-        Err(wrong) => return Err(at(0, wrong)),
-    };
-    let images = match Images::of(alloc, &first) {
-        Ok(images) => images,
-        Err(_) => return Err(at(0, Wrong::NoMemory)),
-    };
+    let first = first_of(alloc, case)?;
+    let images = Images::of(alloc, &first)?;
     let run = Run {
         texts: first_texts(case),
         rows: &case.rows,
-        step,
+        calls,
     };
     stop_run(alloc, medium, run, &images, behind)
 }

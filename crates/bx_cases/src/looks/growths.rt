@@ -1,13 +1,13 @@
 //! Looks with each growth refused in turn.
 use crate::looks::{show, shown_so, wanted_of};
 use crate::report::compare::{Wrong, front_of, is_out_of_memory};
+use crate::session::ask::{Limit, eased, limit_to};
 use crate::session::devices::{Texts, in_memory};
-use crate::session::fuse::locked;
+use crate::session::fuse::{LOCKED, fuse};
 use crate::sweep::hunt::Call;
 use bumpalo::Bump;
 use bx_case_files::Look;
 use bx_cli::Fault;
-use bx_ration::{squeeze, used};
 use std::alloc::Global;
 
 /// A look of a case.
@@ -18,55 +18,36 @@ pub struct LookOf<'a> {
 }
 
 impl Call for LookOf<'_> {
-    fn squeezed<'a>(
+    fn make<'a>(
         &self,
         alloc: Global,
         bump: &'a Bump,
-        bytes: usize,
+        limit: Limit<'_>,
     ) -> Result<Option<usize>, Wrong> {
-        squeezed_look(alloc, bump, self.look, self.texts, bytes)
+        let mut found = Vec::new(alloc);
+        let devices = fuse(in_memory(bump, self.texts)?, LOCKED)?;
+        limit_to(limit)?;
+        let outcome = show(bump, devices, self.look, false, &mut found);
+        let has_room = had_room(alloc, self.look, found.as_slice(), outcome)?;
+        Ok(eased(limit, !has_room))
     }
 }
 
-/// A look with this many bytes, and where that is too little again with enough. Tells how many it had taken when it was refused,
-/// if it was.
-fn squeezed_look<'a>(
+/// Whether there was memory for a look. It came to what the case tells, or wrote a front of it.
+fn had_room(
     alloc: Global,
-    bump: &'a Bump,
     look: &Look,
-    texts: Texts<'_>,
-    bytes: usize,
-) -> Result<Option<usize>, Wrong> {
-    let mut found = Vec::new(alloc);
-    let (outcome, taken) = looked_with(bump, look, texts, bytes, &mut found)?;
+    found: &[u8],
+    outcome: Result<(), Fault>,
+) -> Result<bool, Wrong> {
     match outcome {
         Err(fault) if is_out_of_memory(fault) => {
-            front_of(alloc, "output", wanted_of(look, false), found.as_slice())?;
-            found.clear();
-            let devices = locked(in_memory(bump, texts)?)?;
-            let outcome = show(bump, devices, look, false, &mut found);
-            shown_so(alloc, look, false, found.as_slice(), outcome)?;
-            Ok(Some(taken))
+            front_of(alloc, "output", wanted_of(look, false), found)?;
+            Ok(false)
         }
         outcome => {
-            shown_so(alloc, look, false, found.as_slice(), outcome)?;
-            Ok(None)
+            shown_so(alloc, look, false, found, outcome)?;
+            Ok(true)
         }
     }
-}
-
-/// What a look with this many bytes came to, and how many were taken. Behind it there is room.
-fn looked_with<'a>(
-    bump: &'a Bump,
-    look: &Look,
-    texts: Texts<'_>,
-    bytes: usize,
-    found: &mut Vec<u8>,
-) -> Result<(Result<(), Fault>, usize), Wrong> {
-    let devices = locked(in_memory(bump, texts)?)?;
-    squeeze(bump, bytes)?;
-    let outcome = show(bump, devices, look, false, found);
-    let taken = used(bump, bytes);
-    bump.set_allocation_limit(None);
-    Ok((outcome, taken))
 }

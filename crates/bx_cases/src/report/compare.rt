@@ -7,15 +7,6 @@ use std::io;
 /// The most bytes that are shown of a text.
 const MOST_SHOWN: usize = 200;
 
-/// What differs.
-#[derive(Drop)]
-pub struct Difference {
-    /// What was compared.
-    pub what: &'static str,
-    pub wanted: String,
-    pub found: String,
-}
-
 /// Why a play can't be called right.
 #[derive(Drop)]
 pub enum Wrong {
@@ -23,8 +14,8 @@ pub enum Wrong {
     NoMemory,
     /// A file or a device can't be used, or a case asks for what can't be played.
     Unknown,
-    /// Something differs from what the case tells.
-    Differs(Difference),
+    /// Something differs from what the case tells: what was compared, what was wanted, and what was found.
+    Differs(String),
 }
 
 impl From<AllocError> for Wrong {
@@ -53,15 +44,8 @@ impl From<bx_text::NoMemory> for Wrong {
 
 /// What is compared was found so, and should be otherwise.
 pub fn differs(alloc: Global, what: &'static str, wanted: &str, found: &str) -> Wrong {
-    let Ok(wanted) = String::from_str(alloc, wanted) else {
-        return Wrong::NoMemory;
-    };
-    match String::from_str(alloc, found) {
-        Ok(found) => Wrong::Differs(Difference {
-            what,
-            wanted,
-            found,
-        }),
+    match format!(in alloc; "{what}: wanted {wanted}, found {found}") {
+        Ok(text) => Wrong::Differs(text),
         Err(_) => Wrong::NoMemory,
     }
 }
@@ -118,6 +102,12 @@ pub fn front_of(
         return Ok(());
     }
     unlike(alloc, what, whole, found)
+}
+
+/// A front of some bytes.
+pub fn front(bytes: &[u8], len: usize) -> &[u8] {
+    let (front, _) = bytes.split_at(len.min(bytes.len()));
+    front
 }
 
 /// How many bytes two texts share.
@@ -190,7 +180,10 @@ pub fn no_fault(alloc: Global, wanted: &str) -> Wrong {
     differs(alloc, "fault", wanted, "no fault")
 }
 
-/// The exit status of a fault: 2 where the words are wrong, else 1.
-pub fn status_of(fault: Fault) -> u8 {
-    if fault == Fault::Usage { 2 } else { 1 }
+/// A fault was found, where none should be.
+pub fn unwanted(alloc: Global, what: &'static str, fault: Fault) -> Wrong {
+    match fault_text(alloc, fault) {
+        Ok(text) => differs(alloc, what, "no fault", text.as_str()),
+        Err(_) => Wrong::NoMemory,
+    }
 }

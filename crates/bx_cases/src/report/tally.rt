@@ -15,6 +15,13 @@ pub fn at(call: u32, wrong: Wrong) -> Failure {
     Failure { call, wrong }
 }
 
+/// The first call, or all that a sweep makes.
+impl From<Wrong> for Failure {
+    fn from(wrong: Wrong) -> Self {
+        at(0, wrong)
+    }
+}
+
 /// The front of a line: which case.
 fn tell_case(rt: &HostRuntime, file: &str, line: u64, name: &str) {
     let _ = print!(rt; "{file}:{line}: {name}: ");
@@ -27,19 +34,12 @@ fn tell_call(rt: &HostRuntime, sweep: &str, call: u32) {
 
 /// The end of the line: what is wrong.
 fn tell_wrong(rt: &HostRuntime, wrong: &Wrong) {
-    match wrong {
-        Wrong::NoMemory => tell_end(rt, "out of memory"),
-        Wrong::Unknown => tell_end(rt, "can't be played"),
-        Wrong::Differs(it) => tell_difference(rt, it.what, it.wanted.as_str(), it.found.as_str()),
-    }
-}
-
-fn tell_end(rt: &HostRuntime, text: &str) {
+    let text = match wrong {
+        Wrong::NoMemory => "out of memory",
+        Wrong::Unknown => "can't be played",
+        Wrong::Differs(text) => text.as_str(),
+    };
     let _ = println!(rt; "{text}");
-}
-
-fn tell_difference(rt: &HostRuntime, what: &str, wanted: &str, found: &str) {
-    let _ = println!(rt; "{what}: wanted {wanted}, found {found}");
 }
 
 /// How many plays each sweep of a file made, and how many cases failed.

@@ -1,5 +1,7 @@
 //! What commands and openings answer, beside what a case tells.
-use crate::report::compare::{Wrong, differs, fault_text, same_text};
+use crate::report::compare::{
+    Wrong, differs, fault_text, no_fault, same_fault, same_text, unwanted,
+};
 use bx_case_files::{Answer, Found, Opening, Records};
 use bx_cli::{Fault, Reply};
 use bx_dd::Counts;
@@ -26,31 +28,6 @@ pub fn same_opening(alloc: Global, wanted: Opening, found: Opening) -> Result<()
     let wanted = opening_text(alloc, wanted)?;
     let found = opening_text(alloc, found)?;
     Err(differs(alloc, "opening", wanted.as_str(), found.as_str()))
-}
-
-/// Opening was refused, with this fault.
-pub fn same_refusal(alloc: Global, wanted: &Found, fault: Fault) -> Result<(), Wrong> {
-    match wanted {
-        Found::Refused(wanted) => same_told(alloc, wanted.as_str(), fault),
-        Found::Opened(opening) => {
-            let wanted = opening_text(alloc, *opening)?;
-            same_told(alloc, wanted.as_str(), fault)
-        }
-    }
-}
-
-/// The text that an opening reported: that of the fault.
-fn same_told(alloc: Global, wanted: &str, fault: Fault) -> Result<(), Wrong> {
-    let found = fault_text(alloc, fault)?;
-    same_text(alloc, "opening", wanted, found.as_str())
-}
-
-/// Opening was refused, where it should not be.
-pub fn refused(alloc: Global, fault: Fault) -> Wrong {
-    match fault_text(alloc, fault) {
-        Ok(text) => differs(alloc, "opening", "no fault", text.as_str()),
-        Err(_) => Wrong::NoMemory,
-    }
 }
 
 /// dd's counts, as a case file has them.
@@ -110,7 +87,7 @@ pub fn same_reply(alloc: Global, wanted: &Answer, reply: Reply) -> Result<(), Wr
 }
 
 /// These replies are the same.
-fn same_replies(alloc: Global, wanted: Reply, found: Reply) -> Result<(), Wrong> {
+pub fn same_replies(alloc: Global, wanted: Reply, found: Reply) -> Result<(), Wrong> {
     let wanted = reply_text(alloc, wanted)?;
     same_reply_text(alloc, wanted.as_str(), found)
 }
@@ -121,34 +98,12 @@ pub fn same_reply_text(alloc: Global, wanted: &str, reply: Reply) -> Result<(), 
     same_text(alloc, "reply", wanted, found.as_str())
 }
 
-/// There is a reply, and it is this one.
-pub fn replied(alloc: Global, wanted: &Answer, reply: Option<Reply>) -> Result<(), Wrong> {
-    match reply {
-        Some(reply) => same_reply(alloc, wanted, reply),
-        None => Err(Wrong::NoMemory),
-    }
-}
-
-/// There is a reply, and it is the same.
-pub fn replied_so(alloc: Global, wanted: Reply, found: Option<Reply>) -> Result<(), Wrong> {
-    match found {
-        Some(found) => same_replies(alloc, wanted, found),
-        None => Err(Wrong::NoMemory),
-    }
-}
-
-/// Opening found this, where the case tells an opening or a fault.
-fn same_found(alloc: Global, wanted: &Found, found: Opening) -> Result<(), Wrong> {
-    match wanted {
-        Found::Opened(wanted) => same_opening(alloc, *wanted, found),
-        Found::Refused(text) => Err(differs(alloc, "opening", text.as_str(), "no fault")),
-    }
-}
-
-/// Opening answered what the case tells.
+/// Opening answered what the case tells: an opening or a fault.
 pub fn found_so(alloc: Global, wanted: &Found, found: Result<Opening, Fault>) -> Result<(), Wrong> {
-    match found {
-        Ok(found) => same_found(alloc, wanted, found),
-        Err(fault) => same_refusal(alloc, wanted, fault),
+    match (wanted, found) {
+        (Found::Opened(wanted), Ok(found)) => same_opening(alloc, *wanted, found),
+        (Found::Opened(_), Err(fault)) => Err(unwanted(alloc, "opening", fault)),
+        (Found::Refused(text), Ok(_)) => Err(no_fault(alloc, text.as_str())),
+        (Found::Refused(text), Err(fault)) => same_fault(alloc, text.as_str(), fault),
     }
 }

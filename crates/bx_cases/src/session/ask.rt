@@ -1,17 +1,17 @@
 //! What a case asks a session for: commands, changes that no command makes, the log.
-ghost use Rattle.std.specs.Prelude.{IfOk, IfSome};
+ghost use Rattle.std.specs.Prelude.{◌≡◌, All, IfOk, IfSome, length};
 ghost use Rattle.bx_commands.specs.Command.{IsNear};
 
-use crate::report::compare::{Wrong, differs, fault_text};
+use crate::report::compare::{Wrong, is_out_of_memory, same_bytes, unwanted};
 use crate::session::MANY;
 use bumpalo::Bump;
 use bx_case_files::Ask;
 use bx_cli::{Command, Fault, Reply, log_text, run_all};
 use bx_image::{Change, Device};
 use bx_journal::{Session, SessionFault};
-use bx_ration::squeeze;
+use bx_ration::{squeeze, used};
 use bx_store::TextStore;
-use bx_text::{Bytes, Piece, Pieces, Words};
+use bx_text::{Bytes, IoFault, Piece, Pieces, Words};
 use std::alloc::{Allocator, Global};
 
 /// The furthest place that a command names.
@@ -77,20 +77,30 @@ fn command_of<A: Allocator + Clone>(alloc: A, ask: &Ask) -> Result<Option<Comman
 pub type Limit<'a> = Option<(&'a Bump, usize)>;
 
 /// From here on memory is short, where it is to be.
-fn limit_to(limit: Limit<'_>) -> Result<(), Wrong> {
+pub fn limit_to(limit: Limit<'_>) -> Result<(), Wrong> {
     if let Some((bump, bytes)) = limit {
         squeeze(bump, bytes)?;
     }
     Ok(())
 }
 
-/// Asks for what a case tells, with memory that gets short once it is asked for. None where even the room for a reply was refused.
+/// From here on there is room. Tells how many bytes a call had taken that was refused.
+pub fn eased(limit: Limit<'_>, is_refused: bool) -> Option<usize> {
+    let mut taken = 0;
+    if let Some((bump, bytes)) = limit {
+        taken = used(bump, bytes);
+        bump.set_allocation_limit(None);
+    }
+    if is_refused { Some(taken) } else { None }
+}
+
+/// Asks for what a case tells, with memory that gets short once it is asked for.
 pub fn ask_for<D: Device, T: TextStore, A: Allocator + Clone>(
     alloc: A,
     session: &mut Session<D, T, A>,
     ask: &Ask,
     limit: Limit<'_>,
-) -> Result<Option<Reply>, Wrong> {
+) -> Result<Reply, Wrong> {
     match ask {
         Ask::Change { base, writes } => {
             ask_change(alloc, session, *base, writes.as_slice(), limit)
@@ -104,7 +114,7 @@ fn ask_command<D: Device, T: TextStore, A: Allocator + Clone>(
     session: &mut Session<D, T, A>,
     ask: &Ask,
     limit: Limit<'_>,
-) -> Result<Option<Reply>, Wrong> {
+) -> Result<Reply, Wrong> {
     match command_of(alloc.clone()?, ask)? {
         Some(command) => run_one(alloc, session, command, limit),
         None => Err(Wrong::Unknown),
@@ -117,7 +127,7 @@ fn ask_change<D: Device, T: TextStore, A: Allocator + Clone>(
     base: Option<u64>,
     writes: &[bx_case_files::Write],
     limit: Limit<'_>,
-) -> Result<Option<Reply>, Wrong> {
+) -> Result<Reply, Wrong> {
     let change = change_of(alloc, base, writes)?;
     limit_to(limit)?;
     perform(session, &change)
@@ -128,7 +138,7 @@ pub fn undo<D: Device, T: TextStore, A: Allocator + Clone>(
     alloc: A,
     session: &mut Session<D, T, A>,
     k: u32,
-) -> Result<Option<Reply>, Wrong> {
+) -> Result<Reply, Wrong> {
     run_one(alloc, session, Command::Undo { k }, None)
 }
 
@@ -137,7 +147,7 @@ pub fn redo<D: Device, T: TextStore, A: Allocator + Clone>(
     alloc: A,
     session: &mut Session<D, T, A>,
     j: u32,
-) -> Result<Option<Reply>, Wrong> {
+) -> Result<Reply, Wrong> {
     run_one(alloc, session, Command::Redo { j }, None)
 }
 
@@ -145,39 +155,55 @@ pub fn redo<D: Device, T: TextStore, A: Allocator + Clone>(
 fn perform<D: Device, T: TextStore, A: Allocator + Clone>(
     session: &mut Session<D, T, A>,
     change: &Change<A>,
-) -> Result<Option<Reply>, Wrong> {
+) -> Result<Reply, Wrong> {
     if session.faults() > MANY {
         return Err(Wrong::Unknown);
     }
     match session.perform(change) {
-        Ok(number) => Ok(Some(Reply::Changed { number })),
-        Err(fault) => Ok(Some(Reply::Refused(Fault::from(fault)))),
+        Ok(number) => Ok(Reply::Changed { number }),
+        Err(fault) => Ok(Reply::Refused(Fault::from(fault))),
     }
 }
 
-/// Runs one command.
+/// Runs one command. It is refused where there is no room for a reply.
 fn run_one<D: Device, T: TextStore, A: Allocator + Clone>(
     alloc: A,
     session: &mut Session<D, T, A>,
     command: Command<&[u8], A>,
     limit: Limit<'_>,
-) -> Result<Option<Reply>, Wrong>
+) -> Result<Reply, Wrong>
     requires { IsNear command }
 {
     let mut list = Vec::new(alloc.clone()?);
     list.push(command)?;
+    run_list(alloc, session, list.as_mut_slice(), limit)
+}
+
+/// Runs the one command of a list.
+fn run_list<D: Device, T: TextStore, A: Allocator + Clone>(
+    alloc: A,
+    session: &mut Session<D, T, A>,
+    list: &mut [Command<&[u8], A>],
+    limit: Limit<'_>,
+) -> Result<Reply, Wrong>
+    requires near { All IsNear list.old }
+    requires one { length list.old ≡ 1 }
+{
     limit_to(limit)?;
     if session.faults() > MANY {
         return Err(Wrong::Unknown);
     }
-    match run_all(alloc, session, list.as_mut_slice()) {
-        Ok(replies) => Ok(replies.first().copied()),
-        Err(_) => Ok(None),
+    match run_all(alloc, session, list) {
+        Ok(replies) => match replies.first() {
+            Some(reply) => Ok(*reply),
+            None => Err(Wrong::Unknown),
+        },
+        Err(_) => Ok(Reply::Refused(Fault::Io(IoFault::NoMemory))),
     }
 }
 
 /// The log of a session, as a text.
-pub fn log_of<D: Device, T: TextStore, A: Allocator + Clone>(
+fn log_of<D: Device, T: TextStore, A: Allocator + Clone>(
     alloc: A,
     session: &mut Session<D, T, A>,
 ) -> Result<Vec<u8, A>, Fault> {
@@ -190,10 +216,19 @@ pub fn log_of<D: Device, T: TextStore, A: Allocator + Clone>(
     }
 }
 
-/// A fault where none should be.
-pub fn unwanted(alloc: Global, what: &'static str, fault: Fault) -> Wrong {
-    match fault_text(alloc, fault) {
-        Ok(text) => differs(alloc, what, "no fault", text.as_str()),
-        Err(_) => Wrong::NoMemory,
+/// Whether there was memory for the log of a session, which is this one.
+pub fn lists<D: Device, T: TextStore, A: Allocator + Clone>(
+    alloc: Global,
+    memory: A,
+    session: &mut Session<D, T, A>,
+    log: &[u8],
+) -> Result<bool, Wrong> {
+    match log_of(memory, session) {
+        Ok(found) => {
+            same_bytes(alloc, "log", log, found.as_slice())?;
+            Ok(true)
+        }
+        Err(fault) if is_out_of_memory(fault) => Ok(false),
+        Err(fault) => Err(unwanted(alloc, "log", fault)),
     }
 }

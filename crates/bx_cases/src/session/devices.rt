@@ -3,7 +3,7 @@ use crate::report::compare::{Wrong, same_bytes};
 use crate::session::MANY;
 use bx_image::{Device, MemImage};
 use bx_store::{MemText, TextStore};
-use std::alloc::{Allocator, Global};
+use std::alloc::{AllocError, Allocator, Global};
 
 /// The devices of a session: an image, its journal's text, and the text of what was undone.
 #[derive(Drop)]
@@ -22,6 +22,46 @@ pub struct Texts<'a> {
     pub redo: &'a [u8],
 }
 
+/// What devices are to hold, where it is known.
+#[derive(Clone, Copy)]
+pub struct Wanted<'a> {
+    pub image: Option<&'a [u8]>,
+    pub journal: Option<&'a [u8]>,
+    pub redo: Option<&'a [u8]>,
+}
+
+impl<'a> Texts<'a> {
+    /// Devices are to hold this.
+    pub fn wanted(self) -> Wanted<'a> {
+        Wanted {
+            image: Some(self.image),
+            journal: Some(self.journal),
+            redo: Some(self.redo),
+        }
+    }
+}
+
+impl Wanted<'_> {
+    /// This is what devices hold.
+    pub fn same(self, alloc: Global, found: Texts<'_>) -> Result<(), Wrong> {
+        same_known(alloc, "image", self.image, found.image)?;
+        same_known(alloc, "journal", self.journal, found.journal)?;
+        same_known(alloc, "redo text", self.redo, found.redo)
+    }
+}
+
+fn same_known(
+    alloc: Global,
+    what: &'static str,
+    wanted: Option<&[u8]>,
+    found: &[u8],
+) -> Result<(), Wrong> {
+    match wanted {
+        Some(wanted) => same_bytes(alloc, what, wanted, found),
+        None => Ok(()),
+    }
+}
+
 /// What devices held.
 #[derive(Drop)]
 pub struct Held {
@@ -31,6 +71,15 @@ pub struct Held {
 }
 
 impl Held {
+    /// Devices held this.
+    pub fn new(alloc: Global, texts: Texts<'_>) -> Result<Self, AllocError> {
+        Ok(Held {
+            image: texts.image.to_vec(alloc)?,
+            journal: texts.journal.to_vec(alloc)?,
+            redo: texts.redo.to_vec(alloc)?,
+        })
+    }
+
     pub fn texts(&self) -> Texts<'_> {
         Texts {
             image: self.image.as_slice(),
@@ -61,12 +110,12 @@ pub fn in_memory<A: Allocator + Clone>(alloc: A, texts: Texts<'_>) -> Result<Mem
 }
 
 /// What devices in memory hold.
-pub fn held_of<A: Allocator>(alloc: Global, devices: &MemDevices<A>) -> Result<Held, Wrong> {
-    Ok(Held {
-        image: devices.image.as_slice().to_vec(alloc)?,
-        journal: devices.journal.as_slice().to_vec(alloc)?,
-        redo: devices.redo.as_slice().to_vec(alloc)?,
-    })
+pub fn texts_in<A: Allocator>(devices: &MemDevices<A>) -> Texts<'_> {
+    Texts {
+        image: devices.image.as_slice(),
+        journal: devices.journal.as_slice(),
+        redo: devices.redo.as_slice(),
+    }
 }
 
 /// Devices hold what they held.
@@ -75,9 +124,7 @@ pub fn unchanged<A: Allocator>(
     texts: Texts<'_>,
     devices: &MemDevices<A>,
 ) -> Result<(), Wrong> {
-    same_bytes(alloc, "image", texts.image, devices.image.as_slice())?;
-    same_bytes(alloc, "journal", texts.journal, devices.journal.as_slice())?;
-    same_bytes(alloc, "redo text", texts.redo, devices.redo.as_slice())
+    texts.wanted().same(alloc, texts_in(devices))
 }
 
 /// What devices of any kind hold.

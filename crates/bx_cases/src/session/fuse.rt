@@ -2,8 +2,9 @@
 use crate::report::compare::Wrong;
 use crate::session::devices::{Devices, Held, Texts};
 use crate::session::medium::{DEVICES, Medium};
+use bx_cli::Fault;
 use bx_image::{Device, FuseImage, Part};
-use bx_journal::Session;
+use bx_journal::{Session, SessionFault};
 use bx_store::{FuseText, TextStore};
 use std::alloc::Global;
 
@@ -23,6 +24,18 @@ pub fn fuse_at(kind: u32, pass: u64) -> Fused {
     }
 }
 
+/// In place of a device: each of them.
+const EACH: u32 = DEVICES;
+
+/// Devices that refuse each write. An opening may sync each once before it, as one of files that may only be read does.
+pub const LOCKED: Fused = Fused {
+    device: EACH,
+    reads: false,
+    part: Part::Nothing,
+    once: false,
+    pass: 1,
+};
+
 /// Which calls of a device fail: its reads, or else its writes; those behind this many, or the one behind them alone; and how
 /// much of a write takes effect.
 #[derive(Clone, Copy)]
@@ -32,6 +45,25 @@ pub struct Fused {
     pub part: Part,
     pub once: bool,
     pub pass: u64,
+}
+
+impl Fused {
+    /// How many calls this device passes.
+    fn passed(self, device: u32) -> u64 {
+        if self.device == device || self.device == EACH {
+            self.pass
+        } else {
+            u64::MAX
+        }
+    }
+}
+
+/// Whether a fault is that of a device's call that failed.
+pub fn is_of_device(fault: Fault) -> bool {
+    matches!(
+        fault,
+        Fault::Session(SessionFault::DeviceFailed | SessionFault::Interrupted)
+    )
 }
 
 /// Devices where one may fail.
@@ -44,13 +76,11 @@ fn fused_image<D: Device + Drop>(image: D, fused: Fused) -> Result<FuseImage<D>,
     if image.faults() > 0 {
         return Err(Wrong::Unknown);
     }
-    if fused.device != 0 {
-        return Ok(FuseImage::on_reads(image, u64::MAX));
-    }
+    let pass = fused.passed(0);
     if fused.reads {
-        return Ok(FuseImage::on_reads(image, fused.pass));
+        return Ok(FuseImage::on_reads(image, pass));
     }
-    Ok(FuseImage::new(image, fused.pass, fused.part, fused.once))
+    Ok(FuseImage::new(image, pass, fused.part, fused.once))
 }
 
 /// A text that fails so, if it is this device.
@@ -62,17 +92,15 @@ fn fused_text<T: TextStore + Drop>(
     if text.faults() > 0 {
         return Err(Wrong::Unknown);
     }
-    if fused.device != device {
-        return Ok(FuseText::on_reads(text, u64::MAX));
-    }
+    let pass = fused.passed(device);
     if fused.reads {
-        return Ok(FuseText::on_reads(text, fused.pass));
+        return Ok(FuseText::on_reads(text, pass));
     }
-    Ok(FuseText::new(text, fused.pass, fused.part, fused.once))
+    Ok(FuseText::new(text, pass, fused.part, fused.once))
 }
 
-/// Devices where one fails.
-fn fuse<D: Device + Drop, T: TextStore + Drop>(
+/// Devices that fail so.
+pub fn fuse<D: Device + Drop, T: TextStore + Drop>(
     devices: Devices<D, T>,
     fused: Fused,
 ) -> Result<FusedDevices<D, T>, Wrong> {
@@ -96,38 +124,6 @@ pub fn in_fused<D: Device + Drop, T: TextStore + Drop, M: Medium<D, T>>(
     fused: Fused,
 ) -> Result<FusedDevices<D, T>, Wrong> {
     fuse(medium.devices(alloc, texts)?, fused)
-}
-
-/// An image that refuses each write behind a sync.
-fn locked_image<D: Device + Drop>(image: D) -> Result<FuseImage<D>, Wrong> {
-    if image.faults() > 0 {
-        return Err(Wrong::Unknown);
-    }
-    Ok(FuseImage::new(image, 1, Part::Nothing, false))
-}
-
-/// A text that refuses each write behind a sync.
-fn locked_text<T: TextStore + Drop>(text: T) -> Result<FuseText<T>, Wrong> {
-    if text.faults() > 0 {
-        return Err(Wrong::Unknown);
-    }
-    Ok(FuseText::new(text, 1, Part::Nothing, false))
-}
-
-/// Devices that refuse each write. An opening may sync each once before it, as one of files that may only be read does.
-pub fn locked<D: Device + Drop, T: TextStore + Drop>(
-    devices: Devices<D, T>,
-) -> Result<FusedDevices<D, T>, Wrong> {
-    let Devices {
-        image,
-        journal,
-        redo,
-    } = devices;
-    Ok(Devices {
-        image: locked_image(image)?,
-        journal: locked_text(journal)?,
-        redo: locked_text(redo)?,
-    })
 }
 
 /// What may be found of devices that failed.

@@ -1,7 +1,7 @@
 //! What a loss of power leaves: of what was written since the last sync all, nothing, the first half, or zeros.
-use crate::report::compare::Wrong;
+use crate::report::compare::{Wrong, front};
 use crate::session::cache::{CachedDevices, CachedImage, CachedText, Pending, place};
-use crate::session::devices::{Devices, Held};
+use crate::session::devices::{Held, Texts};
 use std::alloc::Global;
 
 /// About how many of the calls that changed an image are lost alone.
@@ -48,12 +48,6 @@ fn midway(a: usize, b: usize) -> usize {
     least.saturating_add(a.max(b).saturating_sub(least) / 2)
 }
 
-/// A front of some bytes.
-fn front(bytes: &[u8], len: usize) -> &[u8] {
-    let (front, _) = bytes.split_at(len.min(bytes.len()));
-    front
-}
-
 /// Does to an image what is left of a call.
 fn redo_part(alloc: Global, image: &mut Vec<u8>, call: &Pending, left: Left) -> Result<(), Wrong> {
     match (call, left) {
@@ -93,18 +87,16 @@ fn push_new(list: &mut Vec<Vec<u8>>, bytes: Vec<u8>) -> Result<(), Wrong> {
     Ok(())
 }
 
-/// All that is compared of an image that was or wasn't put on the disk.
-fn images_left(alloc: Global, image: CachedImage) -> Result<Vec<Vec<u8>>, Wrong> {
-    let mut list = Vec::new(alloc);
-    push_new(&mut list, image.cache.as_slice().to_vec(alloc)?)?;
+/// Adds all that is compared of an image that was or wasn't put on the disk.
+fn push_images(alloc: Global, image: &CachedImage, list: &mut Vec<Vec<u8>>) -> Result<(), Wrong> {
+    push_new(list, image.cache.as_slice().to_vec(alloc)?)?;
     if image.pending.is_empty() {
-        return Ok(list);
+        return Ok(());
     }
-    push_new(&mut list, image.disk.as_slice().to_vec(alloc)?)?;
-    push_new(&mut list, lost_image(alloc, &image, Loss::Half)?)?;
-    push_new(&mut list, lost_image(alloc, &image, Loss::Zeros)?)?;
-    push_alone(alloc, &image, &mut list)?;
-    Ok(list)
+    push_new(list, image.disk.as_slice().to_vec(alloc)?)?;
+    push_new(list, lost_image(alloc, image, Loss::Half)?)?;
+    push_new(list, lost_image(alloc, image, Loss::Zeros)?)?;
+    push_alone(alloc, image, list)
 }
 
 /// Adds an image without one of the calls that changed it, for some of them.
@@ -128,25 +120,20 @@ fn with_zeros(alloc: Global, text: &[u8], from: usize, to: usize) -> Result<Vec<
 }
 
 /// The same of a text.
-fn texts_left(alloc: Global, text: CachedText) -> Result<Vec<Vec<u8>>, Wrong> {
-    let CachedText {
-        cache,
-        disk,
-        same,
-        ..
-    } = text;
-    let mut list = Vec::new(alloc);
-    push_new(&mut list, cache.as_slice().to_vec(alloc)?)?;
-    push_new(&mut list, disk.as_slice().to_vec(alloc)?)?;
+fn push_texts(alloc: Global, text: &CachedText, list: &mut Vec<Vec<u8>>) -> Result<(), Wrong> {
+    let cache = text.cache.as_slice();
+    let disk = text.disk.as_slice();
+    push_new(list, cache.to_vec(alloc)?)?;
+    push_new(list, disk.to_vec(alloc)?)?;
     let longest = if disk.len() > cache.len() {
         disk
     } else {
         cache
     };
-    if same < longest.len() {
-        push_parts(alloc, longest.as_slice(), same, &mut list)?;
+    if text.same < longest.len() {
+        push_parts(alloc, longest, text.same, list)?;
     }
-    Ok(list)
+    Ok(())
 }
 
 /// Adds what is left of a text behind a place: the first half, zeros, or zeros and the second half.
@@ -163,31 +150,40 @@ fn push_parts(
 }
 
 /// A content of a list that goes on with its first one behind its last.
-fn taken(alloc: Global, list: &Vec<Vec<u8>>, i: usize) -> Result<Vec<u8>, Wrong> {
+fn taken(list: &Vec<Vec<u8>>, i: usize) -> &[u8] {
     match list.get(i.checked_rem(list.len()).unwrap_or(0)) {
-        Some(bytes) => Ok(bytes.as_slice().to_vec(alloc)?),
-        None => Err(Wrong::Unknown),
+        Some(bytes) => bytes.as_slice(),
+        None => b"",
     }
 }
 
-/// All that a loss of power leaves of devices behind a page cache.
-pub fn losses(alloc: Global, devices: CachedDevices) -> Result<Vec<Held>, Wrong> {
-    let Devices {
-        image,
-        journal,
-        redo,
-    } = devices;
-    let images = images_left(alloc, image)?;
-    let journals = texts_left(alloc, journal)?;
-    let redos = texts_left(alloc, redo)?;
+/// Each of these images with each of these texts.
+fn all_of(
+    alloc: Global,
+    images: &Vec<Vec<u8>>,
+    journals: &Vec<Vec<u8>>,
+    redos: &Vec<Vec<u8>>,
+) -> Result<Vec<Held>, Wrong> {
     let pairs = images.len().saturating_mul(journals.len());
     let mut list = Vec::new(alloc);
     for i in 0..pairs.saturating_mul(redos.len()) {
-        list.push(Held {
-            image: taken(alloc, &images, i)?,
-            journal: taken(alloc, &journals, i.checked_div(images.len()).unwrap_or(0))?,
-            redo: taken(alloc, &redos, i.checked_div(pairs).unwrap_or(0))?,
-        })?;
+        let texts = Texts {
+            image: taken(images, i),
+            journal: taken(journals, i.checked_div(images.len()).unwrap_or(0)),
+            redo: taken(redos, i.checked_div(pairs).unwrap_or(0)),
+        };
+        list.push(Held::new(alloc, texts)?)?;
     }
     Ok(list)
+}
+
+/// All that a loss of power leaves of devices behind a page cache.
+pub fn losses(alloc: Global, devices: &CachedDevices) -> Result<Vec<Held>, Wrong> {
+    let mut images = Vec::new(alloc);
+    push_images(alloc, &devices.image, &mut images)?;
+    let mut journals = Vec::new(alloc);
+    push_texts(alloc, &devices.journal, &mut journals)?;
+    let mut redos = Vec::new(alloc);
+    push_texts(alloc, &devices.redo, &mut redos)?;
+    all_of(alloc, &images, &journals, &redos)
 }

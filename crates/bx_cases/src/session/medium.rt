@@ -1,15 +1,21 @@
 //! What the devices of a session stand on where they fail, and what is found there once they are gone.
 use crate::report::compare::Wrong;
 use crate::session::cache::{CachedDevices, CachedImage, CachedText};
-use crate::session::devices::{Devices, Held, MemDevices, Texts, held_of, in_memory};
+use crate::session::devices::{Devices, Held, MemDevices, Texts, in_memory, texts_in};
 use crate::session::loss::losses;
 use crate::session::places::Memory;
 use bx_image::MemImage;
 use bx_store::MemText;
 use std::alloc::Global;
 
-/// How many devices a session has.
+/// How many devices a session has. In as many ways they lose power, or a program is stopped between two of its calls.
 pub const DEVICES: u32 = 3;
+
+/// In how many ways they fail.
+pub const WAYS: u32 = 7 * DEVICES;
+
+/// In how many of these while they are opened.
+pub const OPENING_WAYS: u32 = 4 * DEVICES;
 
 /// What devices stand on that fail.
 pub trait Medium<D, T> {
@@ -18,19 +24,6 @@ pub trait Medium<D, T> {
 
     /// What may be found of devices that are gone.
     fn found(&self, alloc: Global, devices: Devices<D, T>) -> Result<Vec<Held>, Wrong>;
-
-    /// In how many ways they fail.
-    fn kinds(&self) -> u32;
-
-    /// In how many of these while they are opened.
-    fn opening_kinds(&self) -> u32;
-}
-
-/// All that devices in memory hold.
-fn all_of(alloc: Global, devices: &MemDevices) -> Result<Vec<Held>, Wrong> {
-    let mut list = Vec::new(alloc);
-    list.push(held_of(alloc, devices)?)?;
-    Ok(list)
 }
 
 /// In memory, where all is found that was written.
@@ -40,37 +33,9 @@ impl Medium<MemImage, MemText> for Memory {
     }
 
     fn found(&self, alloc: Global, devices: MemDevices) -> Result<Vec<Held>, Wrong> {
-        all_of(alloc, &devices)
-    }
-
-    fn kinds(&self) -> u32 {
-        7 * DEVICES
-    }
-
-    fn opening_kinds(&self) -> u32 {
-        4 * DEVICES
-    }
-}
-
-/// The same of a program that is stopped between two of its calls.
-#[derive(Drop)]
-pub struct Killed;
-
-impl Medium<MemImage, MemText> for Killed {
-    fn devices(&self, alloc: Global, texts: Texts<'_>) -> Result<MemDevices, Wrong> {
-        in_memory(alloc, texts)
-    }
-
-    fn found(&self, alloc: Global, devices: MemDevices) -> Result<Vec<Held>, Wrong> {
-        all_of(alloc, &devices)
-    }
-
-    fn kinds(&self) -> u32 {
-        DEVICES
-    }
-
-    fn opening_kinds(&self) -> u32 {
-        DEVICES
+        let mut list = Vec::new(alloc);
+        list.push(Held::new(alloc, texts_in(&devices))?)?;
+        Ok(list)
     }
 }
 
@@ -88,15 +53,7 @@ impl Medium<CachedImage, CachedText> for PageCache {
     }
 
     fn found(&self, alloc: Global, devices: CachedDevices) -> Result<Vec<Held>, Wrong> {
-        losses(alloc, devices)
-    }
-
-    fn kinds(&self) -> u32 {
-        DEVICES
-    }
-
-    fn opening_kinds(&self) -> u32 {
-        DEVICES
+        losses(alloc, &devices)
     }
 }
 
@@ -117,16 +74,8 @@ impl Medium<CachedImage, CachedText> for Unsynced<'_> {
 
     fn found(&self, alloc: Global, devices: CachedDevices) -> Result<Vec<Held>, Wrong> {
         if devices.image.is_written || devices.journal.is_written || devices.redo.is_written {
-            return losses(alloc, devices);
+            return losses(alloc, &devices);
         }
         Ok(Vec::new(alloc))
-    }
-
-    fn kinds(&self) -> u32 {
-        DEVICES
-    }
-
-    fn opening_kinds(&self) -> u32 {
-        DEVICES
     }
 }

@@ -10,16 +10,6 @@ use std::alloc::{Allocator, Global};
 
 pub type MemSession<A = Global> = Session<MemImage<A>, MemText<A>, A>;
 
-/// Devices, and the fault for which they are handed back.
-fn handed_back<D, T>(image: D, journal: T, redo: T, fault: SessionFault) -> (Devices<D, T>, Fault) {
-    let devices = Devices {
-        image,
-        journal,
-        redo,
-    };
-    (devices, Fault::Session(fault))
-}
-
 /// A session and what was found, or the devices and the fault.
 pub type Opened<D, T, A = Global> = Result<(Session<D, T, A>, Opening), (Devices<D, T>, Fault)>;
 
@@ -28,23 +18,31 @@ pub fn open<D: Device, T: TextStore, A: Allocator + Clone>(
     alloc: A,
     devices: Devices<D, T>,
 ) -> Opened<D, T, A> {
+    let fault = Fault::Session(SessionFault::DeviceFailed);
+    if devices.image.faults() > MANY {
+        return Err((devices, fault));
+    }
+    if devices.journal.faults() > MANY {
+        return Err((devices, fault));
+    }
+    if devices.redo.faults() > MANY {
+        return Err((devices, fault));
+    }
     let Devices {
         image,
         journal,
         redo,
     } = devices;
-    if image.faults() > MANY {
-        return Err(handed_back(image, journal, redo, SessionFault::DeviceFailed));
-    }
-    if journal.faults() > MANY {
-        return Err(handed_back(image, journal, redo, SessionFault::DeviceFailed));
-    }
-    if redo.faults() > MANY {
-        return Err(handed_back(image, journal, redo, SessionFault::DeviceFailed));
-    }
     match Session::open(alloc, image, journal, redo) {
         Ok((session, found)) => Ok((session, opening_of(found))),
-        Err((image, journal, redo, fault)) => Err(handed_back(image, journal, redo, fault)),
+        Err((image, journal, redo, fault)) => {
+            let devices = Devices {
+                image,
+                journal,
+                redo,
+            };
+            Err((devices, Fault::Session(fault)))
+        }
     }
 }
 

@@ -1,7 +1,7 @@
 //! Sessions that are closed, looked at, and opened again.
-use crate::report::compare::Wrong;
-use crate::session::answers::{refused, same_opening};
-use crate::session::devices::{Devices, Held, contents};
+use crate::report::compare::{Wrong, unwanted};
+use crate::session::answers::same_opening;
+use crate::session::devices::{Devices, Held, Wanted, contents};
 use crate::session::open::{close, found_again, open};
 use crate::session::places::Place;
 use bx_case_files::Opening;
@@ -11,7 +11,7 @@ use bx_store::TextStore;
 use std::alloc::Global;
 
 /// Opens devices, which are found so.
-fn opened<D: Device + Drop, T: TextStore + Drop>(
+pub fn opened<D: Device + Drop, T: TextStore + Drop>(
     alloc: Global,
     devices: Devices<D, T>,
     wanted: Opening,
@@ -21,7 +21,7 @@ fn opened<D: Device + Drop, T: TextStore + Drop>(
             same_opening(alloc, wanted, found)?;
             Ok(session)
         }
-        Err((_, fault)) => Err(refused(alloc, fault)),
+        Err((_, fault)) => Err(unwanted(alloc, "opening", fault)),
     }
 }
 
@@ -30,27 +30,6 @@ fn opened<D: Device + Drop, T: TextStore + Drop>(
 pub struct Standing<D: Device, T: TextStore> {
     pub session: Session<D, T>,
     pub held: Held,
-}
-
-/// Opens devices, which are found so; and closes them, looks, and opens them again: they are found clean.
-pub fn stand<D: Device + Drop, T: TextStore + Drop, P: Place<D, T>>(
-    alloc: Global,
-    place: &P,
-    devices: Devices<D, T>,
-    wanted: Opening,
-) -> Result<Standing<D, T>, Wrong> {
-    let session = opened(alloc, devices, wanted)?;
-    again(alloc, place, session)
-}
-
-/// Closes a session, and looks at what its devices hold.
-fn closed<D: Device + Drop, T: TextStore + Drop>(
-    alloc: Global,
-    session: Session<D, T>,
-) -> Result<(Devices<D, T>, Held), Wrong> {
-    let mut devices = close(session);
-    let held = contents(alloc, &mut devices)?;
-    Ok((devices, held))
 }
 
 /// Finds devices again, and opens them.
@@ -71,7 +50,31 @@ pub fn again<D: Device + Drop, T: TextStore + Drop, P: Place<D, T>>(
     session: Session<D, T>,
 ) -> Result<Standing<D, T>, Wrong> {
     let wanted = found_again(&session);
-    let (devices, held) = closed(alloc, session)?;
+    let mut devices = close(session);
+    let held = contents(alloc, &mut devices)?;
     let session = opened_again(alloc, place, devices, wanted)?;
     Ok(Standing { session, held })
+}
+
+/// Devices hold what is wanted.
+pub fn hold<D: Device, T: TextStore>(
+    alloc: Global,
+    devices: &mut Devices<D, T>,
+    wanted: Wanted<'_>,
+) -> Result<(), Wrong> {
+    let held = contents(alloc, devices)?;
+    wanted.same(alloc, held.texts())
+}
+
+/// The same of a session whose devices hold what is wanted.
+pub fn again_with<D: Device + Drop, T: TextStore + Drop, P: Place<D, T>>(
+    alloc: Global,
+    place: &P,
+    session: Session<D, T>,
+    wanted: Wanted<'_>,
+) -> Result<Session<D, T>, Wrong> {
+    let opening = found_again(&session);
+    let mut devices = close(session);
+    hold(alloc, &mut devices, wanted)?;
+    opened_again(alloc, place, devices, opening)
 }

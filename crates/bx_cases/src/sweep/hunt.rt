@@ -1,18 +1,19 @@
 //! The number of bytes at which each growth is the first to be refused.
 use crate::report::compare::Wrong;
+use crate::session::ask::Limit;
 use bumpalo::Bump;
 use bx_ration::arena;
 use std::alloc::Global;
 
 /// A call that takes memory.
 pub trait Call {
-    /// Makes the call in an arena that hands out this many bytes from then on, and where that is too little again with enough.
-    /// Tells how many it had taken when it was refused, if it was.
-    fn squeezed<'a>(
+    /// Makes the call in an arena, with memory that gets short once it is made. Tells how many bytes it had taken when it was
+    /// refused, if it was.
+    fn make<'a>(
         &self,
         alloc: Global,
         bump: &'a Bump,
-        bytes: usize,
+        limit: Limit<'_>,
     ) -> Result<Option<usize>, Wrong>;
 }
 
@@ -87,10 +88,14 @@ impl Hunt {
     }
 }
 
-/// The call with this many bytes, in an arena of its own.
+/// The call with this many bytes, in an arena of its own, and where that is too little again with enough.
 fn once<C: Call>(alloc: Global, call: &C, bytes: usize) -> Result<Option<usize>, Wrong> {
     let bump = arena(alloc)?;
-    call.squeezed(alloc, &bump, bytes)
+    let refused = call.make(alloc, &bump, Some((&bump, bytes)))?;
+    if refused.is_some() && call.make(alloc, &bump, None)?.is_some() {
+        return Err(Wrong::NoMemory);
+    }
+    Ok(refused)
 }
 
 /// Refuses each growth of a call in turn. Tells how many they were.

@@ -5,8 +5,6 @@ use crate::session::open::MemSession;
 use crate::session::places::Memory;
 use crate::session::standing::{Standing, again};
 use bx_case_files::Opening;
-use bx_image::MemImage;
-use bx_store::MemText;
 use std::alloc::{AllocError, Global};
 
 /// The images of a session, from the one below all changes to the newest, and behind it those that were undone, the one undone
@@ -26,7 +24,7 @@ pub struct Images<'a> {
 
 impl<'a> Images<'a> {
     /// The images of a history.
-    pub fn of(alloc: Global, history: &'a History) -> Result<Self, AllocError> {
+    pub fn of(alloc: Global, history: &'a History) -> Result<Self, Wrong> {
         let mut list = Vec::new(alloc);
         for image in &history.images {
             list.push(image.as_slice())?;
@@ -89,48 +87,38 @@ impl<'a> Images<'a> {
     }
 }
 
-/// Makes all changes again that were undone.
-fn all_redone(
-    alloc: Global,
-    standing: Standing<MemImage, MemText>,
-) -> Result<Standing<MemImage, MemText>, Wrong> {
-    let Standing { session, .. } = standing;
+/// Adds the images of a session, from the newest to the one below all changes.
+fn unwind(alloc: Global, session: MemSession, images: &mut Vec<Vec<u8>>) -> Result<(), Wrong> {
     let mut session = session;
-    let undone = session.undone();
-    let _ = redo(alloc, &mut session, undone)?;
-    again(alloc, &Memory, session)
-}
-
-/// The images of a session, from the one below all changes to the newest.
-fn unwound(alloc: Global, standing: Standing<MemImage, MemText>) -> Result<Vec<Vec<u8>>, Wrong> {
-    let Standing { session, held } = standing;
-    let mut session = session;
-    let mut images = Vec::new(alloc);
-    images.push(held.image)?;
     for _ in 0..session.changes() {
-        session = step_back(alloc, session, &mut images)?;
+        session = step_back(alloc, session, images)?;
     }
-    images.reverse();
-    Ok(images)
+    let Standing { held, .. } = again(alloc, &Memory, session)?;
+    images.push(held.image)?;
+    Ok(())
 }
 
-/// Takes the newest change back, and adds the image before it.
+/// Adds the newest image, and takes the change back that made it.
 fn step_back(
     alloc: Global,
     session: MemSession,
     images: &mut Vec<Vec<u8>>,
 ) -> Result<MemSession, Wrong> {
-    let mut session = session;
-    let _ = undo(alloc, &mut session, 1)?;
     let Standing { session, held } = again(alloc, &Memory, session)?;
+    let mut session = session;
     images.push(held.image)?;
+    let _ = undo(alloc, &mut session, 1)?;
     Ok(session)
 }
 
 /// The images of a session and how many changes stand.
-pub fn history_of(alloc: Global, standing: Standing<MemImage, MemText>) -> Result<History, Wrong> {
-    let changes = standing.session.changes() as usize;
-    let redone = all_redone(alloc, standing)?;
-    let images = unwound(alloc, redone)?;
+pub fn history_of(alloc: Global, session: MemSession) -> Result<History, Wrong> {
+    let mut session = session;
+    let changes = session.changes() as usize;
+    let undone = session.undone();
+    let _ = redo(alloc, &mut session, undone)?;
+    let mut images = Vec::new(alloc);
+    unwind(alloc, session, &mut images)?;
+    images.reverse();
     Ok(History { images, changes })
 }

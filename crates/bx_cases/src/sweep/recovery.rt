@@ -1,18 +1,17 @@
 //! What was left is opened, stands for the images that are expected, and is stopped while it is opened.
-use crate::report::compare::{Wrong, same_bytes};
-use crate::session::answers::{refused, replied_so, same_opening};
+use crate::report::compare::{Wrong, unwanted};
+use crate::session::answers::{same_opening, same_replies};
 use crate::session::ask::{redo, undo};
-use crate::session::devices::{Held, Texts, in_memory};
-use crate::session::fuse::{Fused, found_of, fuse_at, in_fused};
+use crate::session::devices::{Held, Texts, Wanted, in_memory};
+use crate::session::fuse::{Fused, found_of, fuse_at, in_fused, is_of_device};
 use crate::session::medium::Medium;
 use crate::session::open::{MemSession, found_again, open};
 use crate::session::places::Memory;
-use crate::session::standing::{Standing, again};
+use crate::session::standing::again_with;
 use crate::sweep::images::Images;
 use bx_case_files::Opening;
-use bx_cli::{Fault, Reply};
+use bx_cli::Reply;
 use bx_image::Device;
-use bx_journal::SessionFault;
 use bx_store::TextStore;
 use std::alloc::Global;
 
@@ -20,44 +19,48 @@ use std::alloc::Global;
 pub const MOST_CALLS: u64 = 10_000;
 
 /// Makes the change again that was undone last.
-fn redone(alloc: Global, session: MemSession) -> Result<MemSession, Wrong> {
-    let mut session = session;
+fn redone(alloc: Global, session: &mut MemSession) -> Result<(), Wrong> {
     let changes = session.changes().saturating_add(1);
-    let reply = redo(alloc, &mut session, 1)?;
-    replied_so(alloc, Reply::Redone { changes }, reply)?;
-    Ok(session)
+    let reply = redo(alloc, session, 1)?;
+    same_replies(alloc, Reply::Redone { changes }, reply)
 }
 
 /// Takes the newest change back.
-fn undone(alloc: Global, session: MemSession) -> Result<MemSession, Wrong> {
-    let mut session = session;
+fn undone(alloc: Global, session: &mut MemSession) -> Result<(), Wrong> {
     let left = session.changes().saturating_sub(1);
-    let reply = undo(alloc, &mut session, 1)?;
-    replied_so(alloc, Reply::Undone { left }, reply)?;
-    Ok(session)
+    let reply = undo(alloc, session, 1)?;
+    same_replies(alloc, Reply::Undone { left }, reply)
 }
 
 /// Makes the change again that was undone last. It leaves this image.
 fn step_on(alloc: Global, session: MemSession, image: &[u8]) -> Result<MemSession, Wrong> {
-    let session = redone(alloc, session)?;
-    let Standing { session, held } = again(alloc, &Memory, session)?;
-    same_bytes(alloc, "image made again", image, held.image.as_slice())?;
-    Ok(session)
+    let mut session = session;
+    redone(alloc, &mut session)?;
+    let wanted = left_by(session.changes(), image);
+    again_with(alloc, &Memory, session, wanted)
+}
+
+/// What this many changes leave: this image, and of none no journal.
+fn left_by(changes: u32, image: &[u8]) -> Wanted<'_> {
+    Wanted {
+        image: Some(image),
+        journal: if changes == 0 { Some(b"") } else { None },
+        redo: None,
+    }
 }
 
 /// Takes the newest change back, where there is one. The image before is this one.
 fn step_back(alloc: Global, session: MemSession, image: &[u8]) -> Result<MemSession, Wrong> {
-    let Standing { session, held } = again(alloc, &Memory, session)?;
-    same_bytes(alloc, "image of the stack", image, held.image.as_slice())?;
-    if session.changes() == 0 {
-        same_bytes(alloc, "journal of no change", b"", held.journal.as_slice())?;
-        return Ok(session);
+    let wanted = left_by(session.changes(), image);
+    let mut session = again_with(alloc, &Memory, session, wanted)?;
+    if session.changes() > 0 {
+        undone(alloc, &mut session)?;
     }
-    undone(alloc, session)
+    Ok(session)
 }
 
-/// Makes all changes again that were undone, one by one.
-fn steps_on(
+/// Makes all changes again that were undone, one by one. No redo text is left.
+fn all_made(
     alloc: Global,
     session: MemSession,
     expected: &Images<'_>,
@@ -70,24 +73,12 @@ fn steps_on(
     {
         session = step_on(alloc, session, image)?;
     }
-    Ok(session)
-}
-
-/// Makes all changes again that were undone, one by one. No redo text is left.
-fn all_made(
-    alloc: Global,
-    session: MemSession,
-    expected: &Images<'_>,
-) -> Result<MemSession, Wrong> {
-    let session = steps_on(alloc, session, expected)?;
-    let Standing { session, held } = again(alloc, &Memory, session)?;
-    same_bytes(
-        alloc,
-        "redo text of nothing undone",
-        b"",
-        held.redo.as_slice(),
-    )?;
-    Ok(session)
+    let wanted = Wanted {
+        image: None,
+        journal: None,
+        redo: Some(b""),
+    };
+    again_with(alloc, &Memory, session, wanted)
 }
 
 /// A session that was opened is the one that is expected: what was undone is made again, and all changes are taken back, one
@@ -105,7 +96,7 @@ pub fn stands_for(alloc: Global, session: MemSession, expected: &Images<'_>) -> 
 pub fn recovered(alloc: Global, texts: Texts<'_>) -> Result<(MemSession, Opening), Wrong> {
     match open(alloc, in_memory(alloc, texts)?) {
         Ok(found) => Ok(found),
-        Err((_, fault)) => Err(refused(alloc, fault)),
+        Err((_, fault)) => Err(unwanted(alloc, "opening", fault)),
     }
 }
 
@@ -118,10 +109,12 @@ fn stopped_opening<D: Device + Drop, T: TextStore + Drop, M: Medium<D, T>>(
 ) -> Result<Option<Vec<Held>>, Wrong> {
     match open(alloc, in_fused(alloc, medium, texts, fused)?) {
         Ok(_) => Ok(None),
-        Err((devices, Fault::Session(SessionFault::DeviceFailed | SessionFault::Interrupted))) => {
+        Err((devices, fault)) => {
+            if !is_of_device(fault) {
+                return Err(unwanted(alloc, "opening", fault));
+            }
             Ok(Some(found_of(alloc, medium, devices)?))
         }
-        Err((_, fault)) => Err(refused(alloc, fault)),
     }
 }
 
@@ -187,13 +180,14 @@ fn stop_kind<D: Device + Drop, T: TextStore + Drop, M: Medium<D, T>>(
 fn stop_each<D: Device + Drop, T: TextStore + Drop, M: Medium<D, T>>(
     alloc: Global,
     medium: &M,
+    ways: u32,
     texts: Texts<'_>,
     expected: &Images<'_>,
     list: &mut Vec<Held>,
     opened: &[Held],
 ) -> Result<u32, Wrong> {
     let mut stops = 0u32;
-    for kind in 0..medium.opening_kinds() {
+    for kind in 0..ways {
         let more = stop_kind(alloc, medium, texts, expected, kind, list, opened)?;
         stops = stops.saturating_add(more);
     }
@@ -209,10 +203,12 @@ pub fn is_seen(seen: &[Held], texts: Texts<'_>) -> bool {
     })
 }
 
-/// Stops the opening of what was left at each call, then that of what is left each time, and so on: each once. Tells how often.
+/// Stops the opening of what was left at each call, in this many ways, then that of what is left each time, and so on: each once.
+/// Tells how often.
 pub fn openings<D: Device + Drop, T: TextStore + Drop, M: Medium<D, T>>(
     alloc: Global,
     medium: &M,
+    ways: u32,
     left: Held,
     expected: &Images<'_>,
     seen: &mut Vec<Held>,
@@ -225,7 +221,7 @@ pub fn openings<D: Device + Drop, T: TextStore + Drop, M: Medium<D, T>>(
         let Some(left) = list.pop() else {
             return Ok(stops);
         };
-        let more = stop_new(alloc, medium, left, expected, &mut list, seen, before)?;
+        let more = stop_new(alloc, medium, ways, left, expected, &mut list, seen, before)?;
         stops = stops.saturating_add(more);
     }
     Err(Wrong::Unknown)
@@ -236,6 +232,7 @@ pub fn openings<D: Device + Drop, T: TextStore + Drop, M: Medium<D, T>>(
 fn stop_new<D: Device + Drop, T: TextStore + Drop, M: Medium<D, T>>(
     alloc: Global,
     medium: &M,
+    ways: u32,
     left: Held,
     expected: &Images<'_>,
     list: &mut Vec<Held>,
@@ -246,7 +243,7 @@ fn stop_new<D: Device + Drop, T: TextStore + Drop, M: Medium<D, T>>(
         return Ok(0);
     }
     let (_, opened) = seen.as_slice().split_at(before.min(seen.len()));
-    let more = stop_each(alloc, medium, left.texts(), expected, list, opened)?;
+    let more = stop_each(alloc, medium, ways, left.texts(), expected, list, opened)?;
     seen.push(left)?;
     Ok(more)
 }

@@ -1,11 +1,11 @@
 //! Texts that are cut off or changed, opened beside the slow judge.
-use crate::report::compare::{Wrong, differs, same_bytes, same_faults};
-use crate::session::answers::{refused, same_opening};
+use crate::report::compare::{Wrong, differs, front, same_faults, unwanted};
+use crate::session::answers::same_opening;
 use crate::session::ask::undo;
-use crate::session::devices::{Held, MemDevices, Texts, in_memory, unchanged};
+use crate::session::devices::{Texts, Wanted, in_memory, texts_in, unchanged};
 use crate::session::open::{MemSession, close, open};
 use crate::session::places::Memory;
-use crate::session::standing::{Standing, again};
+use crate::session::standing::again_with;
 use crate::sweep::weight::{change_step, is_taken};
 use bx_case_files::Opening;
 use bx_cli::Fault;
@@ -13,38 +13,26 @@ use bx_journal::SessionFault;
 use bx_scripts::judge::{Ending, Finding, Refusal, Verdict, judge};
 use std::alloc::Global;
 
-/// Undoes all, and closes the session.
-fn unwound(alloc: Global, session: MemSession) -> Result<MemDevices, Wrong> {
+/// Undoing all leaves this image, and no journal.
+fn unwinds(alloc: Global, session: MemSession, first: &[u8]) -> Result<(), Wrong> {
     let mut session = session;
     let changes = session.changes();
     let _ = undo(alloc, &mut session, changes)?;
-    Ok(close(session))
+    let wanted = Wanted {
+        image: Some(first),
+        journal: Some(b""),
+        redo: None,
+    };
+    wanted.same(alloc, texts_in(&close(session)))
 }
 
-/// Undoing all leaves this image, and no text.
-fn unwinds(alloc: Global, session: MemSession, first: &[u8]) -> Result<(), Wrong> {
-    let devices = unwound(alloc, session)?;
-    same_bytes(alloc, "first image", first, devices.image.as_slice())?;
-    same_bytes(
-        alloc,
-        "journal of no change",
-        b"",
-        devices.journal.as_slice(),
-    )
-}
-
-/// This is left: the image, and so much of the texts.
-fn same_left(alloc: Global, texts: Texts<'_>, wanted: &Finding, held: &Held) -> Result<(), Wrong> {
-    same_bytes(
-        alloc,
-        "image",
-        wanted.image.as_slice(),
-        held.image.as_slice(),
-    )?;
-    let (journal, _) = texts.journal.split_at(wanted.kept.min(texts.journal.len()));
-    same_bytes(alloc, "journal", journal, held.journal.as_slice())?;
-    let (redo, _) = texts.redo.split_at(wanted.kept_redo.min(texts.redo.len()));
-    same_bytes(alloc, "redo text", redo, held.redo.as_slice())
+/// What is left: the image, and so much of the texts.
+fn left_of<'a>(texts: Texts<'a>, wanted: &'a Finding) -> Wanted<'a> {
+    Wanted {
+        image: Some(wanted.image.as_slice()),
+        journal: Some(front(texts.journal, wanted.kept)),
+        redo: Some(front(texts.redo, wanted.kept_redo)),
+    }
 }
 
 /// How the judge finds it.
@@ -69,17 +57,19 @@ fn fault_by(refusal: Refusal) -> SessionFault {
     }
 }
 
-/// What is left agrees with what the judge said.
-fn agrees(
+/// Opening found what the judge said, and leaves it.
+fn found_so(
     alloc: Global,
     session: MemSession,
     found: Opening,
     texts: Texts<'_>,
-    wanted: &Finding,
+    verdict: &Verdict,
 ) -> Result<(), Wrong> {
+    let Ok(wanted) = verdict else {
+        return Err(differs(alloc, "opening", "a refusal", "no fault"));
+    };
     same_opening(alloc, opening_by(wanted), found)?;
-    let Standing { session, held } = again(alloc, &Memory, session)?;
-    same_left(alloc, texts, wanted, &held)?;
+    let session = again_with(alloc, &Memory, session, left_of(texts, wanted))?;
     match &wanted.first {
         Some(first) => unwinds(alloc, session, first.as_slice()),
         None => Ok(()),
@@ -90,7 +80,7 @@ fn agrees(
 fn refused_so(alloc: Global, verdict: &Verdict, found: Fault) -> Result<(), Wrong> {
     match verdict {
         Err(wanted) => same_faults(alloc, Fault::Session(fault_by(*wanted)), found),
-        Ok(_) => Err(refused(alloc, found)),
+        Ok(_) => Err(unwanted(alloc, "opening", found)),
     }
 }
 
@@ -101,20 +91,6 @@ fn is_long(verdict: &Verdict) -> bool {
     match verdict {
         Ok(found) => found.image.len() >= LONG,
         Err(_) => false,
-    }
-}
-
-/// Opening found this, and so the judge answered.
-fn found_so(
-    alloc: Global,
-    session: MemSession,
-    found: Opening,
-    texts: Texts<'_>,
-    verdict: &Verdict,
-) -> Result<(), Wrong> {
-    match verdict {
-        Ok(wanted) => agrees(alloc, session, found, texts, wanted),
-        Err(_) => Err(differs(alloc, "opening", "a refusal", "no fault")),
     }
 }
 
@@ -168,8 +144,7 @@ pub fn fronts(alloc: Global, texts: Texts<'_>) -> Result<u32, Wrong> {
     let mut count = 0u32;
     for n in 0..=text.len() {
         if is_taken(n, text.len()) {
-            let (front, _) = text.split_at(n.min(text.len()));
-            judged(alloc, with_text(texts, front))?;
+            judged(alloc, with_text(texts, front(text, n)))?;
             count = count.saturating_add(1);
         }
     }

@@ -1,5 +1,5 @@
 //! Texts in which a loss of power left zeros, opened beside the slow judge.
-use crate::report::compare::Wrong;
+use crate::report::compare::{Wrong, front};
 use crate::session::devices::Texts;
 use crate::sweep::weight::is_taken;
 use crate::texts::damage::judged;
@@ -16,9 +16,9 @@ pub fn fronts_with_zeros(alloc: Global, texts: Texts<'_>) -> Result<u32, Wrong> 
     let mut count = 0u32;
     for n in 0..=text.len() {
         if is_taken(n, text.len()) {
-            let (front, _) = text.split_at(n.min(text.len()));
-            count = count.saturating_add(zero_ends(alloc, texts, front)?);
-            count = count.saturating_add(zero_in_lines(alloc, texts, front)?);
+            let begun = front(text, n);
+            count = count.saturating_add(zero_ends(alloc, texts, begun)?);
+            count = count.saturating_add(zero_in_lines(alloc, texts, begun)?);
         }
     }
     Ok(count)

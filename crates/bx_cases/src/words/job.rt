@@ -10,8 +10,18 @@ use bx_journal::Way;
 use bx_text::{Name, Words};
 use std::alloc::{AllocError, Global};
 
-/// The text of a field; none where the job has no such field.
-type Field = Result<Option<String>, AllocError>;
+/// What a field of a job says.
+#[derive(Clone, Copy)]
+enum Field<'a> {
+    /// The job has no such field.
+    Missing,
+    Text(&'a str),
+    Number(u64),
+    /// A letter and how many bytes a value has.
+    Form(&'a str, u64),
+    /// These words with commas between them.
+    Joined(&'a Words),
+}
 
 /// The subcommand of a job.
 fn name_of(job: &Job) -> &'static str {
@@ -30,53 +40,44 @@ fn name_of(job: &Job) -> &'static str {
     }
 }
 
-fn text(alloc: Global, text: &str) -> Field {
-    Ok(Some(String::from_str(alloc, text)?))
+fn flag<'a>(is_set: bool) -> Field<'a> {
+    Field::Text(if is_set { "yes" } else { "no" })
 }
 
-fn number(alloc: Global, n: u64) -> Field {
-    Ok(Some(format!(in alloc; "{n}")?))
-}
-
-fn flag(alloc: Global, is_set: bool) -> Field {
-    text(alloc, if is_set { "yes" } else { "no" })
-}
-
-fn limit(alloc: Global, limit: Option<u64>) -> Field {
+fn limit<'a>(limit: Option<u64>) -> Field<'a> {
     match limit {
-        Some(n) => number(alloc, n),
-        None => text(alloc, "none"),
+        Some(n) => Field::Number(n),
+        None => Field::Text("none"),
     }
 }
 
-fn access_field(alloc: Global, access: Access, name: &str) -> Field {
+fn access_field<'a>(access: Access, name: &str) -> Field<'a> {
     match name {
-        "unsynced" => flag(alloc, access.durability == Durability::Unsynced),
-        "mounted" => flag(alloc, access.mounted),
-        _ => Ok(None),
+        "unsynced" => flag(access.durability == Durability::Unsynced),
+        "mounted" => flag(access.mounted),
+        _ => Field::Missing,
     }
 }
 
-fn file(alloc: Global, file: &Option<Name>) -> Field {
+fn file(file: &Option<Name>) -> Field<'_> {
     match file {
-        Some(name) => text(alloc, name.as_str()),
-        None => text(alloc, "none"),
+        Some(name) => Field::Text(name.as_str()),
+        None => Field::Text("none"),
     }
 }
 
-fn address(alloc: Global, address: Address) -> Field {
-    let letter = match address {
+fn address<'a>(address: Address) -> Field<'a> {
+    Field::Text(match address {
         Address::Octal => "o",
         Address::Decimal => "d",
         Address::Hexadecimal => "x",
         Address::Without => "n",
-    };
-    text(alloc, letter)
+    })
 }
 
-fn kind(alloc: Global, kind: Kind) -> Field {
+fn kind<'a>(kind: Kind) -> Field<'a> {
     let Kind::Number { form, size } = kind else {
-        return text(alloc, "c");
+        return Field::Text("c");
     };
     let letter = match form {
         NumForm::Signed => "d",
@@ -90,165 +91,150 @@ fn kind(alloc: Global, kind: Kind) -> Field {
         Size::Four => 4,
         Size::Eight => 8,
     };
-    Ok(Some(format!(in alloc; "{letter}{bytes}")?))
+    Field::Form(letter, bytes)
 }
 
-fn od_field(alloc: Global, job: &OdJob, name: &str) -> Field {
+fn od_field<'a>(job: &'a OdJob, name: &str) -> Field<'a> {
     match name {
-        "address" => address(alloc, job.options.address),
-        "kind" => kind(alloc, job.options.kind),
-        "first" => number(alloc, job.options.first),
-        "skip" => number(alloc, job.options.skip),
-        "limit" => limit(alloc, job.options.limit),
-        "all" => flag(alloc, job.options.all),
-        "file" => file(alloc, &job.file),
-        _ => Ok(None),
+        "address" => address(job.options.address),
+        "kind" => kind(job.options.kind),
+        "first" => Field::Number(job.options.first),
+        "skip" => Field::Number(job.options.skip),
+        "limit" => limit(job.options.limit),
+        "all" => flag(job.options.all),
+        "file" => file(&job.file),
+        _ => Field::Missing,
     }
 }
 
-fn look(look: XxdLook) -> &'static str {
-    match look {
+fn look<'a>(look: XxdLook) -> Field<'a> {
+    Field::Text(match look {
         XxdLook::Normal => "normal",
         XxdLook::Plain => "plain",
         XxdLook::Bits => "bits",
         XxdLook::Include => "include",
-    }
+    })
 }
 
-fn xxd_field(alloc: Global, job: &XxdJob, name: &str) -> Field {
+fn xxd_field<'a>(job: &'a XxdJob, name: &str) -> Field<'a> {
     match name {
-        "look" => text(alloc, look(job.look)),
-        "cols" => number(alloc, job.options.cols as u64),
-        "group" => number(alloc, job.options.group as u64),
-        "limit" => limit(alloc, job.options.limit),
-        "seek" => number(alloc, job.options.seek),
-        "shift" => number(alloc, job.options.shift),
-        "upper" => flag(alloc, job.options.upper),
-        "file" => file(alloc, &job.file),
-        _ => Ok(None),
+        "look" => look(job.look),
+        "cols" => Field::Number(job.options.cols as u64),
+        "group" => Field::Number(job.options.group as u64),
+        "limit" => limit(job.options.limit),
+        "seek" => Field::Number(job.options.seek),
+        "shift" => Field::Number(job.options.shift),
+        "upper" => flag(job.options.upper),
+        "file" => file(&job.file),
+        _ => Field::Missing,
     }
 }
 
-fn hexdump_field(alloc: Global, job: &HexdumpJob, name: &str) -> Field {
+fn hexdump_field<'a>(job: &'a HexdumpJob, name: &str) -> Field<'a> {
     match name {
-        "first" => number(alloc, job.options.first),
-        "skip" => number(alloc, job.options.skip),
-        "limit" => limit(alloc, job.options.limit),
-        "all" => flag(alloc, job.options.all),
-        "file" => file(alloc, &job.file),
-        _ => Ok(None),
+        "first" => Field::Number(job.options.first),
+        "skip" => Field::Number(job.options.skip),
+        "limit" => limit(job.options.limit),
+        "all" => flag(job.options.all),
+        "file" => file(&job.file),
+        _ => Field::Missing,
     }
 }
 
-fn strings_field(alloc: Global, job: &StringsJob, name: &str) -> Field {
+fn strings_field<'a>(job: &'a StringsJob, name: &str) -> Field<'a> {
     match name {
-        "least" => number(alloc, job.options.least as u64),
-        "offsets" => address(alloc, job.options.offsets),
-        "file" => file(alloc, &job.file),
-        _ => Ok(None),
+        "least" => Field::Number(job.options.least as u64),
+        "offsets" => address(job.options.offsets),
+        "file" => file(&job.file),
+        _ => Field::Missing,
     }
 }
 
-/// The words with commas between them.
-fn joined(alloc: Global, words: &Words) -> Field {
-    let mut text = String::new(alloc);
-    for i in 0..words.len() {
-        if i > 0 {
-            text.push(',')?;
-        }
-        if let Some(word) = words.get(i) {
-            text.push_str(word)?;
-        }
-    }
-    Ok(Some(text))
-}
-
-fn dd_field(alloc: Global, job: &DdJob, name: &str) -> Field {
+fn dd_field<'a>(job: &'a DdJob, name: &str) -> Field<'a> {
     match name {
-        "ibs" => number(alloc, job.plan.ibs),
-        "obs" => number(alloc, job.plan.obs),
-        "cbs" => number(alloc, job.plan.cbs),
-        "skip" => number(alloc, job.plan.skip),
-        "seek" => number(alloc, job.plan.seek),
-        "count" => limit(alloc, job.plan.count),
-        "input" => file(alloc, &job.plan.input),
-        "output" => file(alloc, &job.plan.output),
+        "ibs" => Field::Number(job.plan.ibs),
+        "obs" => Field::Number(job.plan.obs),
+        "cbs" => Field::Number(job.plan.cbs),
+        "skip" => Field::Number(job.plan.skip),
+        "seek" => Field::Number(job.plan.seek),
+        "count" => limit(job.plan.count),
+        "input" => file(&job.plan.input),
+        "output" => file(&job.plan.output),
         "journal" | "redo" => match &job.texts {
-            Some(texts) => text_name(alloc, texts, name),
-            None => text(alloc, "none"),
+            Some(texts) => text_name(texts, name),
+            None => Field::Text("none"),
         },
-        "operands" => joined(alloc, &job.operands),
-        "unsynced" | "mounted" => access_field(alloc, job.access, name),
-        _ => conversion(alloc, &job.plan, name),
+        "operands" => Field::Joined(&job.operands),
+        "unsynced" | "mounted" => access_field(job.access, name),
+        _ => conversion(&job.plan, name),
     }
 }
 
-fn conversion(alloc: Global, plan: &Plan, name: &str) -> Field {
+fn conversion<'a>(plan: &'a Plan, name: &str) -> Field<'a> {
     match name {
-        "swab" => flag(alloc, plan.swab),
-        "sync" => flag(alloc, plan.sync),
-        "notrunc" => flag(alloc, plan.notrunc),
-        "lcase" => flag(alloc, plan.letters == Letters::Lower),
-        "ucase" => flag(alloc, plan.letters == Letters::Upper),
-        "block" => flag(alloc, plan.shape == Shape::Block),
-        "unblock" => flag(alloc, plan.shape == Shape::Unblock),
-        _ => Ok(None),
+        "swab" => flag(plan.swab),
+        "sync" => flag(plan.sync),
+        "notrunc" => flag(plan.notrunc),
+        "lcase" => flag(plan.letters == Letters::Lower),
+        "ucase" => flag(plan.letters == Letters::Upper),
+        "block" => flag(plan.shape == Shape::Block),
+        "unblock" => flag(plan.shape == Shape::Unblock),
+        _ => Field::Missing,
     }
 }
 
-fn revert_field(alloc: Global, job: &RevertJob, name: &str) -> Field {
+fn revert_field<'a>(job: &'a RevertJob, name: &str) -> Field<'a> {
     match name {
-        "dump" => file(alloc, &job.dump),
-        "plain" => flag(alloc, job.plain),
-        "at" => number(alloc, job.at),
-        "image" => text(alloc, job.image.as_str()),
-        "journal" | "redo" => text_name(alloc, &job.texts, name),
-        "unsynced" | "mounted" => access_field(alloc, job.access, name),
-        _ => Ok(None),
+        "dump" => file(&job.dump),
+        "plain" => flag(job.plain),
+        "at" => Field::Number(job.at),
+        "image" => Field::Text(job.image.as_str()),
+        "journal" | "redo" => text_name(&job.texts, name),
+        "unsynced" | "mounted" => access_field(job.access, name),
+        _ => Field::Missing,
     }
 }
 
 /// The name of a text beside an image.
-fn text_name(alloc: Global, texts: &Texts, name: &str) -> Field {
+fn text_name<'a>(texts: &'a Texts, name: &str) -> Field<'a> {
     match name {
-        "journal" => text(alloc, texts.journal.as_str()),
-        _ => text(alloc, texts.redo.as_str()),
+        "journal" => Field::Text(texts.journal.as_str()),
+        _ => Field::Text(texts.redo.as_str()),
     }
 }
 
-fn image_field(alloc: Global, image: &Name, texts: &Texts, name: &str) -> Field {
+fn image_field<'a>(image: &'a Name, texts: &'a Texts, name: &str) -> Field<'a> {
     match name {
-        "image" => text(alloc, image.as_str()),
-        "journal" | "redo" => text_name(alloc, texts, name),
-        _ => Ok(None),
+        "image" => Field::Text(image.as_str()),
+        "journal" | "redo" => text_name(texts, name),
+        _ => Field::Missing,
     }
 }
 
 /// The field of a job that makes steps back or again, or shows the changes; `count` is how many steps.
-fn step_field(
-    alloc: Global,
+fn step_field<'a>(
     count: Option<u32>,
     access: Access,
-    image: &Name,
-    texts: &Texts,
+    image: &'a Name,
+    texts: &'a Texts,
     name: &str,
-) -> Field {
+) -> Field<'a> {
     match (name, count) {
-        ("count", Some(count)) => number(alloc, count as u64),
-        ("unsynced" | "mounted", _) => access_field(alloc, access, name),
-        _ => image_field(alloc, image, texts, name),
+        ("count", Some(count)) => Field::Number(count as u64),
+        ("unsynced" | "mounted", _) => access_field(access, name),
+        _ => image_field(image, texts, name),
     }
 }
 
 /// The field of this name.
-fn field_of(alloc: Global, job: &Job, name: &str) -> Field {
+fn field_of<'a>(job: &'a Job, name: &str) -> Field<'a> {
     match job {
-        Job::Od(job) => od_field(alloc, job, name),
-        Job::Xxd(job) => xxd_field(alloc, job, name),
-        Job::Hexdump(job) => hexdump_field(alloc, job, name),
-        Job::Strings(job) => strings_field(alloc, job, name),
-        Job::Dd(job) => dd_field(alloc, job, name),
-        Job::Revert(job) => revert_field(alloc, job, name),
+        Job::Od(job) => od_field(job, name),
+        Job::Xxd(job) => xxd_field(job, name),
+        Job::Hexdump(job) => hexdump_field(job, name),
+        Job::Strings(job) => strings_field(job, name),
+        Job::Dd(job) => dd_field(job, name),
+        Job::Revert(job) => revert_field(job, name),
         Job::Undo {
             count,
             image,
@@ -260,15 +246,15 @@ fn field_of(alloc: Global, job: &Job, name: &str) -> Field {
             image,
             texts,
             access,
-        } => step_field(alloc, Some(*count), *access, image, texts, name),
+        } => step_field(Some(*count), *access, image, texts, name),
         Job::Log {
             verbose,
             image,
             texts,
             access,
         } => match name {
-            "verbose" => flag(alloc, *verbose),
-            _ => step_field(alloc, None, *access, image, texts, name),
+            "verbose" => flag(*verbose),
+            _ => step_field(None, *access, image, texts, name),
         },
         Job::Show {
             way,
@@ -277,12 +263,34 @@ fn field_of(alloc: Global, job: &Job, name: &str) -> Field {
             image,
             texts,
         } => match name {
-            "way" => text(alloc, if *way == Way::Redo { "redo" } else { "undo" }),
-            "count" => number(alloc, *count as u64),
-            "compares" => flag(alloc, *compares),
-            _ => image_field(alloc, image, texts, name),
+            "way" => Field::Text(if *way == Way::Redo { "redo" } else { "undo" }),
+            "count" => Field::Number(*count as u64),
+            "compares" => flag(*compares),
+            _ => image_field(image, texts, name),
         },
-        Job::Help { .. } => Ok(None),
+        Job::Help { .. } => Field::Missing,
+    }
+}
+
+fn joined(alloc: Global, words: &Words) -> Result<String, AllocError> {
+    let mut text = String::new(alloc);
+    for i in 0..words.len() {
+        if i > 0 {
+            text.push(',')?;
+        }
+        text.push_str(words.get(i).unwrap_or(""))?;
+    }
+    Ok(text)
+}
+
+/// A field, as a case file writes it.
+fn text_of(alloc: Global, field: Field<'_>) -> Result<String, AllocError> {
+    match field {
+        Field::Missing => String::from_str(alloc, "no such field"),
+        Field::Text(text) => String::from_str(alloc, text),
+        Field::Number(n) => format!(in alloc; "{n}"),
+        Field::Form(letter, bytes) => format!(in alloc; "{letter}{bytes}"),
+        Field::Joined(words) => joined(alloc, words),
     }
 }
 
@@ -291,11 +299,12 @@ fn fits(alloc: Global, job: &Job, word: &str) -> Result<(), Wrong> {
     let Some((name, value)) = word.split_once('=') else {
         return Err(differs(alloc, "field", "NAME=VALUE", word));
     };
-    match field_of(alloc, job, name)? {
-        Some(found) if found.as_str() == value => Ok(()),
-        Some(found) => Err(differs(alloc, "field", word, found.as_str())),
-        None => Err(differs(alloc, "field", word, "no such field")),
+    let field = field_of(job, name);
+    let found = text_of(alloc, field)?;
+    if found.as_str() == value && !matches!(field, Field::Missing) {
+        return Ok(());
     }
+    Err(differs(alloc, "field", word, found.as_str()))
 }
 
 /// The job has this name, and these fields.

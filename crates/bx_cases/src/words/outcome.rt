@@ -1,22 +1,22 @@
 //! What a run came to, beside what its case tells.
 use crate::report::compare::{
-    Wrong, differs, fault_text, front_of, no_fault, same_bytes, same_fault, same_faults,
-    same_number, same_text, status_of,
+    Wrong, differs, fault_text, front, front_of, no_fault, same_bytes, same_fault, same_faults,
+    same_number, same_text,
 };
-use crate::words::run::{Ran, run_freely};
+use crate::words::run::{Ran, RunOf, run_freely};
 use crate::words::streams::Act;
 use bx_case_files::{Records, Refusal, WordsCase};
-use bx_cli::{Done, Fault, Job};
+use bx_cli::{Done, Fault};
 use bx_dd::{Counts, report};
 use bx_text::IoFault;
 use md5::{Digest, Md5};
 use std::alloc::{AllocError, Global};
 use std::fmt::Write;
 
-/// A fault is the one that the case tells, and so is its status.
+/// A fault is the one that the case tells, and so is its status: 2 where the words are wrong, else 1.
 fn same_refusal(alloc: Global, wanted: &Refusal, fault: Fault) -> Result<(), Wrong> {
     same_fault(alloc, wanted.text.as_str(), fault)?;
-    let found = status_of(fault) as u64;
+    let found = if fault == Fault::Usage { 2 } else { 1 };
     same_number(alloc, "status", wanted.status as u64, found)
 }
 
@@ -135,52 +135,30 @@ fn stopped(
 /// What a run came to at one of whose calls something happened.
 pub fn turned_right(
     alloc: Global,
-    case: &WordsCase,
-    job: &Job,
-    input: &[u8],
+    run: RunOf<'_>,
     act: Act,
     reads: bool,
     ran: &Ran,
 ) -> Result<(), Wrong> {
     let output = ran.output.as_slice();
-    match act {
-        Act::Interrupt | Act::Half => right(alloc, case, ran.done, output),
-        Act::Nothing if reads => {
-            let (front, _) = input.split_at(ran.given.min(input.len()));
-            ended(alloc, job, case.length, front, ran.done, output)
-        }
-        Act::Fail if reads => stopped(
-            alloc,
-            case,
-            ran.done,
-            Fault::Io(IoFault::ReadFailed),
-            output,
-        ),
-        Act::Fail | Act::Nothing => {
-            let written = output.len() as u64;
-            stopped(
-                alloc,
-                case,
-                ran.done,
-                Fault::Io(IoFault::WriteFailed { written }),
-                output,
-            )
-        }
-    }
+    let fault = match act {
+        Act::Interrupt | Act::Half => return right(alloc, run.case, ran.done, output),
+        Act::Nothing if reads => return ended(alloc, run, ran),
+        Act::Fail if reads => IoFault::ReadFailed,
+        Act::Fail | Act::Nothing => IoFault::WriteFailed {
+            written: output.len() as u64,
+        },
+    };
+    stopped(alloc, run.case, ran.done, Fault::Io(fault), output)
 }
 
 /// What a run came to whose input ended early: what comes of that front of the input.
-fn ended(
-    alloc: Global,
-    job: &Job,
-    length: Option<u64>,
-    front: &[u8],
-    done: Result<Done, Fault>,
-    output: &[u8],
-) -> Result<(), Wrong> {
-    let wanted = run_freely(alloc, job, length, front, usize::MAX);
-    same_bytes(alloc, "output of a front", wanted.output.as_slice(), output)?;
-    if wanted.done == done {
+fn ended(alloc: Global, run: RunOf<'_>, ran: &Ran) -> Result<(), Wrong> {
+    let input = front(run.input, ran.given);
+    let wanted = run_freely(alloc, RunOf { input, ..run }, usize::MAX);
+    let output = wanted.output.as_slice();
+    same_bytes(alloc, "output of a front", output, ran.output.as_slice())?;
+    if wanted.done == ran.done {
         return Ok(());
     }
     Err(differs(

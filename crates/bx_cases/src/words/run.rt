@@ -12,6 +12,14 @@ const EACH_WRITE: usize = 61;
 
 const FEW_CALLS: usize = 400;
 
+/// A run of the job that the words of a case ask for.
+#[derive(Clone, Copy)]
+pub struct RunOf<'a> {
+    pub case: &'a WordsCase,
+    pub job: &'a Job,
+    pub input: &'a [u8],
+}
+
 /// What a run came to.
 #[derive(Drop)]
 pub struct Ran {
@@ -38,10 +46,10 @@ pub fn dumped<R: Read, W: Write, A: Allocator + Clone>(
 }
 
 /// Runs a job.
-fn run(alloc: Global, job: &Job, length: Option<u64>, from: Input<'_>, to: Output) -> Ran {
+fn run(alloc: Global, job: RunOf<'_>, from: Input<'_>, to: Output) -> Ran {
     let mut from = from;
     let mut to = to;
-    let done = dumped(alloc, job, length, &mut from, &mut to);
+    let done = dumped(alloc, job.job, job.case.length, &mut from, &mut to);
     let Output { taken, turn, .. } = to;
     Ran {
         done,
@@ -52,10 +60,10 @@ fn run(alloc: Global, job: &Job, length: Option<u64>, from: Input<'_>, to: Outpu
 }
 
 /// Runs a job with nothing in its way.
-pub fn run_freely(alloc: Global, job: &Job, length: Option<u64>, input: &[u8], each: usize) -> Ran {
-    let from = Input::new(input, each, Turn::never());
+pub fn run_freely(alloc: Global, job: RunOf<'_>, each: usize) -> Ran {
+    let from = Input::new(job.input, each, Turn::never());
     let to = Output::new(alloc, each, Turn::never());
-    run(alloc, job, length, from, to)
+    run(alloc, job, from, to)
 }
 
 /// How many bytes of this many go through in one call.
@@ -64,20 +72,13 @@ fn each_of(len: usize, least: usize) -> usize {
 }
 
 /// Runs a job with something that happens at one read or write.
-pub fn run_turned(
-    alloc: Global,
-    case: &WordsCase,
-    job: &Job,
-    input: &[u8],
-    turn: Turn,
-    reads: bool,
-) -> Ran {
+pub fn run_turned(alloc: Global, job: RunOf<'_>, turn: Turn, reads: bool) -> Ran {
     let (reading, writing) = if reads {
         (turn, Turn::never())
     } else {
         (Turn::never(), turn)
     };
-    let from = Input::new(input, each_of(input.len(), EACH_READ), reading);
-    let to = Output::new(alloc, each_of(case.output.len(), EACH_WRITE), writing);
-    run(alloc, job, case.length, from, to)
+    let from = Input::new(job.input, each_of(job.input.len(), EACH_READ), reading);
+    let to = Output::new(alloc, each_of(job.case.output.len(), EACH_WRITE), writing);
+    run(alloc, job, from, to)
 }
