@@ -1,6 +1,6 @@
 //! Words that are pushed, with each growth refused in turn, and pushed again with room enough.
 use bumpalo::Bump;
-use bx_ration::{arena, squeeze, used};
+use bx_ration::{ration, used};
 use bx_text::Words;
 use std::alloc::{AllocError, Global};
 use std::process::Abort;
@@ -9,7 +9,7 @@ use std::test::Fail;
 /// The words take no more words of eight bytes.
 const MOST_WORDS: usize = 600;
 
-const TEXTS: [&str; 5] = [
+static TEXTS: [&str; 5] = [
     "one",
     "a second word",
     "three",
@@ -20,14 +20,6 @@ const TEXTS: [&str; 5] = [
 /// How many bytes were handed out when memory was refused; nothing where all were pushed.
 type Refused = Option<usize>;
 
-fn is_pushed<'a>(words: &mut Words<&'a Bump>, text: &str) -> bool {
-    words.push(text).is_ok()
-}
-
-fn has_count<'a>(words: &Words<&'a Bump>, count: usize) -> bool {
-    words.len() == count && words.get(count).is_none()
-}
-
 /// Pushes a word. Where that is refused the words stay, and with more memory the same call goes through.
 fn push_one<'a>(
     rt: &impl Abort,
@@ -37,18 +29,17 @@ fn push_one<'a>(
     bytes: usize,
 ) -> Refused {
     let count = words.len();
-    if is_pushed(words, text) {
+    if words.push(text).is_ok() {
         return None;
     }
     let taken = used(bump, bytes);
-    assert!(rt; has_count(words, count));
+    assert!(rt; words.len() == count);
     bump.set_allocation_limit(None);
-    assert!(rt; is_pushed(words, text));
+    assert!(rt; words.push(text).is_ok());
     Some(taken)
 }
 
-fn pushes(rt: &impl Abort, bump: &Bump, bytes: usize) -> Result<Refused, AllocError> {
-    squeeze(bump, bytes)?;
+fn pushes<'a>(rt: &impl Abort, bump: &'a Bump, bytes: usize) -> Refused {
     let mut words = Words::new(bump);
     let mut refused = None;
     for (place, text) in TEXTS.iter().enumerate() {
@@ -59,13 +50,13 @@ fn pushes(rt: &impl Abort, bump: &Bump, bytes: usize) -> Result<Refused, AllocEr
         assert!(rt; words.get(place) == Some(text));
     }
     assert!(rt; words.get(0) == Some("one"));
-    Ok(refused)
+    refused
 }
 
 /// Pushes the words in an arena of their own.
 fn pushes_in(rt: &impl Abort, alloc: Global, bytes: usize) -> Result<Refused, AllocError> {
-    let bump = arena(alloc)?;
-    pushes(rt, &bump, bytes)
+    let bump = ration(alloc, bytes)?;
+    Ok(pushes(rt, &bump, bytes))
 }
 
 // Each of at least seven growths is the first to be refused with some bytes.

@@ -2,5 +2,4 @@
 mod device_tests;
 mod file_tests;
 pub mod guarded;
-mod limit_tests;
 mod pages_tests;

@@ -8,10 +8,6 @@ mod image;
 #[cfg(test)]
 mod journal;
 #[cfg(test)]
-mod read;
-#[cfg(test)]
-mod runs;
-#[cfg(test)]
 mod shared;
 #[cfg(test)]
 mod slow;

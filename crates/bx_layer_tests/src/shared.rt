@@ -1,11 +1,4 @@
 //! What the tests of several layers use.
-use std::fs::{File, Files};
-use std::io;
-use std::process::Abort;
-
-pub fn assert_bytes(rt: &impl Abort, found: &[u8], wanted: &[u8]) {
-    assert!(rt; found == wanted);
-}
 
 /// The first this many bytes, or all.
 pub fn front(bytes: &[u8], count: usize) -> &[u8] {
@@ -37,20 +30,15 @@ pub fn step_of(line: &str) -> Step<'_> {
     }
 }
 
-/// These are the bytes; `~` stands for a zero.
-pub fn assert_told(rt: &impl Abort, found: &[u8], told: &str) {
-    assert!(rt; found.len() == told.len());
-    for (byte, told) in found.iter().zip(told.as_bytes().iter()) {
-        assert!(rt; *byte == *told || (*byte == 0 && *told == b'~'), "{told}");
+/// Whether these are the bytes; `~` stands for a zero.
+pub fn are_told(found: &[u8], told: &str) -> bool {
+    if found.len() != told.len() {
+        return false;
     }
-}
-
-/// An empty file of this name.
-pub fn new_file<R: Files<File = File>>(rt: &R, name: &str) -> io::Result<File> {
-    File::options()
-        .read(true)
-        .write(true)
-        .create(true)
-        .truncate(true)
-        .open(rt, name)
+    for (byte, told) in found.iter().zip(told.as_bytes().iter()) {
+        if *byte != *told && (*byte != 0 || *told != b'~') {
+            return false;
+        }
+    }
+    true
 }
