@@ -5,7 +5,6 @@ use bx_journal::SessionFault;
 use bx_read::ReadFault;
 use bx_text::IoFault;
 use std::alloc::Global;
-use std::process::Abort;
 
 fn shows(alloc: Global, fault: Fault, text: &str) -> bool {
     match format!(in alloc; "{fault}") {
@@ -14,16 +13,8 @@ fn shows(alloc: Global, fault: Fault, text: &str) -> bool {
     }
 }
 
-fn assert_shown(rt: &impl Abort, alloc: Global, rows: &[(Fault, u8, &str)]) {
-    for (fault, number, text) in rows {
-        assert!(rt;
-            fault.number() == *number && shows(alloc, *fault, text),
-            "no {text}"
-        );
-    }
-}
-
-static STREAM: [(Fault, u8, &str); 5] = [
+// What several crates have has one number and one text.
+static FAULTS: [(Fault, u8, &str); 37] = [
     (Fault::Io(IoFault::NoMemory), 1, "out of memory"),
     (Fault::Io(IoFault::ReadFailed), 2, "read failed"),
     (
@@ -37,28 +28,11 @@ static STREAM: [(Fault, u8, &str); 5] = [
         5,
         "skip is past the end of the input",
     ),
-];
-
-// What several crates have has one number and one text.
-static SHARED: [(Fault, u8, &str); 5] = [
     (Fault::Read(ReadFault::NoMemory), 1, "out of memory"),
     (Fault::Dd(DdFault::NoMemory), 1, "out of memory"),
     (Fault::Session(SessionFault::NoMemory), 1, "out of memory"),
     (Fault::Dd(DdFault::ReadFailed), 2, "read failed"),
     (Fault::Dd(DdFault::InputTooLong), 4, "input too long"),
-];
-
-#[test]
-fn fault_texts_of_several(rt: HostRuntime) {
-    assert_shown(&rt, rt.alloc(), &SHARED);
-}
-
-#[test]
-fn fault_texts(rt: HostRuntime) {
-    assert_shown(&rt, rt.alloc(), &STREAM);
-}
-
-static DUMP: [(Fault, u8, &str); 7] = [
     (
         Fault::Read(ReadFault::BadAddress { line: 1 }),
         10,
@@ -96,14 +70,6 @@ static DUMP: [(Fault, u8, &str); 7] = [
         16,
         "line 7: odd number of digits",
     ),
-];
-
-#[test]
-fn fault_texts_of_dumps(rt: HostRuntime) {
-    assert_shown(&rt, rt.alloc(), &DUMP);
-}
-
-static OPERAND: [(Fault, u8, &str); 8] = [
     (
         Fault::Dd(DdFault::UnknownOperand(1)),
         20,
@@ -132,14 +98,6 @@ static OPERAND: [(Fault, u8, &str); 8] = [
         27,
         "seek needs an output file",
     ),
-];
-
-#[test]
-fn fault_texts_of_operands(rt: HostRuntime) {
-    assert_shown(&rt, rt.alloc(), &OPERAND);
-}
-
-static SESSION: [(Fault, u8, &str); 12] = [
     (
         Fault::Session(SessionFault::TooLarge),
         30,
@@ -195,34 +153,9 @@ static SESSION: [(Fault, u8, &str); 12] = [
 ];
 
 #[test]
-fn fault_texts_of_sessions(rt: HostRuntime) {
-    assert_shown(&rt, rt.alloc(), &SESSION);
-}
-
-static DD: [(DdFault, &str); 11] = [
-    (DdFault::NoMemory, "out of memory"),
-    (DdFault::ReadFailed, "read failed"),
-    (DdFault::InputTooLong, "input too long"),
-    (DdFault::UnknownOperand(1), "operand 1: unknown"),
-    (DdFault::BadNumber(2), "operand 2: bad number"),
-    (DdFault::NumberTooLarge(3), "operand 3: number too large"),
-    (DdFault::ZeroSize(4), "operand 4: zero size"),
-    (DdFault::Conflict, "conflicting conversions"),
-    (DdFault::MissingCbs, "cbs is missing"),
-    (DdFault::Repeated(15), "operand 15: given twice"),
-    (DdFault::SeekWithoutOutput, "seek needs an output file"),
-];
-
-fn shows_dd(alloc: Global, fault: DdFault, text: &str) -> bool {
-    match format!(in alloc; "{fault}") {
-        Ok(shown) => shown.as_str() == text,
-        Err(_) => false,
-    }
-}
-
-#[test]
-fn fault_texts_of_dd(rt: HostRuntime) {
-    for (fault, text) in DD.iter() {
-        assert!(rt; shows_dd(rt.alloc(), *fault, text), "no {text}");
+fn fault_texts(rt: HostRuntime) {
+    for (fault, number, text) in &FAULTS {
+        let right = fault.number() == *number && shows(rt.alloc(), *fault, text);
+        assert!(rt; right, "no {text}");
     }
 }

@@ -156,21 +156,21 @@ fn step(rt: &HostRuntime, line: &str) -> Result<bool, Fail> {
     }
 }
 
-fn play(abort: &impl Abort, rt: &HostRuntime, script: &str) -> Result<(), Fail> {
+/// Plays a script.
+fn play(abort: &impl Abort, rt: &HostRuntime, name: &str, script: &str) -> Result<(), Fail> {
     for line in script.lines() {
         let right = step(rt, line)?;
-        assert!(abort; right, "{line}");
+        assert!(abort; right, "{name}: {line}");
     }
     Ok(())
 }
 
-// The input comes first, then the image, then the journal and the redo text; undo, redo and log make no image and no journal,
-// and what was made is taken away where a later file is refused.
-#[test]
-fn opens_in_order(rt: HostRuntime) -> Result<(), Fail> {
-    play(
-        &rt,
-        &rt,
+// Scripts, each with its name.
+static ON_FILES: [(&str, &str); 8] = [
+    // The input comes first, then the image, then the journal and the redo text; undo, redo and log make no image and no journal,
+    // and what was made is taken away where a later file is refused.
+    (
+        "opens_in_order",
         "\
 xxd missing.file -> cannot open file
 undo order.img -> cannot open file
@@ -184,15 +184,10 @@ no order.img
 revert -f order.dump order.img -> line 1: bad pair
 no order.img order.img.bxj order.img.bxj.redo
 rm order.dump",
-    )
-}
-
-// A command that is refused leaves nothing that it made: neither image nor journal nor redo text. What was there stays.
-#[test]
-fn nothing_is_left_behind(rt: HostRuntime) -> Result<(), Fail> {
-    play(
-        &rt,
-        &rt,
+    ),
+    // A command that is refused leaves nothing that it made: neither image nor journal nor redo text. What was there stays.
+    (
+        "nothing_is_left_behind",
         "\
 left.dump := 00000000: 4g|
 left.ones := 0: 41|
@@ -221,16 +216,11 @@ no left.img.bxj.redo
 left.img.bxj has 0
 left.img = AB
 rm left.img left.img.bxj left.dump left.ones",
-    )
-}
-
-// A file that a link leads to and that is missing is made, and taken away again where the command is refused. The link stays, and
-// so does what stood behind one.
-#[test]
-fn links_to_missing_files(rt: HostRuntime) -> Result<(), Fail> {
-    play(
-        &rt,
-        &rt,
+    ),
+    // A file that a link leads to and that is missing is made, and taken away again where the command is refused. The link stays, and
+    // so does what stood behind one.
+    (
+        "links_to_missing_files",
         "\
 dir linked
 linked.bad := 00000000: 4g|
@@ -256,15 +246,10 @@ linked/image has 0
 linked/journal has 0
 rm linked.img linked.img.bxj linked.img.bxj.redo linked/further linked/image linked/journal linked.bad linked.dump
 rmdir linked",
-    )
-}
-
-// The texts of an image may be read and written by nobody who may not do so with the image. A test can't set the umask.
-#[test]
-fn private_image(rt: HostRuntime) -> Result<(), Fail> {
-    play(
-        &rt,
-        &rt,
+    ),
+    // The texts of an image may be read and written by nobody who may not do so with the image. A test can't set the umask.
+    (
+        "private_image",
         "\
 private.img := AB
 private private.img
@@ -281,15 +266,10 @@ rm private.img.bxj.redo
 revert -f private.dump private.img -> done
 within private.img.bxj.redo private.img
 rm private.img private.img.bxj private.img.bxj.redo private.dump",
-    )
-}
-
-// Each command that may change an image makes the redo text where it is missing; `log` makes none, and where the journal is missing nothing is made.
-#[test]
-fn redo_text_is_made(rt: HostRuntime) -> Result<(), Fail> {
-    play(
-        &rt,
-        &rt,
+    ),
+    // Each command that may change an image makes the redo text where it is missing; `log` makes none, and where the journal is missing nothing is made.
+    (
+        "redo_text_is_made",
         "\
 made.img := ABCD
 made.dump := 0: 61|
@@ -318,47 +298,10 @@ rm made.j.redo
 dd if=made.dump of=made.img -J made.j -> done
 made.j.redo has 0
 rm made.j.redo made.img made.dump made.j",
-    )
-}
-
-// What is unfinished stays so.
-#[test]
-fn show_writes_to_no_file(rt: HostRuntime) -> Result<(), Fail> {
-    play_on(
-        &rt,
-        &rt,
-        "\
-show one.img => only 0 changes to undo
-show -k 0 one.img => done
-show -r one.img => only 0 changes to redo
-show -r -k 0 one.img => done
-log one.img -> done
-show one.img => only 0 changes to undo
-show -r one.img => only 0 changes to redo
-revert -f one.dump one.img -> done
-show one.img => done
-show -d one.img => done
-show -k 2 one.img => only 1 changes to undo
-undo one.img -> done
-show -r one.img => done
-show -d -r one.img => done
-show -r -k 2 one.img => only 1 changes to redo
-rm one.img.bxj.redo
-show -k 0 one.img -> done
-no one.img.bxj.redo
-show -J one.dump one.img -> journal line 1 is damaged
-revert -f one.dump one.img -> done
-show -J missing.j one.img -> cannot open file
-no missing.j missing.j.redo",
-    )
-}
-
-// A change that was stopped is taken back first.
-#[test]
-fn patch_and_undo(rt: HostRuntime) -> Result<(), Fail> {
-    play(
-        &rt,
-        &rt,
+    ),
+    // A change that was stopped is taken back first.
+    (
+        "patch_and_undo",
         "\
 patch.img := ABCDEFGH
 patch.dump := 00000002: 7879|
@@ -388,15 +331,10 @@ revert -U -f patch.dump ./patch.img -> done
 undo -U -k 2 patch.img -> done
 patch.img = ABCDEFGH
 rm patch.img patch.img.bxj patch.img.bxj.redo patch.dump",
-    )
-}
-
-// The input is opened before anything is made, and read whole before the image is written: they may be one file.
-#[test]
-fn dd_onto_files(rt: HostRuntime) -> Result<(), Fail> {
-    play(
-        &rt,
-        &rt,
+    ),
+    // The input is opened before anything is made, and read whole before the image is written: they may be one file.
+    (
+        "dd_onto_files",
         "\
 dd if=missing.file of=onto.img -> cannot open file
 no onto.img
@@ -417,14 +355,9 @@ onto.img.bxj has 0
 dd if=onto.in of=onto.img conv=notrunc -U -> done
 onto.img = xy23456789
 rm onto.img onto.img.bxj onto.img.bxj.redo onto.in",
-    )
-}
-
-#[test]
-fn dd_to_standard_output(rt: HostRuntime) -> Result<(), Fail> {
-    play(
-        &rt,
-        &rt,
+    ),
+    (
+        "dd_to_standard_output",
         "\
 dd if=missing.file seek=1 -> cannot open file
 stream.in := xy|
@@ -432,7 +365,15 @@ dd if=stream.in seek=1 -> seek needs an output file
 dd if=stream.in -J stream.in count=1 -> done
 stream.in has 3
 rm stream.in",
-    )
+    ),
+];
+
+#[test]
+fn jobs_on_files(rt: HostRuntime) -> Result<(), Fail> {
+    for (name, script) in &ON_FILES {
+        play(&rt, &rt, name, script)?;
+    }
+    Ok(())
 }
 
 /// An image that a change of eight bytes stopped on before its last line, its journal, and a redo text of eight bytes.
@@ -445,60 +386,44 @@ one.dump := 00000001: 7a|";
 const NO_MORE: &str = "rm one.img one.img.bxj one.img.bxj.redo one.dump";
 
 /// Plays a script on these files, and takes them away.
-fn play_on(abort: &impl Abort, rt: &HostRuntime, script: &str) -> Result<(), Fail> {
-    play(abort, rt, BEGUN)?;
-    play(abort, rt, script)?;
-    play(abort, rt, NO_MORE)
+fn play_on(abort: &impl Abort, rt: &HostRuntime, name: &str, script: &str) -> Result<(), Fail> {
+    play(abort, rt, name, BEGUN)?;
+    play(abort, rt, name, script)?;
+    play(abort, rt, name, NO_MORE)
 }
 
-fn name_of(rt: &HostRuntime, name: &str) -> Result<Name, AllocError> {
-    Ok(Name::from_string(String::from_str(rt.alloc(), name)?))
-}
-
-fn texts(rt: &HostRuntime) -> Result<Texts, AllocError> {
-    let journal = String::from_str(rt.alloc(), "one.img.bxj")?;
-    let redo = format!(in rt.alloc(); "{journal}.redo")?;
-    Ok(Texts {
-        journal: Name::from_string(journal),
-        redo: Name::from_string(redo),
-    })
-}
-
-// Plays a script while another session holds the files.
-fn play_beside(abort: &impl Abort, rt: &HostRuntime, script: &str) -> Result<(), Fail> {
-    let (image, texts) = (name_of(rt, "one.img")?, texts(rt)?);
-    let first = trio(rt, &image, &texts, false, false);
-    assert!(abort; first.is_ok());
-    play(abort, rt, script)
-}
-
-// What an earlier session holds. The later one is refused, whatever it would do, and recovers nothing.
-#[test]
-fn two_sessions_at_once(rt: HostRuntime) -> Result<(), Fail> {
-    play(&rt, &rt, BEGUN)?;
-    play_beside(
-        &rt,
-        &rt,
+// Scripts on these files, each with its name.
+static ON_ONE: [(&str, &str); 6] = [
+    // What is unfinished stays so.
+    (
+        "show_writes_to_no_file",
         "\
-revert -f one.dump one.img => cannot open file
-dd if=one.dump of=one.img => cannot open file
-undo one.img => cannot open file
-redo one.img => cannot open file
-log one.img => cannot open file
-revert -f one.dump -J other.bxj one.img => cannot open file
-revert -f one.dump -J one.img.bxj other.img => cannot open file
-revert -f one.dump -J one.img.bxj.redo other.img => cannot open file
-no other.bxj other.bxj.redo other.img one.img.bxj.redo.redo",
-    )?;
-    play(&rt, &rt, NO_MORE)
-}
-
-// Under whatever names: the image as its own journal is no journal. This image is a journal of a change that was stopped.
-#[test]
-fn one_file_by_two_names(rt: HostRuntime) -> Result<(), Fail> {
-    play_on(
-        &rt,
-        &rt,
+show one.img => only 0 changes to undo
+show -k 0 one.img => done
+show -r one.img => only 0 changes to redo
+show -r -k 0 one.img => done
+log one.img -> done
+show one.img => only 0 changes to undo
+show -r one.img => only 0 changes to redo
+revert -f one.dump one.img -> done
+show one.img => done
+show -d one.img => done
+show -k 2 one.img => only 1 changes to undo
+undo one.img -> done
+show -r one.img => done
+show -d -r one.img => done
+show -r -k 2 one.img => only 1 changes to redo
+rm one.img.bxj.redo
+show -k 0 one.img -> done
+no one.img.bxj.redo
+show -J one.dump one.img -> journal line 1 is damaged
+revert -f one.dump one.img -> done
+show -J missing.j one.img -> cannot open file
+no missing.j missing.j.redo",
+    ),
+    // Under whatever names: the image as its own journal is no journal. This image is a journal of a change that was stopped.
+    (
+        "one_file_by_two_names",
         "\
 one.img := change2 00000001 0000000000000008|00000002: 4344                                     CD|save 00000001|
 hard one.img one.hard
@@ -514,15 +439,10 @@ dd if=one.dump of=one.img -J one.soft => cannot open file
 revert -f one.dump -J ./new.img new.img => cannot open file
 no new.img
 rm one.hard one.soft",
-    )
-}
-
-// A folder and a character device are neither image nor journal, and nothing is made beside them.
-#[test]
-fn only_files_are_changed(rt: HostRuntime) -> Result<(), Fail> {
-    play_on(
-        &rt,
-        &rt,
+    ),
+    // A folder and a character device are neither image nor journal, and nothing is made beside them.
+    (
+        "only_files_are_changed",
         "\
 dir one.dir
 revert -f one.dump one.dir => cannot open file
@@ -538,16 +458,11 @@ revert -f one.dump -J /dev/null other.img => cannot open file
 dd if=one.dump of=other.img -J one.dir => cannot open file
 no one.dir.bxj other.bxj other.img
 rmdir one.dir",
-    )
-}
-
-// The redo text under a name that is another file's, or that is no file: nothing is opened that would be changed, and what was
-// made is taken away.
-#[test]
-fn only_files_of_their_own_are_redo_texts(rt: HostRuntime) -> Result<(), Fail> {
-    play_on(
-        &rt,
-        &rt,
+    ),
+    // The redo text under a name that is another file's, or that is no file: nothing is opened that would be changed, and what was
+    // made is taken away.
+    (
+        "only_files_of_their_own_are_redo_texts",
         "\
 dir dir.redo
 soft /dev/null null.redo
@@ -567,15 +482,10 @@ soft = change2 00000001 0000000000000008|00000002: 4344                         
 rmdir dir.redo
 no dir null hard other.img
 rm null.redo hard.redo soft own.redo own",
-    )
-}
-
-// A journal without changes of an image of two bytes, and beside it a redo text that is none of it.
-#[test]
-fn foreign_redo_texts(rt: HostRuntime) -> Result<(), Fail> {
-    play_on(
-        &rt,
-        &rt,
+    ),
+    // A journal without changes of an image of two bytes, and beside it a redo text that is none of it.
+    (
+        "foreign_redo_texts",
         "\
 one.img := AB
 one.img.bxj := 
@@ -597,15 +507,10 @@ undo -k 0 one.img => redo line 1 is damaged
 redo -k 0 one.img => redo line 1 is damaged
 revert -f one.dump one.img => redo line 1 is damaged
 dd if=one.dump of=one.img => redo line 1 is damaged",
-    )
-}
-
-// A link that leads to a file is that file, and the journal stands beside the link.
-#[test]
-fn image_by_a_link(rt: HostRuntime) -> Result<(), Fail> {
-    play_on(
-        &rt,
-        &rt,
+    ),
+    // A link that leads to a file is that file, and the journal stands beside the link.
+    (
+        "image_by_a_link",
         "\
 soft one.img link
 revert -f one.dump link -> done
@@ -614,5 +519,55 @@ undo link -> done
 one.img = ABxyEFGH
 one.img.bxj = change2 00000001 0000000000000008|00000002: 4344                                     CD|save 00000001|
 rm link link.bxj link.bxj.redo",
-    )
+    ),
+];
+
+#[test]
+fn jobs_on_one_image(rt: HostRuntime) -> Result<(), Fail> {
+    for (name, script) in &ON_ONE {
+        play_on(&rt, &rt, name, script)?;
+    }
+    Ok(())
+}
+
+fn name_of(rt: &HostRuntime, name: &str) -> Result<Name, AllocError> {
+    Ok(Name::from_string(String::from_str(rt.alloc(), name)?))
+}
+
+fn texts(rt: &HostRuntime) -> Result<Texts, AllocError> {
+    let journal = String::from_str(rt.alloc(), "one.img.bxj")?;
+    let redo = format!(in rt.alloc(); "{journal}.redo")?;
+    Ok(Texts {
+        journal: Name::from_string(journal),
+        redo: Name::from_string(redo),
+    })
+}
+
+// Plays a script while another session holds the files.
+fn play_beside(abort: &impl Abort, rt: &HostRuntime, script: &str) -> Result<(), Fail> {
+    let (image, texts) = (name_of(rt, "one.img")?, texts(rt)?);
+    let first = trio(rt, &image, &texts, false, false);
+    assert!(abort; first.is_ok());
+    play(abort, rt, "two sessions", script)
+}
+
+// What an earlier session holds. The later one is refused, whatever it would do, and recovers nothing.
+#[test]
+fn two_sessions_at_once(rt: HostRuntime) -> Result<(), Fail> {
+    play(&rt, &rt, "before", BEGUN)?;
+    play_beside(
+        &rt,
+        &rt,
+        "\
+revert -f one.dump one.img => cannot open file
+dd if=one.dump of=one.img => cannot open file
+undo one.img => cannot open file
+redo one.img => cannot open file
+log one.img => cannot open file
+revert -f one.dump -J other.bxj one.img => cannot open file
+revert -f one.dump -J one.img.bxj other.img => cannot open file
+revert -f one.dump -J one.img.bxj.redo other.img => cannot open file
+no other.bxj other.bxj.redo other.img one.img.bxj.redo.redo",
+    )?;
+    play(&rt, &rt, "behind", NO_MORE)
 }

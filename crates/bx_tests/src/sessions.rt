@@ -22,10 +22,6 @@ pub fn trio(alloc: Global, held: Held<'_>) -> Result<Trio, AllocError> {
     Ok((image, text, MemText::from_vec(held.2.to_vec(alloc)?)))
 }
 
-pub fn bytes_of(trio: &Trio) -> Held<'_> {
-    (trio.0.as_slice(), trio.1.as_slice(), trio.2.as_slice())
-}
-
 /// A session whose own memory is of `A`.
 pub type MemSession<A = Global> = Session<MemImage, MemText, A>;
 
