@@ -25,8 +25,8 @@ PLACES = {"texts": "F", "images": "I", "texts/journal": "J", "images/image": "D"
 # The folders, which a command that may write syncs first.
 NAMED = "FI"
 
-# What a call that writes syncs first: all three, and a redo in the other direction.
-SETTLED, SETTLED_BACK = "JDR", "RDJ"
+# What a call that writes syncs first: all three.
+SETTLED = "JDR"
 
 HEAD = "change2 00000002 0000000000000008\n"
 SAVED = "00000000: 41                                       A\nsave 00000002\n"
@@ -119,8 +119,8 @@ def unfinished(text):
     return make
 
 
-def steps(count, settled=SETTLED):
-    return NAMED + settled + "JDRJ" * count
+def steps(count):
+    return NAMED + SETTLED + "JDRJ" * count
 
 
 # What is there, the command, its status, and what it syncs in order.
@@ -134,9 +134,9 @@ COUNTS = [
     ("an undo of none", changes(1), "undo -k 0 IMAGE", 0, steps(0)),
     ("an undo", changes(1), "undo IMAGE", 0, steps(1)),
     ("an undo of three", changes(4), "undo -k 3 IMAGE", 0, steps(3)),
-    ("a redo of none", changes(2, 1), "redo -k 0 IMAGE", 0, steps(0, SETTLED_BACK)),
-    ("a redo", changes(1, 1), "redo IMAGE", 0, steps(1, SETTLED_BACK)),
-    ("a redo of three", changes(4, 4), "redo -k 3 IMAGE", 0, steps(3, SETTLED_BACK)),
+    ("a redo of none", changes(2, 1), "redo -k 0 IMAGE", 0, steps(0)),
+    ("a redo", changes(1, 1), "redo IMAGE", 0, steps(1)),
+    ("a redo of three", changes(4, 4), "redo -k 3 IMAGE", 0, steps(3)),
     ("an entry that is dropped, and a refusal", unfinished(HEAD), "undo -k 9 IMAGE", 1, NAMED + SETTLED + "RJ"),
     ("a change that is taken back, and a refusal", unfinished(HEAD + SAVED), "undo -k 9 IMAGE", 1, NAMED + SETTLED + "RDJ"),
     ("a refused undo", changes(1), "undo -k 9 IMAGE", 1, NAMED),
