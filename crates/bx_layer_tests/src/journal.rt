@@ -4,3 +4,4 @@ mod rations;
 mod reads;
 mod rows;
 mod sessions;
+mod windows;

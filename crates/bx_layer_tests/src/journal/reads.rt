@@ -7,7 +7,7 @@ use bx_journal::SessionFault::{DeviceFailed, Interrupted};
 use std::test::Fail;
 
 /// The journal of a patch of two bytes at 2 of `ABCDEFGH`.
-const PATCHED: &[u8] =
+pub const PATCHED: &[u8] =
     b"change2 00000001 0000000000000008\n00000002: 4344                                     CD\nsave 00000001\ndone2 00000001 0000000000000008\n";
 
 /// The redo text of the same patch, once it is taken back.
@@ -23,7 +23,7 @@ const FADED: &[u8] =
     b"change2 00000001 0000000000000001\n00000000: 41                                       A\nsave 00000001\ndone2 00000001 0000000000000001\nchange2 00000002 0000000000000001\n00000000: 61                                       a\nsave 00000002\ndone2 \0\0\0\0\0\0\0\0 0000000000000001\n";
 
 /// The redo text of the same byte, once it is taken back from `d` over `c` to `b`.
-const UNDONE_TWO: &[u8] =
+pub const UNDONE_TWO: &[u8] =
     b"change2 00000001 0000000000000001\n00000000: 64                                       d\nsave 00000001\ndone2 00000001 0000000000000001\nchange2 00000002 0000000000000001\n00000000: 63                                       c\nsave 00000002\ndone2 00000002 0000000000000001\n";
 
 /// The journal of a change of nothing on an image of `WHOLE` bytes.
